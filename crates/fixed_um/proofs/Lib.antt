@@ -1,0 +1,6 @@
+pub mod NameLemmas
+pub mod DigitLemmas
+pub mod RoundingLemmas
+pub mod GrammarLemmas
+pub mod ReadLemmas
+pub mod WrittenLemmas

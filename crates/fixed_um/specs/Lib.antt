@@ -1,0 +1,9 @@
+pub mod Limits
+pub mod Numerals
+pub mod Scan
+pub mod Rounding
+pub mod Names
+pub mod Shapes
+pub mod Written
+pub mod Taken
+pub mod Points

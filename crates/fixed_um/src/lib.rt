@@ -1,0 +1,33 @@
+// Exact decimal numerals and the values that every crate shares: lengths in whole micrometres,
+// directions in whole millionths, points, names and frames.
+//
+// - `lengths`: `Um`, `Point`, and the limits of the wire and of the machine's volume
+// - `directions`: `Dir`
+// - `naming`: `Name`
+// - `frames`: `Frame`
+// - `numerals`: `read_um`, `read_dir`, and why a text is refused
+// - `scanning`: the steps by which a numeral is taken apart
+// - `points`: sums and differences of points
+// - `rounding`: the whole number nearest to a fraction
+// - `writing`: `write_um`, `write_dir`, and the same for a caller who has made room
+#![tactic(auto)]
+
+pub mod directions;
+pub mod frames;
+pub mod lengths;
+pub mod naming;
+pub mod numerals;
+mod points;
+mod rounding;
+mod scanning;
+pub mod writing;
+
+pub use directions::Dir;
+pub use frames::Frame;
+pub use lengths::{Point, Um};
+pub use naming::Name;
+pub use numerals::{NumeralFault, is_zero, one_reading, read_dir, read_um};
+pub use writing::{write_dir, write_dir_reserved, write_um, write_um_reserved};
+
+#[cfg(test)]
+mod tests;

@@ -1,0 +1,123 @@
+// Reading numerals.
+
+ghost use Rattle.std.specs.Prelude.{◌≡◌, ◌≤◌, ◌<◌, ◌+◌, ◌*◌, ◌^◌, ◌↔◌, ◌≤ℤ◌, ℕ, List, Result, Option, ℤ, pos, unsigned_abs, Ok, Err, SomeIff, MatchOption, IsTrue, IfSome, IfNone};
+ghost use Rattle.fixed_um.specs.Limits.{wire_limit};
+ghost use Rattle.fixed_um.specs.Numerals.{Numeral, IsNumeral, IsZero, Reads, ReadsDirection, signed};
+ghost use Rattle.fixed_um.specs.Rounding.{RoundsUp};
+
+use crate::directions::Dir;
+use crate::lengths::Um;
+use crate::rounding::{scaled_down, scaled_up};
+use crate::scanning::{Parts, read_parts};
+
+/// Why a text is not read as a numeral; of several reasons the first in this order.
+#[derive(Clone, Copy, Debug, PartialEq, Eq)]
+pub enum NumeralFault {
+    /// The text is not an optional sign, digits with at most one point and at least one digit, and an optional exponent of one to three digits.
+    NotNumeral,
+    /// More than 30 digits stand before the exponent, leading zeros counted.
+    TooManyDigits,
+    /// The rounded value is past the limit.
+    TooLarge,
+}
+
+/// The digits times ten to the power `up`, divided by ten to the power `down`, rounded, halves up; `None` where that does not fit 128 bits.
+fn quotient(digits: u128, up: u32, down: u32) -> Option<u128>
+    requires { digits < 10 ^ 30 }
+    ensures value { IfSome result (λ m. RoundsUp (digits * 10 ^ up) (10 ^ down) m) }
+    ensures past { IfNone result ((m : ℕ) × RoundsUp (digits * 10 ^ up) (10 ^ down) m × (2 ^ 128 ≤ m)) }
+{
+    if up < down {
+        return Some(scaled_down(digits, down - up));
+    }
+    scaled_up(digits, up - down)
+}
+
+/// The same within a limit; `None` past it.
+fn magnitude(digits: u128, up: u32, down: u32, limit: u64) -> Option<u64>
+    requires { digits < 10 ^ 30 }
+    ensures within { IfSome result (λ m. (m ≤ limit) × RoundsUp (digits * 10 ^ up) (10 ^ down) m) }
+    ensures past { IfNone result ((m : ℕ) × RoundsUp (digits * 10 ^ up) (10 ^ down) m × (limit < m)) }
+{
+    let Some(magnitude) = quotient(digits, up, down) else {
+        return None;
+    };
+    if magnitude > u128::from(limit) {
+        return None;
+    }
+    Some(magnitude as u64)
+}
+
+fn with_sign(negative: bool, magnitude: u64) -> i64
+    requires { magnitude ≤ wire_limit }
+    ensures { result ≡ signed negative magnitude }
+{
+    if negative {
+        -(magnitude as i64)
+    } else {
+        magnitude as i64
+    }
+}
+
+/// The value of a numeral in units of which ten to the power `scale` make one.
+fn read_scaled(bytes: &[u8], scale: u32, limit: u64) -> Result<i64, NumeralFault>
+    requires scale { scale ≤ 6 }
+    requires limit { limit ≤ wire_limit }
+    ensures { Reads scale limit bytes.now result }
+{
+    let Some(parts) = read_parts(bytes) else {
+        return Err(NumeralFault::NotNumeral);
+    };
+    if !parts.is_short() {
+        return Err(NumeralFault::TooManyDigits);
+    }
+    let up = scale + parts.raised;
+    let down = parts.fraction.len() as u32 + parts.lowered;
+    match magnitude(parts.digits_value(), up, down, limit) {
+        Some(magnitude) => Ok(with_sign(parts.negative, magnitude)),
+        None => Err(NumeralFault::TooLarge),
+    }
+}
+
+/// The length that a numeral in millimetres stands for, rounded to whole micrometres, halves away from zero.
+///
+/// The caller owes a limit from 0 to the wire limit. Takes no memory.
+pub fn read_um(bytes: &[u8], limit: Um) -> Result<Um, NumeralFault>
+    requires { pos 0 ≤ℤ limit }
+    ensures { Reads 3 (unsigned_abs limit) bytes.now result }
+{
+    let micrometres = read_scaled(bytes, 3, limit.get() as u64)?;
+    match Um::new(micrometres) {
+        Some(length) => Ok(length),
+        None => Err(NumeralFault::TooLarge),
+    }
+}
+
+/// The direction whose components three numerals write, each rounded to whole millionths, halves away from zero;
+/// `None` where all three round to zero. Of several faults the leftmost is answered. Takes no memory.
+pub fn read_dir(i: &[u8], j: &[u8], k: &[u8]) -> Result<Option<Dir>, NumeralFault>
+    ensures { ReadsDirection i.now j.now k.now result }
+{
+    let i = read_scaled(i, 6, 1_000_000_000)?;
+    let j = read_scaled(j, 6, 1_000_000_000)?;
+    let k = read_scaled(k, 6, 1_000_000_000)?;
+    if i == 0 && j == 0 && k == 0 {
+        return Ok(None);
+    }
+    Ok(Some(Dir { i, j, k }))
+}
+
+/// Whether a text is a numeral of at most 30 digits whose digits before the exponent are all 0, as `0`, `-0.0` or `0E5`. Takes no memory.
+pub fn is_zero(bytes: &[u8]) -> bool
+    ensures { IsTrue result ↔ IsZero bytes.now }
+{
+    match read_parts(bytes) {
+        Some(parts) => parts.is_short() && parts.digits_value() == 0,
+        None => false,
+    }
+}
+
+/// A text is read in one way.
+pub fn one_reading()
+    ensures { (scale limit : ℕ) (text : List ℕ) (x y : Result ℤ NumeralFault) → Reads scale limit text x → Reads scale limit text y → x ≡ y }
+{}

@@ -1,0 +1,127 @@
+// Writing lengths and directions.
+//
+// A writer whose name ends in `_reserved` needs room that its caller has made, and cannot fail. The others make the room first,
+// so that want of memory changes nothing.
+
+ghost use Rattle.std.specs.Prelude.{◌≡◌, ◌≤◌, ◌+◌, ◌*◌, ◌%◌, ◌^◌, ◌++◌, ◌∷◌, [], ℕ, length, vec_len, vec_capacity, OnOk, OnErr, Ok, Some, unsigned_abs, decimal, ◌<◌};
+ghost use Rattle.fixed_um.specs.Limits.{wire_limit, component_limit};
+ghost use Rattle.fixed_um.specs.Numerals.{Reads, ReadsDirection};
+ghost use Rattle.fixed_um.specs.Shapes.{IsDirection};
+ghost use Rattle.fixed_um.specs.Written.{minus_sign, three_digits, written, written_component, written_direction};
+
+use crate::directions::Dir;
+use crate::lengths::Um;
+use itoa::Buffer;
+use std::alloc::AllocError;
+
+fn write_minus(out: &mut Vec<u8>, value: i64)
+    requires { vec_len out.old + 1 ≤ vec_capacity out.old }
+    ensures text { out.new.items ≡ out.old.items ++ minus_sign value }
+    ensures len { vec_len out.new ≤ vec_len out.old + 1 }
+    ensures capacity { vec_capacity out.old ≤ vec_capacity out.new }
+{
+    if value < 0 {
+        out.push_reserved(b'-');
+    }
+}
+
+#[tactic(auto, using(crate::proofs::WrittenLemmas::short))]
+fn write_whole(out: &mut Vec<u8>, value: u64)
+    requires value { value < 10 ^ 7 }
+    requires room { vec_len out.old + 7 ≤ vec_capacity out.old }
+    ensures text { out.new.items ≡ out.old.items ++ decimal value }
+    ensures len { vec_len out.new ≤ vec_len out.old + 7 }
+    ensures capacity { vec_capacity out.old ≤ vec_capacity out.new }
+{
+    let mut buffer = Buffer::new();
+    out.extend_from_slice(buffer.format(value).as_bytes())
+        .unwrap();
+}
+
+fn last_digit(value: u64) -> u8
+    ensures { result ≡ 48 + value % 10 }
+{
+    b'0' + (value % 10) as u8
+}
+
+fn write_three_digits(out: &mut Vec<u8>, value: u64)
+    requires { vec_len out.old + 3 ≤ vec_capacity out.old }
+    ensures text { out.new.items ≡ out.old.items ++ three_digits value }
+    ensures len { vec_len out.new ≡ vec_len out.old + 3 }
+    ensures capacity { vec_capacity out.old ≤ vec_capacity out.new }
+{
+    out.push_reserved(last_digit(value / 100));
+    out.push_reserved(last_digit(value / 10));
+    out.push_reserved(last_digit(value));
+}
+
+/// Appends a length in millimetres with three decimals, as `-0.001`, at most 12 bytes, where the caller has made room for them.
+#[tactic(auto, unfolding(crate::specs::Written::written))]
+pub fn write_um_reserved(out: &mut Vec<u8>, value: Um)
+    requires { vec_len out.old + 12 ≤ vec_capacity out.old }
+    ensures text { out.new.items ≡ out.old.items ++ written value }
+    ensures len { vec_len out.new ≤ vec_len out.old + 12 }
+    ensures capacity { vec_capacity out.old ≤ vec_capacity out.new }
+{
+    let micrometres = value.get();
+    let magnitude = micrometres.unsigned_abs();
+    write_minus(out, micrometres);
+    write_whole(out, magnitude / 1000);
+    out.push_reserved(b'.');
+    write_three_digits(out, magnitude);
+}
+
+#[tactic(auto, unfolding(crate::specs::Written::written_component))]
+fn write_component_reserved(out: &mut Vec<u8>, value: i64)
+    requires value { unsigned_abs value ≤ component_limit }
+    requires room { vec_len out.old + 15 ≤ vec_capacity out.old }
+    ensures text { out.new.items ≡ out.old.items ++ written_component value }
+    ensures len { vec_len out.new ≤ vec_len out.old + 15 }
+    ensures capacity { vec_capacity out.old ≤ vec_capacity out.new }
+{
+    let magnitude = value.unsigned_abs();
+    write_minus(out, value);
+    write_whole(out, magnitude / 1_000_000);
+    out.push_reserved(b'.');
+    write_three_digits(out, magnitude / 1000);
+    write_three_digits(out, magnitude);
+}
+
+/// Appends the three components of a direction with six decimals each, as `0.577350`, with a text between each two,
+/// at most 45 bytes beside those texts, where the caller has made room for them.
+pub fn write_dir_reserved(out: &mut Vec<u8>, direction: Dir, between: &[u8])
+    requires { vec_len out.old + 45 + 2 * length between.now ≤ vec_capacity out.old }
+    ensures text { out.new.items ≡ out.old.items ++ written_direction direction between.now }
+    ensures len { vec_len out.new ≤ vec_len out.old + 45 + 2 * length between.now }
+    ensures capacity { vec_capacity out.old ≤ vec_capacity out.new }
+{
+    write_component_reserved(out, direction.i);
+    out.extend_from_slice(between).unwrap();
+    write_component_reserved(out, direction.j);
+    out.extend_from_slice(between).unwrap();
+    write_component_reserved(out, direction.k);
+}
+
+/// Appends a length in millimetres with three decimals, as `-0.001`. Only want of memory is an `Err`, and then nothing is appended.
+pub fn write_um(out: &mut Vec<u8>, value: Um) -> Result<(), AllocError>
+    ensures ok { OnOk result (out.new.items ≡ out.old.items ++ written value) }
+    ensures err { OnErr result (out.new.items ≡ out.old.items) }
+    ensures reads_back { (limit : ℕ) → unsigned_abs value ≤ limit → limit ≤ wire_limit → Reads 3 limit (written value) (Ok value) }
+{
+    out.reserve(12)?;
+    write_um_reserved(out, value);
+    Ok(())
+}
+
+/// Appends the three components of a direction with six decimals each, with a text between each two.
+/// The caller owes a text of at most 1,000 bytes. Only want of memory is an `Err`, and then nothing is appended.
+pub fn write_dir(out: &mut Vec<u8>, direction: Dir, between: &[u8]) -> Result<(), AllocError>
+    requires { length between.now ≤ 1000 }
+    ensures ok { OnOk result (out.new.items ≡ out.old.items ++ written_direction direction between.now) }
+    ensures err { OnErr result (out.new.items ≡ out.old.items) }
+    ensures reads_back { IsDirection direction → ReadsDirection (written_component direction.i) (written_component direction.j) (written_component direction.k) (Ok (Some direction)) }
+{
+    out.reserve(45 + 2 * between.len())?;
+    write_dir_reserved(out, direction, between);
+    Ok(())
+}
