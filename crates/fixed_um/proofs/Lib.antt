@@ -4,3 +4,4 @@ pub mod RoundingLemmas
 pub mod GrammarLemmas
 pub mod ReadLemmas
 pub mod WrittenLemmas
+pub mod ComputedLemmas

@@ -56,7 +56,7 @@ stands scale text n value m spelled short is h =
 -- ---- zeros
 
 -- the numeral of a text is the only one there
-the_one : (text : List ℕ) (n m : Numeral) → numeral_of text ≡ Some n → IsNumeral text m → m ≡ n
+pub the_one : (text : List ℕ) (n m : Numeral) → numeral_of text ≡ Some n → IsNumeral text m → m ≡ n
 the_one text n m found h = same_Some m n (sym (numeral_only text m h) ∙ found)
 
 pub zero_here : (text : List ℕ) (n : Numeral) (value : ℕ) → numeral_of text ≡ Some n → length n.digits ≤ 30 → value ≡ digits_value 10 n.digits → (IsTrue (value == 0) ↔ IsZero text)

@@ -7,3 +7,4 @@ pub mod Shapes
 pub mod Written
 pub mod Taken
 pub mod Points
+pub mod Computed

@@ -4,6 +4,7 @@ ghost use Rattle.std.specs.Prelude.{◌≡◌, ◌≤◌, ◌<◌, ◌+◌, ◌*
 ghost use Rattle.fixed_um.specs.Limits.{wire_limit};
 ghost use Rattle.fixed_um.specs.Numerals.{Numeral, IsNumeral, IsZero, Reads, ReadsDirection, signed};
 ghost use Rattle.fixed_um.specs.Rounding.{RoundsUp};
+ghost use Rattle.fixed_um.specs.Computed.{value_of, is_zero_text};
 
 use crate::directions::Dir;
 use crate::lengths::Um;
@@ -121,3 +122,10 @@ pub fn is_zero(bytes: &[u8]) -> bool
 pub fn one_reading()
     ensures { (scale limit : ℕ) (text : List ℕ) (x y : Result ℤ NumeralFault) → Reads scale limit text x → Reads scale limit text y → x ≡ y }
 {}
+
+/// The reading of a text can be computed: the relation and the function agree.
+pub fn computed_reading()
+    ensures value { (scale limit : ℕ) (text : List ℕ) → Reads scale limit text (value_of scale limit text) }
+    ensures zero { (text : List ℕ) → IsTrue (is_zero_text text) ↔ IsZero text }
+{
+}

@@ -1,0 +1,5 @@
+pub mod Buffers
+pub mod CallLists
+pub mod Cuts
+pub mod FirstLine
+pub mod Streams

@@ -1,0 +1,6 @@
+pub mod Content
+pub mod Next
+pub mod Framing
+pub mod Buffer
+pub mod Stream
+pub mod Calls

@@ -1,0 +1,182 @@
+ghost use Rattle.std.specs.Prelude.{◌≡◌, ◌≢◌, ◌≤◌, drop, vec_len, IfOk, IfErr, OnOk, OnErr, IfSome, IfNone};
+ghost use Rattle.std.specs.Result.{IsErrOf};
+ghost use Rattle.line_framing.specs.Next.{next_of};
+ghost use Rattle.line_framing.specs.Framing.{IsSound, IsLineDue, no_bytes, fed, after_next};
+
+use crate::faults::FramingFault;
+use crate::owned::Line;
+use crate::search::{content_end, has_line};
+use std::alloc::Global;
+use std::marker::Model;
+
+/// Bytes on their way to lines. Contracts see the bytes that were fed and not handed out (`rest`), and the
+/// fault that was met in them (`fault`).
+///
+/// A line ends with CR LF (I++ DME Interface version 1). It holds neither byte, and has at most 65,536 bytes
+/// without its end (this profile). Lines before a fault are handed out first. From the fault on, `feed` and
+/// `next_line` answer it, and the rest stays.
+///
+/// Inside, the bytes before `start` are handed out, and those up to `searched` are known to be free of CR and
+/// LF, so that none is searched twice. No caller sees either.
+#[derive(Drop)]
+pub struct Lines {
+    alloc: Global,
+    bytes: Vec<u8>,
+    start: usize,
+    searched: usize,
+    fault: Option<FramingFault>,
+}
+
+impl Model for Lines {
+    ghost use Rattle.std.specs.Prelude.{drop};
+    ghost use Rattle.line_framing.specs.Framing.{Framing};
+    ghost use Rattle.line_framing.specs.Buffer.{IsKept};
+
+    ghost Value = { Framing };
+
+    ghost view = { λ l. record { rest = drop l.start l.bytes.items; fault = l.fault } };
+
+    ghost invariant = { λ l. IsKept l.bytes.items l.start l.searched l.fault };
+}
+
+/// Takes the first `count` bytes away; the others move to the front.
+fn drop_front(bytes: &mut Vec<u8>, count: usize)
+    requires { count ≤ vec_len bytes.old }
+    ensures { bytes.new.items ≡ drop count bytes.old.items }
+{
+    let length = bytes.len();
+    bytes.copy_within(count..length, 0);
+    bytes.truncate(length - count);
+}
+
+impl Lines {
+    /// An empty buffer, which takes no memory yet.
+    pub fn new(alloc: Global) -> Lines
+        ensures { result ≡ no_bytes }
+    {
+        Lines {
+            alloc,
+            bytes: Vec::new(alloc),
+            start: 0,
+            searched: 0,
+            fault: None,
+        }
+    }
+
+    /// The bytes that were fed and not handed out.
+    pub fn rest(&self) -> &[u8]
+        ensures { result.now ≡ self.now.rest }
+    {
+        let (_, rest) = self.bytes.as_slice().split_at(self.start);
+        rest
+    }
+
+    /// The fault that `next_line` has met, if any. It is what stands at the front of the rest, and never want
+    /// of memory.
+    pub fn fault(&self) -> Option<FramingFault>
+        ensures fault { result ≡ self.now.fault }
+        ensures sound { IsSound self.now }
+    {
+        self.fault
+    }
+
+    /// Gives up the rest and the fault, as at the end of a connection. It takes no memory and keeps what it has.
+    pub fn clear(&mut self)
+        ensures { self.new ≡ no_bytes }
+    {
+        self.bytes.clear();
+        self.start = 0;
+        self.searched = 0;
+        self.fault = None;
+    }
+
+    /// Moves the rest to the front. It is no longer than what was handed out since the last move, so all moves
+    /// together cost no more than the bytes that were fed.
+    fn compact(&mut self)
+        ensures { self.new ≡ self.old }
+    {
+        if self.start >= self.bytes.len() - self.start {
+            drop_front(&mut self.bytes, self.start);
+            self.searched -= self.start;
+            self.start = 0;
+        }
+    }
+
+    /// Appends to the rest.
+    #[tactic(auto, using(crate::proofs::Buffers::longer_content))]
+    fn append(&mut self, piece: &[u8]) -> Result<(), FramingFault>
+        requires { self.old.fault ≡ None }
+        ensures ok { OnOk result (self.new ≡ fed self.old piece.now) }
+        ensures err { OnErr result (self.new ≡ self.old) }
+        ensures memory { IfErr result (λ fault. fault ≡ FramingFault.Memory) }
+    {
+        if self.bytes.extend_from_slice(piece).is_err() {
+            return Err(FramingFault::Memory);
+        }
+        Ok(())
+    }
+
+    /// Appends a piece, however the stream is cut, to the rest. A bad byte in it is met by `next_line`.
+    ///
+    /// It answers the fault that was met, if any; `Memory` where room was wanting. After each the buffer is as
+    /// before.
+    pub fn feed(&mut self, piece: &[u8]) -> Result<(), FramingFault>
+        ensures kept { IfSome self.old.fault (λ fault. result ≡ Err fault) }
+        ensures ok { OnOk result (self.new ≡ fed self.old piece.now) }
+        ensures clean { OnOk result (self.old.fault ≡ None) }
+        ensures err { OnErr result (self.new ≡ self.old) }
+        ensures cause { IfErr result (λ fault. fault ≢ FramingFault.Memory → self.old.fault ≡ Some fault) }
+        ensures sound { IsSound self.new }
+    {
+        match self.fault {
+            Some(fault) => Err(fault),
+            None => {
+                self.compact();
+                self.append(piece)
+            }
+        }
+    }
+
+    /// Takes the first line and its CR LF off the front of the rest; `None` where no whole line is there yet.
+    ///
+    /// It answers `LineTooLong` or `BadByte` where that stands at the front, and keeps it. `Memory` comes where
+    /// there was no room for the line; the buffer is then as before.
+    pub fn next_line(&mut self) -> Result<Option<Line>, FramingFault>
+        // The answer is what stands at the front of the rest, and from a fault on the same fault.
+        ensures line { IfOk result (λ found. IfSome found
+            (λ line. next_of self.old.rest ≡ Ok (Some (line, self.new.rest)))) }
+        ensures nothing { IfOk result (λ found. IfNone found (next_of self.old.rest ≡ Ok None)) }
+        ensures fault { IfErr result (λ fault. fault ≢ FramingFault.Memory → next_of self.old.rest ≡ Err fault) }
+        ensures kept { IfSome self.old.fault (λ fault. result ≡ Err fault) }
+
+        // The line and its end are gone, or the fault is kept from now on.
+        ensures stays { IfSome self.old.fault (λ _. self.new ≡ self.old) }
+        ensures ok { OnOk result (self.new ≡ after_next self.old) }
+        ensures err { IfErr result (λ fault. fault ≢ FramingFault.Memory → self.new ≡ after_next self.old) }
+        ensures sound { IsSound self.new }
+
+        // Memory is wanted for a whole line alone, and then nothing has changed.
+        ensures memory { IsErrOf result FramingFault.Memory → IsLineDue (next_of self.old.rest) }
+        ensures unchanged { IsErrOf result FramingFault.Memory → self.new ≡ self.old }
+    {
+        if let Some(fault) = self.fault {
+            return Err(fault);
+        }
+        self.searched = content_end(self.bytes.as_slice(), self.searched);
+        match has_line(self.bytes.as_slice(), self.start, self.searched) {
+            Ok(false) => Ok(None),
+            Ok(true) => match Line::copied(self.alloc, &self.bytes[self.start..self.searched]) {
+                Ok(line) => {
+                    self.start = self.searched + 2;
+                    self.searched = self.start;
+                    Ok(Some(line))
+                }
+                Err(_) => Err(FramingFault::Memory),
+            },
+            Err(fault) => {
+                self.fault = Some(fault);
+                Err(fault)
+            }
+        }
+    }
+}
