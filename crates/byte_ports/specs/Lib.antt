@@ -1,0 +1,3 @@
+pub mod Pieces
+pub mod Takes
+pub mod Transfers

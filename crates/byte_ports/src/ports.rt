@@ -1,0 +1,53 @@
+// The two traits that all movement of bytes is written against.
+ghost use Rattle.std.specs.Prelude.{◌≡◌, ℕ, ◌<◌, ◌≤◌, List, Option, Bool, true, false, length, IfOk, OnOk, OnErr};
+ghost use Rattle.std.specs.Io.KnownBytes.{ReadConsumes, WriteAppends};
+
+/// The device behind a port refused a read or a write.
+#[derive(Clone, Copy, Debug, PartialEq, Eq)]
+pub struct Failed;
+
+/// Where bytes come from.
+///
+/// `left` is the bytes that are still to come, where the port tells them, and
+/// `has_failed` whether the device has refused a read so far.
+pub trait Source {
+    ghost left: { Self → Option (List ℕ) };
+
+    ghost has_failed: { Self → Bool };
+
+    /// Takes the next bytes into the front of `buf` and answers how many.
+    ///
+    /// 0 into a buffer that is not empty is the end of the input. What stands
+    /// in `buf` behind the count means nothing. `Failed` comes where the port
+    /// has failed, by this call or before, and from then on always; it takes
+    /// nothing.
+    fn pull(&mut self, buf: &mut [u8]) -> Result<usize, Failed>
+        ensures within { IfOk result (λ n. n ≤ length buf.new) }
+        ensures bytes { ReadConsumes (left self.old) (left self.new) result buf.new }
+        ensures works { OnOk result (has_failed self.new ≡ false) }
+        ensures fails { OnErr result (has_failed self.new ≡ true) }
+        ensures stays { has_failed self.old ≡ true → has_failed self.new ≡ true };
+}
+
+/// Where bytes go.
+///
+/// `taken` is the bytes that were taken so far, where the port tells them, and
+/// `has_failed` whether the device has refused a write so far.
+pub trait Sink {
+    ghost taken: { Self → Option (List ℕ) };
+
+    ghost has_failed: { Self → Bool };
+
+    /// Hands over the front of `bytes` and answers how many were taken: at
+    /// least one, unless there are none.
+    ///
+    /// `Failed` comes where the port has failed, by this call or before, and
+    /// from then on always; it takes nothing.
+    fn push(&mut self, bytes: &[u8]) -> Result<usize, Failed>
+        ensures within { IfOk result (λ n. n ≤ length bytes.now) }
+        ensures some { 0 < length bytes.now → IfOk result (λ n. 0 < n) }
+        ensures bytes { WriteAppends (taken self.old) (taken self.new) result bytes.now }
+        ensures works { OnOk result (has_failed self.new ≡ false) }
+        ensures fails { OnErr result (has_failed self.new ≡ true) }
+        ensures stays { has_failed self.old ≡ true → has_failed self.new ≡ true };
+}
