@@ -1,0 +1,10 @@
+pub mod Blanks
+pub mod LineEnds
+pub mod Comments
+pub mod Splitting
+pub mod Readings
+pub mod SplittingLaws
+pub mod CommentLaws
+pub mod ElementLaws
+pub mod LineLaws
+pub mod NumberLaws

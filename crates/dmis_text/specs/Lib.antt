@@ -1,0 +1,10 @@
+pub mod Texts
+pub mod Elements
+pub mod Statements
+pub mod Begun
+pub mod Reading
+pub mod Splits
+pub mod Contents
+pub mod Numbers
+pub mod Look
+pub mod Found

@@ -1,0 +1,23 @@
+//! The statements of a DMIS text (ISO 22093), each with the number of the line on which it begins.
+//!
+//! A text is bytes. Its lines are looked at one by one (`lines`): the comment is left out, blank lines count for
+//! nothing, and a line that ends in `$` goes on (`joined`). What was joined is cut into label, word and parameters
+//! (`elements`, over the scans of `bytes`). `reading` hands the statements out one by one, and refuses a line that is
+//! too long or has a byte that may not stand there.
+//!
+//! What all of this means is said by `text_reading` of `specs/Reading.antt`, a function of the list of lines.
+//! `laws` ties the functions of `specs/` to relations in the subject's own words.
+#![tactic(auto)]
+
+mod bytes;
+mod elements;
+mod joined;
+pub mod laws;
+mod lines;
+mod reading;
+
+pub use elements::{Params, Statement, Text};
+pub use reading::{Statements, TextFault};
+
+#[cfg(test)]
+mod tests;

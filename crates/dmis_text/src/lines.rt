@@ -1,0 +1,142 @@
+ghost use Rattle.std.specs.Prelude.{◌≡◌, ◌++◌, ◌∷◌, [], ◌<◌, ◌≤◌, ◌==◌, Bool, true, false, length, MatchOption, IfSome};
+ghost use Rattle.std.specs.List.{position};
+ghost use Rattle.std.specs.Str.Lines.{lines, strip_carriage_return};
+ghost use Rattle.dmis_text.specs.Texts.{inside_after, before_comment, is_clean};
+ghost use Rattle.dmis_text.specs.Look.{role_of, TellsFlag};
+ghost use Rattle.dmis_text.specs.Reading.{line_role, content_role};
+
+use crate::bytes::{begins_comment, may_be_comment, may_stand, split_end_blanks, turned};
+
+/// The most bytes that a line may have without its end (this profile).
+const LONGEST_LINE: usize = 4096;
+
+/// A line that goes on: what stands before its last `$`, the blanks behind it, and whether a text is open there.
+#[derive(Clone, Copy)]
+pub(crate) struct Part<'a> {
+    pub(crate) front: &'a [u8],
+    pub(crate) blanks: &'a [u8],
+    pub(crate) inside: bool,
+}
+
+/// What a line is to its statement.
+#[derive(Clone, Copy)]
+pub(crate) enum Look<'a> {
+    TooLong,
+    Damaged,
+    Dropped,
+    Continued(Part<'a>),
+    Last(&'a [u8]),
+}
+
+/// The bytes without one CR at their end.
+fn without_return(line: &[u8]) -> &[u8]
+    ensures { result.now ≡ strip_carriage_return line.now }
+{
+    match line {
+        [front @ .., b'\r'] => front,
+        _ => line,
+    }
+}
+
+/// Where the first LF stands.
+fn line_feed(bytes: &[u8]) -> Option<usize>
+    ensures place { result ≡ position (λ c. c == 10) bytes.now }
+    ensures within { IfSome result (λ at. at < length bytes.now) }
+{
+    bytes.iter().position(|byte| *byte == b'\n')
+}
+
+/// The first line without its end, and the bytes behind that end; none where there is no byte.
+#[tactic(auto, using(crate::proofs::LineEnds::cuts))]
+pub(crate) fn cut_line(bytes: &[u8]) -> Option<(&[u8], &[u8])>
+    ensures cut { MatchOption result (bytes.now ≡ []) (λ p. lines bytes.now ≡ p.0.now ∷ lines p.1.now) }
+    ensures shorter { IfSome result (λ p. length p.1.now < length bytes.now) }
+{
+    if bytes.is_empty() {
+        return None;
+    }
+    match line_feed(bytes) {
+        Some(at) => {
+            let (line, _) = bytes.split_at(at);
+            let (_, after) = bytes.split_at(at + 1);
+            Some((without_return(line), after))
+        }
+        None => Some(bytes.split_at(bytes.len())),
+    }
+}
+
+/// What stands before the comment, and whether a text is open behind it; none where a byte may not stand in its place.
+#[tactic(auto, using(crate::proofs::Comments::steps))]
+fn content_of(line: &[u8], mut inside: bool) -> Option<(&[u8], bool)>
+    ensures clean { MatchOption result (is_clean inside line.now ≡ false) (λ _. is_clean inside line.now ≡ true) }
+    ensures content { IfSome result (λ p. p.0.now ≡ before_comment inside line.now) }
+    ensures flag { IfSome result (λ p. p.1 ≡ inside_after inside p.0.now) }
+{
+    for (at, byte) in line.iter().enumerate() {
+        let (content, rest) = line.split_at(at);
+        if begins_comment(inside, rest) {
+            return if may_be_comment(rest) {
+                Some((content, inside))
+            } else {
+                None
+            };
+        }
+        if !may_stand(inside, *byte) {
+            return None;
+        }
+        inside = turned(inside, *byte);
+    }
+    Some((line, inside))
+}
+
+/// What a line is to its statement by what stands before its comment.
+#[tactic(auto, using(crate::proofs::Blanks::ends))]
+fn examine_content(content: &[u8], inside: bool) -> Look<'_>
+    ensures role { role_of result ≡ content_role content.now }
+    ensures flag { (start : Bool)
+        → inside ≡ inside_after start content.now → TellsFlag start result }
+{
+    let (kept, blanks) = split_end_blanks(content);
+    match kept.split_last() {
+        None => Look::Dropped,
+        Some((last, front)) => {
+            if *last == b'$' {
+                Look::Continued(Part {
+                    front,
+                    blanks,
+                    inside,
+                })
+            } else {
+                Look::Last(content)
+            }
+        }
+    }
+}
+
+/// What a line is to its statement, where a text is open before it or not.
+pub(crate) fn examine(line: &[u8], inside: bool) -> Look<'_>
+    ensures role { role_of result ≡ line_role inside line.now }
+    ensures flag { TellsFlag inside result }
+{
+    if line.len() > LONGEST_LINE {
+        return Look::TooLong;
+    }
+    match content_of(line, inside) {
+        Some((content, inner)) => examine_content(content, inner),
+        None => Look::Damaged,
+    }
+}
+
+/// How many lines the bytes have.
+pub(crate) fn count_lines(bytes: &[u8]) -> u64
+    ensures count { result ≡ length (lines bytes.now) }
+    ensures within { result ≤ length bytes.now }
+{
+    let mut count = 0;
+    let mut rest = bytes;
+    while let Some((_, after)) = cut_line(rest) {
+        count += 1;
+        rest = after;
+    }
+    count
+}
