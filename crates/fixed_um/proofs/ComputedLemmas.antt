@@ -46,9 +46,10 @@ value_of-is scale limit text x h = one_reading scale limit text (value_of scale 
 
 zero_numeral : (text : List ℕ) (o : Option Numeral) → numeral_of text ≡ o → (IsTrue (is_zero_numeral o) ↔ IsZero text)
 zero_numeral text None e = (λ t. absurd (both_ways false refl t), λ z. let found = numeral_only text z.0 z.1 in absurd cc)
-zero_numeral text (Some n) e =
-    (λ t. let p = and_parts (nat_le (length n.digits) 30) (digits_value 10 n.digits == 0) t in (n, numeral_found text n e, leb-true _ _ p.0, eqb-true _ _ p.1),
-    λ z. let same = the_one text n z.0 e z.1 in and_from _ _ (le-leb _ _ (subst (λ (m : Numeral). length m.digits ≤ 30) same z.2)) (eq-eqb _ _ (subst (λ (m : Numeral). digits_value 10 m.digits ≡ 0) same z.3)))
+zero_numeral text (Some n) e = (
+  λ t. let p = and_parts (nat_le (length n.digits) 30) (digits_value 10 n.digits == 0) t in (n, numeral_found text n e, leb-true _ _ p.0, eqb-true _ _ p.1),
+  λ z. let same = the_one text n z.0 e z.1 in and_from _ _ (le-leb _ _ (subst (λ (m : Numeral). length m.digits ≤ 30) same z.2)) (eq-eqb _ _ (subst (λ (m : Numeral). digits_value 10 m.digits ≡ 0) same z.3)),
+)
 
 pub is_zero_text-is : (text : List ℕ) → (IsTrue (is_zero_text text) ↔ IsZero text)
 is_zero_text-is text = zero_numeral text (numeral_of text) refl

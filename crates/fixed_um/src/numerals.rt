@@ -127,5 +127,4 @@ pub fn one_reading()
 pub fn computed_reading()
     ensures value { (scale limit : ℕ) (text : List ℕ) → Reads scale limit text (value_of scale limit text) }
     ensures zero { (text : List ℕ) → IsTrue (is_zero_text text) ↔ IsZero text }
-{
-}
+{}
