@@ -1,0 +1,13 @@
+pub mod CountLemmas
+pub mod PositionLemmas
+pub mod OffsetLemmas
+pub mod SayingLemmas
+pub mod JudgingLemmas
+pub mod SoundLemmas
+pub mod ProgramLemmas
+pub mod CarryingLemmas
+pub mod OrderLemmas
+pub mod ShapeLemmas
+pub mod SelectionLemmas
+pub mod BlockLemmas
+pub mod ParenthesisLemmas

@@ -1,0 +1,13 @@
+pub mod Keywords
+pub mod Outcomes
+pub mod Positions
+pub mod Parameters
+pub mod Sayings
+pub mod Offsets
+pub mod LookBack
+pub mod Judging
+pub mod Meaning
+pub mod Carrying
+pub mod Programs
+pub mod Sound
+pub mod Order

@@ -1,0 +1,68 @@
+-- What holds of the code's state at each statement. No public clause cites it.
+use Rattle.std.specs.Prelude.{◌≡◌, ℕ, ◌<◌, ◌≤◌, List, [], ◌∷◌, ◌++◌, length, Option, Some, None, IfSome}
+use Rattle.std.specs.List.{AllByRecursion}
+use Rattle.fixed_um.specs.Names.{IsName}
+use Rattle.fixed_um.specs.Points.{IsInVolume}
+use Rattle.fixed_um.specs.Shapes.{IsDirection}
+use Rattle.fixed_um.specs.declared.frames.Frame.TheVariants.{Machine}
+use Rattle.fixed_um.specs.declared.lengths.Point.{Point}
+use Rattle.dmis_program.specs.Offsets.{offset_of}
+use Rattle.dmis_program.specs.Meaning.{features_of, block_touches}
+use Rattle.dmis_program.specs.Programs.{IsFrame, IsStep, AreBlocks, FollowSelections}
+use Rattle.dmis_program.specs.Carrying.{Carried}
+use Rattle.dmis_program.specs.declared.keywords.Keyword.{Keyword}
+use Rattle.dmis_program.specs.declared.keywords.Keyword.TheVariants as word
+use Rattle.dmis_program.specs.declared.sayings.Said.{Said}
+use Rattle.dmis_program.specs.declared.sayings.Said.TheVariants.{Goes, Begins, Touches, Ends, Selects, Recalls, Closes, Passes}
+use Rattle.dmis_program.specs.declared.steps.Step.{Step}
+use Rattle.dmis_program.specs.declared.features.Touch as touch
+use Rattle.dmis_program.specs.declared.features.Wanted.{Wanted}
+use Rattle.dmis_program.specs.declared.reading.Block.{Block}
+
+-- what a statement says by itself tells its keyword, and is within the limits
+abbrev pub SaidBy : Keyword → Said → Type 0
+SaidBy keyword (Goes target) = IsInVolume target
+SaidBy keyword (Begins name count) = (keyword ≡ word.Meas) × IsName name × (1 ≤ count)
+SaidBy keyword (Touches target direction) = (keyword ≡ word.Ptmeas) × IsInVolume target × IfSome direction IsDirection
+SaidBy keyword Ends = keyword ≡ word.Endmes
+SaidBy keyword (Selects name) = IsName name
+SaidBy keyword (Recalls name) = Unit {0}
+SaidBy keyword Closes = keyword ≡ word.Endfil
+SaidBy keyword Passes = Unit {0}
+
+-- what is said where it may be said: by the selected tool, the open block and the count of its touches
+abbrev pub IsAllowed : List (List ℕ × Point) → Option (List ℕ) → Option Block → ℕ → Said → Type 0
+IsAllowed frames tool block count (Goes target) = IsInVolume target
+IsAllowed frames tool block count (Begins name wanted) = (block ≡ None) × IsName name × (1 ≤ wanted)
+IsAllowed frames tool block count (Touches target direction) = IsInVolume target × IfSome direction IsDirection × ((name : List ℕ) × (tool ≡ Some name)) × ((b : Block) × (block ≡ Some b))
+IsAllowed frames tool block count Ends = (b : Block) × (block ≡ Some b) × (b.wanted ≤ count)
+IsAllowed frames tool block count (Selects name) = IsName name
+IsAllowed frames tool block count (Recalls name) = (offset : Point) × (offset_of frames name ≡ Some offset)
+IsAllowed frames tool block count Closes = block ≡ None
+IsAllowed frames tool block count Passes = Unit {0}
+
+abbrev pub MayFollow : List (List ℕ × Point) → Carried → Said → Type 0
+MayFollow frames c said = (c.number < 10000) × IsAllowed frames c.tool c.open_block (length c.touches) said
+
+-- the features of the steps to come, with that of the open block before them
+abbrev pub under_way : Option Block → List touch.Touch → List Step → List Wanted
+under_way None touches more = features_of more
+under_way (Some block) touches more = record { label = block.label; touches = touches ++ block_touches more } ∷ features_of more
+
+-- how many touches the open block has, or that none is open
+abbrev pub open_count : Option Block → List touch.Touch → Option ℕ
+open_count None touches = None
+open_count (Some block) touches = Some (length touches)
+
+-- the steps so far, and what has been made of them
+pub record IsSound (c : Carried) : Type 0 where
+  pub features : (more : List Step) → features_of (c.steps ++ more) ≡ c.done ++ under_way c.open_block c.touches more
+  pub blocks : (more : List Step) → AreBlocks (open_count c.open_block c.touches) more → AreBlocks None (c.steps ++ more)
+  pub selections : (more : List Step) → FollowSelections c.tool c.frame more → FollowSelections None Machine (c.steps ++ more)
+  pub steps : AllByRecursion IsStep c.steps
+  pub tool : IfSome c.tool IsName
+  pub frame : IsFrame c.frame
+  pub wanted : IfSome c.open_block (λ b. 1 ≤ b.wanted)
+  pub idle : c.open_block ≡ None → c.touches ≡ []
+  pub short : length c.steps ≤ c.number
+  pub few : c.number ≤ 10000

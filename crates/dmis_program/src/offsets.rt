@@ -1,0 +1,64 @@
+ghost use Rattle.std.specs.Prelude.{◌≡◌, ◌↔◌, [], ◌∷◌, ◌++◌, IfOk, OnErr, IsTrue, None, if◌then◌else◌};
+ghost use Rattle.dmis_program.specs.Offsets.{offset_of, AreFrames};
+ghost use Rattle.fixed_um.specs.Points.{IsInVolume};
+
+use fixed_um::{Name, Point};
+use std::alloc::{AllocError, Global};
+use std::marker::Model;
+
+/// Stored frames that a program may recall (ISO 22093 `RECALL/D`): names, each with the place of the frame's zero point in machine
+/// axes, which is in the machine's volume. Contracts see the list of pairs in the order in which they were added. No name is there twice.
+#[derive(Debug, Drop)]
+pub struct Frames {
+    pub(crate) entries: Vec<(Name, Point)>,
+}
+
+impl Model for Frames {
+    ghost use Rattle.std.specs.Prelude.{ℕ, List};
+    ghost use Rattle.fixed_um.specs.declared.lengths.Point.{Point};
+    ghost use Rattle.dmis_program.specs.Offsets.{AreFrames};
+
+    ghost Value = { List (List ℕ × Point) };
+
+    ghost view = { λ f. f.entries.items };
+
+    ghost invariant = { λ f. AreFrames f.entries.items };
+}
+
+impl Frames {
+    /// No frame. It takes no memory yet.
+    pub fn new(alloc: Global) -> Frames
+        ensures { result ≡ [] }
+    {
+        Frames {
+            entries: Vec::new(alloc),
+        }
+    }
+
+    /// The zero point of the frame of this name, or `None`. Takes no memory.
+    pub fn get(&self, name: &Name) -> Option<Point>
+        ensures offset { result ≡ offset_of self.now name.now }
+        ensures frames { AreFrames self.now }
+    {
+        let entry = self
+            .entries
+            .iter()
+            .find(|e| e.0.as_bytes() == name.as_bytes())?;
+        Some(entry.1)
+    }
+
+    /// Adds a frame behind the others; false where one of this name is there, and then nothing has changed.
+    /// The caller owes a zero point in the machine's volume. Only want of memory is an `Err`, and then nothing has changed either.
+    pub fn add(&mut self, name: Name, point: Point) -> Result<bool, AllocError>
+        requires { IsInVolume point }
+        ensures is_new { IfOk result (λ added. IsTrue added ↔ (offset_of self.old name ≡ None)) }
+        ensures added { IfOk result (λ added. self.new ≡ (if added then self.old ++ (name, point) ∷ [] else self.old)) }
+        ensures err { OnErr result (self.new ≡ self.old) }
+    {
+        if self.get(&name).is_some() {
+            return Ok(false);
+        }
+        self.entries.push((name, point))?;
+        Ok(true)
+    }
+}

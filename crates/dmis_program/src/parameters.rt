@@ -1,0 +1,140 @@
+ghost use Rattle.std.specs.Prelude.{◌≡◌, ◌==◌, ◌∷◌, [], ◌<◌, ◌≤◌, ◌^◌, ◌-◌, true, length, slice_index, IfOk, IfSome, MatchOption, Option, Some, None, nat_eq, option_and_then};
+ghost use Rattle.std.specs.List.{list_all, list_any};
+ghost use Rattle.std.specs.Option.{option_map};
+ghost use Rattle.std.specs.Char.{is_ascii_digit, is_ascii_alphabetic};
+ghost use Rattle.std.specs.Str.{bytes_eq};
+ghost use Rattle.std.specs.Str.Parse.{digits_value};
+ghost use Rattle.fixed_um.specs.Names.{is_name_text, folded};
+ghost use Rattle.dmis_program.specs.Parameters.{is_letters, begins, before_close, name_of, name_within, count_of, without_cart, is_other_coordinates, is_other_recall};
+
+use crate::keywords::is_text;
+use dmis_text::Text;
+use fixed_um::Name;
+use std::alloc::{AllocError, Global};
+
+/// The most touches that a block may ask for (this profile).
+const MOST_TOUCHES: u64 = 10_000;
+
+/// Whether one of the parameters is this word.
+pub(crate) fn has_word(params: &[Text], word: &str) -> bool
+    ensures { result ≡ list_any (λ p. bytes_eq p word.now) params.now }
+{
+    params.iter().any(|p| is_text(p.as_slice(), word))
+}
+
+/// Whether each byte is a letter.
+fn all_letters(text: &[u8]) -> bool
+    ensures { result ≡ list_all is_ascii_alphabetic text.now }
+{
+    text.iter().all(|b| b.is_ascii_alphabetic())
+}
+
+/// Whether a parameter is a word of letters.
+pub(crate) fn is_letters(text: &[u8]) -> bool
+    ensures { result ≡ is_letters text.now }
+{
+    !text.is_empty() && all_letters(text)
+}
+
+/// Whether a parameter begins with these bytes.
+pub(crate) fn begins(text: &[u8], front: &[u8]) -> bool
+    ensures { result ≡ begins front.now text.now }
+{
+    text.starts_with(front)
+}
+
+/// What stands before a `)` at the end.
+fn before_close(text: &[u8]) -> Option<&[u8]>
+    ensures { option_map (λ t. t.now) result ≡ before_close text.now }
+{
+    match text {
+        [front @ .., b')'] => Some(front),
+        _ => None,
+    }
+}
+
+/// The name between these bytes and a `)`.
+#[tactic(auto, unfolding(crate::specs::Parameters::name_within))]
+pub(crate) fn name_within(
+    alloc: Global,
+    front: &[u8],
+    text: &[u8],
+) -> Result<Option<Name>, AllocError>
+    ensures { IfOk result (λ name. name ≡ name_within front.now text.now) }
+{
+    let Some(rest) = text.strip_prefix(front) else {
+        return Ok(None);
+    };
+    let Some(inner) = before_close(rest) else {
+        return Ok(None);
+    };
+    Name::new(alloc, inner)
+}
+
+/// Whether each byte is a digit.
+fn all_digits(text: &[u8]) -> bool
+    ensures { result ≡ list_all is_ascii_digit text.now }
+{
+    text.iter().all(|b| b.is_ascii_digit())
+}
+
+/// The count of touches that a block asks for.
+pub(crate) fn count_of(text: &[u8]) -> Option<u64>
+    ensures { result ≡ count_of text.now }
+{
+    if !all_digits(text) {
+        return None;
+    }
+    let mut value = 0;
+    for digit in text {
+        value = value * 10 + u64::from(*digit - b'0');
+        if value > MOST_TOUCHES {
+            return None;
+        }
+    }
+    if value > 0 { Some(value) } else { None }
+}
+
+/// The parameters behind a first `CART`.
+pub(crate) fn without_cart(params: &[Text]) -> &[Text]
+    ensures { result.now ≡ without_cart params.now }
+{
+    match params.split_first() {
+        Some((first, rest)) if is_text(first.as_slice(), "CART") => rest,
+        _ => params,
+    }
+}
+
+/// Whether the first byte is a letter.
+fn begins_with_letter(text: &[u8]) -> bool
+    ensures { result ≡ is_ascii_alphabetic (slice_index text.now 0) }
+{
+    match text {
+        [first, ..] => first.is_ascii_alphabetic(),
+        _ => false,
+    }
+}
+
+/// Whether the first parameter names other coordinates than `CART`.
+pub(crate) fn is_other_coordinates(params: &[Text]) -> bool
+    ensures { result ≡ is_other_coordinates params.now }
+{
+    match params.split_first() {
+        Some((first, _)) => begins_with_letter(first.as_slice())
+            && !is_text(first.as_slice(), "CART"),
+        None => false,
+    }
+}
+
+/// Whether the first parameter recalls nothing that this profile knows.
+pub(crate) fn is_other_recall(params: &[Text]) -> bool
+    ensures { result ≡ is_other_recall params.now }
+{
+    match params.split_first() {
+        Some((first, _)) => {
+            let first = first.as_slice();
+            !begins(first, b"D(") && !begins(first, b"S(") && !begins(first, b"SA(")
+        }
+        None => false,
+    }
+}

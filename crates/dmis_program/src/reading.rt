@@ -1,0 +1,276 @@
+ghost use Rattle.std.specs.Prelude.{false, Ok, ◌≡◌, ◌<◌, ◌≤◌, [], ◌∷◌, ◌++◌, OnOk, Option, Some, None};
+ghost use Rattle.dmis_program.specs.Judging.{word_refusal, settled, misplaced, is_start, is_unsupported};
+ghost use Rattle.dmis_program.specs.Meaning.{closes};
+ghost use Rattle.dmis_program.specs.Carrying.{no_statement, context_of, with_step, changed, recalled_at, follows, next, GivesNext};
+
+use crate::faults::{ProgramFault, Refusal, StatementFault};
+use crate::features::{Touch, Touches, Wanted};
+use crate::keywords::{Keyword, keyword_of_word};
+use crate::offsets::Frames;
+use crate::parameters::{is_other_coordinates, is_other_recall};
+use crate::programs::Program;
+use crate::sayings::{Said, said_of};
+use crate::steps::Step;
+use dmis_text::{Statement, Text};
+use fixed_um::{Dir, Frame, Name, Point};
+use std::alloc::{AllocError, Global};
+use std::marker::Model;
+
+/// The most statements that a program may have (this profile).
+const MOST_STATEMENTS: u64 = 10_000;
+
+/// The open block: its feature's label, and how many touches it asks for.
+#[derive(Drop)]
+pub(crate) struct Block {
+    pub(crate) label: Name,
+    pub(crate) wanted: u64,
+}
+
+/// What is carried from statement to statement.
+#[derive(Drop)]
+pub(crate) struct Reader {
+    alloc: Global,
+    count: u64,
+    tool: Option<Name>,
+    frame: Frame,
+    block: Option<Block>,
+    touches: Vec<Touch>,
+    features: Vec<Wanted>,
+    steps: Vec<Step>,
+}
+
+impl Model for Reader {
+    ghost use Rattle.dmis_program.specs.Carrying.{Carried};
+
+    ghost Value = { Carried };
+
+    ghost view = { λ r. record { number = r.count; tool = r.tool; frame = r.frame; open_block = r.block; touches = r.touches.items; done = r.features.items; steps = r.steps.items } };
+}
+
+/// Whether a keyword is that of the first statement.
+fn is_start(keyword: Keyword) -> bool
+    ensures { result ≡ is_start keyword }
+{
+    match keyword {
+        Keyword::Dmismn => true,
+        _ => false,
+    }
+}
+
+/// Whether a statement is none that this profile reads.
+fn is_unsupported(first: bool, keyword: Keyword, params: &[Text]) -> bool
+    ensures { result ≡ is_unsupported first keyword params.now }
+{
+    match keyword {
+        Keyword::Dmismn => !first,
+        Keyword::Goto => is_other_coordinates(params),
+        Keyword::Ptmeas => is_other_coordinates(params),
+        Keyword::Recall => is_other_recall(params),
+        Keyword::Unknown => true,
+        _ => false,
+    }
+}
+
+/// The refusal of a statement that stands in the wrong place.
+fn misplaced(keyword: Keyword, wanted: Option<u64>) -> Option<Refusal>
+    ensures { result ≡ misplaced keyword wanted }
+{
+    match (keyword, wanted) {
+        (Keyword::Ptmeas, None) => Some(Refusal::OutsideBlock),
+        (Keyword::Endmes, None) => Some(Refusal::OutsideBlock),
+        (Keyword::Meas, Some(_)) => Some(Refusal::InsideBlock),
+        (Keyword::Endfil, Some(_)) => Some(Refusal::InsideBlock),
+        _ => None,
+    }
+}
+
+impl Reader {
+    ghost use Rattle.dmis_program.specs.Carrying.{no_statement, context_of, with_step, changed, recalled_at, follows, next, GivesNext};
+    ghost use Rattle.dmis_program.specs.Meaning.{closes, without_end};
+    ghost use Rattle.dmis_program.specs.Outcomes.{refused_at};
+    ghost use Rattle.dmis_program.specs.Programs.{IsProgram};
+
+    /// Before any statement.
+    pub(crate) fn new(alloc: Global) -> Reader
+        ensures { result ≡ no_statement }
+    {
+        Reader {
+            alloc,
+            count: 0,
+            tool: None,
+            frame: Frame::Machine,
+            block: None,
+            touches: Vec::new(alloc),
+            features: Vec::new(alloc),
+            steps: Vec::new(alloc),
+        }
+    }
+
+    /// How many touches the open block asks for.
+    fn wanted(&self) -> Option<u64>
+        ensures { result ≡ (context_of self.now).wanted }
+    {
+        match &self.block {
+            Some(block) => Some(block.wanted),
+            None => None,
+        }
+    }
+
+    /// What the word and the place alone refuse.
+    fn word_refusal(&self, keyword: Keyword, params: &[Text]) -> Option<Refusal>
+        ensures { result ≡ word_refusal (context_of self.now) keyword params.now }
+    {
+        let first = self.count == 0;
+        if first && !is_start(keyword) {
+            return Some(Refusal::NotDmis);
+        }
+        if is_unsupported(first, keyword, params) {
+            return Some(Refusal::Unsupported);
+        }
+        misplaced(keyword, self.wanted())
+    }
+
+    /// One step more.
+    fn step(&mut self, step: Step) -> Result<(), AllocError>
+        ensures { OnOk result (self.new ≡ with_step self.old step) }
+    {
+        self.steps.push(step)?;
+        Ok(())
+    }
+
+    /// `MEAS`: a block begins. Stored frames play no part.
+    fn begin(&mut self, label: Name, wanted: u64) -> Result<bool, StatementFault>
+        ensures { GivesNext result self.new (Ok (false, changed [] self.old (Said.Begins label wanted))) }
+    {
+        self.step(Step::Begin(label.copy(self.alloc)?))?;
+        self.block = Some(Block { label, wanted });
+        Ok(false)
+    }
+
+    /// `PTMEAS`: a touch with the selected tool and frame. It stands in the steps and in the block.
+    fn touch(&mut self, target: Point, dir: Option<Dir>) -> Result<bool, StatementFault>
+        ensures { GivesNext result self.new (follows [] self.old (Said.Touches target dir)) }
+    {
+        let Some(tool) = &self.tool else {
+            return Err(StatementFault::Refused(Refusal::NoTool));
+        };
+        let tool = tool.copy(self.alloc)?;
+        let touch = Touch {
+            target,
+            dir,
+            tool,
+            frame: self.frame,
+        };
+        let copy = touch.copy(self.alloc)?;
+        self.touches.push(touch)?;
+        self.step(Step::Touch(copy))?;
+        Ok(false)
+    }
+
+    /// `ENDMES`: the block is a feature.
+    fn end(&mut self) -> Result<bool, StatementFault>
+        ensures { GivesNext result self.new (follows [] self.old Said.Ends) }
+    {
+        if let Some(Block { label, wanted }) = self.block.take() {
+            if (self.touches.len() as u64) < wanted {
+                return Err(StatementFault::Refused(Refusal::TooFewPoints));
+            }
+            let touches = Touches::new(std::mem::replace(&mut self.touches, Vec::new(self.alloc)));
+            self.features.push(Wanted { label, touches })?;
+        }
+        self.step(Step::End)?;
+        Ok(false)
+    }
+
+    /// `SNSLCT`: a tool is selected.
+    fn select(&mut self, tool: Name) -> Result<bool, StatementFault>
+        ensures { GivesNext result self.new (Ok (false, changed [] self.old (Said.Selects tool))) }
+    {
+        self.step(Step::Tool(tool.copy(self.alloc)?))?;
+        self.tool = Some(tool);
+        Ok(false)
+    }
+
+    /// `RECALL/D`: a stored frame is selected.
+    fn recall(&mut self, frames: &Frames, name: Name) -> Result<bool, StatementFault>
+        ensures { GivesNext result self.new (follows frames.now self.old (Said.Recalls name)) }
+    {
+        let Some(offset) = frames.get(&name) else {
+            return Err(StatementFault::Refused(Refusal::UnknownFrame));
+        };
+        let zero_point = offset;
+        self.step(Step::Recall(offset))?;
+        self.frame = Frame::Part(zero_point);
+        Ok(false)
+    }
+
+    /// Goes on by what a statement says. True at the end of the program.
+    fn follow(&mut self, frames: &Frames, said: Said) -> Result<bool, StatementFault>
+        ensures { GivesNext result self.new (follows frames.now self.old said) }
+    {
+        match said {
+            Said::Goes(target) => {
+                self.step(Step::Goto(target))?;
+                Ok(false)
+            }
+            Said::Begins(label, wanted) => self.begin(label, wanted),
+            Said::Touches(target, dir) => self.touch(target, dir),
+            Said::Ends => self.end(),
+            Said::Selects(tool) => self.select(tool),
+            Said::Recalls(name) => self.recall(frames, name),
+            Said::Closes => Ok(true),
+            Said::Passes => Ok(false),
+        }
+    }
+
+    /// Takes one statement more. True at the end of the program. After an `Err` the reader is of no further use.
+    #[tactic(auto, unfolding(crate::specs::Judging::judged))]
+    pub(crate) fn read(
+        &mut self,
+        frames: &Frames,
+        statement: &Statement,
+    ) -> Result<bool, StatementFault>
+        ensures { GivesNext result self.new (next frames.now self.old statement.now) }
+    {
+        if self.count >= MOST_STATEMENTS {
+            return Err(StatementFault::Refused(Refusal::TooLarge));
+        }
+        let keyword = keyword_of_word(statement.word.as_slice());
+        let params = statement.params.as_slice();
+        if let Some(refusal) = self.word_refusal(keyword, params) {
+            return Err(StatementFault::Refused(refusal));
+        }
+        let said = said_of(self.alloc, keyword, statement)?;
+        self.count += 1;
+        self.follow(frames, said)
+    }
+
+    /// The refusal of a text that ends here, without an `ENDFIL`, and has so many lines.
+    pub(crate) fn missing_end(&self, lines: u64) -> ProgramFault
+        ensures { result ≡ refused_at (without_end self.now.number lines) }
+    {
+        if self.count == 0 {
+            ProgramFault::Refused(Refusal::NotDmis, 1)
+        } else {
+            ProgramFault::Refused(Refusal::Truncated, lines)
+        }
+    }
+
+    /// The program that was read.
+    pub(crate) fn finish(self) -> Program
+        requires { IsProgram (record { features = self.done; steps = self.steps }) }
+        ensures { result ≡ record { features = self.done; steps = self.steps } }
+    {
+        let Reader {
+            alloc: _,
+            count: _,
+            tool: _,
+            frame: _,
+            block: _,
+            touches: _,
+            features,
+            steps,
+        } = self;
+        Program::new(features, steps)
+    }
+}

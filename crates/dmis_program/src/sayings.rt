@@ -1,0 +1,202 @@
+ghost use Rattle.std.specs.Prelude.{◌≡◌, ◌∷◌, [], Option, Some, None, codes};
+ghost use Rattle.dmis_program.specs.Outcomes.{Gives};
+ghost use Rattle.dmis_program.specs.Sayings.{goes, begins_block, touches_at, touches, without_parameters, selects, recalls_frame, recalls, units, mode, said_by, said_of, is_badly_formed};
+
+use crate::faults::{Refusal, StatementFault};
+use crate::keywords::{Keyword, is_text};
+use crate::parameters::{begins, count_of, has_word, is_letters, name_within, without_cart};
+use crate::positions::{approach, position};
+use dmis_text::{Statement, Text};
+use fixed_um::{Dir, Name, Point};
+use std::alloc::Global;
+
+/// What one statement says by itself.
+#[derive(Drop)]
+pub(crate) enum Said {
+    /// A move.
+    Goes(Point),
+    /// A block begins for a feature, which asks for so many touches.
+    Begins(Name, u64),
+    /// A touch at a target, from a direction or none.
+    Touches(Point, Option<Dir>),
+    /// The block ends.
+    Ends,
+    /// A tool is selected.
+    Selects(Name),
+    /// A stored frame is selected.
+    Recalls(Name),
+    /// The program ends.
+    Closes,
+    /// Nothing is commanded.
+    Passes,
+}
+
+/// `GOTO/x,y,z`, where a first `CART` is taken away.
+fn goes(params: &[Text]) -> Result<Said, Refusal>
+    ensures { result ≡ goes params.now }
+{
+    match params {
+        [x, y, z] => Ok(Said::Goes(position(x.as_slice(), y.as_slice(), z.as_slice())?)),
+        _ => Err(Refusal::BadArguments),
+    }
+}
+
+/// `MEAS/kind,F(name),n`.
+fn begins_block(alloc: Global, params: &[Text]) -> Result<Said, StatementFault>
+    ensures { Gives result (begins_block params.now) }
+{
+    let [kind, feature, count] = params else {
+        return Err(StatementFault::Refused(Refusal::BadArguments));
+    };
+    let name = name_within(alloc, b"F(", feature.as_slice())?;
+    match (name, count_of(count.as_slice())) {
+        (Some(name), Some(count)) if is_letters(kind.as_slice()) => Ok(Said::Begins(name, count)),
+        _ => Err(StatementFault::Refused(Refusal::BadArguments)),
+    }
+}
+
+/// `PTMEAS/CART` behind its first parameter.
+fn touches_at(params: &[Text]) -> Result<Said, Refusal>
+    ensures { result ≡ touches_at params.now }
+{
+    match params {
+        [x, y, z] => {
+            let target = position(x.as_slice(), y.as_slice(), z.as_slice())?;
+            Ok(Said::Touches(target, None))
+        }
+        [x, y, z, i, j, k] => {
+            let target = position(x.as_slice(), y.as_slice(), z.as_slice())?;
+            let direction = approach(i.as_slice(), j.as_slice(), k.as_slice())?;
+            Ok(Said::Touches(target, Some(direction)))
+        }
+        _ => Err(Refusal::BadArguments),
+    }
+}
+
+/// `PTMEAS/CART,x,y,z` with or without a direction.
+fn touches(params: &[Text]) -> Result<Said, Refusal>
+    ensures { result ≡ touches params.now }
+{
+    match params.split_first() {
+        Some((first, rest)) if is_text(first.as_slice(), "CART") => touches_at(rest),
+        _ => Err(Refusal::BadArguments),
+    }
+}
+
+/// `ENDMES` and `ENDFIL`.
+fn without_parameters(said: Said, params: &[Text]) -> Result<Said, Refusal>
+    ensures { result ≡ without_parameters said params.now }
+{
+    if params.is_empty() {
+        Ok(said)
+    } else {
+        Err(Refusal::BadArguments)
+    }
+}
+
+/// `SNSLCT/S(name)` and `SNSLCT/SA(name)`.
+fn selects(alloc: Global, params: &[Text]) -> Result<Said, StatementFault>
+    ensures { Gives result (selects params.now) }
+{
+    let [first] = params else {
+        return Err(StatementFault::Refused(Refusal::BadArguments));
+    };
+    if let Some(name) = name_within(alloc, b"S(", first.as_slice())? {
+        return Ok(Said::Selects(name));
+    }
+    match name_within(alloc, b"SA(", first.as_slice())? {
+        Some(name) => Ok(Said::Selects(name)),
+        None => Err(StatementFault::Refused(Refusal::BadArguments)),
+    }
+}
+
+/// `RECALL/D(name)`.
+fn recalls_frame(alloc: Global, params: &[Text]) -> Result<Said, StatementFault>
+    ensures { Gives result (recalls_frame params.now) }
+{
+    let [first] = params else {
+        return Err(StatementFault::Refused(Refusal::BadArguments));
+    };
+    match name_within(alloc, b"D(", first.as_slice())? {
+        Some(name) => Ok(Said::Recalls(name)),
+        None => Err(StatementFault::Refused(Refusal::BadArguments)),
+    }
+}
+
+/// `RECALL`, which selects a frame or commands nothing.
+fn recalls(alloc: Global, params: &[Text]) -> Result<Said, StatementFault>
+    ensures { Gives result (recalls params.now) }
+{
+    match params.split_first() {
+        Some((first, _)) if begins(first.as_slice(), b"D(") => recalls_frame(alloc, params),
+        Some(_) => Ok(Said::Passes),
+        None => Err(StatementFault::Refused(Refusal::BadArguments)),
+    }
+}
+
+/// `UNITS/MM,..`.
+fn units(params: &[Text]) -> Result<Said, Refusal>
+    ensures { result ≡ units params.now }
+{
+    match params.split_first() {
+        Some((first, _)) if is_text(first.as_slice(), "MM") => Ok(Said::Passes),
+        Some(_) => Err(Refusal::NotMillimetres),
+        None => Err(Refusal::BadArguments),
+    }
+}
+
+/// `MODE/..` with `PROG` among the words.
+fn mode(params: &[Text]) -> Result<Said, Refusal>
+    ensures { result ≡ mode params.now }
+{
+    if params.is_empty() {
+        return Err(Refusal::BadArguments);
+    }
+    if has_word(params, "PROG") {
+        Ok(Said::Passes)
+    } else {
+        Err(Refusal::NoProgMode)
+    }
+}
+
+/// By keyword. An unknown word never comes so far.
+#[tactic(auto, unfolding(crate::specs::Sayings::said_by))]
+fn said_by(alloc: Global, keyword: Keyword, params: &[Text]) -> Result<Said, StatementFault>
+    ensures { Gives result (said_by keyword params.now) }
+{
+    match keyword {
+        Keyword::Goto => Ok(goes(without_cart(params))?),
+        Keyword::Meas => begins_block(alloc, params),
+        Keyword::Ptmeas => Ok(touches(params)?),
+        Keyword::Endmes => Ok(without_parameters(Said::Ends, params)?),
+        Keyword::Snslct => selects(alloc, params),
+        Keyword::Recall => recalls(alloc, params),
+        Keyword::Endfil => Ok(without_parameters(Said::Closes, params)?),
+        Keyword::Units => Ok(units(params)?),
+        Keyword::Mode => Ok(mode(params)?),
+        Keyword::Dmismn | Keyword::Definition => Ok(Said::Passes),
+        Keyword::Passed | Keyword::Unknown => Ok(Said::Passes),
+    }
+}
+
+/// Whether a statement has a label that its word may not have, or a text that is not closed.
+fn is_badly_formed(keyword: Keyword, statement: &Statement) -> bool
+    ensures { result ≡ is_badly_formed keyword statement.now }
+{
+    (statement.label.is_some() && keyword != Keyword::Definition) || statement.is_open()
+}
+
+/// What a statement with this keyword says.
+#[tactic(auto, unfolding(crate::specs::Sayings::said_of))]
+pub(crate) fn said_of(
+    alloc: Global,
+    keyword: Keyword,
+    statement: &Statement,
+) -> Result<Said, StatementFault>
+    ensures { Gives result (said_of keyword statement.now) }
+{
+    if is_badly_formed(keyword, statement) {
+        return Err(StatementFault::Refused(Refusal::BadArguments));
+    }
+    said_by(alloc, keyword, statement.params.as_slice())
+}
