@@ -1,0 +1,28 @@
+use Rattle.std.proofs.Common.{sym, ◌∙◌}
+use Rattle.dme_line.specs.CommandText.{Begins}
+use Rattle.dme_line.proofs.CommandLemmas.{says_here, wrong_sort}
+use Rattle.dme_line.proofs.reading.read_command.Goals as goal
+
+pub returns-then-is_event : goal.returns-then-is_event
+returns-then-is_event c =
+    let begins : Begins c.args.line.now c.in-Some.tag c.cut_name.result.0.now c.cut_name.result.1.now = record { text = c.in-Some.text.now; tagged = c.in-Some.ensures; named = c.cut_name.ensures } in (
+      c.cut_name.result.0.now,
+      c.cut_name.result.1.now,
+      begins,
+      c.in-Some-kind_named.ensures,
+      λ command h.
+          let here = says_here c.args.line.now c.in-Some.tag c.in-Some.tag c.cut_name.result.0.now c.cut_name.result.1.now c.in-Some-kind_named.kind command begins c.in-Some-kind_named.ensures h in
+          wrong_sort c.is_event.result c.is_event-2.result (c.is_event.ensures ∙ here.fits.sort ∙ sym c.is_event-2.ensures) c.if-is_event.true,
+    )
+
+pub returns-in-Ok-None : goal.returns-in-Ok-None
+returns-in-Ok-None c =
+    let begins : Begins c.args.line.now c.in-Some.tag c.cut_name.result.0.now c.cut_name.result.1.now = record { text = c.in-Some.text.now; tagged = c.in-Some.ensures; named = c.cut_name.ensures } in
+    let none = rw c.in-Ok-None.field-0-is at c.in-Ok-None.ensures.read in (
+      c.cut_name.result.0.now,
+      c.cut_name.result.1.now,
+      begins,
+      c.in-Some-kind_named.ensures,
+      λ command h.
+          none command (says_here c.args.line.now c.in-Some.tag c.in-Some.tag c.cut_name.result.0.now c.cut_name.result.1.now c.in-Some-kind_named.kind command begins c.in-Some-kind_named.ensures h).says,
+    )

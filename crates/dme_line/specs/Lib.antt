@@ -1,0 +1,11 @@
+pub mod Words
+pub mod Tags
+pub mod Kinds
+pub mod Tokens
+pub mod Arguments
+pub mod Taken
+pub mod Points
+pub mod Written
+pub mod CommandText
+pub mod Responses
+pub mod Errors

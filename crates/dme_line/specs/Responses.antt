@@ -1,0 +1,70 @@
+-- Response lines (I++ DME Interface version 1; spaces at the end and empty texts: this profile).
+use Rattle.std.specs.Prelude.{◌≡◌, ℕ, ◌⊎◌, Bool, true, ◌==◌, List, [], ◌∷◌, ◌++◌, codes, Result, Ok, Err}
+use Rattle.std.specs.List.{list_all}
+use Rattle.dme_line.specs.Words.{IsWireText}
+use Rattle.fixed_um.specs.declared.lengths.Point.{Point}
+use Rattle.dme_line.specs.Points.{written_point}
+use Rattle.dme_line.specs.Tags.{written_tag, IsTag}
+use Rattle.dme_line.specs.declared.tags.Tag.{Tag}
+use Rattle.dme_line.specs.declared.responses.Mark.{Mark}
+use Rattle.dme_line.specs.declared.responses.Mark.TheVariants.{Ack, Given, Done, Error}
+use Rattle.dme_line.specs.declared.responses.Response.{Response}
+use Rattle.dme_line.specs.declared.responses.ResponseFault.{ResponseFault}
+use Rattle.dme_line.specs.declared.responses.ResponseFault.TheVariants.{NotResponse, Memory}
+
+-- a mark as it is written: & received, # data, % complete, ! error
+abbrev pub written_mark : Mark → List ℕ
+written_mark Ack = codes "&"
+written_mark (Given text) = codes "# " ++ text
+written_mark Done = codes "%"
+written_mark (Error text) = codes "! " ++ text
+
+-- the line of a response, without its end
+abbrev pub written_response : Response → List ℕ
+written_response r = written_tag r.tag ++ (32 ∷ written_mark r.mark)
+
+-- a text that a response can hold: at most 192 bytes, none of them CR or LF
+abbrev pub HasText : Mark → Type 0
+HasText Ack = Unit {0}
+HasText (Given text) = IsWireText 192 text
+HasText Done = Unit {0}
+HasText (Error text) = IsWireText 192 text
+
+-- a response that can be written
+pub record IsWritableResponse (r : Response) : Type 0 where
+  pub tagged : IsTag r.tag
+  pub texts : HasText r.mark
+
+abbrev pub are_spaces : List ℕ → Bool
+are_spaces text = list_all (λ c. c == 32) text
+
+-- what stands behind a response's tag and space; an error may lack its text with the space in front of it
+abbrev pub IsMarkText : List ℕ → Mark → Type 0
+IsMarkText text Ack = (spaces : List ℕ) × (text ≡ 38 ∷ spaces) × (are_spaces spaces ≡ true)
+IsMarkText text (Given given) = text ≡ 35 ∷ 32 ∷ given
+IsMarkText text Done = (spaces : List ℕ) × (text ≡ 37 ∷ spaces) × (are_spaces spaces ≡ true)
+IsMarkText text (Error given) = (text ≡ 33 ∷ 32 ∷ given) ⊎ ((text ≡ 33 ∷ []) × (given ≡ []))
+
+-- the line stands for this response; its tag may be number 0
+pub record IsResponseLine (line : List ℕ) (r : Response) : Type 0 where
+  pub text : List ℕ
+  pub tagged : IsTag r.tag
+  pub parts : line ≡ written_tag r.tag ++ (32 ∷ text)
+  pub marked : IsMarkText text r.mark
+
+-- a mark that holds a text
+abbrev pub HoldsText : Mark → Type 0
+HoldsText Ack = ⊥
+HoldsText (Given text) = Unit {0}
+HoldsText Done = ⊥
+HoldsText (Error text) = Unit {0}
+
+-- reading a line gives its response, or that it is none; memory can be wanted for the text of one alone
+abbrev pub ReadsResponse : List ℕ → Result Response ResponseFault → Type 0
+ReadsResponse line (Ok r) = IsResponseLine line r
+ReadsResponse line (Err NotResponse) = (r : Response) → IsResponseLine line r → ⊥
+ReadsResponse line (Err Memory) = (r : Response) × IsResponseLine line r × HoldsText r.mark
+
+-- the response that carries a point
+abbrev pub data_response : Tag → Point → Response
+data_response tag p = record { tag = tag; mark = Given (written_point p) }

@@ -1,0 +1,80 @@
+// What holds of the texts of this crate, whoever writes and reads them. These functions do nothing: their contracts are the laws.
+
+ghost use Rattle.std.specs.Prelude.{◌≡◌, ◌≤◌, ℕ, List, Option, Result, Ok, Err};
+ghost use Rattle.dme_line.specs.Words.{IsWireText};
+ghost use Rattle.dme_line.specs.Tags.{IsTag};
+ghost use Rattle.dme_line.specs.Points.{written_point, IsOnWire, ReadsPoint};
+ghost use Rattle.dme_line.specs.Written.{written_command, IsWritable};
+ghost use Rattle.dme_line.specs.CommandText.{IsCommandText, ReadsCommand};
+ghost use Rattle.dme_line.specs.Responses.{written_response, IsWritableResponse, IsResponseLine, ReadsResponse, data_response};
+ghost use Rattle.dme_line.specs.Errors.{error_response, written_error};
+ghost use Rattle.fixed_um.specs.declared.lengths.Point.{Point};
+ghost use Rattle.dme_line.specs.declared.points.NotPoint.{NotPoint};
+
+use crate::commands::{Command, Kind};
+use crate::reading::LineFault;
+use crate::responses::{Response, ResponseFault};
+use crate::tags::Tag;
+
+/// A line stands for at most one command under one tag, and is read in one way, want of memory apart.
+pub fn one_command_reading()
+    ensures command { (line : List ℕ) (t u : Tag) (c d : Command)
+        → IsCommandText line t c → IsCommandText line u d → (t ≡ u) × (c ≡ d) }
+    ensures reading { (line : List ℕ) (x y : Result (Tag × Command) LineFault)
+        → ReadsCommand line x → ReadsCommand line y
+        → (x ≡ Err LineFault.Memory → ⊥) → (y ≡ Err LineFault.Memory → ⊥) → x ≡ y }
+{}
+
+/// What is written of a command has at most 200 bytes, none of them CR or LF, and reads back as this command with its tag.
+pub fn command_reads_back()
+    ensures text { (tag : Tag) (command : Command)
+        → IsWritable tag command → IsWireText 200 (written_command tag command) }
+    ensures back { (tag : Tag) (command : Command)
+        → IsWritable tag command → ReadsCommand (written_command tag command) (Ok (tag, command)) }
+{}
+
+/// A command that was read can be written again under its tag.
+pub fn read_command_is_writable()
+    ensures { (line : List ℕ) (tag : Tag) (command : Command)
+        → IsCommandText line tag command → IsWritable tag command }
+{}
+
+/// A line stands for at most one response, and is read in one way, want of memory apart.
+pub fn one_response_reading()
+    ensures response { (line : List ℕ) (r s : Response)
+        → IsResponseLine line r → IsResponseLine line s → r ≡ s }
+    ensures reading { (line : List ℕ) (x y : Result Response ResponseFault)
+        → ReadsResponse line x → ReadsResponse line y
+        → (x ≡ Err ResponseFault.Memory → ⊥) → (y ≡ Err ResponseFault.Memory → ⊥) → x ≡ y }
+{}
+
+/// What is written of a response has at most 200 bytes, none of them CR or LF, and reads back as this response.
+pub fn response_reads_back()
+    ensures text { (r : Response) → IsWritableResponse r → IsWireText 200 (written_response r) }
+    ensures back { (r : Response) → IsTag r.tag → ReadsResponse (written_response r) (Ok r) }
+{}
+
+/// A text is read as a point in one way.
+pub fn one_point_reading()
+    ensures { (text : List ℕ) (x y : Result Point NotPoint)
+        → ReadsPoint text x → ReadsPoint text y → x ≡ y }
+{}
+
+/// What is written of a point has at most 49 bytes, none of them CR or LF, reads back as this point,
+/// and can be the text of a response.
+pub fn point_reads_back()
+    ensures text { (p : Point) → IsOnWire p → IsWireText 49 (written_point p) }
+    ensures back { (p : Point) → IsOnWire p → ReadsPoint (written_point p) (Ok p) }
+    ensures response { (tag : Tag) (p : Point) → IsTag tag → IsOnWire p → IsWritableResponse (data_response tag p) }
+{}
+
+/// An error line is the line of a response that can be written, has at most 80 bytes, and reads back as this response.
+pub fn error_reads_back()
+    ensures same { (tag : Tag) (code : ℕ) (kind : Option Kind)
+        → written_error tag code kind ≡ written_response (error_response tag code kind) }
+    ensures writable { (tag : Tag) (code : ℕ) (kind : Option Kind)
+        → IsTag tag → IsWritableResponse (error_response tag code kind) }
+    ensures text { (tag : Tag) (code : ℕ) (kind : Option Kind) → IsWireText 80 (written_error tag code kind) }
+    ensures back { (tag : Tag) (code : ℕ) (kind : Option Kind)
+        → IsTag tag → ReadsResponse (written_error tag code kind) (Ok (error_response tag code kind)) }
+{}

@@ -1,0 +1,64 @@
+// Lengths within the limits of this profile, and directions.
+
+ghost use Rattle.std.specs.Prelude.{◌≡◌, ◌≤◌, ◌+◌, ◌++◌, ◌≤ℤ◌, ℤ, pos, unsigned_abs, codes, vec_len, vec_capacity, MatchOption, Ok};
+ghost use Rattle.fixed_um.specs.Limits.{wire_limit, volume_limit};
+ghost use Rattle.fixed_um.specs.Numerals.{Reads};
+ghost use Rattle.fixed_um.specs.Shapes.{IsDirection};
+ghost use Rattle.fixed_um.specs.Written.{written, written_direction};
+
+use fixed_um::{Dir, Um, read_um, write_dir_reserved, write_um_reserved};
+
+/// Appends a length, where the caller has made room for it. As every length it is within the wire limit.
+pub(crate) fn write_length_reserved(out: &mut Vec<u8>, length: Um)
+    requires { vec_len out.old + 12 ≤ vec_capacity out.old }
+    ensures text { out.new.items ≡ out.old.items ++ written length }
+    ensures len { vec_len out.new ≤ vec_len out.old + 12 }
+    ensures capacity { vec_capacity out.old ≤ vec_capacity out.new }
+    ensures on_wire { unsigned_abs length ≤ wire_limit }
+{
+    prove!(length.get().unsigned_abs() <= 4_000_000_000);
+    write_um_reserved(out, length);
+}
+
+/// Appends the components of a direction with a comma and a space between each two, where the caller has made room for them.
+/// As every direction it is not all zero.
+pub(crate) fn write_direction_reserved(out: &mut Vec<u8>, direction: Dir)
+    requires { vec_len out.old + 49 ≤ vec_capacity out.old }
+    ensures text { out.new.items ≡ out.old.items ++ written_direction direction (codes ", ") }
+    ensures len { vec_len out.new ≤ vec_len out.old + 49 }
+    ensures capacity { vec_capacity out.old ≤ vec_capacity out.new }
+    ensures direction { IsDirection direction }
+{
+    prove!(direction.i != 0 || direction.j != 0 || direction.k != 0);
+    write_dir_reserved(out, direction, b", ");
+}
+
+fn length_within(numeral: &[u8], limit: Um) -> Option<Um>
+    requires { pos 0 ≤ℤ limit }
+    ensures { MatchOption result
+        ((value : ℤ) → Reads 3 (unsigned_abs limit) numeral.now (Ok value) → ⊥)
+        (λ value. Reads 3 (unsigned_abs limit) numeral.now (Ok value)) }
+{
+    match read_um(numeral, limit) {
+        Ok(value) => Some(value),
+        Err(_) => None,
+    }
+}
+
+/// The length of a numeral in millimetres, within the wire limit.
+pub(crate) fn wire_length(numeral: &[u8]) -> Option<Um>
+    ensures { MatchOption result
+        ((value : ℤ) → Reads 3 wire_limit numeral.now (Ok value) → ⊥)
+        (λ value. Reads 3 wire_limit numeral.now (Ok value)) }
+{
+    length_within(numeral, Um::wire_limit())
+}
+
+/// The length of a numeral in millimetres, within the volume limit.
+pub(crate) fn volume_length(numeral: &[u8]) -> Option<Um>
+    ensures { MatchOption result
+        ((value : ℤ) → Reads 3 volume_limit numeral.now (Ok value) → ⊥)
+        (λ value. Reads 3 volume_limit numeral.now (Ok value)) }
+{
+    length_within(numeral, Um::volume_limit())
+}

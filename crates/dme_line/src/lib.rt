@@ -1,0 +1,42 @@
+// The wire of a measuring machine (I++ DME Interface version 1): commands, responses, point texts and
+// error texts, as values and as the bytes of one line without its end.
+//
+// - `tags`, `commands`: `Tag`; `Command`, its `Kind`, `Csy`
+// - `writing`, `reading`: `write_command`; `read_command` and `LineFault`
+// - `responses`, `text`: `Response`, `Mark`, `Text`, and their lines
+// - `points`: the text of a data line; `errors`: the line of an error
+// - `tokens`, `arguments`, `places`, `settings`, `lengths`: the steps by which arguments are read
+// - `appending`: texts where there is room for them
+// - `laws`: what holds of these texts: each is read in one way, and what is written reads back
+#![tactic(auto)]
+
+mod appending;
+mod arguments;
+pub mod commands;
+pub mod errors;
+pub mod laws;
+mod lengths;
+mod places;
+pub mod points;
+pub mod reading;
+pub mod responses;
+mod settings;
+pub mod tags;
+pub mod text;
+mod tokens;
+pub mod writing;
+
+pub use commands::{Command, Csy, Kind};
+pub use errors::{write_error, write_error_reserved};
+pub use points::{NotPoint, read_point, write_point, write_point_reserved};
+pub use reading::{LineFault, read_command};
+pub use responses::{
+    Mark, Response, ResponseFault, read_response, write_data, write_data_reserved, write_response,
+    write_response_reserved,
+};
+pub use tags::Tag;
+pub use text::Text;
+pub use writing::{write_command, write_command_reserved};
+
+#[cfg(test)]
+mod tests;

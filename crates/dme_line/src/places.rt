@@ -1,0 +1,137 @@
+// What the arguments of a move, a touch or a transformation say.
+
+ghost use Rattle.std.specs.Prelude.{◌≡◌, ◌∷◌, [], ℕ, ℤ, List, IsTrue, MatchOption, Option, Some, None};
+ghost use Rattle.std.specs.Option.{option_copied, option_map};
+ghost use Rattle.fixed_um.specs.Shapes.{Direction};
+ghost use Rattle.dme_line.specs.Arguments.{single_of, triple_of, single_named, triple_named, IsAxis, IsAlong, IsTarget, IsPlace};
+ghost use Rattle.dme_line.specs.Taken.{the_argument, the_list, the_words};
+ghost use Rattle.dme_line.specs.Tokens.{tokens};
+
+use crate::arguments::{Argument, Place, read_place};
+use crate::lengths::wire_length;
+use crate::tokens::is_word;
+use fixed_um::{Dir, Point, Um, read_dir};
+
+impl<'a> Argument<'a> {
+    /// The one word of an argument with this name.
+    fn single(&self, name: &[u8]) -> Option<&'a [u8]>
+        ensures { option_copied result ≡ single_of name.now (the_argument self.now) }
+    {
+        match *self {
+            Argument::Single(own, word) => { if is_word(name, own) { Some(word) } else { None } }
+            Argument::Triple(_, _, _, _) => None,
+        }
+    }
+
+    /// The three words of an argument with this name.
+    fn triple(&self, name: &[u8]) -> Option<(&'a [u8], &'a [u8], &'a [u8])>
+        ensures { option_map the_words result ≡ triple_of name.now (the_argument self.now) }
+    {
+        match *self {
+            Argument::Single(_, _) => None,
+            Argument::Triple(own, i, j, k) => {
+                if is_word(name, own) {
+                    Some((i, j, k))
+                } else {
+                    None
+                }
+            }
+        }
+    }
+}
+
+impl<'a> Place<'a> {
+    /// The word of the first argument with this name and one word.
+    fn single(&self, name: &[u8]) -> Option<&'a [u8]>
+        ensures { option_copied result ≡ single_named name.now (the_list self.now) }
+    {
+        let fourth = match self.fourth {
+            Some(argument) => argument.single(name),
+            None => None,
+        };
+        self.first.single(name).or(
+            self.second
+                .single(name)
+                .or(self.third.single(name).or(fourth)),
+        )
+    }
+
+    /// The words of the first argument with this name and three words.
+    fn triple(&self, name: &[u8]) -> Option<(&'a [u8], &'a [u8], &'a [u8])>
+        ensures { option_map the_words result ≡ triple_named name.now (the_list self.now) }
+    {
+        let fourth = match self.fourth {
+            Some(argument) => argument.triple(name),
+            None => None,
+        };
+        self.first.triple(name).or(
+            self.second
+                .triple(name)
+                .or(self.third.triple(name).or(fourth)),
+        )
+    }
+
+    /// The coordinate of the axis with this name.
+    fn axis(&self, name: &[u8]) -> Option<Um>
+        ensures { MatchOption result
+            ((value : ℤ) → IsAxis name.now (the_list self.now) value → ⊥)
+            (λ value. IsAxis name.now (the_list self.now) value) }
+    {
+        wire_length(self.single(name)?)
+    }
+
+    /// The coordinates of the three axes.
+    fn target(&self) -> Option<Point>
+        ensures { MatchOption result
+            ((p : Point) → IsTarget (the_list self.now) p → ⊥)
+            (λ p. IsTarget (the_list self.now) p) }
+    {
+        let x = self.axis(b"X")?;
+        let y = self.axis(b"Y")?;
+        let z = self.axis(b"Z")?;
+        Some(Point { x, y, z })
+    }
+
+    /// The direction.
+    fn along(&self) -> Option<Dir>
+        ensures { MatchOption result
+            ((d : Direction) → IsAlong (the_list self.now) d → ⊥)
+            (λ d. IsAlong (the_list self.now) d) }
+    {
+        let (i, j, k) = self.triple(b"IJK")?;
+        match read_dir(i, j, k) {
+            Ok(direction) => direction,
+            Err(_) => None,
+        }
+    }
+}
+
+/// The target and the direction, if one is given, of a touch.
+pub(crate) fn read_touch(bytes: &[u8]) -> Option<(Point, Option<Dir>)>
+    ensures { MatchOption result
+        ((p : Point) (d : Option Direction) → IsPlace (tokens bytes.now) p d → ⊥)
+        (λ t. IsPlace (tokens bytes.now) t.0 t.1) }
+{
+    let place = read_place(bytes)?;
+    let target = place.target()?;
+    match place.fourth {
+        None => Some((target, None)),
+        Some(_) => {
+            let direction = place.along()?;
+            Some((target, Some(direction)))
+        }
+    }
+}
+
+/// The target of a move, which is that of a touch without a direction.
+pub(crate) fn read_move(bytes: &[u8]) -> Option<Point>
+    ensures { MatchOption result
+        ((p : Point) → IsPlace (tokens bytes.now) p None → ⊥)
+        (λ p. IsPlace (tokens bytes.now) p None) }
+{
+    match read_touch(bytes) {
+        Some((target, None)) => Some(target),
+        Some((_, Some(_))) => None,
+        None => None,
+    }
+}

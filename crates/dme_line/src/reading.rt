@@ -1,0 +1,187 @@
+// Reading command lines.
+
+ghost use Rattle.std.specs.Prelude.{◌≡◌, ◌↔◌, ◌≤◌, ℕ, List, [], length, find, IsTrue, true, MatchOption, IfOk, OnErr};
+ghost use Rattle.std.specs.List.{prefix_len};
+ghost use Rattle.dme_line.specs.Words.{is_word};
+ghost use Rattle.dme_line.specs.Kinds.{kind_name, is_event_kind, IsTagOf};
+ghost use Rattle.dme_line.specs.Tags.{IsNumbered};
+ghost use Rattle.dme_line.specs.Tokens.{tokens};
+ghost use Rattle.dme_line.specs.Arguments.{Says, IsOneWord, enclosed};
+ghost use Rattle.dme_line.specs.CommandText.{is_name_part, IsNamed, IsTagged, ReadsCommand};
+
+use crate::arguments::is_empty_list;
+use crate::commands::{Command, Kind};
+use crate::places::{read_move, read_touch};
+use crate::settings::{read_report, read_system, read_tool, read_zero_point};
+use crate::tags::{Tag, cut_tag};
+use crate::tokens::is_word;
+use std::alloc::{AllocError, Global};
+
+/// Why a line is no command; of several reasons the first in this order.
+#[derive(Clone, Copy, Debug, PartialEq, Eq)]
+pub enum LineFault {
+    /// The line does not begin with a tag, other than number 0, and one space.
+    NoTag,
+    /// The name is none that is known.
+    UnknownCommand(Tag),
+    /// The arguments don't read, or the tag is not of the command's kind.
+    BadArguments(Tag, Kind),
+    /// Want of memory for the name of a tool.
+    Memory,
+}
+
+/// A tag that a command can have at the front of a line, and what stands behind the space that follows it.
+fn cut_numbered_tag(line: &[u8]) -> Option<(Tag, &[u8])>
+    ensures { MatchOption result
+        ((tag : Tag) (text : List ℕ) → IsTagged line.now tag text → ⊥)
+        (λ p. IsTagged line.now p.0 p.1.now) }
+{
+    let (tag, text) = cut_tag(line)?;
+    if !tag.is_numbered() {
+        return None;
+    }
+    Some((tag, text))
+}
+
+fn name_len(text: &[u8]) -> usize
+    ensures count { result ≡ prefix_len is_name_part text.now }
+    ensures within { result ≤ length text.now }
+{
+    text.iter()
+        .take_while(|byte| **byte != b' ' && **byte != b'(')
+        .count()
+}
+
+/// A command's name and what stands behind it.
+fn cut_name(text: &[u8]) -> (&[u8], &[u8])
+    ensures { IsNamed text.now result.0.now result.1.now }
+{
+    text.split_at(name_len(text))
+}
+
+const KINDS: [Kind; 11] = [
+    Kind::StartSession,
+    Kind::EndSession,
+    Kind::ClearAllErrors,
+    Kind::Home,
+    Kind::OnPtMeasReport,
+    Kind::GoTo,
+    Kind::PtMeas,
+    Kind::ChangeTool,
+    Kind::SetCsyTransformation,
+    Kind::SetCoordSystem,
+    Kind::AbortE,
+];
+
+fn find_kind(name: &[u8]) -> Option<Kind>
+    ensures { result ≡ find (λ kind. is_word (kind_name kind) name.now) KINDS }
+{
+    KINDS
+        .iter()
+        .copied()
+        .find(|kind| is_word(kind.name(), name))
+}
+
+/// The kind of command by a name.
+fn kind_named(name: &[u8]) -> Option<Kind>
+    ensures { MatchOption result
+        ((kind : Kind) → is_word (kind_name kind) name.now ≡ true → ⊥)
+        (λ kind. is_word (kind_name kind) name.now ≡ true) }
+{
+    find_kind(name)
+}
+
+fn read_go_to(bytes: &[u8]) -> Option<Command>
+    ensures { MatchOption result
+        ((c : Command) → Says Kind.GoTo (tokens bytes.now) c → ⊥)
+        (λ c. Says Kind.GoTo (tokens bytes.now) c) }
+{
+    Some(Command::GoTo(read_move(bytes)?))
+}
+
+fn read_pt_meas(bytes: &[u8]) -> Option<Command>
+    ensures { MatchOption result
+        ((c : Command) → Says Kind.PtMeas (tokens bytes.now) c → ⊥)
+        (λ c. Says Kind.PtMeas (tokens bytes.now) c) }
+{
+    let Some((target, direction)) = read_touch(bytes) else {
+        return None;
+    };
+    Some(Command::PtMeas(target, direction))
+}
+
+fn read_set_csy_transformation(bytes: &[u8]) -> Option<Command>
+    ensures { MatchOption result
+        ((c : Command) → Says Kind.SetCsyTransformation (tokens bytes.now) c → ⊥)
+        (λ c. Says Kind.SetCsyTransformation (tokens bytes.now) c) }
+{
+    Some(Command::SetCsyTransformation(read_zero_point(bytes)?))
+}
+
+fn read_set_coord_system(bytes: &[u8]) -> Option<Command>
+    ensures { MatchOption result
+        ((c : Command) → Says Kind.SetCoordSystem (tokens bytes.now) c → ⊥)
+        (λ c. Says Kind.SetCoordSystem (tokens bytes.now) c) }
+{
+    Some(Command::SetCoordSystem(read_system(bytes)?))
+}
+
+/// Only want of memory is an `Err`.
+fn read_change_tool(alloc: Global, bytes: &[u8]) -> Result<Option<Command>, AllocError>
+    ensures read { IfOk result (λ o. MatchOption o
+        ((c : Command) → Says Kind.ChangeTool (tokens bytes.now) c → ⊥)
+        (λ c. Says Kind.ChangeTool (tokens bytes.now) c)) }
+    ensures err { OnErr result ((word : List ℕ) × IsOneWord (tokens bytes.now) word) }
+{
+    match read_tool(alloc, bytes) {
+        Ok(Some(name)) => Ok(Some(Command::ChangeTool(name))),
+        Ok(None) => Ok(None),
+        Err(AllocError) => Err(AllocError),
+    }
+}
+
+/// The command of a kind that the bytes behind its name say. Only want of memory is an `Err`.
+fn read_arguments(alloc: Global, kind: Kind, bytes: &[u8]) -> Result<Option<Command>, AllocError>
+    ensures read { IfOk result (λ o. MatchOption o
+        ((c : Command) → Says kind (tokens bytes.now) c → ⊥)
+        (λ c. Says kind (tokens bytes.now) c)) }
+    ensures err { OnErr result ((kind ≡ Kind.ChangeTool) × ((word : List ℕ) × IsOneWord (tokens bytes.now) word)) }
+{
+    match kind {
+        Kind::StartSession => Ok(is_empty_list(bytes).then_some(Command::StartSession)),
+        Kind::EndSession => Ok(is_empty_list(bytes).then_some(Command::EndSession)),
+        Kind::ClearAllErrors => Ok(is_empty_list(bytes).then_some(Command::ClearAllErrors)),
+        Kind::Home => Ok(is_empty_list(bytes).then_some(Command::Home)),
+        Kind::OnPtMeasReport => Ok(read_report(bytes).map(|_| Command::OnPtMeasReport)),
+        Kind::GoTo => Ok(read_go_to(bytes)),
+        Kind::PtMeas => Ok(read_pt_meas(bytes)),
+        Kind::ChangeTool => read_change_tool(alloc, bytes),
+        Kind::SetCsyTransformation => Ok(read_set_csy_transformation(bytes)),
+        Kind::SetCoordSystem => Ok(read_set_coord_system(bytes)),
+        Kind::AbortE => Ok(is_empty_list(bytes).then_some(Command::AbortE)),
+    }
+}
+
+/// The command that a line without its end stands for, with its tag; or why it stands for none.
+///
+/// Names of commands, axes and coordinate systems are read in any case, with any number of spaces beside parentheses and commas
+/// and behind the last parenthesis. Takes memory for the name of a tool alone; after `Memory` the same line may be read again.
+pub fn read_command(alloc: Global, line: &[u8]) -> Result<(Tag, Command), LineFault>
+    ensures { ReadsCommand line.now result }
+{
+    let Some((tag, text)) = cut_numbered_tag(line) else {
+        return Err(LineFault::NoTag);
+    };
+    let (name, bytes) = cut_name(text);
+    let Some(kind) = kind_named(name) else {
+        return Err(LineFault::UnknownCommand(tag));
+    };
+    if tag.is_event() != kind.is_event() {
+        return Err(LineFault::BadArguments(tag, kind));
+    }
+    match read_arguments(alloc, kind, bytes) {
+        Ok(Some(command)) => Ok((tag, command)),
+        Ok(None) => Err(LineFault::BadArguments(tag, kind)),
+        Err(AllocError) => Err(LineFault::Memory),
+    }
+}

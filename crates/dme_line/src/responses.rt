@@ -1,0 +1,190 @@
+// Responses, and the lines that carry them.
+
+ghost use Rattle.std.specs.Prelude.{◌≡◌, ◌↔◌, ◌≤◌, ◌+◌, ◌++◌, ◌∷◌, [], ℕ, List, length, IsTrue, true, vec_len, vec_capacity, OnOk, OnErr, IfOk, MatchOption, MatchResult, Option};
+ghost use Rattle.dme_line.specs.Tags.{IsTag};
+ghost use Rattle.dme_line.specs.Taken.{the_mark};
+ghost use Rattle.dme_line.specs.Responses.{written_mark, written_response, IsWritableResponse, HasText, are_spaces, IsMarkText, HoldsText, ReadsResponse, data_response};
+ghost use Rattle.dme_line.specs.Points.{IsOnWire};
+
+use crate::appending::append_reserved;
+use crate::points::write_point_reserved;
+use crate::tags::{Tag, cut_tag, write_tag_reserved};
+use crate::text::Text;
+use fixed_um::Point;
+use std::alloc::{AllocError, Global};
+
+/// The most bytes that a written response line has.
+pub const RESPONSE_MAX: usize = 200;
+
+/// What a response says of its command (I++ DME Interface version 1).
+#[derive(Debug, Drop)]
+pub enum Mark {
+    /// `&`: the command was received.
+    Ack,
+    /// `#`: data. A text that is written owes to be at most 192 bytes long, and free of CR and LF.
+    Given(Text),
+    /// `%`: the command is complete.
+    Done,
+    /// `!`: an error. The text owes what that of `Given` does.
+    Error(Text),
+}
+
+/// A response: the tag of its command and a mark.
+#[derive(Debug, Drop)]
+pub struct Response {
+    pub tag: Tag,
+    pub mark: Mark,
+}
+
+/// Why a line is no response.
+#[derive(Clone, Copy, Debug, PartialEq, Eq)]
+pub enum ResponseFault {
+    /// It is not a tag, one space and one of the four marks with what it may hold.
+    NotResponse,
+    /// Want of memory for the text of the response.
+    Memory,
+}
+
+fn write_mark_reserved(out: &mut Vec<u8>, mark: &Mark)
+    requires text { HasText mark.now }
+    requires room { vec_len out.old + 194 ≤ vec_capacity out.old }
+    ensures text { out.new.items ≡ out.old.items ++ written_mark mark.now }
+    ensures len { vec_len out.new ≤ vec_len out.old + 194 }
+    ensures capacity { vec_capacity out.old ≤ vec_capacity out.new }
+{
+    match mark {
+        Mark::Ack => out.push_reserved(b'&'),
+        Mark::Given(text) => {
+            append_reserved(out, b"# ");
+            append_reserved(out, text.as_slice());
+        }
+        Mark::Done => out.push_reserved(b'%'),
+        Mark::Error(text) => {
+            append_reserved(out, b"! ");
+            append_reserved(out, text.as_slice());
+        }
+    }
+}
+
+/// Appends the line of a response without its end, as `00008 %`, at most 200 bytes, where the caller has made room for them.
+///
+/// The caller owes a tag whose number has room in its digits, and a text of at most 192 bytes without CR and LF.
+pub fn write_response_reserved(out: &mut Vec<u8>, response: &Response)
+    requires response { IsWritableResponse response.now }
+    requires room { vec_len out.old + 200 ≤ vec_capacity out.old }
+    ensures text { out.new.items ≡ out.old.items ++ written_response response.now }
+    ensures len { vec_len out.new ≤ vec_len out.old + 200 }
+    ensures capacity { vec_capacity out.old ≤ vec_capacity out.new }
+{
+    write_tag_reserved(out, response.tag);
+    out.push_reserved(b' ');
+    write_mark_reserved(out, &response.mark);
+}
+
+/// Appends the line of a response without its end, as `00008 %`. Only want of memory is an `Err`, and then nothing is appended.
+///
+/// The caller owes what `write_response_reserved` says, but for the room.
+pub fn write_response(out: &mut Vec<u8>, response: &Response) -> Result<(), AllocError>
+    requires { IsWritableResponse response.now }
+    ensures ok { OnOk result (out.new.items ≡ out.old.items ++ written_response response.now) }
+    ensures err { OnErr result (out.new.items ≡ out.old.items) }
+{
+    out.reserve(RESPONSE_MAX)?;
+    write_response_reserved(out, response);
+    Ok(())
+}
+
+/// Appends the line of a data response without its end, as `00008 # X(1.000), Y(2.000), Z(3.000)`, at most 57 bytes,
+/// where the caller has made room for them. It is what `write_response_reserved` appends of `Mark::Given` with the text of the point.
+///
+/// The caller owes a tag whose number has room in its digits.
+pub fn write_data_reserved(out: &mut Vec<u8>, tag: Tag, point: Point)
+    requires tag { IsTag tag }
+    requires room { vec_len out.old + 57 ≤ vec_capacity out.old }
+    ensures text { out.new.items ≡ out.old.items ++ written_response (data_response tag point) }
+    ensures len { vec_len out.new ≤ vec_len out.old + 57 }
+    ensures capacity { vec_capacity out.old ≤ vec_capacity out.new }
+    ensures on_wire { IsOnWire point }
+{
+    write_tag_reserved(out, tag);
+    append_reserved(out, b" # ");
+    write_point_reserved(out, point);
+}
+
+/// Appends the line of a data response without its end, as `00008 # X(1.000), Y(2.000), Z(3.000)`.
+/// Only want of memory is an `Err`, and then nothing is appended.
+///
+/// The caller owes what `write_data_reserved` says, but for the room.
+pub fn write_data(out: &mut Vec<u8>, tag: Tag, point: Point) -> Result<(), AllocError>
+    requires { IsTag tag }
+    ensures ok { OnOk result (out.new.items ≡ out.old.items ++ written_response (data_response tag point)) }
+    ensures on_wire { OnOk result (IsOnWire point) }
+    ensures err { OnErr result (out.new.items ≡ out.old.items) }
+{
+    out.reserve(57)?;
+    write_data_reserved(out, tag, point);
+    Ok(())
+}
+
+fn are_spaces(text: &[u8]) -> bool
+    ensures { result ≡ are_spaces text.now }
+{
+    text.iter().all(|byte| *byte == b' ')
+}
+
+/// A mark whose text stands in a line.
+#[derive(Clone, Copy)]
+enum MarkSlice<'a> {
+    Ack,
+    Given(&'a [u8]),
+    Done,
+    Error(&'a [u8]),
+}
+
+/// The mark that stands behind a response's tag and space.
+fn cut_mark(text: &[u8]) -> Option<MarkSlice<'_>>
+    ensures { MatchOption result
+        ((mark : Mark) → IsMarkText text.now mark → ⊥)
+        (λ mark. IsMarkText text.now (the_mark mark)) }
+{
+    match text {
+        [b'&', spaces @ ..] => are_spaces(spaces).then_some(MarkSlice::Ack),
+        [b'%', spaces @ ..] => are_spaces(spaces).then_some(MarkSlice::Done),
+        [b'#', b' ', given @ ..] => Some(MarkSlice::Given(given)),
+        [b'!', b' ', given @ ..] => Some(MarkSlice::Error(given)),
+        [b'!'] => Some(MarkSlice::Error(&[])),
+        _ => None,
+    }
+}
+
+/// A mark with a text of its own. Only want of memory is an `Err`.
+fn copied(alloc: Global, mark: MarkSlice<'_>) -> Result<Mark, AllocError>
+    ensures read { IfOk result (λ m. m ≡ the_mark mark.entry) }
+    ensures err { OnErr result (HoldsText (the_mark mark.entry)) }
+{
+    match mark {
+        MarkSlice::Ack => Ok(Mark::Ack),
+        MarkSlice::Given(text) => Ok(Mark::Given(Text::new(alloc, text)?)),
+        MarkSlice::Done => Ok(Mark::Done),
+        MarkSlice::Error(text) => Ok(Mark::Error(Text::new(alloc, text)?)),
+    }
+}
+
+/// The response that a line without its end stands for.
+///
+/// Spaces behind `&` and `%` are accepted; a `!` with nothing behind it has an empty text. Takes memory for a text alone;
+/// after `Memory` the same line may be read again.
+pub fn read_response(alloc: Global, line: &[u8]) -> Result<Response, ResponseFault>
+    ensures { ReadsResponse line.now result }
+{
+    let Some((tag, text)) = cut_tag(line) else {
+        return Err(ResponseFault::NotResponse);
+    };
+    let Some(mark) = cut_mark(text) else {
+        return Err(ResponseFault::NotResponse);
+    };
+    match copied(alloc, mark) {
+        Ok(mark) => Ok(Response { tag, mark }),
+        Err(AllocError) => Err(ResponseFault::Memory),
+    }
+}

@@ -1,0 +1,119 @@
+// Tags: which command a line belongs to.
+
+ghost use Rattle.std.specs.Prelude.{◌≡◌, ◌≤◌, ◌+◌, ◌++◌, ◌∷◌, [], ℕ, List, IsTrue, ◌↔◌, vec_len, vec_capacity, MatchOption};
+ghost use Rattle.dme_line.specs.Tags.{four_digits, five_digits, written_tag, IsTag, IsNumbered, is_event_tag};
+ghost use Rattle.fixed_um.specs.Written.{last_digit};
+
+/// The tag of a line: five decimal digits, or `E` and four digits. A response has the tag of its command;
+/// the event tag number 0 marks what a server says unasked (I++ DME Interface version 1).
+///
+/// Who writes a tag owes a number of at most 99,999, or 9,999 for an event tag.
+#[derive(Clone, Copy, Debug, PartialEq, Eq)]
+pub enum Tag {
+    Std(u32),
+    Event(u16),
+}
+
+fn last_digit(value: u32) -> u8
+    ensures { result ≡ last_digit value }
+{
+    b'0' + (value % 10) as u8
+}
+
+pub(crate) fn write_four_digits_reserved(out: &mut Vec<u8>, value: u32)
+    requires { vec_len out.old + 4 ≤ vec_capacity out.old }
+    ensures text { out.new.items ≡ out.old.items ++ four_digits value }
+    ensures len { vec_len out.new ≡ vec_len out.old + 4 }
+    ensures capacity { vec_capacity out.old ≤ vec_capacity out.new }
+{
+    out.push_reserved(last_digit(value / 1000));
+    out.push_reserved(last_digit(value / 100));
+    out.push_reserved(last_digit(value / 10));
+    out.push_reserved(last_digit(value));
+}
+
+/// Appends the five bytes of a tag, where the caller has made room for them.
+pub(crate) fn write_tag_reserved(out: &mut Vec<u8>, tag: Tag)
+    requires { vec_len out.old + 5 ≤ vec_capacity out.old }
+    ensures text { out.new.items ≡ out.old.items ++ written_tag tag }
+    ensures len { vec_len out.new ≡ vec_len out.old + 5 }
+    ensures capacity { vec_capacity out.old ≤ vec_capacity out.new }
+{
+    match tag {
+        Tag::Std(number) => {
+            out.push_reserved(last_digit(number / 10_000));
+            write_four_digits_reserved(out, number);
+        }
+        Tag::Event(number) => {
+            out.push_reserved(b'E');
+            write_four_digits_reserved(out, u32::from(number));
+        }
+    }
+}
+
+fn digit(byte: u8) -> Option<u32>
+    ensures { MatchOption result ((n : ℕ) → byte ≡ last_digit n → ⊥) (λ n. (n ≤ 9) × (byte ≡ 48 + n)) }
+{
+    if byte < b'0' || byte > b'9' {
+        return None;
+    }
+    Some(u32::from(byte - b'0'))
+}
+
+/// The number that four digits write; `None` where they are not all digits.
+fn four_digits_value(a: u8, b: u8, c: u8, d: u8) -> Option<u32>
+    ensures { MatchOption result
+        ((n : ℕ) → four_digits n ≡ a ∷ b ∷ c ∷ d ∷ [] → ⊥)
+        (λ n. (n ≤ 9999) × (four_digits n ≡ a ∷ b ∷ c ∷ d ∷ [])) }
+{
+    Some(digit(a)? * 1000 + digit(b)? * 100 + digit(c)? * 10 + digit(d)?)
+}
+
+/// The number that five digits write; `None` where they are not all digits.
+fn five_digits_value(a: u8, b: u8, c: u8, d: u8, e: u8) -> Option<u32>
+    ensures { MatchOption result
+        ((n : ℕ) → five_digits n ≡ a ∷ b ∷ c ∷ d ∷ e ∷ [] → ⊥)
+        (λ n. (n ≤ 99999) × (five_digits n ≡ a ∷ b ∷ c ∷ d ∷ e ∷ [])) }
+{
+    Some(digit(a)? * 10_000 + four_digits_value(b, c, d, e)?)
+}
+
+/// A tag at the front of a line and what stands behind the one space that follows it; `None` where the line begins otherwise.
+pub(crate) fn cut_tag(line: &[u8]) -> Option<(Tag, &[u8])>
+    ensures { MatchOption result
+        ((tag : Tag) (text : List ℕ) → IsTag tag → line.now ≡ written_tag tag ++ (32 ∷ text) → ⊥)
+        (λ p. IsTag p.0 × (line.now ≡ written_tag p.0 ++ (32 ∷ p.1.now))) }
+{
+    match line {
+        [b'E', a, b, c, d, b' ', text @ ..] => {
+            Some((Tag::Event(four_digits_value(*a, *b, *c, *d)? as u16), text))
+        }
+        [a, b, c, d, e, b' ', text @ ..] => {
+            Some((Tag::Std(five_digits_value(*a, *b, *c, *d, *e)?), text))
+        }
+        _ => None,
+    }
+}
+
+impl Tag {
+    /// Whether this is the tag of an event command.
+    pub(crate) fn is_event(self) -> bool
+        ensures { result ≡ is_event_tag self }
+    {
+        match self {
+            Tag::Std(_) => false,
+            Tag::Event(_) => true,
+        }
+    }
+
+    /// Whether a command can have this tag: its number is not 0.
+    pub(crate) fn is_numbered(self) -> bool
+        requires { IsTag self }
+        ensures { IsTrue result ↔ IsNumbered self }
+    {
+        match self {
+            Tag::Std(number) => number > 0,
+            Tag::Event(number) => number > 0,
+        }
+    }
+}

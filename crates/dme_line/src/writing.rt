@@ -1,0 +1,108 @@
+// Writing command lines.
+
+ghost use Rattle.std.specs.Prelude.{◌≡◌, ◌≤◌, ◌+◌, ◌++◌, ◌∷◌, [], length, vec_len, vec_capacity, OnOk, OnErr};
+ghost use Rattle.dme_line.specs.Kinds.{kind_of, IsTagOf};
+ghost use Rattle.dme_line.specs.Written.{written_approach, written_transformation, written_arguments, written_command, HasVolumeLengths, HasArguments, IsApproach, IsWritable};
+
+use crate::appending::{append_quoted_reserved, append_reserved};
+use crate::commands::Command;
+use crate::lengths::{write_direction_reserved, write_length_reserved};
+use crate::points::write_point_reserved;
+use crate::tags::{Tag, write_tag_reserved};
+use fixed_um::{Dir, Point};
+use std::alloc::AllocError;
+
+/// The most bytes that a written command line has.
+pub const COMMAND_MAX: usize = 200;
+
+fn write_approach_reserved(out: &mut Vec<u8>, direction: Option<Dir>)
+    requires { vec_len out.old + 56 ≤ vec_capacity out.old }
+    ensures text { out.new.items ≡ out.old.items ++ written_approach direction }
+    ensures len { vec_len out.new ≤ vec_len out.old + 56 }
+    ensures capacity { vec_capacity out.old ≤ vec_capacity out.new }
+    ensures approach { IsApproach direction }
+{
+    if let Some(direction) = direction {
+        append_reserved(out, b", IJK(");
+        write_direction_reserved(out, direction);
+        out.push_reserved(b')');
+    }
+}
+
+fn write_transformation_reserved(out: &mut Vec<u8>, lengths: Point)
+    requires { vec_len out.old + 58 ≤ vec_capacity out.old }
+    ensures text { out.new.items ≡ out.old.items ++ written_transformation lengths }
+    ensures len { vec_len out.new ≤ vec_len out.old + 58 }
+    ensures capacity { vec_capacity out.old ≤ vec_capacity out.new }
+{
+    append_reserved(out, b"PartCsy, ");
+    write_length_reserved(out, lengths.x);
+    append_reserved(out, b", ");
+    write_length_reserved(out, lengths.y);
+    append_reserved(out, b", ");
+    write_length_reserved(out, lengths.z);
+    append_reserved(out, b", 0, 0, 0");
+}
+
+fn write_arguments_reserved(out: &mut Vec<u8>, command: &Command)
+    requires lengths { HasVolumeLengths command.now }
+    requires room { vec_len out.old + 105 ≤ vec_capacity out.old }
+    ensures text { out.new.items ≡ out.old.items ++ written_arguments command.now }
+    ensures len { vec_len out.new ≤ vec_len out.old + 105 }
+    ensures capacity { vec_capacity out.old ≤ vec_capacity out.new }
+    ensures arguments { HasArguments command.now }
+{
+    match command {
+        Command::OnPtMeasReport => append_reserved(out, b"X(), Y(), Z()"),
+        Command::GoTo(target) => write_point_reserved(out, *target),
+        Command::PtMeas(target, direction) => {
+            write_point_reserved(out, *target);
+            write_approach_reserved(out, *direction);
+        }
+        Command::ChangeTool(tool) => append_quoted_reserved(out, tool.as_bytes()),
+        Command::SetCsyTransformation(lengths) => write_transformation_reserved(out, *lengths),
+        Command::SetCoordSystem(system) => append_reserved(out, system.name()),
+        Command::StartSession
+        | Command::EndSession
+        | Command::ClearAllErrors
+        | Command::Home
+        | Command::AbortE => {}
+    }
+}
+
+/// Appends the line of a command without its end, as `00003 Home()`, at most 200 bytes, where the caller has made room for them.
+///
+/// The caller owes a tag of the command's kind, an event tag for `AbortE` and a standard tag for all others, other than number 0,
+/// and lengths of a `SetCsyTransformation` within the volume limit. The lengths are written as they stand.
+#[tactic(auto, unfolding(crate::specs::Written::written_command))]
+pub fn write_command_reserved(out: &mut Vec<u8>, tag: Tag, command: &Command)
+    requires tag { IsTagOf (kind_of command.now) tag }
+    requires lengths { HasVolumeLengths command.now }
+    requires room { vec_len out.old + 200 ≤ vec_capacity out.old }
+    ensures text { out.new.items ≡ out.old.items ++ written_command tag command.now }
+    ensures len { vec_len out.new ≤ vec_len out.old + 200 }
+    ensures capacity { vec_capacity out.old ≤ vec_capacity out.new }
+    ensures writable { IsWritable tag command.now }
+{
+    write_tag_reserved(out, tag);
+    out.push_reserved(b' ');
+    append_reserved(out, command.kind().name());
+    out.push_reserved(b'(');
+    write_arguments_reserved(out, command);
+    out.push_reserved(b')');
+}
+
+/// Appends the line of a command without its end, as `00003 Home()`. Only want of memory is an `Err`, and then nothing is appended.
+///
+/// The caller owes what `write_command_reserved` says, but for the room.
+pub fn write_command(out: &mut Vec<u8>, tag: Tag, command: &Command) -> Result<(), AllocError>
+    requires tag { IsTagOf (kind_of command.now) tag }
+    requires lengths { HasVolumeLengths command.now }
+    ensures ok { OnOk result (out.new.items ≡ out.old.items ++ written_command tag command.now) }
+    ensures writable { OnOk result (IsWritable tag command.now) }
+    ensures err { OnErr result (out.new.items ≡ out.old.items) }
+{
+    out.reserve(COMMAND_MAX)?;
+    write_command_reserved(out, tag, command);
+    Ok(())
+}
