@@ -1,0 +1,5 @@
+pub mod Plan
+pub mod Numbered
+pub mod Checked
+pub mod Printed
+pub mod Ordered

@@ -1,0 +1,68 @@
+// What is printed on standard error, and the status that goes with it.
+
+ghost use Rattle.std.specs.Prelude.{◌≡◌};
+ghost use Rattle.dme_program.specs.Printed.{refusal_code, status_of};
+
+use clap::Error as WordsError;
+use dmis_program::Refusal;
+use fixed_um::NumeralFault;
+use thiserror::Error;
+
+/// Why the program ends with another status than 0.
+#[derive(Debug, Drop, Error)]
+pub enum Fault {
+    /// A bad command line or a call for help: `clap`'s own text.
+    #[error("{0}")]
+    Words(WordsError),
+    /// A DMIS program that is refused, at a line.
+    #[error("dme: {refusal} at line {line}\n")]
+    Program { refusal: &'static str, line: u64 },
+    /// A file that cannot be opened or read; `-` is standard input.
+    #[error("dme: cannot read {0}\n")]
+    CannotRead(String),
+    /// A file that cannot be written; `-` is standard output.
+    #[error("dme: cannot write {0}\n")]
+    CannotWrite(String),
+    /// Want of memory.
+    #[error("dme: out of memory\n")]
+    Memory,
+}
+
+impl Fault {
+    /// The exit status: 1 for refused input or a file, 2 for the command line, 4 for want of memory.
+    pub fn status(&self) -> u8
+        ensures { result ≡ status_of self.now }
+    {
+        match self {
+            Fault::Words(_) => 2,
+            Fault::Program { .. } | Fault::CannotRead(_) | Fault::CannotWrite(_) => 1,
+            Fault::Memory => 4,
+        }
+    }
+}
+
+/// The code and the name of a refusal.
+pub fn refusal_text(refusal: Refusal) -> &'static str
+    ensures { result.now ≡ refusal_code refusal }
+{
+    match refusal {
+        Refusal::NotDmis => "P1 NotDmis",
+        Refusal::Truncated => "P2 Truncated",
+        Refusal::LineTooLong => "P3 LineTooLong",
+        Refusal::BadByte => "P4 BadByte",
+        Refusal::Unsupported => "P5 Unsupported",
+        Refusal::BadArguments => "P6 BadArguments",
+        Refusal::BadNumeral(NumeralFault::NotNumeral) => "P7 BadNumeral (N1 NotNumeral)",
+        Refusal::BadNumeral(NumeralFault::TooManyDigits) => "P7 BadNumeral (N2 TooManyDigits)",
+        Refusal::BadNumeral(NumeralFault::TooLarge) => "P7 BadNumeral (N3 TooLarge)",
+        Refusal::OutsideBlock => "P8 OutsideBlock",
+        Refusal::InsideBlock => "P9 InsideBlock",
+        Refusal::TooFewPoints => "P10 TooFewPoints",
+        Refusal::UnknownFrame => "P11 UnknownFrame",
+        Refusal::NotMillimetres => "P12 NotMillimetres",
+        Refusal::NoProgMode => "P13 NoProgMode",
+        Refusal::ZeroVector => "P14 ZeroVector",
+        Refusal::NoTool => "P15 NoTool",
+        Refusal::TooLarge => "P16 TooLarge",
+    }
+}

@@ -1,0 +1,29 @@
+// The program `dme`: DMIS inspection programs (ISO 22093) over the I++ DME Interface version 1.
+//
+// - `words`: the command line
+// - `check`: the command lines of a program, from any reader to any writer
+// - `plan`: the commands of a program on a new connection, as text
+// - `running`: an order is carried out on files and the standard streams
+// - `faults`: what is printed on standard error, and the exit status
+#![tactic(auto)]
+
+mod check;
+mod faults;
+mod plan;
+mod running;
+mod words;
+
+use std::process::ExitCode;
+
+#[cfg(test)]
+mod tests;
+
+fn main(rt: HostRuntime) -> ExitCode {
+    match running::run(&rt) {
+        Ok(()) => ExitCode::from(0),
+        Err(fault) => {
+            let _ = eprint!(rt; "{fault}");
+            ExitCode::from(fault.status())
+        }
+    }
+}

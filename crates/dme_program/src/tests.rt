@@ -1,0 +1,183 @@
+// What no clause says: what is printed for programs as they are written, and that ports which fail are noticed.
+
+use crate::check::{CheckFault, check_plan};
+use crate::faults::{Fault, refusal_text};
+use crate::words::{Order, WordsFault, read_words};
+use byte_ports::{Pieces, Reading, Takes, Writing};
+use dmis_program::{Frames, ProgramFault, Refusal};
+use fixed_um::NumeralFault;
+use std::alloc::Global;
+use std::test::Fail;
+
+const ONE: &str =
+    "DMISMN/'ONE',05.2\nSNSLCT/S(P1)\nMEAS/POINT,F(A),1\nGOTO/10,20,30\nPTMEAS/CART,10,20,25,0,0,1\nENDMES\nENDFIL\n";
+
+const ONE_LINES: &str = "00001 StartSession()
+00002 ClearAllErrors()
+00003 Home()
+00004 OnPtMeasReport(X(), Y(), Z())
+00005 SetCoordSystem(MachineCsy)
+00006 ChangeTool(\"P1\")
+00007 GoTo(X(10.000), Y(20.000), Z(30.000))
+00008 PtMeas(X(10.000), Y(20.000), Z(25.000), IJK(0.000000, 0.000000, 1.000000))
+00009 EndSession()
+";
+
+const EMPTY_LINES: &str = "00001 StartSession()
+00002 ClearAllErrors()
+00003 Home()
+00004 OnPtMeasReport(X(), Y(), Z())
+00005 SetCoordSystem(MachineCsy)
+00006 EndSession()
+";
+
+const CONTINUED: &str = "$$ head\ndmismn/'t',05.2\nsnslct/s(p1)\ngoto/1,$\n 2, 3 $$ end\nENDFIL\n";
+
+const CONTINUED_LINES: &str = "00001 StartSession()
+00002 ClearAllErrors()
+00003 Home()
+00004 OnPtMeasReport(X(), Y(), Z())
+00005 SetCoordSystem(MachineCsy)
+00006 ChangeTool(\"P1\")
+00007 GoTo(X(1.000), Y(2.000), Z(3.000))
+00008 EndSession()
+";
+
+#[test]
+fn accepted_programs_print_their_plan(rt: HostRuntime) -> Result<(), Fail> {
+    let texts = "DMISMN/'E',05.2\nTEXT/OPER,'a $$ b, ''c'''\nENDFIL\n";
+    let cases = [
+        (ONE, ONE_LINES),
+        ("DMISMN/'E',05.2\nENDFIL", EMPTY_LINES),
+        (CONTINUED, CONTINUED_LINES),
+        (texts, EMPTY_LINES),
+    ];
+    for (program, lines) in cases {
+        let alloc = rt.alloc();
+        let frames = Frames::new(alloc);
+        let mut source = Reading::new(program.as_bytes());
+        let mut sink = Writing::new(Vec::new(alloc));
+        let outcome = check_plan(alloc, &frames, &mut source, &mut sink);
+        assert!(rt; outcome.is_ok(), "{program}");
+        let written = sink.into_inner();
+        assert_eq!(rt; written.as_slice(), lines.as_bytes(), "{program}");
+    }
+    Ok(())
+}
+
+#[test]
+fn refused_programs_print_nothing(rt: HostRuntime) -> Result<(), Fail> {
+    let numeral = Refusal::BadNumeral(NumeralFault::NotNumeral);
+    let cases = [
+        ("", Refusal::NotDmis, 1u64),
+        ("DMISMN/'E',05.2\nGOTO/1,2,3 $\n\nENDFIL\n", numeral, 2),
+        (
+            "DMISMN/'E',05.2\nPTMEAS/POL,1,2,3\nENDFIL\n",
+            Refusal::Unsupported,
+            2,
+        ),
+        (
+            "DMISMN/'E',05.2\nRECALL/D(NO)\nENDFIL\n",
+            Refusal::UnknownFrame,
+            2,
+        ),
+    ];
+    for (program, refusal, line) in cases {
+        let alloc = rt.alloc();
+        let frames = Frames::new(alloc);
+        let mut source = Reading::new(program.as_bytes());
+        let mut sink = Writing::new(Vec::new(alloc));
+        match check_plan(alloc, &frames, &mut source, &mut sink) {
+            Err(CheckFault::Program(ProgramFault::Refused(found, at))) => {
+                assert_eq!(rt; found, refusal, "{program}");
+                assert_eq!(rt; at, line, "{program}");
+            }
+            _ => assert!(rt; false, "{program}"),
+        }
+        let written = sink.into_inner();
+        assert!(rt; written.is_empty(), "{program}");
+    }
+    Ok(())
+}
+
+#[test]
+fn a_port_that_fails_is_noticed(rt: HostRuntime) -> Result<(), Fail> {
+    let alloc = rt.alloc();
+    let frames = Frames::new(alloc);
+    let mut source = Pieces::failing_at(alloc, 2);
+    source.add(&ONE.as_bytes()[..40])?;
+    source.add(&ONE.as_bytes()[40..])?;
+    let mut sink = Takes::new(alloc, 1000);
+    let outcome = check_plan(alloc, &frames, &mut source, &mut sink);
+    assert!(rt; matches!(&outcome, Err(CheckFault::Read)));
+    assert!(rt; sink.taken().is_empty());
+
+    let mut whole = Pieces::new(alloc);
+    whole.add(ONE.as_bytes())?;
+    let mut narrow = Takes::failing_at(alloc, 10, 3);
+    let outcome = check_plan(alloc, &frames, &mut whole, &mut narrow);
+    assert!(rt; matches!(&outcome, Err(CheckFault::Write)));
+    assert_eq!(rt; narrow.taken(), b"00001 StartSession()".as_slice());
+    Ok(())
+}
+
+#[test]
+fn faults_print_code_name_and_line(rt: HostRuntime) -> Result<(), Fail> {
+    let alloc = rt.alloc();
+    let cases = [
+        (Refusal::Truncated, 6, "dme: P2 Truncated at line 6\n"),
+        (
+            Refusal::BadNumeral(NumeralFault::NotNumeral),
+            5,
+            "dme: P7 BadNumeral (N1 NotNumeral) at line 5\n",
+        ),
+        (
+            Refusal::TooLarge,
+            10001,
+            "dme: P16 TooLarge at line 10001\n",
+        ),
+    ];
+    for (refusal, line, text) in cases {
+        let fault = Fault::Program {
+            refusal: refusal_text(refusal),
+            line,
+        };
+        let printed = fault.to_string(alloc)?;
+        assert_eq!(rt; printed.as_str(), text);
+        assert_eq!(rt; fault.status(), 1);
+    }
+    let unread = Fault::CannotRead(String::from_str(alloc, "part.dmis")?);
+    let printed = unread.to_string(alloc)?;
+    assert_eq!(rt; printed.as_str(), "dme: cannot read part.dmis\n");
+    assert_eq!(rt; Fault::Memory.status(), 4);
+    Ok(())
+}
+
+/// The program that words name, where they are an order.
+fn named_program<'a>(alloc: Global, words: &'a [&'a str]) -> Option<String> {
+    match read_words(alloc, words) {
+        Ok(Order::Check { program }) => Some(program),
+        Err(_fault) => None,
+    }
+}
+
+/// Whether words are a bad command line, or a call for help.
+fn is_bad_line<'a>(alloc: Global, words: &'a [&'a str]) -> bool {
+    match read_words(alloc, words) {
+        Ok(_order) => false,
+        Err(WordsFault::Line(_text)) => true,
+        Err(WordsFault::Memory) => false,
+    }
+}
+
+#[test]
+fn words_name_a_program_or_standard_input(rt: HostRuntime) -> Result<(), Fail> {
+    let alloc = rt.alloc();
+    let named = named_program(alloc, &["dme", "check", "part.dmis"]);
+    assert_eq!(rt; named.as_deref(), Some("part.dmis"));
+    let unnamed = named_program(alloc, &["dme", "check"]);
+    assert_eq!(rt; unnamed.as_deref(), Some("-"));
+    assert!(rt; is_bad_line(alloc, &["dme", "measure"]));
+    assert!(rt; is_bad_line(alloc, &["dme", "--help"]));
+    Ok(())
+}
