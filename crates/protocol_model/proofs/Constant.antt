@@ -1,0 +1,61 @@
+-- No event changes the program of a client or the tools of a server.
+use Rattle.std.proofs.Common.{◌≡◌, ℕ, Bool, true, false, cond, List, [], ◌∷◌, refl, ◌∙◌, Option, Some, None, Result, Ok, Err}
+use Rattle.dme_line.specs.declared.tags.Tag.{Tag}
+use Rattle.dme_line.specs.declared.tags.Tag.TheVariants as tag
+use Rattle.protocol_model.specs.Replies.{Line, Mark, Reply, tag_of, mark_of, tag_is}
+use Rattle.protocol_model.specs.Plan.{Planned}
+use Rattle.protocol_model.specs.Open.{Cause}
+use Rattle.protocol_model.specs.Client.{Client, Table, sends_next, sends_abort, next_number, client_hears, client_read, heard_on}
+use Rattle.protocol_model.specs.Typed.{World, Event, Connect, Accept, ClientSends, ServerReads, ServerReadsOld, ServerTurn, Machine, ClientReads, ClientLeaves, ServerLeaves, Abort, Resume, ClientRestart, ServerRestart, can, happens, after, run_of, server_reads, client_reads}
+
+pub sends_program : (c : Client) (ps : List Planned) (n : Option ℕ) → (sends_next c ps n).client.program ≡ c.program
+sends_program c [] n = refl
+sends_program c (p ∷ ps) None = refl
+sends_program c (p ∷ ps) (Some n) = refl
+
+pub aborts_program : (c : Client) (n : Option ℕ) → (sends_abort c n).client.program ≡ c.program
+aborts_program c None = refl
+aborts_program c (Some n) = refl
+
+hears_program : (c : Client) (t : Tag) (m : Mark) (r : Result Table Cause) → (client_hears c t m r).program ≡ c.program
+hears_program c t m (Ok b) = refl
+hears_program c t m (Err cause) = refl
+
+pub read_program : (c : Client) (t : Tag) (m : Mark) → (client_read c t m).program ≡ c.program
+read_program c t m = go (tag_is t (tag.Event 0))
+  where
+    go : (b : Bool) → (cond b c (client_hears c t m (heard_on c.program.features c.table t m))).program ≡ c.program
+    go true = refl
+    go false = hears_program c t m (heard_on c.program.features c.table t m)
+
+server_reads_program : (w : World) (up : List Line) → (server_reads w up).client.program ≡ w.client.program
+server_reads_program w [] = refl
+server_reads_program w (l ∷ up) = refl
+
+client_reads_program : (w : World) (down : List Reply) → (client_reads w down).client.program ≡ w.client.program
+client_reads_program w [] = refl
+client_reads_program w (r ∷ down) = read_program w.client (tag_of r) (mark_of r)
+
+happens_program : (e : Event) (w : World) → (happens e w).client.program ≡ w.client.program
+happens_program Connect w = refl
+happens_program (Accept n) w = refl
+happens_program ClientSends w = sends_program w.client w.client.unsent (next_number tag.Std w.client.table.standard w.client.drawn)
+happens_program ServerReads w = server_reads_program w w.up
+happens_program (ServerReadsOld reading) w = refl
+happens_program ServerTurn w = refl
+happens_program (Machine outcome) w = refl
+happens_program ClientReads w = client_reads_program w w.down
+happens_program ClientLeaves w = refl
+happens_program ServerLeaves w = refl
+happens_program Abort w = aborts_program w.client (next_number tag.Event w.client.table.event w.client.event_drawn)
+happens_program Resume w = refl
+happens_program (ClientRestart k) w = refl
+happens_program ServerRestart w = refl
+
+after_program : (e : Event) (w : World) (b : Bool) → (cond b (happens e w) w).client.program ≡ w.client.program
+after_program e w true = happens_program e w
+after_program e w false = refl
+
+pub run_program : (es : List Event) (w : World) → (run_of es w).client.program ≡ w.client.program
+run_program [] w = refl
+run_program (e ∷ es) w = run_program es (after e w) ∙ after_program e w (can e w)

@@ -1,0 +1,149 @@
+-- A client and a server with the bytes that they were fed and the bytes that are to be sent.
+use Rattle.std.specs.Prelude.{ℕ, if◌then◌else◌, Option, Some, None, List, [], ◌∷◌, ◌++◌, drop, Result, Ok, Err}
+use Rattle.fixed_um.specs.declared.lengths.Point.{Point}
+use Rattle.dmis_program.specs.Meaning.{Meaning}
+use Rattle.dme_line.specs.declared.tags.Tag.{Tag}
+use Rattle.dme_line.specs.declared.tags.Tag.TheVariants.{Std, Event}
+use Rattle.dme_line.specs.declared.commands.Kind.{Kind}
+use Rattle.dme_line.specs.declared.responses.Mark.{Mark as Marked}
+use Rattle.dme_line.specs.declared.responses.Mark.TheVariants as mark
+use Rattle.dme_line.specs.declared.responses.Response.{Response}
+use Rattle.dme_line.specs.declared.responses.ResponseFault.{ResponseFault}
+use Rattle.dme_line.specs.declared.responses.ResponseFault.TheVariants as refused
+use Rattle.dme_line.specs.declared.points.NotPoint.{NotPoint}
+use Rattle.contact_ledger.specs.declared.features.Feature.{Feature}
+use Rattle.line_framing.specs.Next.{Front, next_of}
+use Rattle.line_framing.specs.Framing.{Framing, no_bytes, fed, left_by}
+use Rattle.line_framing.specs.declared.faults.FramingFault.TheVariants as framing
+use Rattle.protocol_model.specs.Replies.{Mark, tag_is}
+use Rattle.protocol_model.specs.Lines.{Readers, command_bytes, reply_bytes, reading_of}
+use Rattle.protocol_model.specs.Open.{Cause, Held, asks_data}
+use Rattle.protocol_model.specs.Client.{Client, Sends, new_client, faulted, client_connected, client_sent, client_aborted, client_resumed, client_read, client_left, client_restarted}
+use Rattle.protocol_model.specs.Server.{Server, Answer, Outcome, new_server, server_accepted, server_read, server_turned, server_machined, server_left, server_restarted}
+
+-- ---- the client's end
+
+pub record ClientEnd : Type 0 where
+  pub client : Client
+  pub input : Framing
+  pub out : List ℕ
+
+abbrev pub new_client_end : Meaning → List Feature → ℕ → ClientEnd
+new_client_end p fs window = record { client = new_client p fs window; input = no_bytes; out = [] }
+
+abbrev pub end_connected : ℕ → ClientEnd → ClientEnd
+end_connected n e = record { client = client_connected n e.client; input = no_bytes; out = [] }
+
+-- what is written joins the bytes that are to be sent
+abbrev pub with_lines : ClientEnd → Sends → ClientEnd
+with_lines e s = record { client = s.client; input = e.input; out = e.out ++ command_bytes s.lines }
+
+abbrev pub end_sent : ClientEnd → ClientEnd
+end_sent e = with_lines e (client_sent e.client)
+
+abbrev pub end_aborted : ClientEnd → ClientEnd
+end_aborted e = with_lines e (client_aborted e.client)
+
+abbrev pub end_fed : List ℕ → ClientEnd → ClientEnd
+end_fed bytes e = record e { input = fed e.input bytes }
+
+-- the kind of the first command that is held under a tag
+abbrev pub held_kind : Tag → List Held → Option Kind
+held_kind t [] = None
+held_kind t (h ∷ hs) = if tag_is h.tag t then Some h.kind else held_kind t hs
+
+abbrev pub held_under : Tag → Client → Option Kind
+held_under (Std n) c = held_kind (Std n) c.table.standard
+held_under (Event n) c = held_kind (Event n) c.table.event
+
+-- a data text under a held tag: it is read as a point where the command asks for one
+abbrev pub given_point : Client → Tag → Result Point NotPoint → Client
+given_point c t (Ok p) = client_read c t (Mark.Data p)
+given_point c t (Err why) = faulted Cause.NotResponse c
+
+abbrev pub given_under : Readers → Client → Tag → List ℕ → Option Kind → Client
+given_under readers c t text None = faulted Cause.UnknownTag c
+given_under readers c t text (Some kind) = if asks_data kind then given_point c t (readers.point text) else faulted Cause.OutOfOrder c
+
+abbrev pub given : Readers → Client → Tag → List ℕ → Client
+given readers c t text = if tag_is t (Event 0) then c else given_under readers c t text (held_under t c)
+
+-- a response is read
+abbrev pub response_read : Readers → Client → Tag → Marked → Client
+response_read readers c t mark.Ack = client_read c t Mark.Ack
+response_read readers c t (mark.Given text) = given readers c t text
+response_read readers c t mark.Done = client_read c t Mark.Done
+response_read readers c t (mark.Error text) = client_read c t Mark.Error
+
+abbrev pub line_read : Readers → Client → Result Response ResponseFault → Client
+line_read readers c (Ok r) = response_read readers c r.tag r.mark
+line_read readers c (Err refused.NotResponse) = faulted Cause.NotResponse c
+line_read readers c (Err refused.Memory) = c
+
+-- what stands at the front of the bytes: nothing whole, a line, or a fault, which ends the client's reading
+abbrev pub front_read : Readers → Client → Front → Client
+front_read readers c (Ok None) = c
+front_read readers c (Ok (Some (line, rest))) = line_read readers c (readers.response line)
+front_read readers c (Err framing.LineTooLong) = faulted Cause.LineTooLong c
+front_read readers c (Err framing.BadByte) = faulted Cause.BadByte c
+front_read readers c (Err framing.Memory) = c
+
+abbrev pub end_read : Readers → ClientEnd → ClientEnd
+end_read readers e = record { client = front_read readers e.client (next_of e.input.rest); input = left_by (next_of e.input.rest) e.input; out = e.out }
+
+abbrev pub end_resumed : ClientEnd → ClientEnd
+end_resumed e = record e { client = client_resumed e.client }
+
+abbrev pub end_left : ClientEnd → ClientEnd
+end_left e = record { client = client_left e.client; input = no_bytes; out = [] }
+
+abbrev pub end_restarted : ℕ → ClientEnd → ClientEnd
+end_restarted k e = record { client = client_restarted k e.client; input = no_bytes; out = [] }
+
+-- the first bytes are sent
+abbrev pub end_taken : ℕ → ClientEnd → ClientEnd
+end_taken k e = record e { out = drop k e.out }
+
+-- ---- the server's end
+
+pub record ServerEnd : Type 0 where
+  pub server : Server
+  pub input : Framing
+  pub out : List ℕ
+
+abbrev pub new_server_end : List (List ℕ) → ServerEnd
+new_server_end rack = record { server = new_server rack; input = no_bytes; out = [] }
+
+abbrev pub serving_accepted : ℕ → ServerEnd → ServerEnd
+serving_accepted n e = record e { server = server_accepted n e.server }
+
+abbrev pub serving_fed : List ℕ → ServerEnd → ServerEnd
+serving_fed bytes e = record e { input = fed e.input bytes }
+
+-- what is answered joins the bytes that are to be sent
+abbrev pub with_answer : ServerEnd → Framing → Answer → ServerEnd
+with_answer e input a = record { server = a.server; input = input; out = e.out ++ reply_bytes a.said }
+
+-- what stands at the front of the bytes: nothing whole, a line, or a fault, behind which nothing is read until the connection is left
+abbrev pub front_served : Readers → ServerEnd → Front → ServerEnd
+front_served readers e (Ok None) = e
+front_served readers e (Ok (Some (line, rest))) = with_answer e (record (e.input) { rest = rest }) (server_read e.server (reading_of (readers.command line)))
+front_served readers e (Err why) = record e { input = record (e.input) { fault = Some why } }
+
+abbrev pub serving_read : Readers → ServerEnd → ServerEnd
+serving_read readers e = front_served readers e (next_of e.input.rest)
+
+abbrev pub serving_turned : ServerEnd → ServerEnd
+serving_turned e = with_answer e e.input (server_turned e.server)
+
+abbrev pub serving_machined : Outcome → ServerEnd → ServerEnd
+serving_machined outcome e = with_answer e e.input (server_machined e.server outcome)
+
+abbrev pub serving_left : ServerEnd → ServerEnd
+serving_left e = record { server = server_left e.server; input = no_bytes; out = [] }
+
+abbrev pub serving_restarted : ServerEnd → ServerEnd
+serving_restarted e = record { server = server_restarted e.server; input = no_bytes; out = [] }
+
+abbrev pub serving_taken : ℕ → ServerEnd → ServerEnd
+serving_taken k e = record e { out = drop k e.out }

@@ -1,0 +1,11 @@
+pub mod Replies
+pub mod Open
+pub mod Plan
+pub mod Client
+pub mod Server
+pub mod Claims
+pub mod Typed
+pub mod Lines
+pub mod Ends
+pub mod World
+pub mod Language

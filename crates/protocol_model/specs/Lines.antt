@@ -1,0 +1,64 @@
+-- Lines as bytes: what is written of commands and replies, and how they are read.
+use Rattle.std.specs.Prelude.{◌≢◌, ℕ, List, [], ◌∷◌, Result, Ok, Err}
+use Rattle.fixed_um.specs.declared.lengths.Point.{Point}
+use Rattle.dme_line.specs.Points.{written_point, ReadsPoint}
+use Rattle.dme_line.specs.Written.{written_command}
+use Rattle.dme_line.specs.CommandText.{ReadsCommand}
+use Rattle.dme_line.specs.Responses.{written_response, ReadsResponse}
+use Rattle.dme_line.specs.Errors.{written_error}
+use Rattle.dme_line.specs.declared.tags.Tag.{Tag}
+use Rattle.dme_line.specs.declared.commands.Command.{Command}
+use Rattle.dme_line.specs.declared.reading.LineFault.{LineFault}
+use Rattle.dme_line.specs.declared.reading.LineFault.TheVariants as fault
+use Rattle.dme_line.specs.declared.responses.Mark.TheVariants as mark
+use Rattle.dme_line.specs.declared.responses.Response.{Response}
+use Rattle.dme_line.specs.declared.responses.ResponseFault.{ResponseFault}
+use Rattle.dme_line.specs.declared.responses.ResponseFault.TheVariants as refused
+use Rattle.dme_line.specs.declared.points.NotPoint.{NotPoint}
+use Rattle.line_framing.specs.Content.{line_bytes}
+use Rattle.protocol_model.specs.Replies.{Line, Reading, Reply}
+
+-- the line of a command, without its end
+abbrev pub command_text : Line → List ℕ
+command_text l = written_command l.tag l.command
+
+-- the line of a reply, without its end
+abbrev pub reply_text : Reply → List ℕ
+reply_text (Reply.Acks t) = written_response (record { tag = t; mark = mark.Ack })
+reply_text (Reply.Gives t p) = written_response (record { tag = t; mark = mark.Given (written_point p) })
+reply_text (Reply.Completes t) = written_response (record { tag = t; mark = mark.Done })
+reply_text (Reply.Fails t code name) = written_error t code name
+
+abbrev pub command_texts : List Line → List (List ℕ)
+command_texts [] = []
+command_texts (l ∷ ls) = command_text l ∷ command_texts ls
+
+abbrev pub reply_texts : List Reply → List (List ℕ)
+reply_texts [] = []
+reply_texts (r ∷ rs) = reply_text r ∷ reply_texts rs
+
+-- lines one after another, each with CR LF
+abbrev pub command_bytes : List Line → List ℕ
+command_bytes ls = line_bytes (command_texts ls)
+
+abbrev pub reply_bytes : List Reply → List ℕ
+reply_bytes rs = line_bytes (reply_texts rs)
+
+-- functions that read the lines of commands and of responses, and the texts of points
+pub record Readers : Type 0 where
+  pub command : List ℕ → Result (Tag × Command) LineFault
+  pub response : List ℕ → Result Response ResponseFault
+  pub point : List ℕ → Result Point NotPoint
+
+-- they read as the interface says; want of memory is no reading
+pub record AreReaders (r : Readers) : Type 0 where
+  pub command : (line : List ℕ) → ReadsCommand line (r.command line)
+  pub command_read : (line : List ℕ) → r.command line ≢ Err fault.Memory
+  pub response : (line : List ℕ) → ReadsResponse line (r.response line)
+  pub response_read : (line : List ℕ) → r.response line ≢ Err refused.Memory
+  pub point : (text : List ℕ) → ReadsPoint text (r.point text)
+
+-- what the server reads of a line
+abbrev pub reading_of : Result (Tag × Command) LineFault → Reading
+reading_of (Ok (tag, command)) = Ok (record { tag = tag; command = command })
+reading_of (Err why) = Err why

@@ -1,0 +1,135 @@
+-- The open commands of a client, and what each mark does to them (this profile).
+use Rattle.std.specs.Prelude.{ℕ, suc, Bool, true, false, ◌&&◌, if◌then◌else◌, Option, Some, None, List, [], ◌∷◌, Result, Ok, Err}
+use Rattle.fixed_um.specs.declared.lengths.Point.{Point}
+use Rattle.dme_line.specs.declared.tags.Tag.{Tag}
+use Rattle.dme_line.specs.declared.commands.Kind.{Kind}
+use Rattle.dme_line.specs.declared.commands.Kind.TheVariants as kind
+use Rattle.protocol_model.specs.Replies.{Mark, tag_is}
+
+-- why a client gives a connection up: a line that is no response, bytes that are no lines, a tag that is not held, a mark out of place, a touch without its point, a second point, no tag left
+pub data Cause : Type 0 where
+  NotResponse : Cause
+  LineTooLong : Cause
+  BadByte : Cause
+  UnknownTag : Cause
+  OutOfOrder : Cause
+  NoData : Cause
+  SecondData : Cause
+  TagsSpent : Cause
+
+-- how far an open command is
+pub data Stage : Type 0 where
+  Sent : Stage
+  Received : Stage
+  Given : Point → Stage
+  Failed : Stage
+
+-- an open command: its tag, which is held, its kind and its stage
+pub record Held : Type 0 where
+  pub tag : Tag
+  pub kind : Kind
+  pub stage : Stage
+
+abbrev pub is_failed : Stage → Bool
+is_failed Stage.Sent = false
+is_failed Stage.Received = false
+is_failed (Stage.Given p) = false
+is_failed Stage.Failed = true
+
+-- a touch asks for a point, no other command asks for data
+abbrev pub asks_data : Kind → Bool
+asks_data kind.StartSession = false
+asks_data kind.EndSession = false
+asks_data kind.ClearAllErrors = false
+asks_data kind.Home = false
+asks_data kind.OnPtMeasReport = false
+asks_data kind.GoTo = false
+asks_data kind.PtMeas = true
+asks_data kind.ChangeTool = false
+asks_data kind.SetCsyTransformation = false
+asks_data kind.SetCoordSystem = false
+asks_data kind.AbortE = false
+
+-- what a mark does to a command: another stage, a failure, its end, its end as a counted one with its point, or nothing that may be
+pub data Verdict : Type 0 where
+  Becomes : Stage → Verdict
+  Breaks : Verdict
+  Closes : Verdict
+  Counts : Option Point → Verdict
+  Refused : Cause → Verdict
+
+abbrev pub judged_ack : Stage → Verdict
+judged_ack Stage.Sent = Becomes Stage.Received
+judged_ack Stage.Received = Refused OutOfOrder
+judged_ack (Stage.Given p) = Refused OutOfOrder
+judged_ack Stage.Failed = Refused OutOfOrder
+
+-- the first argument: a touch at the front
+abbrev pub judged_data : Bool → Stage → Point → Verdict
+judged_data true Stage.Sent p = Refused OutOfOrder
+judged_data true Stage.Received p = Becomes (Stage.Given p)
+judged_data true (Stage.Given q) p = Refused SecondData
+judged_data true Stage.Failed p = Refused OutOfOrder
+judged_data false stage p = Refused OutOfOrder
+
+abbrev pub judged_error : Stage → Verdict
+judged_error Stage.Sent = Breaks
+judged_error Stage.Received = Breaks
+judged_error (Stage.Given p) = Breaks
+judged_error Stage.Failed = Becomes Stage.Failed
+
+-- the first argument: at the front; the second: data is asked for
+abbrev pub judged_done : Bool → Bool → Stage → Verdict
+judged_done front asks Stage.Failed = Closes
+judged_done true asks Stage.Sent = Refused OutOfOrder
+judged_done true true Stage.Received = Refused NoData
+judged_done true false Stage.Received = Counts None
+judged_done true asks (Stage.Given p) = Counts (Some p)
+judged_done false asks Stage.Sent = Refused OutOfOrder
+judged_done false asks Stage.Received = Refused OutOfOrder
+judged_done false asks (Stage.Given p) = Refused OutOfOrder
+
+-- the table of marks against stages
+abbrev pub judged : Bool → Kind → Stage → Mark → Verdict
+judged front kind stage Mark.Ack = judged_ack stage
+judged front kind stage (Mark.Data p) = judged_data (front && asks_data kind) stage p
+judged front kind stage Mark.Error = judged_error stage
+judged front kind stage Mark.Done = judged_done front (asks_data kind) stage
+
+-- what a reply has changed besides the open commands: nothing, a command failed, or one of this kind was counted, with its point
+pub data Effect : Type 0 where
+  Quiet : Effect
+  Failure : Effect
+  Count : Kind → Option Point → Effect
+
+-- the open commands after a reply, with its effect
+abbrev pub Heard : Type 0
+Heard = Result (List Held × Effect) Cause
+
+abbrev pub settled : Held → List Held → Verdict → Heard
+settled h hs (Becomes stage) = Ok (record h { stage = stage } ∷ hs, Quiet)
+settled h hs Breaks = Ok (record h { stage = Stage.Failed } ∷ hs, Failure)
+settled h hs Closes = Ok (hs, Quiet)
+settled h hs (Counts given) = Ok (hs, Count h.kind given)
+settled h hs (Refused cause) = Err cause
+
+abbrev pub put_before : Held → Heard → Heard
+put_before h (Ok (hs, effect)) = Ok (h ∷ hs, effect)
+put_before h (Err cause) = Err cause
+
+-- a mark goes to the first command of its tag; a command is at the front where the first argument holds and each earlier one has failed
+abbrev pub heard_in : Bool → List Held → Tag → Mark → Heard
+heard_in front [] t m = Err UnknownTag
+heard_in front (h ∷ hs) t m =
+    if tag_is h.tag t
+    then settled h hs (judged front h.kind h.stage m)
+    else put_before h (heard_in (front && is_failed h.stage) hs t m)
+
+-- how many commands have neither failed nor ended
+abbrev pub count_open : List Held → ℕ
+count_open [] = 0
+count_open (h ∷ hs) = if is_failed h.stage then count_open hs else suc (count_open hs)
+
+abbrev pub is_held : Tag → List Held → Bool
+is_held t [] = false
+is_held t (h ∷ hs) = if tag_is h.tag t then true else is_held t hs

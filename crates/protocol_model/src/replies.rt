@@ -1,0 +1,17 @@
+// The language of replies, and the table of marks against stages.
+
+ghost use Rattle.std.specs.Prelude.{List, false};
+ghost use Rattle.dme_line.specs.declared.commands.Kind.{Kind};
+ghost use Rattle.protocol_model.specs.Open.{Stage, asks_data};
+ghost use Rattle.protocol_model.specs.Language.{Placed, marks_of, IsRepliesFront, AreAtFront, Accepts};
+
+/// The table of marks against stages accepts exactly the fronts of the language of replies: a counted command is received and
+/// complete, with its data in between where it asks for some; a failed one has a proper front of that, then one or more errors, then
+/// nothing or its end. Data, and the end of a command that has not failed, come at the front only.
+#[tactic(auto, using(crate::proofs::Speaking::accepts_only, crate::proofs::Speaking::accepts_all))]
+pub fn table_accepts_the_language()
+    ensures only { (kind : Kind) (marks : List Placed) → Accepts kind Stage.Sent marks
+        → IsRepliesFront (asks_data kind) (marks_of marks) × AreAtFront false marks }
+    ensures all { (kind : Kind) (marks : List Placed) → IsRepliesFront (asks_data kind) (marks_of marks) → AreAtFront false marks
+        → Accepts kind Stage.Sent marks }
+{}

@@ -1,0 +1,38 @@
+// The theorem over every list of events, with the bytes between both ends.
+
+ghost use Rattle.std.specs.Prelude.{◌≡◌, ◌≢◌, ◌≤◌, ℕ, List, None};
+ghost use Rattle.dmis_program.specs.Meaning.{Meaning};
+ghost use Rattle.dmis_program.specs.Programs.{IsProgram};
+ghost use Rattle.protocol_model.specs.Lines.{Readers, AreReaders};
+ghost use Rattle.protocol_model.specs.Client.{State};
+ghost use Rattle.protocol_model.specs.Claims.{Sound, Told};
+ghost use Rattle.protocol_model.specs.World.{World, Event, start, run_of};
+
+/// After every list of events, from any program, any rack and any window up to 16:
+///
+/// - the features that the client holds are the first features of the program, and their points are, in order, those of disjoint
+///   ascending runs of the server's contacts, one unbroken run on one connection for each feature, each contact made with its
+///   target, direction, tool and frame;
+/// - what the client has counted on its connection is a front of what the server did there;
+/// - the client is not Faulted, and the server has met no framing fault.
+///
+/// Connections may be left by either side at any byte, commands may fail, be aborted and be begun again, tags come round, and both
+/// sides may restart. Commands are read, as lines and point texts are, by any functions that read as the interface says.
+#[tactic(auto, using(crate::proofs::WholeRun::always_sound, crate::proofs::WholeRun::always_told, crate::proofs::WholeRun::never_faulted_run, crate::proofs::WholeRun::no_framing_fault))]
+pub fn every_run()
+    ensures sound { (readers : Readers) → AreReaders readers
+        → (program : Meaning) (rack : List (List ℕ)) (window : ℕ) (events : List Event) → IsProgram program → window ≤ 16
+        → Sound program.features (run_of readers events (start program rack window)).client.client.table.tally.features
+        (run_of readers events (start program rack window)).server.server.ledger }
+    ensures told { (readers : Readers) → AreReaders readers
+        → (program : Meaning) (rack : List (List ℕ)) (window : ℕ) (events : List Event) → IsProgram program → window ≤ 16
+        → Told (run_of readers events (start program rack window)).client.client.table.tally.counted
+        (run_of readers events (start program rack window)).server.server.ledger
+        (run_of readers events (start program rack window)).client.client.last }
+    ensures client { (readers : Readers) → AreReaders readers
+        → (program : Meaning) (rack : List (List ℕ)) (window : ℕ) (events : List Event) → IsProgram program → window ≤ 16
+        → (run_of readers events (start program rack window)).client.client.state ≢ State.Faulted }
+    ensures server { (readers : Readers) → AreReaders readers
+        → (program : Meaning) (rack : List (List ℕ)) (window : ℕ) (events : List Event) → IsProgram program → window ≤ 16
+        → (run_of readers events (start program rack window)).server.input.fault ≡ None }
+{}
