@@ -3,7 +3,7 @@ use Rattle.std.proofs.Common.{◌≡◌, ℕ, ◌<◌, ◌≤◌, ◌⊎◌, inl
 use Rattle.std.proofs.lemmas.Bool.{false≢true}
 use Rattle.contact_ledger.specs.declared.acts.Act.{Act}
 use Rattle.dmis_program.specs.declared.features.Wanted.{Wanted}
-use Rattle.protocol_model.specs.Replies.{Line, Reply}
+use Rattle.protocol_model.specs.Replies.{Reply}
 use Rattle.dme_line.specs.declared.tags.Tag.{Tag}
 use Rattle.protocol_model.specs.Client.{Table}
 use Rattle.protocol_model.specs.Server.{Server, Answer}
@@ -14,6 +14,7 @@ use Rattle.protocol_model.proofs.Replying.{Reads, reads_more, IsFront, front_tra
 use Rattle.protocol_model.proofs.Served.{AreUpTo, Served, served_more, IsProgress, no_points, progress_other, contacts_more, made_up_to}
 use Rattle.protocol_model.proofs.Moves.{done_on, acts_more, acts_done, acts_elsewhere, up_to_join, up_to_done, Moves}
 use Rattle.protocol_model.proofs.Holding.{IsNear, IsTidy, IsLive, IsOff, IsHere, IsAhead, IsGone, IsIdle, Inv, know_of}
+use Rattle.protocol_model.specs.declared.lines.Line.{Line}
 
 -- ---- what needs no look at the answer
 

@@ -5,10 +5,10 @@ use Rattle.line_framing.specs.Next.{Front, next_of}
 use Rattle.line_framing.specs.Framing.{Framing, no_bytes, fed, fed_behind}
 use Rattle.line_framing.specs.declared.faults.FramingFault.{FramingFault}
 use Rattle.contact_ledger.specs.declared.acts.Act.{Act}
-use Rattle.protocol_model.specs.Replies.{Line, Reply}
+use Rattle.protocol_model.specs.Replies.{Reply}
 use Rattle.protocol_model.specs.Lines.{Readers, AreReaders, command_bytes, reply_bytes, reading_of, command_text}
 use Rattle.protocol_model.specs.Client.{Client}
-use Rattle.protocol_model.specs.Server.{Server, Answer, Outcome, server_read, server_turned, server_machined, may_end}
+use Rattle.protocol_model.specs.Server.{Server, Answer, server_read, server_turned, server_machined, may_end}
 use Rattle.protocol_model.specs.Ends.{ServerEnd, with_answer, front_served, serving_read, serving_turned, serving_machined}
 use Rattle.protocol_model.specs.Typed.{World as Lined, answered}
 use Rattle.protocol_model.specs.World.{World, Link, link_of, with_link, client_link, server_link, server_writes, moved_up, moved_down, is_line}
@@ -21,6 +21,8 @@ use Rattle.protocol_model.proofs.PlainServer.{IsPlainServer, IsPlainAnswer, read
 use Rattle.protocol_model.proofs.PlainClient.{IsPlainClient}
 use Rattle.protocol_model.proofs.Wires.{IsWhole, IsWired, wired_answers, wired_up, wired_down}
 use Rattle.protocol_model.proofs.LineTaking.{NextCommand, next_command}
+use Rattle.protocol_model.specs.declared.lines.Line.{Line}
+use Rattle.protocol_model.specs.declared.machine.Outcome.{Outcome}
 
 -- both ends, with the lines that are on their way on the client's last connection
 abbrev pub lined : World → List Line → List Reply → Lined

@@ -7,8 +7,6 @@ use Rattle.line_framing.specs.Next.{Front, next_of}
 use Rattle.line_framing.specs.Framing.{Framing, no_bytes, left_by}
 use Rattle.protocol_model.specs.Replies.{Reply, Mark, tag_of, mark_of, tag_is}
 use Rattle.protocol_model.specs.Lines.{Readers, AreReaders, command_bytes, reply_bytes}
-use Rattle.protocol_model.specs.Open.{Cause}
-use Rattle.protocol_model.specs.Plan.{Planned}
 use Rattle.protocol_model.specs.Client.{Client, Table, Sends, due, may_abort, may_resume, client_sent, client_aborted, client_read, client_hears, heard_on, sends_next, sends_abort, next_number}
 use Rattle.protocol_model.specs.Server.{Server, server_accepted, server_left}
 use Rattle.protocol_model.specs.Ends.{with_lines, end_sent, end_aborted, end_read, end_resumed, end_left, end_restarted, front_read, line_read, serving_accepted, serving_left, serving_restarted}
@@ -25,6 +23,8 @@ use Rattle.protocol_model.proofs.PlainClient.{IsPlainSends, plain_connected, pla
 use Rattle.protocol_model.proofs.Wires.{IsWired, wired_connect, wired_accept, wired_left, wired_gone, wired_writes}
 use Rattle.protocol_model.proofs.LineTaking.{NextReply, next_reply, no_reply_fault, reply_heard}
 use Rattle.protocol_model.proofs.Carrying.{lined, IsCarried}
+use Rattle.protocol_model.specs.declared.states.Cause.{Cause}
+use Rattle.protocol_model.specs.declared.plans.Planned.{Planned}
 
 -- ---- connections
 

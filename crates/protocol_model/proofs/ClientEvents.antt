@@ -7,11 +7,11 @@ use Rattle.dme_line.specs.declared.tags.Tag.TheVariants.{Std}
 use Rattle.dme_line.specs.declared.commands.Command.{Command}
 use Rattle.contact_ledger.specs.declared.features.Feature.{Feature}
 use Rattle.dmis_program.specs.declared.features.Wanted.{Wanted}
-use Rattle.protocol_model.specs.Replies.{Line, tag_is}
-use Rattle.protocol_model.specs.Plan.{Planned, Start, plan}
-use Rattle.protocol_model.specs.Open.{Stage, Held, is_failed, count_open, is_held}
-use Rattle.protocol_model.specs.Client.{Client, Table, State, client_connected, held_now, is_clearing, client_left, left_state, client_restarted}
-use Rattle.protocol_model.specs.Server.{Waiting, is_abort}
+use Rattle.protocol_model.specs.Replies.{tag_is}
+use Rattle.protocol_model.specs.Plan.{plan}
+use Rattle.protocol_model.specs.Open.{is_failed, count_open, is_held}
+use Rattle.protocol_model.specs.Client.{Client, Table, client_connected, held_now, is_clearing, client_left, left_state, client_restarted}
+use Rattle.protocol_model.specs.Server.{is_abort}
 use Rattle.protocol_model.specs.Claims.{contacts, acts_on}
 use Rattle.protocol_model.specs.Typed.{World, connected}
 use Rattle.protocol_model.proofs.Basics.{if_cases, if_false}
@@ -23,6 +23,13 @@ use Rattle.protocol_model.proofs.Marks.{plan_fits, plan_sane, plan_touches, plan
 use Rattle.protocol_model.proofs.Served.{acts_none, Served, served_front, served_take, progress_served, progress_new, program_has}
 use Rattle.protocol_model.proofs.Holding.{listed, sent_now, all_received, all_sent, abort_lines, abort_helds, commands_in, AreStandard, IsClearFirst, IsNear, HasState, IsLive, IsOff, IsAtRest, Inv}
 use Rattle.protocol_model.proofs.LineFacts.{tag_is_false, standard_join, no_clears_join, sent_more, commands_more, steps_more}
+use Rattle.protocol_model.specs.declared.lines.Line.{Line}
+use Rattle.protocol_model.specs.declared.plans.Planned.{Planned}
+use Rattle.protocol_model.specs.declared.plans.Start.{Start}
+use Rattle.protocol_model.specs.declared.held.Stage.{Stage}
+use Rattle.protocol_model.specs.declared.held.Held.{Held}
+use Rattle.protocol_model.specs.declared.states.State.{State}
+use Rattle.protocol_model.specs.declared.lines.Waiting.{Waiting}
 
 -- ---- what always follows
 

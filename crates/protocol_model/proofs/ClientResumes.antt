@@ -6,11 +6,9 @@ use Rattle.contact_ledger.specs.declared.features.Feature.{Feature}
 use Rattle.dmis_program.specs.declared.features.Wanted.{Wanted}
 use Rattle.dmis_program.specs.Meaning.{Meaning as Program}
 use Rattle.protocol_model.proofs.Blocks.{IsPlain}
-use Rattle.protocol_model.specs.Replies.{Line}
-use Rattle.protocol_model.specs.Plan.{Planned, Start, plan}
-use Rattle.protocol_model.specs.Open.{Held, count_open}
-use Rattle.protocol_model.specs.Client.{Client, Table, Tally, State, next_number, client_aborted, sends_abort, may_abort, may_resume, client_resumed}
-use Rattle.protocol_model.specs.Server.{Waiting}
+use Rattle.protocol_model.specs.Plan.{plan}
+use Rattle.protocol_model.specs.Open.{count_open}
+use Rattle.protocol_model.specs.Client.{Client, Table, Tally, next_number, client_aborted, sends_abort, may_abort, may_resume, client_resumed}
 use Rattle.protocol_model.specs.Claims.{contacts}
 use Rattle.protocol_model.specs.Typed.{World, sent}
 use Rattle.protocol_model.proofs.Counts.{AreFailed, all_failed}
@@ -21,6 +19,12 @@ use Rattle.protocol_model.proofs.Served.{IsProgress, progress_anew, program_has}
 use Rattle.protocol_model.proofs.Drawing.{IsDrawn, drawn, none_drawn, event_apart}
 use Rattle.protocol_model.proofs.Holding.{listed, abort_line, abort_lines, abort_held, commands_in, IsClearFirst, IsNear, HasEvents, HasState, IsLive, IsOff, IsAtRest, IsHere, IsAhead, IsGone, Inv, know_of}
 use Rattle.protocol_model.proofs.ClientEvents.{no_aborts, none_received}
+use Rattle.protocol_model.specs.declared.lines.Line.{Line}
+use Rattle.protocol_model.specs.declared.plans.Planned.{Planned}
+use Rattle.protocol_model.specs.declared.plans.Start.{Start}
+use Rattle.protocol_model.specs.declared.held.Held.{Held}
+use Rattle.protocol_model.specs.declared.states.State.{State}
+use Rattle.protocol_model.specs.declared.lines.Waiting.{Waiting}
 
 -- ---- an abort
 

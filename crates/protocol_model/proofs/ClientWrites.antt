@@ -5,9 +5,8 @@ use Rattle.dme_line.specs.Kinds.{kind_of}
 use Rattle.dme_line.specs.declared.tags.Tag.{Tag}
 use Rattle.dme_line.specs.declared.tags.Tag.TheVariants.{Std}
 use Rattle.dmis_program.specs.declared.features.Wanted.{Wanted}
-use Rattle.protocol_model.specs.Plan.{Planned}
-use Rattle.protocol_model.specs.Open.{Held, count_open, is_held}
-use Rattle.protocol_model.specs.Client.{Client, Table, Tally, State, client_sent, sends_next, held_now, next_number, due, first_due, may_go, is_running, is_clearing}
+use Rattle.protocol_model.specs.Open.{count_open, is_held}
+use Rattle.protocol_model.specs.Client.{Client, Table, Tally, client_sent, sends_next, held_now, next_number, due, first_due, may_go, is_running, is_clearing}
 use Rattle.protocol_model.specs.Server.{is_abort}
 use Rattle.protocol_model.specs.Typed.{World, sent}
 use Rattle.protocol_model.proofs.Counts.{AreFailed, all_failed, failed_tags}
@@ -17,6 +16,9 @@ use Rattle.protocol_model.proofs.Marks.{HasNoAbort}
 use Rattle.protocol_model.proofs.Drawing.{IsDrawn, drawn, none_drawn, standard_apart, held_length}
 use Rattle.protocol_model.proofs.Holding.{IsNear, HasEvents, HasState, tags_of, IsLive, IsOff, IsAtRest, IsHere, IsAhead, IsGone, Inv, know_of}
 use Rattle.protocol_model.proofs.ClientEvents.{failed_tags_more, count_more, distinct_more, near_sends}
+use Rattle.protocol_model.specs.declared.plans.Planned.{Planned}
+use Rattle.protocol_model.specs.declared.held.Held.{Held}
+use Rattle.protocol_model.specs.declared.states.State.{State}
 
 -- ---- a command is sent
 

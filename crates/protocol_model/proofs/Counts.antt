@@ -5,9 +5,12 @@ use Rattle.fixed_um.specs.declared.lengths.Point.{Point}
 use Rattle.dme_line.specs.declared.tags.Tag.{Tag}
 use Rattle.dme_line.specs.declared.commands.Kind.{Kind}
 use Rattle.protocol_model.specs.Replies.{Mark, tag_is}
-use Rattle.protocol_model.specs.Open.{Cause, Stage, Held, Effect, Becomes, Breaks, Closes, Counts, Refused, judged, judged_ack, judged_data, judged_error, judged_done, settled, put_before, heard_in, is_failed, asks_data, count_open, is_held}
+use Rattle.protocol_model.specs.Open.{Effect, Becomes, Breaks, Closes, Counts, Refused, judged, judged_ack, judged_data, judged_error, judged_done, settled, put_before, heard_in, is_failed, asks_data, count_open, is_held}
 use Rattle.protocol_model.proofs.Basics.{if_cases, if_true, if_false, tag_is-refl, tag_is-true}
 use Rattle.protocol_model.proofs.Walks.{two, heard_at, heard_past, staged, heard_cases, AreDistinct}
+use Rattle.protocol_model.specs.declared.states.Cause.{Cause}
+use Rattle.protocol_model.specs.declared.held.Stage.{Stage}
+use Rattle.protocol_model.specs.declared.held.Held.{Held}
 
 -- ---- what has failed stays so
 

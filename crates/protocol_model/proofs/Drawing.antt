@@ -4,10 +4,11 @@ use Rattle.std.proofs.lemmas.Bool.{false≢true, eqb-true, eqb-false}
 use Rattle.dme_line.specs.declared.tags.Tag.{Tag}
 use Rattle.dme_line.specs.declared.tags.Tag.TheVariants.{Std, Event}
 use Rattle.protocol_model.specs.Replies.{tag_is}
-use Rattle.protocol_model.specs.Open.{Held, is_failed, count_open, is_held}
+use Rattle.protocol_model.specs.Open.{is_failed, count_open, is_held}
 use Rattle.protocol_model.specs.Client.{first_free, or_else}
 use Rattle.protocol_model.proofs.Basics.{if_cases, if_true, if_false, tag_is-true}
 use Rattle.protocol_model.proofs.Counts.{failed_tags}
+use Rattle.protocol_model.specs.declared.held.Held.{Held}
 
 -- a number that is found is free, and none is found only where all are held
 pub record IsFound (sort : ℕ → Tag) (hs : List Held) (n left m : ℕ) : Type 0 where

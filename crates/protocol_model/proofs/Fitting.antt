@@ -9,9 +9,10 @@ use Rattle.dme_line.specs.declared.commands.Csy.TheVariants.{MachineCsy, PartCsy
 use Rattle.dme_line.specs.declared.commands.Command.{Command}
 use Rattle.dme_line.specs.declared.commands.Command.TheVariants as command
 use Rattle.dmis_program.specs.declared.features.Touch.{Touch}
-use Rattle.protocol_model.specs.Plan.{Planned, Does}
 use Rattle.fixed_um.specs.Points.{point_opposite}
 use Rattle.protocol_model.specs.Client.{is_clearing}
+use Rattle.protocol_model.specs.declared.plans.Planned.{Planned}
+use Rattle.protocol_model.specs.declared.plans.Does.{Does}
 
 -- what is known of a server: its tool, its frame and its stored offset, each perhaps not
 pub record Know : Type 0 where

@@ -4,9 +4,7 @@ use Rattle.std.proofs.lemmas.Bool.{false≢true}
 use Rattle.fixed_um.specs.declared.lengths.Point.{Point}
 use Rattle.dme_line.specs.Kinds.{kind_of}
 use Rattle.dmis_program.specs.declared.features.Wanted.{Wanted}
-use Rattle.protocol_model.specs.Replies.{Line, Reply}
-use Rattle.protocol_model.specs.Plan.{Planned, Does}
-use Rattle.protocol_model.specs.Open.{Held}
+use Rattle.protocol_model.specs.Replies.{Reply}
 use Rattle.protocol_model.specs.Client.{Table, Tally, act_of, begins_session, measured, counted_next}
 use Rattle.protocol_model.specs.Server.{Server, answers, fails, all_fail}
 use Rattle.protocol_model.specs.Claims.{contacts}
@@ -22,6 +20,10 @@ use Rattle.protocol_model.proofs.ReadEvent.{quiet_answer, tidy_pair_and_pairs}
 use Rattle.protocol_model.proofs.Touching.{HasPoint, Keeps, measured_keeps, Goes, does_goes}
 use Rattle.protocol_model.proofs.Holding.{listed, received, all_received, all_sent, all_wait, abort_lines, abort_helds, commands_of, commands_in, AreStandard, AreNoClears, IsClearFirst, IsClean, IsNearBy, IsTidy, know_of}
 use Rattle.protocol_model.proofs.LineFacts.{standard_before, standard_behind, clear_first_none, no_clears_behind, IsFirstStep, first_step}
+use Rattle.protocol_model.specs.declared.lines.Line.{Line}
+use Rattle.protocol_model.specs.declared.plans.Planned.{Planned}
+use Rattle.protocol_model.specs.declared.plans.Does.{Does}
+use Rattle.protocol_model.specs.declared.held.Held.{Held}
 
 -- the first command that the server has to do, on its client's connection, with those that wait and those that come
 pub record IsAtFront (w : World) (table : Table) (left : List Wanted) (x : Line) (queued coming : List Line) (aborts : List ℕ) : Type 0 where

@@ -6,11 +6,14 @@ use Rattle.dme_line.specs.Tags.{is_event_tag}
 use Rattle.dme_line.specs.declared.tags.Tag.{Tag}
 use Rattle.dme_line.specs.declared.tags.Tag.TheVariants.{Std, Event}
 use Rattle.protocol_model.specs.Replies.{Mark, tag_is}
-use Rattle.protocol_model.specs.Open.{Stage, Held, Effect, Becomes, Closes, Counts, judged, judged_ack, judged_data, heard_in, is_failed, asks_data, count_open}
-use Rattle.protocol_model.specs.Client.{Table, State, ends_abort, first_state, last_state, is_whole, state_behind}
+use Rattle.protocol_model.specs.Open.{Effect, Becomes, Closes, Counts, judged, judged_ack, judged_data, heard_in, is_failed, asks_data, count_open}
+use Rattle.protocol_model.specs.Client.{Table, ends_abort, first_state, last_state, is_whole, state_behind}
 use Rattle.protocol_model.proofs.Walks.{two, staged, heard_cases}
 use Rattle.protocol_model.proofs.Counts.{is_error, no_break, done_moves}
 use Rattle.protocol_model.proofs.Holding.{HasEvents, HasState}
+use Rattle.protocol_model.specs.declared.held.Stage.{Stage}
+use Rattle.protocol_model.specs.declared.held.Held.{Held}
+use Rattle.protocol_model.specs.declared.states.State.{State}
 
 -- ---- states
 

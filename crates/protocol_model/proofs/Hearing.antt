@@ -6,8 +6,8 @@ use Rattle.dme_line.specs.declared.tags.Tag.{Tag}
 use Rattle.dme_line.specs.declared.tags.Tag.TheVariants.{Std, Event}
 use Rattle.dmis_program.specs.declared.features.Wanted.{Wanted}
 use Rattle.protocol_model.specs.Replies.{Mark, Reply, tag_of, mark_of, tag_is}
-use Rattle.protocol_model.specs.Open.{Cause, Held, Effect, heard_in, count_open}
-use Rattle.protocol_model.specs.Client.{Client, Table, State, heard, heard_on, ends_abort, first_state, last_state, is_whole, state_behind, client_hears, client_read}
+use Rattle.protocol_model.specs.Open.{Effect, heard_in, count_open}
+use Rattle.protocol_model.specs.Client.{Client, Table, heard, heard_on, ends_abort, first_state, last_state, is_whole, state_behind, client_hears, client_read}
 use Rattle.protocol_model.specs.Typed.{World, client_reads}
 use Rattle.protocol_model.proofs.Basics.{if_true, if_false}
 use Rattle.protocol_model.proofs.Walks.{two, staged, AreDistinct}
@@ -15,6 +15,9 @@ use Rattle.protocol_model.proofs.Counts.{failed_tags, is_error, none_fails, one_
 use Rattle.protocol_model.proofs.Replying.{fine, step_cases, Reads, step_counts, step_distinct}
 use Rattle.protocol_model.proofs.Holding.{IsAborting, HasEvents, IsTidy, tags_of, IsLive, IsOff, IsHere, IsAhead, IsGone, Inv}
 use Rattle.protocol_model.proofs.HearEvent.{has_state, standard_events, failing_events, AbortLeft, there, gone, IsAbortReply, abort_reply}
+use Rattle.protocol_model.specs.declared.states.Cause.{Cause}
+use Rattle.protocol_model.specs.declared.held.Held.{Held}
+use Rattle.protocol_model.specs.declared.states.State.{State}
 
 event_events : (state : State) (abort : Option Tag) (event hs : List Held) (t : Tag) (m : Mark) (e : Effect) (b : Table) → HasEvents state abort event → heard_in true event t m ≡ two hs e → is_error m ≡ false → HasEvents (state_behind state (ends_abort abort t m) b) abort hs
 event_events State.Apart abort event hs t m e b h is n = absurd (none_heard event hs t m e h is)

@@ -10,11 +10,10 @@ use Rattle.dme_line.specs.declared.commands.Command.TheVariants as command
 use Rattle.dme_line.specs.declared.commands.Kind.TheVariants as kind
 use Rattle.dmis_program.specs.declared.features.Wanted.{Wanted}
 use Rattle.protocol_model.proofs.Blocks.{IsPlain}
-use Rattle.protocol_model.specs.Replies.{Line, Reply}
-use Rattle.protocol_model.specs.Open.{Stage, Held, count_open}
-use Rattle.protocol_model.specs.Plan.{Planned}
-use Rattle.protocol_model.specs.Client.{Table, Tally, State, is_clearing}
-use Rattle.protocol_model.specs.Server.{Server, Waiting, is_abort}
+use Rattle.protocol_model.specs.Replies.{Reply}
+use Rattle.protocol_model.specs.Open.{count_open}
+use Rattle.protocol_model.specs.Client.{Table, Tally, is_clearing}
+use Rattle.protocol_model.specs.Server.{Server, is_abort}
 use Rattle.protocol_model.specs.Claims.{contacts, acts_on}
 use Rattle.protocol_model.specs.Typed.{World}
 use Rattle.protocol_model.proofs.Walks.{AreDistinct}
@@ -23,6 +22,12 @@ use Rattle.protocol_model.proofs.Replying.{Reads, IsFront}
 use Rattle.protocol_model.proofs.Fitting.{Know, unknown, Fits, IsSane}
 use Rattle.protocol_model.proofs.Marks.{marks_of, touches_in, HasNoAbort}
 use Rattle.protocol_model.proofs.Served.{AreUpTo, Served, IsProgress}
+use Rattle.protocol_model.specs.declared.lines.Line.{Line}
+use Rattle.protocol_model.specs.declared.held.Stage.{Stage}
+use Rattle.protocol_model.specs.declared.held.Held.{Held}
+use Rattle.protocol_model.specs.declared.plans.Planned.{Planned}
+use Rattle.protocol_model.specs.declared.states.State.{State}
+use Rattle.protocol_model.specs.declared.lines.Waiting.{Waiting}
 
 -- ---- lines as open commands and as what waits
 

@@ -6,14 +6,17 @@ use Rattle.dme_line.specs.declared.tags.Tag.{Tag}
 use Rattle.dme_line.specs.declared.tags.Tag.TheVariants.{Std, Event}
 use Rattle.dme_line.specs.declared.commands.Command.{Command}
 use Rattle.dme_line.specs.declared.commands.Command.TheVariants as command
-use Rattle.protocol_model.specs.Replies.{Line, tag_is}
-use Rattle.protocol_model.specs.Open.{Held, count_open, is_held}
-use Rattle.protocol_model.specs.Plan.{Planned, Does}
+use Rattle.protocol_model.specs.Replies.{tag_is}
+use Rattle.protocol_model.specs.Open.{count_open, is_held}
 use Rattle.protocol_model.specs.Client.{is_clearing}
 use Rattle.protocol_model.specs.Server.{is_clear, runs_under, waits_under}
 use Rattle.protocol_model.proofs.Basics.{if_cases, if_false, tag_is-refl, tag_is-true}
 use Rattle.protocol_model.proofs.Walks.{AreDistinct}
 use Rattle.protocol_model.proofs.Holding.{listed, received, sent_now, all_received, all_sent, all_wait, AreStandard, AreNoClears, IsClearFirst, commands_of, commands_in}
+use Rattle.protocol_model.specs.declared.lines.Line.{Line}
+use Rattle.protocol_model.specs.declared.held.Held.{Held}
+use Rattle.protocol_model.specs.declared.plans.Planned.{Planned}
+use Rattle.protocol_model.specs.declared.plans.Does.{Does}
 
 pub tag_is_false : (t u : Tag) → tag_is t u ≡ false → tag_is u t ≡ false
 tag_is_false t u e = go (tag_is u t) refl

@@ -10,13 +10,17 @@ use Rattle.line_framing.specs.Stream.{TakesFirst}
 use Rattle.line_framing.specs.declared.faults.FramingFault.{FramingFault}
 use Rattle.line_framing.proofs.Streams.{takes_first, no_fault}
 use Rattle.dmis_program.specs.declared.features.Wanted.{Wanted}
-use Rattle.protocol_model.specs.Replies.{Line, Reply, Mark, tag_of, mark_of, tag_is}
+use Rattle.protocol_model.specs.Replies.{Reply, Mark, tag_of, mark_of, tag_is}
 use Rattle.protocol_model.specs.Lines.{command_text, reply_text, command_texts, reply_texts, command_bytes, reply_bytes, Readers, AreReaders}
-use Rattle.protocol_model.specs.Open.{Cause, Held, Heard, Refused, Stage, judged, judged_data, settled, put_before, heard_in, is_failed, asks_data}
+use Rattle.protocol_model.specs.Open.{Heard, Refused, judged, judged_data, settled, put_before, heard_in, is_failed, asks_data}
 use Rattle.protocol_model.specs.Client.{Client, heard_standard, heard_event, heard_on, client_hears, client_read, faulted}
 use Rattle.protocol_model.specs.Ends.{held_kind, held_under, given_point, given_under, given, response_read, line_read}
 use Rattle.protocol_model.proofs.Basics.{if_cases, if_true, if_false, and_false}
 use Rattle.protocol_model.proofs.Writable.{AreWritable, command_lines, IsWritableReply, AreReplies, reply_lines, response_of, reply_read, point_read}
+use Rattle.protocol_model.specs.declared.lines.Line.{Line}
+use Rattle.protocol_model.specs.declared.states.Cause.{Cause}
+use Rattle.protocol_model.specs.declared.held.Held.{Held}
+use Rattle.protocol_model.specs.declared.held.Stage.{Stage}
 
 -- ---- lines at the front
 

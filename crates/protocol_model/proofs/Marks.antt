@@ -12,11 +12,16 @@ use Rattle.dmis_program.specs.Meaning.{Meaning as Program, features_of, block_to
 use Rattle.dmis_program.specs.declared.steps.Step.{Step}
 use Rattle.dmis_program.specs.declared.steps.Step.TheVariants as step
 use Rattle.protocol_model.proofs.Blocks.{AreBlocks, AreSelected, IsPlain}
-use Rattle.protocol_model.specs.Plan.{Planned, Does, Start, NewConnection, SameConnection, tool_behind, frame_behind, is_empty, behind, up_to, planned, framing, tooling, stepping, measuring, starting, plan}
+use Rattle.protocol_model.specs.Plan.{tool_behind, frame_behind, is_empty, behind, up_to, planned, framing, tooling, stepping, measuring, starting, plan}
 use Rattle.fixed_um.specs.Points.{point_opposite}
 use Rattle.std.proofs.Common.{Ok}
 use Rattle.protocol_model.specs.Server.{is_abort}
 use Rattle.protocol_model.proofs.Fitting.{Know, unknown, Fits, IsSane, HasNoClear, sane_without, no_clear_more}
+use Rattle.protocol_model.specs.declared.plans.Planned.{Planned}
+use Rattle.protocol_model.specs.declared.plans.Does.{Does}
+use Rattle.protocol_model.specs.declared.plans.Start.{Start}
+use Rattle.protocol_model.specs.declared.plans.Start.TheVariants.{NewConnection}
+use Rattle.protocol_model.specs.declared.plans.Start.TheVariants.{SameConnection}
 
 abbrev pub Marked : Type 0
 Marked = Touch × Bool

@@ -7,13 +7,16 @@ use Rattle.dme_line.specs.declared.commands.Command.{Command}
 use Rattle.dme_line.specs.declared.commands.Command.TheVariants as command
 use Rattle.contact_ledger.specs.declared.acts.Act.{Act}
 use Rattle.contact_ledger.specs.declared.acts.Act.TheVariants as act
-use Rattle.protocol_model.specs.Replies.{Line, Reading}
+use Rattle.protocol_model.specs.Replies.{Reading}
 use Rattle.dme_line.specs.declared.reading.LineFault.{LineFault}
 use Rattle.dme_line.specs.declared.reading.LineFault.TheVariants as fault
-use Rattle.protocol_model.specs.Server.{Server, Answer, Waiting, Outcome, in_error, queued, runs_under, waits_under, is_abort, is_clear, is_fault, stands, tagged, server_read, refusal, frame_of, carried_out, carried, taken, turned_to, server_turned, finished, touched, machined, server_machined}
+use Rattle.protocol_model.specs.Server.{Server, Answer, in_error, queued, runs_under, waits_under, is_abort, is_clear, is_fault, stands, tagged, server_read, refusal, frame_of, carried_out, carried, taken, turned_to, server_turned, finished, touched, machined, server_machined}
 use Rattle.protocol_model.specs.Claims.{acts_on}
 use Rattle.protocol_model.proofs.Basics.{if_true, if_false}
 use Rattle.protocol_model.proofs.Served.{AreUpTo}
+use Rattle.protocol_model.specs.declared.lines.Line.{Line}
+use Rattle.protocol_model.specs.declared.lines.Waiting.{Waiting}
+use Rattle.protocol_model.specs.declared.machine.Outcome.{Outcome}
 
 abbrev pub done_on : ℕ → List Act → List (ℕ × Act)
 done_on n [] = []

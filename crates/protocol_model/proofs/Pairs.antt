@@ -10,14 +10,17 @@ use Rattle.dme_line.specs.declared.tags.Tag.TheVariants.{Std, Event}
 use Rattle.dme_line.specs.declared.commands.Kind.{Kind}
 use Rattle.dme_line.specs.declared.commands.Kind.TheVariants as kind
 use Rattle.dmis_program.specs.declared.features.Wanted.{Wanted}
-use Rattle.protocol_model.specs.Replies.{Line, Mark, Reply, tag_is}
-use Rattle.protocol_model.specs.Open.{Stage, Held, Effect, judged, judged_data, judged_done, settled, put_before, heard_in, asks_data, is_held}
+use Rattle.protocol_model.specs.Replies.{Mark, Reply, tag_is}
+use Rattle.protocol_model.specs.Open.{Effect, judged, judged_data, judged_done, settled, put_before, heard_in, asks_data, is_held}
 use Rattle.protocol_model.specs.Client.{Tally, Table, counted_next, tallied, heard}
 use Rattle.protocol_model.specs.Server.{fails, all_fail, running_fails}
 use Rattle.protocol_model.proofs.Basics.{if_cases, tag_is-refl}
 use Rattle.protocol_model.proofs.Walks.{two, heard_at, heard_past}
 use Rattle.protocol_model.proofs.Replying.{tabled, fine, standard_step, event_step, Reads, reads_more}
 use Rattle.protocol_model.proofs.Holding.{listed, received, sent_now, all_received, all_wait, abort_tag, abort_held, AreStandard}
+use Rattle.protocol_model.specs.declared.lines.Line.{Line}
+use Rattle.protocol_model.specs.declared.held.Stage.{Stage}
+use Rattle.protocol_model.specs.declared.held.Held.{Held}
 
 -- a reply on a standard tag
 pub standard_hears : (ws : List Wanted) (b : Table) (t : Tag) (m : Mark) (hs : List Held) (e : Effect) → is_event_tag t ≡ false → heard_in (not b.tally.failed) b.standard t m ≡ two hs e → heard ws b t m ≡ fine (tabled hs b.event (tallied ws e b.tally))

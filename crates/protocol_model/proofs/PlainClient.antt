@@ -18,13 +18,18 @@ use Rattle.dme_line.specs.declared.commands.Command.{Command}
 use Rattle.dme_line.specs.declared.commands.Command.TheVariants as command
 use Rattle.dme_line.proofs.CommandBack.{volume_on_wire}
 use Rattle.protocol_model.specs.Replies.{Mark, tag_is}
-use Rattle.protocol_model.specs.Open.{Cause, Held}
-use Rattle.protocol_model.specs.Plan.{Planned, Start, NewConnection, SameConnection, tool_behind, frame_behind, is_empty, behind, up_to, framing, tooling, stepping, measuring, clearing, plan}
+use Rattle.protocol_model.specs.Plan.{tool_behind, frame_behind, is_empty, behind, up_to, framing, tooling, stepping, measuring, clearing, plan}
 use Rattle.protocol_model.specs.Client.{Client, Table, Sends, first_free, or_else, next_number, sends_next, client_sent, sends_abort, client_aborted, client_connected, client_resumed, client_left, client_restarted, client_hears, client_read, heard_on}
 use Rattle.protocol_model.specs.Server.{is_abort}
 use Rattle.protocol_model.proofs.Marks.{HasNoAbort, plan_no_abort}
 use Rattle.protocol_model.proofs.Drawing.{IsFound, found, or_cases}
 use Rattle.protocol_model.proofs.Writable.{AreWritable, opposite_in_volume}
+use Rattle.protocol_model.specs.declared.states.Cause.{Cause}
+use Rattle.protocol_model.specs.declared.held.Held.{Held}
+use Rattle.protocol_model.specs.declared.plans.Planned.{Planned}
+use Rattle.protocol_model.specs.declared.plans.Start.{Start}
+use Rattle.protocol_model.specs.declared.plans.Start.TheVariants.{NewConnection}
+use Rattle.protocol_model.specs.declared.plans.Start.TheVariants.{SameConnection}
 
 -- ---- plans
 

@@ -15,11 +15,14 @@ use Rattle.dme_line.specs.declared.commands.Csy.TheVariants.{MachineCsy, PartCsy
 use Rattle.dme_line.specs.declared.commands.Command.{Command}
 use Rattle.dme_line.specs.declared.commands.Command.TheVariants as command
 use Rattle.dme_line.specs.declared.commands.Kind.{Kind}
-use Rattle.protocol_model.specs.Replies.{Line, Reply}
-use Rattle.protocol_model.specs.Server.{Server, Answer, Waiting, Outcome, origin, fails, all_fail, in_error, queued, runs_under, waits_under, is_abort, is_clear, is_fault, running_fails, aborted, stands, server_read, refusal, frame_of, carried_out, taken, turned_to, server_turned, offset, in_volume, stopped, idle, finished, touched, machined, server_machined, has_outcome, may_end, server_left}
+use Rattle.protocol_model.specs.Replies.{Reply}
+use Rattle.protocol_model.specs.Server.{Server, Answer, origin, fails, all_fail, in_error, queued, runs_under, waits_under, is_abort, is_clear, is_fault, running_fails, aborted, stands, server_read, refusal, frame_of, carried_out, taken, turned_to, server_turned, offset, in_volume, stopped, idle, finished, touched, machined, server_machined, has_outcome, may_end, server_left}
 use Rattle.protocol_model.proofs.Holding.{listed, waits, all_wait}
 use Rattle.protocol_model.proofs.LineFacts.{wait_more}
 use Rattle.protocol_model.proofs.Writable.{AreWritable, writable_join, AreReplies, replies_join, difference_on_wire, opposite_in_volume}
+use Rattle.protocol_model.specs.declared.lines.Line.{Line}
+use Rattle.protocol_model.specs.declared.lines.Waiting.{Waiting}
+use Rattle.protocol_model.specs.declared.machine.Outcome.{Outcome}
 
 pub tag_of_numbered : (t : Tag) → IsNumbered t → IsTag t
 tag_of_numbered (Std n) h = h.1

@@ -8,11 +8,10 @@ use Rattle.dme_line.specs.declared.tags.Tag.{Tag}
 use Rattle.dme_line.specs.declared.commands.Kind.{Kind}
 use Rattle.contact_ledger.specs.declared.features.Feature.{Feature}
 use Rattle.dmis_program.specs.declared.features.Wanted.{Wanted}
-use Rattle.protocol_model.specs.Replies.{Line, Reply}
-use Rattle.protocol_model.specs.Plan.{Planned}
-use Rattle.protocol_model.specs.Open.{Held, count_open, is_held}
+use Rattle.protocol_model.specs.Replies.{Reply}
+use Rattle.protocol_model.specs.Open.{count_open, is_held}
 use Rattle.protocol_model.specs.Client.{Table, Tally, is_clearing}
-use Rattle.protocol_model.specs.Server.{Server, Answer, Waiting, answers, fails, all_fail, queued, runs_under, waits_under, is_abort, is_clear, running_fails, aborted, stands, server_read}
+use Rattle.protocol_model.specs.Server.{Server, Answer, answers, fails, all_fail, queued, runs_under, waits_under, is_abort, is_clear, running_fails, aborted, stands, server_read}
 use Rattle.protocol_model.specs.Claims.{Made, contacts}
 use Rattle.protocol_model.specs.Typed.{World}
 use Rattle.protocol_model.proofs.Basics.{if_true, if_false, and_false}
@@ -25,6 +24,10 @@ use Rattle.protocol_model.proofs.Pairs.{broken, breaks, pair, ack, abort_reads}
 use Rattle.protocol_model.proofs.Answers.{IsAnswered, tidy_more}
 use Rattle.protocol_model.proofs.Holding.{listed, received, sent_now, all_received, all_sent, waits, all_wait, abort_tag, abort_line, abort_lines, abort_held, abort_helds, commands_in, AreStandard, IsClearFirst, IsClean, IsNearBy, IsNear, IsTidy, know_of}
 use Rattle.protocol_model.proofs.LineFacts.{apart_from, not_in_use, event_not_in_use, standard_behind, clear_first_none, wait_more, one_behind, received_behind, few_wait, wait_long, clear_same, no_steps, IsFirstStep, first_step}
+use Rattle.protocol_model.specs.declared.lines.Line.{Line}
+use Rattle.protocol_model.specs.declared.plans.Planned.{Planned}
+use Rattle.protocol_model.specs.declared.held.Held.{Held}
+use Rattle.protocol_model.specs.declared.lines.Waiting.{Waiting}
 
 -- ---- an answer that tells no act
 

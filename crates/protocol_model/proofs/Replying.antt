@@ -7,12 +7,15 @@ use Rattle.dme_line.specs.declared.commands.Kind.{Kind}
 use Rattle.contact_ledger.specs.declared.features.Feature.{Feature}
 use Rattle.dmis_program.specs.declared.features.Wanted.{Wanted}
 use Rattle.protocol_model.specs.Replies.{Mark, Reply, tag_of, mark_of, tag_is}
-use Rattle.protocol_model.specs.Plan.{Planned, Does}
-use Rattle.protocol_model.specs.Open.{Cause, Held, Effect, Heard, heard_in, count_open, is_held}
+use Rattle.protocol_model.specs.Open.{Effect, Heard, heard_in, count_open, is_held}
 use Rattle.protocol_model.specs.Client.{Tally, Table, act_of, joined, measured, begins_session, counted_next, tallied, heard_standard, heard_event, heard_on, heard}
 use Rattle.protocol_model.proofs.Basics.{if_cases, if_true, if_false}
 use Rattle.protocol_model.proofs.Walks.{two, heard_more, not_held_keeps, AreDistinct, distinct_keeps}
 use Rattle.protocol_model.proofs.Counts.{AreFailed, OnlyEnds, only_ends, count_keeps}
+use Rattle.protocol_model.specs.declared.plans.Planned.{Planned}
+use Rattle.protocol_model.specs.declared.plans.Does.{Does}
+use Rattle.protocol_model.specs.declared.states.Cause.{Cause}
+use Rattle.protocol_model.specs.declared.held.Held.{Held}
 
 abbrev pub tabled : List Held → List Held → Tally → Table
 tabled standard event tally = record { standard = standard; event = event; tally = tally }

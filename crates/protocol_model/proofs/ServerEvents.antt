@@ -3,11 +3,11 @@ use Rattle.std.proofs.Common.{◌≡◌, ℕ, ◌<◌, ◌≤◌, ◌⊎◌, inl
 use Rattle.std.proofs.lemmas.Bool.{false≢true, and_parts, ltb-true, leb-true, eqb-false}
 use Rattle.contact_ledger.specs.declared.acts.Act.{Act}
 use Rattle.dmis_program.specs.declared.features.Wanted.{Wanted}
-use Rattle.protocol_model.specs.Replies.{Line, Reading}
-use Rattle.protocol_model.specs.Plan.{Planned, is_empty}
+use Rattle.protocol_model.specs.Replies.{Reading}
+use Rattle.protocol_model.specs.Plan.{is_empty}
 use Rattle.protocol_model.specs.Open.{count_open}
 use Rattle.protocol_model.specs.Client.{Table}
-use Rattle.protocol_model.specs.Server.{Answer, Waiting, Outcome, server_accepted, server_read, server_turned, server_machined, server_left, server_restarted, may_end}
+use Rattle.protocol_model.specs.Server.{Answer, server_accepted, server_read, server_turned, server_machined, server_left, server_restarted, may_end}
 use Rattle.protocol_model.specs.Typed.{World, answered, server_reads}
 use Rattle.protocol_model.proofs.Replying.{reads_counts, reads_distinct}
 use Rattle.protocol_model.proofs.Fitting.{Know, unknown, KnowsMore, more_than_nothing, fits_more}
@@ -17,6 +17,10 @@ use Rattle.protocol_model.proofs.Answers.{IsAnswered, off_answers, old_answers, 
 use Rattle.protocol_model.proofs.ReadEvent.{reads_standard, reads_abort}
 use Rattle.protocol_model.proofs.WorkEvent.{turned_here, machined_here}
 use Rattle.protocol_model.proofs.Holding.{abort_line, abort_lines, IsNearBy, IsNear, IsLive, IsOff, IsHere, IsAhead, IsGone, IsIdle, Inv, know_of}
+use Rattle.protocol_model.specs.declared.lines.Line.{Line}
+use Rattle.protocol_model.specs.declared.plans.Planned.{Planned}
+use Rattle.protocol_model.specs.declared.lines.Waiting.{Waiting}
+use Rattle.protocol_model.specs.declared.machine.Outcome.{Outcome}
 
 -- ---- a line is read
 

@@ -1,11 +1,12 @@
 -- The table of marks against stages accepts exactly the fronts of the language of replies.
-use Rattle.std.proofs.Common.{◌≡◌, ◌⊎◌, ◌↔◌, inl, inr, Bool, true, false, ◌&&◌, not, List, [], ◌∷◌, ◌++◌, refl, sym, ◌∙◌, ap, subst, append_assoc, append-nil, Option, Some, None, pos}
+use Rattle.std.proofs.Common.{◌≡◌, ◌⊎◌, inl, inr, Bool, true, false, ◌&&◌, List, [], ◌∷◌, ◌++◌, refl, sym, ◌∙◌, ap, subst, append-nil, pos}
 use Rattle.std.proofs.lemmas.Bool.{false≢true, and_parts}
 use Rattle.fixed_um.specs.declared.lengths.Point.{Point}
 use Rattle.dme_line.specs.declared.commands.Kind.{Kind}
 use Rattle.protocol_model.specs.Replies.{Mark}
-use Rattle.protocol_model.specs.Open.{Stage, Verdict, Becomes, Breaks, Closes, Counts, Refused, judged, judged_data, judged_done, asks_data}
-use Rattle.protocol_model.specs.Language.{Placed, marks_of, IsCounted, AreErrors, IsFailed, IsReplies, IsRepliesFront, AreAtFront, Goes, Accepts}
+use Rattle.protocol_model.specs.Open.{judged_data, judged_done, asks_data}
+use Rattle.protocol_model.specs.Language.{Placed, marks_of, IsCounted, AreErrors, IsReplies, IsRepliesFront, AreAtFront, Goes, Accepts}
+use Rattle.protocol_model.specs.declared.held.Stage.{Stage}
 
 -- how marks may go on behind a stage, wherever the front is
 abbrev Goes_on : Bool → Stage → List Mark → Type 0

@@ -6,11 +6,12 @@ use Rattle.contact_ledger.specs.declared.features.Feature.{Feature}
 use Rattle.dmis_program.specs.declared.features.Touch.{Touch}
 use Rattle.dmis_program.specs.declared.features.Wanted.{Wanted}
 use Rattle.protocol_model.specs.Claims.{Made, contacts, IsServed}
-use Rattle.protocol_model.specs.Plan.{Does, is_empty}
+use Rattle.protocol_model.specs.Plan.{is_empty}
 use Rattle.protocol_model.specs.Client.{Tally, act_of, joined, measured}
 use Rattle.protocol_model.proofs.Marks.{Marked, marks, marks_of, touch_in}
 use Rattle.protocol_model.proofs.Served.{Served, served_push, joined_is, serves_more, HaveTouches, with_made, IsProgress, IsNext, next_touch}
 use Rattle.protocol_model.proofs.Moves.{done_on}
+use Rattle.protocol_model.specs.declared.plans.Does.{Does}
 
 -- a touch is counted with its point
 abbrev pub HasPoint : Does → Option Point → Type 0

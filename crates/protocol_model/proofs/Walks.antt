@@ -3,8 +3,10 @@ use Rattle.std.proofs.Common.{◌≡◌, Bool, true, false, ◌&&◌, List, [], 
 use Rattle.fixed_um.specs.declared.lengths.Point.{Point}
 use Rattle.dme_line.specs.declared.tags.Tag.{Tag}
 use Rattle.protocol_model.specs.Replies.{Mark, tag_is}
-use Rattle.protocol_model.specs.Open.{Stage, Held, Verdict, Effect, Heard, Becomes, Breaks, Closes, Counts, Refused, judged, settled, put_before, heard_in, is_failed, is_held}
+use Rattle.protocol_model.specs.Open.{Verdict, Effect, Heard, Becomes, Breaks, Closes, Counts, Refused, judged, settled, put_before, heard_in, is_failed, is_held}
 use Rattle.protocol_model.proofs.Basics.{if_cases, if_true, if_false}
+use Rattle.protocol_model.specs.declared.held.Stage.{Stage}
+use Rattle.protocol_model.specs.declared.held.Held.{Held}
 
 abbrev pub two : List Held → Effect → Heard
 two hs e = Ok (hs, e)

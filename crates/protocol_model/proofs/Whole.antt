@@ -4,7 +4,6 @@ use Rattle.std.proofs.lemmas.Bool.{false≢true, and_parts}
 use Rattle.dmis_program.specs.Meaning.{Meaning as Program}
 use Rattle.dmis_program.specs.Programs.{IsProgram}
 use Rattle.protocol_model.proofs.Blocks.{IsPlain, program_is_plain}
-use Rattle.protocol_model.specs.Client.{State}
 use Rattle.protocol_model.specs.Claims.{Sound, Told}
 use Rattle.protocol_model.specs.Typed.{World, Event, Connect, Accept, ClientSends, ServerReads, ServerReadsOld, ServerTurn, Machine, ClientReads, ClientLeaves, ServerLeaves, Abort, Resume, ClientRestart, ServerRestart, start, can, happens, after, run_of}
 use Rattle.protocol_model.proofs.Served.{served_sound}
@@ -16,6 +15,7 @@ use Rattle.protocol_model.proofs.ClientResumes.{abort_event, resume_event}
 use Rattle.protocol_model.proofs.Hearing.{hear_event}
 use Rattle.protocol_model.proofs.Constant.{run_program}
 use Rattle.std.proofs.Common.{◌≢◌}
+use Rattle.protocol_model.specs.declared.states.State.{State}
 
 not_true : (b : Bool) → not b ≡ true → b ≡ false
 not_true false e = refl

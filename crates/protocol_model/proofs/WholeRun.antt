@@ -3,9 +3,7 @@ use Rattle.std.proofs.Common.{◌≡◌, ◌≢◌, ℕ, suc, ◌≤◌, Bool, t
 use Rattle.std.proofs.lemmas.Bool.{false≢true, and_parts}
 use Rattle.dmis_program.specs.Meaning.{Meaning}
 use Rattle.dmis_program.specs.Programs.{IsProgram}
-use Rattle.protocol_model.specs.Replies.{Line}
 use Rattle.protocol_model.specs.Lines.{Readers, AreReaders}
-use Rattle.protocol_model.specs.Client.{State}
 use Rattle.protocol_model.specs.Server.{may_end}
 use Rattle.protocol_model.specs.Claims.{Sound, Told}
 use Rattle.protocol_model.specs.World.{World, Event, Connect, Accept, ClientSends, Up, ServerReads, ServerTurn, Machine, Down, ClientReads, ClientLeaves, ServerLeaves, Abort, Resume, ClientRestart, ServerRestart, start, can, happens, after, run_of}
@@ -18,6 +16,8 @@ use Rattle.protocol_model.proofs.Whole.{start_holds}
 use Rattle.protocol_model.proofs.PlainServer.{plain_new}
 use Rattle.protocol_model.proofs.Carrying.{lined, IsCarried, reads_carried, turn_carried, machine_carried, up_carried, down_carried}
 use Rattle.protocol_model.proofs.CarryingClient.{connect_carried, accept_carried, client_left_carried, client_restart_carried, server_left_carried, server_restart_carried, sends_carried, abort_carried, resume_carried, hears_carried}
+use Rattle.protocol_model.specs.declared.lines.Line.{Line}
+use Rattle.protocol_model.specs.declared.states.State.{State}
 
 pub happens_carried : (readers : Readers) → AreReaders readers → (e : Event) (b : World) → IsCarried b → can e b ≡ true → IsCarried (happens readers e b)
 happens_carried readers are Connect b h can = connect_carried b h

@@ -1,11 +1,12 @@
 -- The bytes of all connections, as the lines that they carry.
 use Rattle.std.proofs.Common.{◌≡◌, ℕ, suc, ◌<◌, ◌≤◌, Bool, true, false, List, [], ◌∷◌, ◌++◌, length, take, drop, take-append-drop, refl, sym, ◌∙◌, ap, subst, arith, append_assoc, eqb, eqb-true}
 use Rattle.std.proofs.lemmas.Bool.{false≢true, eqb-false}
-use Rattle.protocol_model.specs.Replies.{Line, Reply}
+use Rattle.protocol_model.specs.Replies.{Reply}
 use Rattle.protocol_model.specs.Lines.{command_bytes, reply_bytes}
 use Rattle.protocol_model.specs.World.{Link, no_link, link_of, with_link}
 use Rattle.protocol_model.proofs.Links.{link_same, link_other, link_long, link_old, link_new}
 use Rattle.protocol_model.proofs.Writable.{AreWritable, writable_join, command_bytes_more, AreReplies}
+use Rattle.protocol_model.specs.declared.lines.Line.{Line}
 
 -- bytes are whole lines of commands that can be written
 pub record IsWhole (bytes : List ℕ) : Type 0 where

@@ -14,11 +14,10 @@ use Rattle.dme_line.specs.declared.commands.Command.TheVariants as command
 use Rattle.contact_ledger.specs.declared.acts.Act.{Act}
 use Rattle.contact_ledger.specs.declared.acts.Act.TheVariants as act
 use Rattle.dmis_program.specs.declared.features.Wanted.{Wanted}
-use Rattle.protocol_model.specs.Replies.{Line, Reply}
-use Rattle.protocol_model.specs.Plan.{Does}
+use Rattle.protocol_model.specs.Replies.{Reply}
 use Rattle.fixed_um.specs.Points.{point_opposite}
 use Rattle.protocol_model.specs.Client.{Table, act_of, counted_next}
-use Rattle.protocol_model.specs.Server.{Server, Waiting, Outcome, answers, fails, all_fail, in_error, acted, refusal, frame_of, carried_out, taken, turned_to, server_turned, offset, stopped, idle, finished, touched, machined, server_machined, has_outcome, may_end}
+use Rattle.protocol_model.specs.Server.{Server, answers, fails, all_fail, in_error, acted, refusal, frame_of, carried_out, taken, turned_to, server_turned, offset, stopped, idle, finished, touched, machined, server_machined, has_outcome, may_end}
 use Rattle.protocol_model.specs.Claims.{contacts}
 use Rattle.protocol_model.specs.Typed.{World}
 use Rattle.protocol_model.proofs.Replying.{tabled, Reads}
@@ -31,6 +30,10 @@ use Rattle.protocol_model.proofs.ReadEvent.{quiet_answer}
 use Rattle.protocol_model.proofs.Touching.{HasPoint}
 use Rattle.protocol_model.proofs.FrontEvent.{IsAtFront, at_front, front_fails, front_done}
 use Rattle.protocol_model.proofs.Holding.{listed, received, all_received, all_sent, waits, all_wait, commands_in, AreStandard, IsClearFirst, IsNearBy, know_of}
+use Rattle.protocol_model.specs.declared.lines.Line.{Line}
+use Rattle.protocol_model.specs.declared.plans.Does.{Does}
+use Rattle.protocol_model.specs.declared.lines.Waiting.{Waiting}
+use Rattle.protocol_model.specs.declared.machine.Outcome.{Outcome}
 
 -- ---- a turn
 

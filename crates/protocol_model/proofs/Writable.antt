@@ -26,8 +26,9 @@ use Rattle.dme_line.proofs.ResponseBack.{response_reads_back, response-wire, poi
 use Rattle.dme_line.proofs.WireTexts.{point-wire}
 use Rattle.line_framing.specs.Content.{IsLine, AreLines, line_bytes}
 use Rattle.line_framing.proofs.Streams.{line_bytes-append}
-use Rattle.protocol_model.specs.Replies.{Line, Reply}
+use Rattle.protocol_model.specs.Replies.{Reply}
 use Rattle.protocol_model.specs.Lines.{command_text, reply_text, command_texts, reply_texts, command_bytes, reply_bytes, Readers, AreReaders}
+use Rattle.protocol_model.specs.declared.lines.Line.{Line}
 
 -- ---- commands
 

@@ -13,9 +13,17 @@ use Rattle.contact_ledger.specs.declared.acts.Act.TheVariants as act
 use Rattle.contact_ledger.specs.declared.features.Feature.{Feature}
 use Rattle.dmis_program.specs.declared.features.Wanted.{Wanted}
 use Rattle.dmis_program.specs.Meaning.{Meaning as Program}
-use Rattle.protocol_model.specs.Replies.{Line, Mark, tag_is}
-use Rattle.protocol_model.specs.Open.{Cause, Stage, Held, Effect, Heard, heard_in, count_open, is_held}
-use Rattle.protocol_model.specs.Plan.{Planned, Does, Start, plan, is_empty}
+use Rattle.protocol_model.specs.Replies.{Mark, tag_is}
+use Rattle.protocol_model.specs.Open.{Effect, Heard, heard_in, count_open, is_held}
+use Rattle.protocol_model.specs.Plan.{plan, is_empty}
+use Rattle.protocol_model.specs.declared.states.State.{State}
+use Rattle.protocol_model.specs.declared.lines.Line.{Line}
+use Rattle.protocol_model.specs.declared.states.Cause.{Cause}
+use Rattle.protocol_model.specs.declared.held.Stage.{Stage}
+use Rattle.protocol_model.specs.declared.held.Held.{Held}
+use Rattle.protocol_model.specs.declared.plans.Planned.{Planned}
+use Rattle.protocol_model.specs.declared.plans.Does.{Does}
+use Rattle.protocol_model.specs.declared.plans.Start.{Start}
 
 -- what a client has counted: whether a standard command has failed since the plan began, whether a session was begun on the connection,
 -- the plan from its first uncounted command on, the acts of the connection, the points of the unfinished feature, the features, and how many commands of the plan are counted
@@ -91,16 +99,6 @@ heard_on ws b (Event n) m = heard_event b (heard_in true b.event (Event n) m)
 -- the table after a reply, or why it can be none; what comes on the event tag number 0 changes nothing
 abbrev pub heard : List Wanted → Table → Tag → Mark → Result Table Cause
 heard ws b t m = if tag_is t (Event 0) then Ok b else heard_on ws b t m
-
--- the states of a client
-pub data State : Type 0 where
-  Apart : State
-  Running : State
-  Failing : State
-  Aborting : State
-  Halted : State
-  Done : State
-  Faulted : State
 
 -- a client: its program, how many commands may be open, whether it is on a connection and the number of the last one, its state and why it is Faulted,
 -- what replies change, the plan from its first unsent command on, the numbers of the tags drawn last, and the tag of the abort that was sent last

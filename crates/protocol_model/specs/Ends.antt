@@ -17,9 +17,12 @@ use Rattle.line_framing.specs.Framing.{Framing, no_bytes, fed, left_by}
 use Rattle.line_framing.specs.declared.faults.FramingFault.TheVariants as framing
 use Rattle.protocol_model.specs.Replies.{Mark, tag_is}
 use Rattle.protocol_model.specs.Lines.{Readers, command_bytes, reply_bytes, reading_of}
-use Rattle.protocol_model.specs.Open.{Cause, Held, asks_data}
+use Rattle.protocol_model.specs.Open.{asks_data}
 use Rattle.protocol_model.specs.Client.{Client, Sends, new_client, faulted, client_connected, client_sent, client_aborted, client_resumed, client_read, client_left, client_restarted}
-use Rattle.protocol_model.specs.Server.{Server, Answer, Outcome, new_server, server_accepted, server_read, server_turned, server_machined, server_left, server_restarted}
+use Rattle.protocol_model.specs.Server.{Server, Answer, new_server, server_accepted, server_read, server_turned, server_machined, server_left, server_restarted}
+use Rattle.protocol_model.specs.declared.states.Cause.{Cause}
+use Rattle.protocol_model.specs.declared.held.Held.{Held}
+use Rattle.protocol_model.specs.declared.machine.Outcome.{Outcome}
 
 -- ---- the client's end
 

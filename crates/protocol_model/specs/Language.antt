@@ -1,9 +1,10 @@
 -- The language of replies: which marks a client may read for one command, in order (this profile).
-use Rattle.std.specs.Prelude.{◌≡◌, Bool, true, false, ◌⊎◌, ⊤, Option, Some, None, List, [], ◌∷◌, ◌++◌}
+use Rattle.std.specs.Prelude.{◌≡◌, Bool, true, false, ◌⊎◌, ⊤, List, [], ◌∷◌, ◌++◌}
 use Rattle.fixed_um.specs.declared.lengths.Point.{Point}
 use Rattle.dme_line.specs.declared.commands.Kind.{Kind}
 use Rattle.protocol_model.specs.Replies.{Mark}
-use Rattle.protocol_model.specs.Open.{Stage, Verdict, Becomes, Breaks, Closes, Counts, Refused, judged, asks_data}
+use Rattle.protocol_model.specs.Open.{Verdict, Becomes, Breaks, Closes, Counts, Refused, judged}
+use Rattle.protocol_model.specs.declared.held.Stage.{Stage}
 
 -- a mark, and whether the command is at the front when it is read
 abbrev pub Placed : Type 0

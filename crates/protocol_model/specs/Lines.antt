@@ -16,7 +16,8 @@ use Rattle.dme_line.specs.declared.responses.ResponseFault.{ResponseFault}
 use Rattle.dme_line.specs.declared.responses.ResponseFault.TheVariants as refused
 use Rattle.dme_line.specs.declared.points.NotPoint.{NotPoint}
 use Rattle.line_framing.specs.Content.{line_bytes}
-use Rattle.protocol_model.specs.Replies.{Line, Reading, Reply}
+use Rattle.protocol_model.specs.Replies.{Reading, Reply}
+use Rattle.protocol_model.specs.declared.lines.Line.{Line}
 
 -- the line of a command, without its end
 abbrev pub command_text : Line → List ℕ

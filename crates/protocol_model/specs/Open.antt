@@ -5,30 +5,10 @@ use Rattle.dme_line.specs.declared.tags.Tag.{Tag}
 use Rattle.dme_line.specs.declared.commands.Kind.{Kind}
 use Rattle.dme_line.specs.declared.commands.Kind.TheVariants as kind
 use Rattle.protocol_model.specs.Replies.{Mark, tag_is}
-
--- why a client gives a connection up: a line that is no response, bytes that are no lines, a tag that is not held, a mark out of place, a touch without its point, a second point, no tag left
-pub data Cause : Type 0 where
-  NotResponse : Cause
-  LineTooLong : Cause
-  BadByte : Cause
-  UnknownTag : Cause
-  OutOfOrder : Cause
-  NoData : Cause
-  SecondData : Cause
-  TagsSpent : Cause
-
--- how far an open command is
-pub data Stage : Type 0 where
-  Sent : Stage
-  Received : Stage
-  Given : Point → Stage
-  Failed : Stage
-
--- an open command: its tag, which is held, its kind and its stage
-pub record Held : Type 0 where
-  pub tag : Tag
-  pub kind : Kind
-  pub stage : Stage
+use Rattle.protocol_model.specs.declared.held.Stage.{Stage}
+use Rattle.protocol_model.specs.declared.states.Cause.{Cause}
+use Rattle.protocol_model.specs.declared.states.Cause.TheVariants.{UnknownTag, OutOfOrder, NoData, SecondData}
+use Rattle.protocol_model.specs.declared.held.Held.{Held}
 
 abbrev pub is_failed : Stage → Bool
 is_failed Stage.Sent = false

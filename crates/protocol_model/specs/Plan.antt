@@ -1,34 +1,19 @@
 -- The plan of a client: the commands that measure what is left of a program, each with what it stands for (this profile).
 use Rattle.std.specs.Prelude.{ℕ, zero, suc, Bool, true, false, if◌then◌else◌, Option, Some, None, List, [], ◌∷◌, ◌++◌}
 use Rattle.fixed_um.specs.Points.{point_opposite}
-use Rattle.fixed_um.specs.declared.lengths.Point.{Point}
 use Rattle.fixed_um.specs.declared.frames.Frame.{Frame}
 use Rattle.fixed_um.specs.declared.frames.Frame.TheVariants.{Machine, Part}
 use Rattle.dme_line.specs.declared.commands.Csy.TheVariants.{MachineCsy, PartCsy}
 use Rattle.dme_line.specs.declared.commands.Command.{Command}
 use Rattle.dme_line.specs.declared.commands.Command.TheVariants as command
-use Rattle.dmis_program.specs.declared.features.Touch.{Touch}
 use Rattle.dmis_program.specs.Meaning.{Meaning as Program, block_touches}
 use Rattle.dmis_program.specs.declared.steps.Step.{Step}
 use Rattle.dmis_program.specs.declared.steps.Step.TheVariants as step
-
--- what a command of a plan stands for: nothing, or an act; a touch also with whether it is the last of its feature
-pub data Does : Type 0 where
-  Nothing : Does
-  Homes : Does
-  Moves : Point → Frame → Does
-  Changes : List ℕ → Does
-  Frames : Frame → Does
-  Touches : (touch : Touch) → (last : Bool) → Does
-
-pub record Planned : Type 0 where
-  pub command : Command
-  pub does : Does
-
--- a plan begins a connection, or goes on with the one that there is
-pub data Start : Type 0 where
-  NewConnection : Start
-  SameConnection : Start
+use Rattle.protocol_model.specs.declared.plans.Does.{Does}
+use Rattle.protocol_model.specs.declared.plans.Does.TheVariants.{Nothing, Homes, Moves, Changes, Frames, Touches}
+use Rattle.protocol_model.specs.declared.plans.Start.{Start}
+use Rattle.protocol_model.specs.declared.plans.Start.TheVariants.{NewConnection, SameConnection}
+use Rattle.protocol_model.specs.declared.plans.Planned.{Planned}
 
 abbrev pub is_empty : {A : Type 0} → List A → Bool
 is_empty [] = true

@@ -3,14 +3,9 @@ use Rattle.std.specs.Prelude.{ℕ, ◌==◌, Bool, false, Option, Result}
 use Rattle.fixed_um.specs.declared.lengths.Point.{Point}
 use Rattle.dme_line.specs.declared.tags.Tag.{Tag}
 use Rattle.dme_line.specs.declared.tags.Tag.TheVariants.{Std, Event}
-use Rattle.dme_line.specs.declared.commands.Command.{Command}
 use Rattle.dme_line.specs.declared.commands.Kind.{Kind}
 use Rattle.dme_line.specs.declared.reading.LineFault.{LineFault}
-
--- a command under its tag
-pub record Line : Type 0 where
-  pub tag : Tag
-  pub command : Command
+use Rattle.protocol_model.specs.declared.lines.Line.{Line}
 
 -- what a line of a client reads as
 abbrev pub Reading : Type 0

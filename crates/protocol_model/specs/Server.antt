@@ -17,22 +17,14 @@ use Rattle.dme_line.specs.declared.commands.Command.{Command}
 use Rattle.dme_line.specs.declared.commands.Command.TheVariants as command
 use Rattle.contact_ledger.specs.declared.acts.Act.{Act}
 use Rattle.contact_ledger.specs.declared.acts.Act.TheVariants as act
-use Rattle.protocol_model.specs.Replies.{Line, Reading, Reply, tag_is}
+use Rattle.protocol_model.specs.Replies.{Reading, Reply, tag_is}
 use Rattle.dme_line.specs.declared.reading.LineFault.{LineFault}
 use Rattle.dme_line.specs.declared.reading.LineFault.TheVariants as fault
 use Rattle.fixed_um.specs.Points.{point_opposite}
-
--- what waits: a command, or the fault of its line
-pub record Waiting : Type 0 where
-  pub tag : Tag
-  pub reading : Result Command LineFault
-
--- how a job on the machine ends; a touched point is in machine axes
-pub data Outcome : Type 0 where
-  Done : Outcome
-  Touched : Point → Outcome
-  Missed : Outcome
-  Fault : Outcome
+use Rattle.protocol_model.specs.declared.machine.Job.{Job}
+use Rattle.protocol_model.specs.declared.machine.Outcome.{Outcome}
+use Rattle.protocol_model.specs.declared.lines.Waiting.{Waiting}
+use Rattle.protocol_model.specs.declared.lines.Line.{Line}
 
 -- a server: the tools of its rack, whether it is on a connection and the number of the last one, session, homing, tool, frame, stored offset,
 -- error state, the running command, the waiting ones, and the acts with their connections
@@ -327,3 +319,19 @@ has_outcome c outcome = false
 abbrev pub may_end : Option Line → Outcome → Bool
 may_end None outcome = false
 may_end (Some line) outcome = has_outcome line.command outcome
+
+-- what a command asks of the machine in a frame, its points in machine axes
+abbrev pub job_of : Frame → Command → Option Job
+job_of f command.Home = Some Job.Home
+job_of f (command.ChangeTool n) = Some (Job.Change n)
+job_of f (command.GoTo p) = Some (Job.Move (point_sum p (offset f)))
+job_of f (command.PtMeas p d) = Some (Job.Touch (point_sum p (offset f)) d)
+job_of f _ = None
+
+-- the job of what runs, if anything does
+abbrev pub job_run : Frame → Option Line → Option Job
+job_run f None = None
+job_run f (Some line) = job_of f line.command
+
+abbrev pub running_job : Server → Option Job
+running_job s = job_run s.frame s.running

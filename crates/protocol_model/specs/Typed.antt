@@ -1,10 +1,12 @@
 -- A client and a server on connections that carry lines as values. Of each older connection the server may read whatever it likes.
 use Rattle.std.specs.Prelude.{ℕ, suc, ◌==◌, nat_lt, nat_le, Bool, true, ◌&&◌, not, if◌then◌else◌, is_none, is_some, List, [], ◌∷◌, ◌++◌, length, Ok}
 use Rattle.dmis_program.specs.Meaning.{Meaning as Program}
-use Rattle.protocol_model.specs.Replies.{Line, Reading, Reply, tag_of, mark_of}
+use Rattle.protocol_model.specs.Replies.{Reading, Reply, tag_of, mark_of}
 use Rattle.protocol_model.specs.Plan.{is_empty}
 use Rattle.protocol_model.specs.Client.{Client, Sends, new_client, client_connected, client_sent, client_aborted, client_resumed, client_read, client_left, client_restarted, due, is_apart, may_abort, may_resume}
-use Rattle.protocol_model.specs.Server.{Server, Answer, Outcome, new_server, server_accepted, server_read, server_turned, server_machined, server_left, server_restarted, may_end}
+use Rattle.protocol_model.specs.Server.{Server, Answer, new_server, server_accepted, server_read, server_turned, server_machined, server_left, server_restarted, may_end}
+use Rattle.protocol_model.specs.declared.lines.Line.{Line}
+use Rattle.protocol_model.specs.declared.machine.Outcome.{Outcome}
 
 -- both ends, and what is on its way on the connection that the client made last: lines up, replies down
 pub record World : Type 0 where

@@ -5,9 +5,11 @@ use Rattle.dmis_program.specs.Meaning.{Meaning}
 use Rattle.line_framing.specs.Next.{Front, next_of}
 use Rattle.protocol_model.specs.Lines.{Readers}
 use Rattle.protocol_model.specs.Plan.{is_empty}
-use Rattle.protocol_model.specs.Client.{State, due, is_apart, may_abort, may_resume}
-use Rattle.protocol_model.specs.Server.{Outcome, may_end}
+use Rattle.protocol_model.specs.Client.{due, is_apart, may_abort, may_resume}
+use Rattle.protocol_model.specs.Server.{may_end}
 use Rattle.protocol_model.specs.Ends.{ClientEnd, ServerEnd, new_client_end, end_connected, end_sent, end_aborted, end_fed, end_read, end_resumed, end_left, end_restarted, new_server_end, serving_accepted, serving_fed, serving_read, serving_turned, serving_machined, serving_left, serving_restarted}
+use Rattle.protocol_model.specs.declared.states.State.{State}
+use Rattle.protocol_model.specs.declared.machine.Outcome.{Outcome}
 
 -- the unread bytes of a connection: those of the client, and those of the server
 pub record Link : Type 0 where

@@ -2,7 +2,8 @@
 
 ghost use Rattle.std.specs.Prelude.{List, false};
 ghost use Rattle.dme_line.specs.declared.commands.Kind.{Kind};
-ghost use Rattle.protocol_model.specs.Open.{Stage, asks_data};
+ghost use Rattle.protocol_model.specs.declared.held.Stage.TheVariants as Stage;
+ghost use Rattle.protocol_model.specs.Open.{asks_data};
 ghost use Rattle.protocol_model.specs.Language.{Placed, marks_of, IsRepliesFront, AreAtFront, Accepts};
 
 /// The table of marks against stages accepts exactly the fronts of the language of replies: a counted command is received and

@@ -4,7 +4,7 @@ ghost use Rattle.std.specs.Prelude.{◌≡◌, ◌≢◌, ◌≤◌, ℕ, List, 
 ghost use Rattle.dmis_program.specs.Meaning.{Meaning};
 ghost use Rattle.dmis_program.specs.Programs.{IsProgram};
 ghost use Rattle.protocol_model.specs.Lines.{Readers, AreReaders};
-ghost use Rattle.protocol_model.specs.Client.{State};
+ghost use Rattle.protocol_model.specs.declared.states.State.TheVariants as State;
 ghost use Rattle.protocol_model.specs.Claims.{Sound, Told};
 ghost use Rattle.protocol_model.specs.World.{World, Event, start, run_of};
 

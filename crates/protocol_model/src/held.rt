@@ -1,0 +1,25 @@
+// Commands that a client has sent and whose end it has not read.
+
+use dme_line::{Kind, Tag};
+use fixed_um::Point;
+
+/// How far an open command is, by the marks that were read for it (this profile).
+#[derive(Clone, Copy, Debug, PartialEq, Eq)]
+pub enum Stage {
+    /// Nothing was read.
+    Sent,
+    /// `&` was read.
+    Received,
+    /// A touch that was received, and its point.
+    Given(Point),
+    /// `!` was read.
+    Failed,
+}
+
+/// An open command: its tag, which is held until its `%` is read, its kind and its stage.
+#[derive(Clone, Copy, Debug, PartialEq, Eq)]
+pub struct Held {
+    pub tag: Tag,
+    pub kind: Kind,
+    pub stage: Stage,
+}
