@@ -1,8 +1,9 @@
 // Measured features.
 
-ghost use Rattle.std.specs.Prelude.{◌≡◌, List};
+ghost use Rattle.std.specs.Prelude.{◌≡◌, ◌≤◌, List, [], ◌∷◌, ◌++◌, length, take, IfOk, OnOk, OnErr};
 
 use fixed_um::{Name, Point};
+use std::alloc::{AllocError, Global};
 use std::marker::Model;
 
 /// The points of a measured feature, in the order in which they were touched.
@@ -21,11 +22,60 @@ impl Model for Points {
 }
 
 impl Points {
+    /// No points yet; it takes no memory.
+    pub fn new(alloc: Global) -> Points
+        ensures { result ≡ [] }
+    {
+        Points {
+            items: Vec::new(alloc),
+        }
+    }
+
+    /// Appends a point. Only want of memory is an `Err`; the points are then as before. The room doubles when
+    /// it is full.
+    pub fn push(&mut self, point: Point) -> Result<(), AllocError>
+        ensures appended { OnOk result (self.new ≡ self.old ++ point ∷ []) }
+        ensures unchanged { OnErr result (self.new ≡ self.old) }
+    {
+        self.items.push(point)?;
+        Ok(())
+    }
+
+    /// Keeps the first `count` points. The caller owes that there are so many.
+    pub fn keep(&mut self, count: usize)
+        requires { count ≤ length self.old }
+        ensures { self.new ≡ take count self.old }
+    {
+        self.items.truncate(count);
+    }
+
+    /// Gives up all points, and keeps their room.
+    pub fn clear(&mut self)
+        ensures { self.new ≡ [] }
+    {
+        self.items.clear();
+    }
+
+    /// How many points there are.
+    pub fn len(&self) -> usize
+        ensures { result ≡ length self.now }
+    {
+        self.items.len()
+    }
+
     /// The points, in order.
     pub fn as_slice(&self) -> &[Point]
         ensures { result.now ≡ self.now }
     {
         self.items.as_slice()
+    }
+
+    /// Equal points. Only want of memory is an `Err`.
+    pub fn copy(&self, alloc: Global) -> Result<Points, AllocError>
+        ensures { IfOk result (λ points. points ≡ self.now) }
+    {
+        let items = Vec::from_slice(alloc, self.items.as_slice())?;
+        Ok(Points { items })
     }
 }
 
@@ -34,4 +84,15 @@ impl Points {
 pub struct Feature {
     pub label: Name,
     pub points: Points,
+}
+
+impl Feature {
+    /// An equal feature. Only want of memory is an `Err`.
+    pub fn copy(&self, alloc: Global) -> Result<Feature, AllocError>
+        ensures { IfOk result (λ feature. feature ≡ self.now) }
+    {
+        let label = self.label.copy(alloc)?;
+        let points = self.points.copy(alloc)?;
+        Ok(Feature { label, points })
+    }
 }

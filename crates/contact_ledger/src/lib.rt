@@ -2,10 +2,19 @@
 //
 // - `acts`: `Act`, one thing that a server has done on a connection
 // - `features`: `Feature`, one measured feature, and its list of points
+// - `server_ledger`: `ServerLedger`, the acts of a server in order
+// - `feature_ledger`: `FeatureLedger`, the features that a client holds
 #![tactic(auto)]
 
 pub mod acts;
+pub mod feature_ledger;
 pub mod features;
+pub mod server_ledger;
 
 pub use acts::Act;
+pub use feature_ledger::FeatureLedger;
 pub use features::{Feature, Points};
+pub use server_ledger::ServerLedger;
+
+#[cfg(test)]
+mod tests;

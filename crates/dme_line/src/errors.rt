@@ -11,7 +11,7 @@ use crate::tags::{Tag, write_four_digits_reserved, write_tag_reserved};
 use std::alloc::AllocError;
 
 /// The most bytes that a written error line has.
-pub const ERROR_MAX: usize = 80;
+pub const ERROR_MAX: usize = 68;
 
 /// What the number of an error says (this profile).
 #[tactic(auto, unfolding(crate::specs::Errors::error_text))]
@@ -72,7 +72,7 @@ fn write_report_reserved(out: &mut Vec<u8>, code: u16, kind: Option<Kind>)
     out.push_reserved(b')');
 }
 
-/// Appends the line of an error without its end, as `00005 ! Error(3, 9010, "GoTo", "Not homed")`, at most 80 bytes,
+/// Appends the line of an error without its end, as `00005 ! Error(3, 9010, "GoTo", "Not homed")`, at most 68 bytes,
 /// where the caller has made room for them. The command's name is empty where there is no kind.
 ///
 /// The caller owes a tag whose number has room in its digits, and a code from 9001 to 9015.
@@ -81,9 +81,9 @@ pub fn write_error_reserved(out: &mut Vec<u8>, tag: Tag, code: u16, kind: Option
     requires tag { IsTag tag }
     requires low { 9001 ≤ code }
     requires high { code ≤ 9015 }
-    requires room { vec_len out.old + 80 ≤ vec_capacity out.old }
+    requires room { vec_len out.old + 68 ≤ vec_capacity out.old }
     ensures text { out.new.items ≡ out.old.items ++ written_error tag code kind }
-    ensures len { vec_len out.new ≤ vec_len out.old + 80 }
+    ensures len { vec_len out.new ≤ vec_len out.old + 68 }
     ensures capacity { vec_capacity out.old ≤ vec_capacity out.new }
 {
     write_tag_reserved(out, tag);

@@ -31,8 +31,8 @@ pub use errors::{write_error, write_error_reserved};
 pub use points::{NotPoint, read_point, write_point, write_point_reserved};
 pub use reading::{LineFault, read_command};
 pub use responses::{
-    Mark, Response, ResponseFault, read_response, write_data, write_data_reserved, write_response,
-    write_response_reserved,
+    Mark, Response, ResponseFault, read_response, write_complete_reserved, write_data,
+    write_data_reserved, write_received_reserved, write_response, write_response_reserved,
 };
 pub use tags::Tag;
 pub use text::Text;

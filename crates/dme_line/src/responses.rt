@@ -2,6 +2,7 @@
 
 ghost use Rattle.std.specs.Prelude.{◌≡◌, ◌↔◌, ◌≤◌, ◌+◌, ◌++◌, ◌∷◌, [], ℕ, List, length, IsTrue, true, vec_len, vec_capacity, OnOk, OnErr, IfOk, MatchOption, MatchResult, Option};
 ghost use Rattle.dme_line.specs.Tags.{IsTag};
+ghost use Rattle.dme_line.specs.declared.responses.Mark.TheVariants as mark;
 ghost use Rattle.dme_line.specs.Taken.{the_mark};
 ghost use Rattle.dme_line.specs.Responses.{written_mark, written_response, IsWritableResponse, HasText, are_spaces, IsMarkText, HoldsText, ReadsResponse, data_response};
 ghost use Rattle.dme_line.specs.Points.{IsOnWire};
@@ -92,6 +93,36 @@ pub fn write_response(out: &mut Vec<u8>, response: &Response) -> Result<(), Allo
     out.reserve(RESPONSE_MAX)?;
     write_response_reserved(out, response);
     Ok(())
+}
+
+/// Appends the line that a command was received without its end, as `00008 &`, of seven bytes, where the caller has made room for them.
+/// It is what `write_response_reserved` appends of `Mark::Ack`.
+///
+/// The caller owes a tag whose number has room in its digits.
+pub fn write_received_reserved(out: &mut Vec<u8>, tag: Tag)
+    requires tag { IsTag tag }
+    requires room { vec_len out.old + 7 ≤ vec_capacity out.old }
+    ensures text { out.new.items ≡ out.old.items ++ written_response (record { tag = tag; mark = mark.Ack }) }
+    ensures len { vec_len out.new ≤ vec_len out.old + 7 }
+    ensures capacity { vec_capacity out.old ≤ vec_capacity out.new }
+{
+    write_tag_reserved(out, tag);
+    append_reserved(out, b" &");
+}
+
+/// Appends the line that a command is complete without its end, as `00008 %`, of seven bytes, where the caller has made room for them.
+/// It is what `write_response_reserved` appends of `Mark::Done`.
+///
+/// The caller owes a tag whose number has room in its digits.
+pub fn write_complete_reserved(out: &mut Vec<u8>, tag: Tag)
+    requires tag { IsTag tag }
+    requires room { vec_len out.old + 7 ≤ vec_capacity out.old }
+    ensures text { out.new.items ≡ out.old.items ++ written_response (record { tag = tag; mark = mark.Done }) }
+    ensures len { vec_len out.new ≤ vec_len out.old + 7 }
+    ensures capacity { vec_capacity out.old ≤ vec_capacity out.new }
+{
+    write_tag_reserved(out, tag);
+    append_reserved(out, b" %");
 }
 
 /// Appends the line of a data response without its end, as `00008 # X(1.000), Y(2.000), Z(3.000)`, at most 57 bytes,

@@ -1,5 +1,5 @@
 -- What printing a plan leaves, from any reader to any writer that tell their bytes.
-use Rattle.std.specs.Prelude.{◌≡◌, ℕ, List, [], Option, Some, None, Result, Ok, Err, IfSome}
+use Rattle.std.specs.Prelude.{◌≡◌, ℕ, List, [], Option, Some, Ok, Err, IfSome}
 use Rattle.std.specs.Io.KnownBytes.{Appends}
 use Rattle.byte_ports.specs.Transfers.{AppendsFront}
 use Rattle.fixed_um.specs.declared.lengths.Point.{Point}
@@ -14,13 +14,13 @@ use Rattle.dme_program.specs.Plan.{plan_text}
 pub record Prints (frames : List (List ℕ × Point)) (input : List ℕ) (old new : Option (List ℕ)) : Type 0 where
   pub program : Meaning
   pub accepted : program_of frames input ≡ Ok program
-  pub written : Appends old new (plan_text program.steps)
+  pub written : Appends old new (plan_text program)
 
 -- the input is an accepted program, and a front of the text of its plan was written, short of all
 pub record PrintsFront (frames : List (List ℕ × Point)) (input : List ℕ) (old new : Option (List ℕ)) : Type 0 where
   pub program : Meaning
   pub accepted : program_of frames input ≡ Ok program
-  pub written : AppendsFront old new (plan_text program.steps)
+  pub written : AppendsFront old new (plan_text program)
 
 -- the whole input was read, and this is its first refusal with its line
 pub record IsRefused (frames : List (List ℕ × Point)) (left : Option (List ℕ)) (refusal : Refusal) (line : ℕ) (input : List ℕ) : Type 0 where
@@ -51,4 +51,4 @@ IsNotWrite fault.Memory = Unit {0}
 
 -- the text of the plan of an accepted input
 abbrev pub HasText : List (List ℕ × Point) → List ℕ → List ℕ → Type 0
-HasText frames text input = (program : Meaning) × (program_of frames input ≡ Ok program) × (text ≡ plan_text program.steps)
+HasText frames text input = (program : Meaning) × (program_of frames input ≡ Ok program) × (text ≡ plan_text program)

@@ -68,7 +68,7 @@ fn checked_text<R: Source>(
 {
     let input = read_input(alloc, source)?;
     let program = read_program(alloc, input.as_slice(), frames)?;
-    match plan_text(alloc, program.statements()) {
+    match plan_text(alloc, &program) {
         Ok(text) => Ok(text),
         Err(AllocError) => Err(CheckFault::Memory),
     }

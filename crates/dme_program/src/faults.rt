@@ -1,12 +1,14 @@
 // What is printed on standard error, and the status that goes with it.
 
 ghost use Rattle.std.specs.Prelude.{◌≡◌};
-ghost use Rattle.dme_program.specs.Printed.{refusal_code, status_of};
+ghost use Rattle.std.specs.Option.{option_map};
+ghost use Rattle.dme_program.specs.Printed.{refusal_code, setup_code, status_of};
 
 use clap::Error as WordsError;
 use dmis_program::Refusal;
 use fixed_um::NumeralFault;
 use thiserror::Error;
+use tool_rack::SetupFault;
 
 /// Why the program ends with another status than 0.
 #[derive(Debug, Drop, Error)]
@@ -17,6 +19,9 @@ pub enum Fault {
     /// A DMIS program that is refused, at a line.
     #[error("dme: {refusal} at line {line}\n")]
     Program { refusal: &'static str, line: u64 },
+    /// A setup that is refused, at a line.
+    #[error("dme: {refusal} at line {line} in setup\n")]
+    Setup { refusal: &'static str, line: u64 },
     /// A file that cannot be opened or read; `-` is standard input.
     #[error("dme: cannot read {0}\n")]
     CannotRead(String),
@@ -35,7 +40,8 @@ impl Fault {
     {
         match self {
             Fault::Words(_) => 2,
-            Fault::Program { .. } | Fault::CannotRead(_) | Fault::CannotWrite(_) => 1,
+            Fault::Program { .. } | Fault::Setup { .. } => 1,
+            Fault::CannotRead(_) | Fault::CannotWrite(_) => 1,
             Fault::Memory => 4,
         }
     }
@@ -64,5 +70,17 @@ pub fn refusal_text(refusal: Refusal) -> &'static str
         Refusal::ZeroVector => "P14 ZeroVector",
         Refusal::NoTool => "P15 NoTool",
         Refusal::TooLarge => "P16 TooLarge",
+    }
+}
+
+/// The code and the name of a setup's refusal, and its line; none for want of memory, which is no refusal.
+pub fn setup_refusal(fault: SetupFault) -> Option<(&'static str, u64)>
+    ensures { option_map (λ shown. (shown.0.now, shown.1)) result ≡ setup_code fault }
+{
+    match fault {
+        SetupFault::BadLine(line) => Some(("S1 BadLine", line)),
+        SetupFault::Twice(line) => Some(("S2 Twice", line)),
+        SetupFault::BadNumeral(line) => Some(("S3 BadNumeral", line)),
+        SetupFault::Memory => None,
     }
 }

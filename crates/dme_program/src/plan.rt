@@ -1,14 +1,15 @@
 // The plan of a program on a new connection, as text.
 
-ghost use Rattle.std.specs.Prelude.{◌≡◌, ◌≤◌, ◌++◌, ◌∷◌, [], List, false, OnOk, IfOk};
-ghost use Rattle.dme_line.specs.declared.commands.Command as commands;
+ghost use Rattle.std.specs.Prelude.{◌≡◌, ◌≤◌, ◌++◌, All, false, OnOk, IfOk};
 ghost use Rattle.dme_line.specs.Kinds.{kind_of, is_event_kind};
 ghost use Rattle.dme_line.specs.Written.{HasVolumeLengths};
-ghost use Rattle.dme_program.specs.Plan.{commands_of, preamble, plan_text};
-ghost use Rattle.dme_program.specs.Numbered.{lines_from, IsSendable, AreSendable};
+ghost use Rattle.resume_plan.specs.Sendable.{IsSendable};
+ghost use Rattle.dme_program.specs.Plan.{lines_behind, plan_text};
+ghost use Rattle.dme_program.specs.Numbered.{number_behind, line_under};
 
-use dme_line::{Command, Csy, Tag, write_command};
-use dmis_program::Step;
+use dme_line::{Command, Tag, write_command};
+use dmis_program::Program;
+use resume_plan::{Planned, Start, plan};
 use std::alloc::{AllocError, Global};
 
 /// Lines of commands so far, and the number of the next tag.
@@ -24,9 +25,8 @@ impl Lines {
     fn push(&mut self, command: &Command) -> Result<(), AllocError>
         requires standard { is_event_kind (kind_of command.now) ≡ false }
         requires lengths { HasVolumeLengths command.now }
-        ensures { OnOk result ((behind : List commands.Command) →
-            self.new.text.items ++ lines_from self.new.number behind
-            ≡ self.old.text.items ++ lines_from self.old.number (command.now ∷ behind)) }
+        ensures text { OnOk result (self.new.text.items ≡ self.old.text.items ++ line_under self.old.number command.now) }
+        ensures number { OnOk result (self.new.number ≡ number_behind self.old.number) }
     {
         write_command(&mut self.text, Tag::Std(self.number), command)?;
         self.text.push(b'\n')?;
@@ -37,55 +37,27 @@ impl Lines {
         };
         Ok(())
     }
-
-    fn push_preamble(&mut self) -> Result<(), AllocError>
-        ensures { OnOk result ((behind : List commands.Command) →
-            self.new.text.items ++ lines_from self.new.number behind
-            ≡ self.old.text.items ++ lines_from self.old.number (preamble ++ behind)) }
-    {
-        self.push(&Command::StartSession)?;
-        self.push(&Command::ClearAllErrors)?;
-        self.push(&Command::Home)?;
-        self.push(&Command::OnPtMeasReport)?;
-        self.push(&Command::SetCoordSystem(Csy::MachineCsy))?;
-        Ok(())
-    }
-
-    /// Adds the lines of a statement's commands.
-    #[tactic(auto, using(crate::proofs::PlanLemmas::turned))]
-    fn push_step(&mut self, alloc: Global, step: &Step) -> Result<(), AllocError>
-        requires { IsSendable step.now }
-        ensures { OnOk result ((behind : List commands.Command) →
-            self.new.text.items ++ lines_from self.new.number behind
-            ≡ self.old.text.items ++ lines_from self.old.number (commands_of step.now ++ behind)) }
-    {
-        match step {
-            Step::Goto(target) => self.push(&Command::GoTo(*target)),
-            Step::Touch(touch) => self.push(&Command::PtMeas(touch.target, touch.dir)),
-            Step::Tool(name) => self.push(&Command::ChangeTool(name.copy(alloc)?)),
-            Step::Recall(offset) => {
-                self.push(&Command::SetCsyTransformation(offset.opposite()))?;
-                self.push(&Command::SetCoordSystem(Csy::PartCsy))?;
-                Ok(())
-            }
-            Step::Begin(_) | Step::End => Ok(()),
-        }
-    }
 }
 
-/// The text of the plan of a program with these steps. Only want of memory is an `Err`.
-pub fn plan_text(alloc: Global, steps: &[Step]) -> Result<Vec<u8>, AllocError>
-    requires { AreSendable steps.now }
-    ensures { IfOk result (λ text. text.items ≡ plan_text steps.now) }
+/// Commands as lines. Only want of memory is an `Err`.
+fn lines_text(alloc: Global, commands: &[Planned]) -> Result<Vec<u8>, AllocError>
+    requires { All IsSendable commands.now }
+    ensures { IfOk result (λ text. text.items ≡ lines_behind 0 commands.now) }
 {
     let mut lines = Lines {
         text: Vec::new(alloc),
         number: 1,
     };
-    lines.push_preamble()?;
-    for step in steps {
-        lines.push_step(alloc, step)?;
+    for planned in commands {
+        lines.push(&planned.command)?;
     }
-    lines.push(&Command::EndSession)?;
     Ok(lines.text)
+}
+
+/// The text of the plan of a program on a new connection, with no feature completed. Only want of memory is an `Err`.
+pub fn plan_text(alloc: Global, program: &Program) -> Result<Vec<u8>, AllocError>
+    ensures { IfOk result (λ text. text.items ≡ plan_text program.now) }
+{
+    let commands = plan(alloc, program, 0, Start::NewConnection)?;
+    lines_text(alloc, commands.as_slice())
 }

@@ -1,13 +1,14 @@
 // What no clause says: what is printed for programs as they are written, and that ports which fail are noticed.
 
 use crate::check::{CheckFault, check_plan};
-use crate::faults::{Fault, refusal_text};
+use crate::faults::{Fault, refusal_text, setup_refusal};
 use crate::words::{Order, WordsFault, read_words};
 use byte_ports::{Pieces, Reading, Takes, Writing};
 use dmis_program::{Frames, ProgramFault, Refusal};
 use fixed_um::NumeralFault;
 use std::alloc::Global;
 use std::test::Fail;
+use tool_rack::{Setup, SetupFault};
 
 const ONE: &str =
     "DMISMN/'ONE',05.2\nSNSLCT/S(P1)\nMEAS/POINT,F(A),1\nGOTO/10,20,30\nPTMEAS/CART,10,20,25,0,0,1\nENDMES\nENDFIL\n";
@@ -62,6 +63,42 @@ fn accepted_programs_print_their_plan(rt: HostRuntime) -> Result<(), Fail> {
         let written = sink.into_inner();
         assert_eq!(rt; written.as_slice(), lines.as_bytes(), "{program}");
     }
+    Ok(())
+}
+
+const SETUP: &str =
+    "TOOL P1\nTOOL P2\nFRAME PART 100 0 0\nSHIFT 0.002 0 0\nSHIFT 0 0 0.004\nSHIFT -0.001 0.001 0\n";
+
+const FRAMES: &str =
+    "DMISMN/'FRAMES',05.2\nSNSLCT/S(P1)\nMEAS/POINT,F(A),1\nPTMEAS/CART,10,0,0,0,0,1\nENDMES\nMEAS/LINE,F(B),2\nPTMEAS/CART,20,0,0,0,0,1\nRECALL/D(PART)\nPTMEAS/CART,30,0,0,0,0,1\nENDMES\nENDFIL\n";
+
+const FRAMES_LINES: &str = "00001 StartSession()
+00002 ClearAllErrors()
+00003 Home()
+00004 OnPtMeasReport(X(), Y(), Z())
+00005 SetCoordSystem(MachineCsy)
+00006 ChangeTool(\"P1\")
+00007 PtMeas(X(10.000), Y(0.000), Z(0.000), IJK(0.000000, 0.000000, 1.000000))
+00008 PtMeas(X(20.000), Y(0.000), Z(0.000), IJK(0.000000, 0.000000, 1.000000))
+00009 SetCsyTransformation(PartCsy, -100.000, 0.000, 0.000, 0, 0, 0)
+00010 SetCoordSystem(PartCsy)
+00011 PtMeas(X(30.000), Y(0.000), Z(0.000), IJK(0.000000, 0.000000, 1.000000))
+00012 EndSession()
+";
+
+#[test]
+fn a_program_recalls_the_frames_of_a_setup(rt: HostRuntime) -> Result<(), Fail> {
+    let alloc = rt.alloc();
+    let Ok(setup) = Setup::read(alloc, SETUP.as_bytes()) else {
+        assert!(rt; false, "a setup");
+        return Ok(());
+    };
+    let mut source = Reading::new(FRAMES.as_bytes());
+    let mut sink = Writing::new(Vec::new(alloc));
+    let outcome = check_plan(alloc, setup.frames(), &mut source, &mut sink);
+    assert!(rt; outcome.is_ok());
+    let written = sink.into_inner();
+    assert_eq!(rt; written.as_slice(), FRAMES_LINES.as_bytes());
     Ok(())
 }
 
@@ -146,6 +183,28 @@ fn faults_print_code_name_and_line(rt: HostRuntime) -> Result<(), Fail> {
         assert_eq!(rt; printed.as_str(), text);
         assert_eq!(rt; fault.status(), 1);
     }
+    let cases = [
+        (
+            SetupFault::BadLine(1),
+            "dme: S1 BadLine at line 1 in setup\n",
+        ),
+        (SetupFault::Twice(2), "dme: S2 Twice at line 2 in setup\n"),
+        (
+            SetupFault::BadNumeral(10),
+            "dme: S3 BadNumeral at line 10 in setup\n",
+        ),
+    ];
+    for (cause, text) in cases {
+        let Some((refusal, line)) = setup_refusal(cause) else {
+            assert!(rt; false, "{text}");
+            return Ok(());
+        };
+        let fault = Fault::Setup { refusal, line };
+        let printed = fault.to_string(alloc)?;
+        assert_eq!(rt; printed.as_str(), text);
+        assert_eq!(rt; fault.status(), 1);
+    }
+    assert!(rt; setup_refusal(SetupFault::Memory).is_none());
     let unread = Fault::CannotRead(String::from_str(alloc, "part.dmis")?);
     let printed = unread.to_string(alloc)?;
     assert_eq!(rt; printed.as_str(), "dme: cannot read part.dmis\n");
@@ -153,10 +212,10 @@ fn faults_print_code_name_and_line(rt: HostRuntime) -> Result<(), Fail> {
     Ok(())
 }
 
-/// The program that words name, where they are an order.
-fn named_program<'a>(alloc: Global, words: &'a [&'a str]) -> Option<String> {
+/// The setup and the program that words name, where they are an order.
+fn named_files<'a>(alloc: Global, words: &'a [&'a str]) -> Option<(Option<String>, String)> {
     match read_words(alloc, words) {
-        Ok(Order::Check { program }) => Some(program),
+        Ok(Order::Check { setup, program }) => Some((setup, program)),
         Err(_fault) => None,
     }
 }
@@ -171,13 +230,35 @@ fn is_bad_line<'a>(alloc: Global, words: &'a [&'a str]) -> bool {
 }
 
 #[test]
-fn words_name_a_program_or_standard_input(rt: HostRuntime) -> Result<(), Fail> {
+fn words_name_a_setup_and_a_program(rt: HostRuntime) -> Result<(), Fail> {
     let alloc = rt.alloc();
-    let named = named_program(alloc, &["dme", "check", "part.dmis"]);
-    assert_eq!(rt; named.as_deref(), Some("part.dmis"));
-    let unnamed = named_program(alloc, &["dme", "check"]);
-    assert_eq!(rt; unnamed.as_deref(), Some("-"));
+    let cases: [(&[&str], Option<&str>, &str); 6] = [
+        (&["dme", "check", "part.dmis"], None, "part.dmis"),
+        (&["dme", "check"], None, "-"),
+        (
+            &["dme", "check", "--setup", "cell.setup"],
+            Some("cell.setup"),
+            "-",
+        ),
+        (
+            &["dme", "check", "part.dmis", "--setup=-"],
+            Some("-"),
+            "part.dmis",
+        ),
+        (&["dme", "check", "--setup", "-", "-"], Some("-"), "-"),
+        (&["dme", "check", "--", "--setup"], None, "--setup"),
+    ];
+    for (words, setup, program) in cases {
+        let Some((named_setup, named_program)) = named_files(alloc, words) else {
+            assert!(rt; false, "{program}");
+            return Ok(());
+        };
+        assert_eq!(rt; named_setup.as_deref(), setup);
+        assert_eq!(rt; named_program.as_str(), program);
+    }
     assert!(rt; is_bad_line(alloc, &["dme", "measure"]));
     assert!(rt; is_bad_line(alloc, &["dme", "--help"]));
+    assert!(rt; is_bad_line(alloc, &["dme", "check", "--setup"]));
+    assert!(rt; is_bad_line(alloc, &["dme", "check", "--setup", "a", "--setup", "b"]));
     Ok(())
 }

@@ -1,6 +1,7 @@
 // The command line.
 
-ghost use Rattle.std.specs.Prelude.{IfOk, IfErr, codes};
+ghost use Rattle.std.specs.Prelude.{◌≡◌, IfOk, IfErr, codes, string_bytes};
+ghost use Rattle.std.specs.Option.{option_map};
 ghost use Rattle.clap.specs.Words.{first_value, found_of};
 ghost use Rattle.dme_program.specs.Ordered.{IsCheckOf, TellsMemory};
 
@@ -13,6 +14,8 @@ use std::alloc::{AllocError, Global};
 pub enum Order {
     /// Print the command lines of a program's plan.
     Check {
+        /// The file of the machine's setup, whose frames the program may recall; `-` is standard input.
+        setup: Option<String>,
         /// The file of the program; `-` is standard input.
         program: String,
     },
@@ -27,12 +30,20 @@ pub enum WordsFault {
     Memory,
 }
 
+fn setup_option<'a>(alloc: Global) -> Arg<'a> {
+    Arg::new(alloc, "setup")
+        .long("setup")
+        .value_name("FILE")
+        .help("The machine's setup; - is standard input")
+}
+
 fn check_command<'a>(alloc: Global) -> Result<Command<'a>, AllocError> {
     let program = Arg::new(alloc, "PROGRAM")
         .help("The DMIS program; - is standard input")
         .default_value("-");
     Command::new(alloc, "check")
         .about("Prints the I++ DME command lines of a DMIS program")
+        .arg(setup_option(alloc))?
         .arg(program)
 }
 
@@ -43,14 +54,24 @@ fn whole_command<'a>(alloc: Global) -> Result<Command<'a>, AllocError> {
         .subcommand(check_command(alloc)?)
 }
 
+/// A copy of a value, where there is one.
+fn copied(alloc: Global, value: Option<&str>) -> Result<Option<String>, AllocError>
+    ensures { IfOk result (λ copy. option_map string_bytes copy ≡ option_map (λ v. v.now) value.entry) }
+{
+    match value {
+        Some(text) => Ok(Some(String::from_str(alloc, text)?)),
+        None => Ok(None),
+    }
+}
+
 /// The order of `check` with these values.
 fn check_order(alloc: Global, values: &ArgMatches) -> Result<Order, AllocError>
-    ensures { IfOk result (IsCheckOf (first_value (found_of values.now) (codes "PROGRAM"))) }
+    ensures { IfOk result (IsCheckOf (first_value (found_of values.now) (codes "setup"))
+        (first_value (found_of values.now) (codes "PROGRAM"))) }
 {
-    let program = values.get_str("PROGRAM").unwrap_or("-");
-    Ok(Order::Check {
-        program: String::from_str(alloc, program)?,
-    })
+    let setup = copied(alloc, values.get_str("setup"))?;
+    let program = String::from_str(alloc, values.get_str("PROGRAM").unwrap_or("-"))?;
+    Ok(Order::Check { setup, program })
 }
 
 fn order_of(alloc: Global, matches: &ArgMatches) -> Result<Order, AllocError> {

@@ -1,10 +1,10 @@
 -- How positions in a buffer go with what stands at the front of its rest.
-use Rattle.std.proofs.Common.{◌≡◌, ℕ, ◌+◌, ◌-◌, ◌≤◌, Bool, true, false, List, ◌∷◌, ◌++◌, length, take, drop, sym, ◌∙◌, ap, subst, arith, Some, Result, Ok, Err, length-drop}
+use Rattle.std.proofs.Common.{◌≡◌, ℕ, ◌+◌, ◌-◌, ◌≤◌, Bool, true, false, List, ◌∷◌, ◌++◌, length, take, drop, sym, ◌∙◌, ap, subst, arith, Option, Some, Result, Ok, Err, length-drop}
 use Rattle.std.proofs.lemmas.List.{drop-drop, drop-append-le, length-take, length-append}
 use Rattle.std.proofs.lemmas.List.Sums.{prefix_len-le-length}
 use Rattle.line_framing.specs.Content.{is_content, IsLine}
 use Rattle.line_framing.specs.Next.{content_len, content_of, behind_content, verdict, next_of}
-use Rattle.line_framing.specs.Buffer.{HasVerdict, HasFront}
+use Rattle.line_framing.specs.Buffer.{IsKept, HasVerdict, HasFront}
 use Rattle.line_framing.specs.declared.faults.FramingFault.{FramingFault}
 use Rattle.line_framing.proofs.Cuts.{prefix_len_from, prefix_len-le-append}
 use Rattle.line_framing.proofs.FirstLine.{found}
@@ -30,7 +30,7 @@ end_fits bytes start end line rest e parts is =
     omega (arith, e, count, front, length-drop start bytes, prefix_len-le-length is_content (drop start bytes))
 
 -- a line that is found, by its places
-whole : (bytes : List ℕ) (start end : ℕ) (content behind : List ℕ) → end ≡ start + content_len (drop start bytes) → content ≡ take (end - start) (drop start bytes) → drop 2 behind ≡ drop (end + 2) bytes → next_of (drop start bytes) ≡ Ok (Some (content, drop 2 behind)) → HasFront bytes start end (Ok true)
+whole : (bytes : List ℕ) (start end : ℕ) (content behind : List ℕ) → end ≡ start + content_len (drop start bytes) → content ≡ take (end - start) (drop start bytes) → drop 2 behind ≡ drop (end - start + 2) (drop start bytes) → next_of (drop start bytes) ≡ Ok (Some (content, drop 2 behind)) → HasFront bytes start end (Ok true)
 whole bytes start end content behind e ec left next =
     let f = found (drop start bytes) content (drop 2 behind) next in (
       next ∙ (ap (λ (l : List ℕ). Ok (Some (l, drop 2 behind))) ec ∙ ap (λ (l : List ℕ). Ok (Some (take (end - start) (drop start bytes), l))) left),
@@ -46,7 +46,7 @@ has_front bytes start end content behind r e ec eb h =
     let front : content ≡ content_of rest = ec ∙ ap (λ (k : ℕ). take k rest) n in
     let back : behind ≡ behind_content rest = eb ∙ ap (λ (k : ℕ). drop k rest) n in
     let same : next_of rest ≡ verdict content behind = sym (ap (λ (l : List ℕ). verdict l behind) front ∙ ap (λ (l : List ℕ). verdict (content_of rest) l) back) in
-    let left : drop 2 behind ≡ drop (end + 2) bytes = ap (drop 2) eb ∙ (drop-drop 2 (end - start) rest ∙ (drop-drop (end - start + 2) start bytes ∙ ap (λ (k : ℕ). drop k bytes) (omega (arith, e)))) in
+    let left : drop 2 behind ≡ drop (end - start + 2) rest = ap (drop 2) eb ∙ drop-drop 2 (end - start) rest in
     elim r as (λ (v : Result Bool FramingFault). HasVerdict content behind v → HasFront bytes start end v) [
       | Ok b ↦ elim b as (λ (t : Bool). HasVerdict content behind (Ok t) → HasFront bytes start end (Ok t)) [
         | true ↦ λ g. whole bytes start end content behind e ec left (same ∙ g)
@@ -59,3 +59,19 @@ has_front bytes start end content behind r e ec eb h =
 pub longer_content : (bytes piece : List ℕ) (start searched : ℕ) → start ≤ length bytes → searched ≤ start + content_len (drop start bytes) → searched ≤ start + content_len (drop start (bytes ++ piece))
 longer_content bytes piece start searched within known =
     rw (drop-append-le start bytes piece within) (omega (arith, known, prefix_len-le-append is_content (drop start bytes) piece))
+
+-- a line that stands at the front of a rest, by its length, has its end there
+line_fits : (rest : List ℕ) (n : ℕ) → next_of rest ≡ Ok (Some (take n rest, drop (n + 2) rest)) → n + 2 ≤ length rest
+line_fits rest n next =
+    let f = found rest (take n rest) (drop (n + 2) rest) next in
+    let count = ap length f.parts ∙ length-append (take n rest) (13 ∷ 10 ∷ drop (n + 2) rest) in
+    omega (arith, count, length-take n rest, length-drop (n + 2) rest)
+
+-- as far as its end the search may begin anew, and no fault was kept
+pub kept_behind : (bytes : List ℕ) (start searched n k : ℕ) (fault : Option FramingFault) → IsKept bytes start searched fault → next_of (drop start bytes) ≡ Ok (Some (take n (drop start bytes), drop (n + 2) (drop start bytes))) → k ≤ n + 2 → IsKept bytes (start + k) (start + k) fault
+kept_behind bytes start searched n k fault kept next h = record {
+  begun = omega arith;
+  within = omega (arith, h, kept.begun, kept.within, line_fits (drop start bytes) n next, length-drop start bytes);
+  known = omega arith;
+  sound = λ f is. let no : next_of (drop start bytes) ≡ Err f = kept.sound f is in absurd (cc);
+}

@@ -20,7 +20,7 @@ HasVerdict content behind (Err fault) = verdict content behind ≡ Err fault
 -- the same of the bytes from start on, whose content ends at end
 abbrev pub HasFront : List ℕ → ℕ → ℕ → Result Bool FramingFault → Type 0
 HasFront bytes start end (Ok true) =
-    (next_of (drop start bytes) ≡ Ok (Some (take (end - start) (drop start bytes), drop (end + 2) bytes)))
+    (next_of (drop start bytes) ≡ Ok (Some (take (end - start) (drop start bytes), drop (end - start + 2) (drop start bytes))))
     × IsLine (take (end - start) (drop start bytes)) × (end + 2 ≤ length bytes)
 HasFront bytes start end (Ok false) = next_of (drop start bytes) ≡ Ok None
 HasFront bytes start end (Err fault) = next_of (drop start bytes) ≡ Err fault

@@ -1,5 +1,6 @@
-ghost use Rattle.std.specs.Prelude.{◌≡◌, ◌≢◌, ◌≤◌, drop, vec_len, IfOk, IfErr, OnOk, OnErr, IfSome, IfNone};
+ghost use Rattle.std.specs.Prelude.{◌≡◌, ◌≢◌, ◌+◌, ◌≤◌, length, take, drop, vec_len, MatchOption, IfOk, IfErr, OnOk, OnErr, IfSome, IfNone};
 ghost use Rattle.std.specs.Result.{IsErrOf};
+ghost use Rattle.line_framing.specs.Content.{IsLine};
 ghost use Rattle.line_framing.specs.Next.{next_of};
 ghost use Rattle.line_framing.specs.Framing.{IsSound, IsLineDue, no_bytes, fed, after_next};
 
@@ -13,8 +14,8 @@ use std::marker::Model;
 /// fault that was met in them (`fault`).
 ///
 /// A line ends with CR LF (I++ DME Interface version 1). It holds neither byte, and has at most 65,536 bytes
-/// without its end (this profile). Lines before a fault are handed out first. From the fault on, `feed` and
-/// `next_line` answer it, and the rest stays.
+/// without its end (this profile). Lines before a fault are handed out first. From the fault on, `feed`,
+/// `first_line` and `next_line` answer it, and the rest stays.
 ///
 /// Inside, the bytes before `start` are handed out, and those up to `searched` are known to be free of CR and
 /// LF, so that none is searched twice. No caller sees either.
@@ -71,8 +72,8 @@ impl Lines {
         rest
     }
 
-    /// The fault that `next_line` has met, if any. It is what stands at the front of the rest, and never want
-    /// of memory.
+    /// The fault that `first_line` or `next_line` has met, if any. It is what stands at the front of the rest,
+    /// and never want of memory.
     pub fn fault(&self) -> Option<FramingFault>
         ensures fault { result ≡ self.now.fault }
         ensures sound { IsSound self.now }
@@ -137,6 +138,53 @@ impl Lines {
         }
     }
 
+    /// How many bytes the first line at the front of the rest has without its CR LF; `None` where no whole line
+    /// is there yet. The line stays, so that it can be read in place before `drop_line` takes it.
+    ///
+    /// It answers `LineTooLong` or `BadByte` where that stands at the front, and keeps it. It takes no memory.
+    pub fn first_line(&mut self) -> Result<Option<usize>, FramingFault>
+        // The answer is what stands at the front of the rest, and from a fault on the same fault.
+        ensures found { IfOk result (λ found. MatchOption found (next_of self.old.rest ≡ Ok None)
+            (λ n. next_of self.old.rest ≡ Ok (Some (take n self.old.rest, drop (n + 2) self.old.rest)))) }
+        ensures within { IfOk result (λ found. IfSome found (λ n. n + 2 ≤ length self.old.rest)) }
+        ensures line { IfOk result (λ found. IfSome found (λ n. IsLine (take n self.old.rest))) }
+        ensures fault { IfErr result (λ fault. next_of self.old.rest ≡ Err fault) }
+        ensures kept { IfSome self.old.fault (λ fault. result ≡ Err fault) }
+        ensures never_memory { IfErr result (λ fault. fault ≢ FramingFault.Memory) }
+
+        // Nothing is taken, and the fault is kept from now on.
+        ensures ok { OnOk result (self.new ≡ self.old) }
+        ensures stays { IfSome self.old.fault (λ _. self.new ≡ self.old) }
+        ensures err { OnErr result (self.new ≡ after_next self.old) }
+        ensures sound { IsSound self.new }
+    {
+        if let Some(fault) = self.fault {
+            return Err(fault);
+        }
+        self.searched = content_end(self.bytes.as_slice(), self.searched);
+        match has_line(self.bytes.as_slice(), self.start, self.searched) {
+            Ok(false) => Ok(None),
+            Ok(true) => Ok(Some(self.searched - self.start)),
+            Err(fault) => {
+                self.fault = Some(fault);
+                Err(fault)
+            }
+        }
+    }
+
+    /// Takes the first line, of `length` bytes, and its CR LF off the front of the rest. The caller owes that
+    /// such a line stands there, as `first_line` answers. It takes no memory.
+    pub fn drop_line(&mut self, length: usize)
+        requires { next_of self.old.rest ≡ Ok (Some (take length self.old.rest, drop (length + 2) self.old.rest)) }
+        ensures dropped { self.new ≡ record self.old { rest = drop (length + 2) self.old.rest } }
+        ensures taken { self.new ≡ after_next self.old }
+        ensures sound { IsSound self.new }
+    {
+        let _in_memory = self.bytes.as_slice();
+        self.start += length + 2;
+        self.searched = self.start;
+    }
+
     /// Takes the first line and its CR LF off the front of the rest; `None` where no whole line is there yet.
     ///
     /// It answers `LineTooLong` or `BadByte` where that stands at the front, and keeps it. `Memory` comes where
@@ -159,24 +207,15 @@ impl Lines {
         ensures memory { IsErrOf result FramingFault.Memory → IsLineDue (next_of self.old.rest) }
         ensures unchanged { IsErrOf result FramingFault.Memory → self.new ≡ self.old }
     {
-        if let Some(fault) = self.fault {
-            return Err(fault);
-        }
-        self.searched = content_end(self.bytes.as_slice(), self.searched);
-        match has_line(self.bytes.as_slice(), self.start, self.searched) {
-            Ok(false) => Ok(None),
-            Ok(true) => match Line::copied(self.alloc, &self.bytes[self.start..self.searched]) {
-                Ok(line) => {
-                    self.start = self.searched + 2;
-                    self.searched = self.start;
-                    Ok(Some(line))
-                }
-                Err(_) => Err(FramingFault::Memory),
-            },
-            Err(fault) => {
-                self.fault = Some(fault);
-                Err(fault)
+        let Some(length) = self.first_line()? else {
+            return Ok(None);
+        };
+        match Line::copied(self.alloc, &self.rest()[..length]) {
+            Ok(line) => {
+                self.drop_line(length);
+                Ok(Some(line))
             }
+            Err(_) => Err(FramingFault::Memory),
         }
     }
 }

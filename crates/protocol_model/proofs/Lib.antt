@@ -1,37 +1,46 @@
-mod Blocks
-mod Basics
-mod Walks
-mod Counts
-mod Replying
-mod Fitting
-mod Marks
-mod Served
-mod Holding
-mod Pairs
-mod Moves
-mod Answers
-mod LineFacts
-mod ReadEvent
-mod Touching
-mod FrontEvent
-mod WorkEvent
-mod ServerEvents
-mod Drawing
-mod ClientEvents
-mod ClientWrites
-mod ClientResumes
-mod HearEvent
-mod Hearing
-mod Constant
+pub mod Blocks
+pub mod Basics
+pub mod Walks
+pub mod Counts
+pub mod Replying
+pub mod Fitting
+pub mod Marks
+pub mod Served
+pub mod Holding
+pub mod Pairs
+pub mod Moves
+pub mod Answers
+pub mod LineFacts
+pub mod ReadEvent
+pub mod Touching
+pub mod FrontEvent
+pub mod WorkEvent
+pub mod ServerEvents
+pub mod Drawing
+pub mod ClientEvents
+pub mod ClientWrites
+pub mod ClientResumes
+pub mod HearEvent
+pub mod Hearing
+pub mod Constant
 pub mod Whole
-mod Writable
-mod PlainServer
-mod PlainClient
-mod Links
-mod Wires
-mod LineTaking
-mod Carrying
-mod CarryingClient
-mod SameProgram
+pub mod Writable
+pub mod PlainServer
+pub mod PlainClient
+pub mod Links
+pub mod Wires
+pub mod LineTaking
+pub mod Carrying
+pub mod CarryingClient
+pub mod SameProgram
 pub mod WholeRun
 pub mod Speaking
+pub mod Texts
+pub mod Refused
+pub mod PlanLaws
+pub mod Deciding
+pub mod ReadersExist
+pub mod Following
+pub mod PlaceTags
+pub mod UndisturbedClient
+pub mod UndisturbedRun

@@ -69,6 +69,7 @@ measured ws (Does.Moves p f) given y = y
 measured ws (Does.Changes n) given y = y
 measured ws (Does.Frames f) given y = y
 
+-- the command that begins a session
 abbrev pub begins_session : Kind → Bool
 begins_session kind.StartSession = true
 begins_session _ = false
@@ -79,19 +80,23 @@ counted_next ws k given [] y = y
 counted_next ws k given (p ∷ todo) y =
     measured ws p.does given (record y { session = y.session || begins_session k; todo = todo; counted = y.counted ++ act_of p.does given; completed = suc y.completed })
 
+-- what an effect changes in the tally: nothing, that a command has failed, or the next command of the plan is counted
 abbrev pub tallied : List Wanted → Effect → Tally → Tally
 tallied ws Effect.Quiet y = y
 tallied ws Effect.Failure y = record y { failed = true }
 tallied ws (Effect.Count k given) y = counted_next ws k given y.todo y
 
+-- the table after a reply on a standard tag
 abbrev pub heard_standard : List Wanted → Table → Heard → Result Table Cause
 heard_standard ws b (Ok (hs, effect)) = Ok (record { standard = hs; event = b.event; tally = tallied ws effect b.tally })
 heard_standard ws b (Err cause) = Err cause
 
+-- the table after a reply on an event tag: nothing is counted there
 abbrev pub heard_event : Table → Heard → Result Table Cause
 heard_event b (Ok (hs, effect)) = Ok (record { standard = b.standard; event = hs; tally = b.tally })
 heard_event b (Err cause) = Err cause
 
+-- the table after a reply on a tag of either sort; on standard tags nothing is at the front once a command has failed
 abbrev pub heard_on : List Wanted → Table → Tag → Mark → Result Table Cause
 heard_on ws b (Std n) m = heard_standard ws b (heard_in (not b.tally.failed) b.standard (Std n) m)
 heard_on ws b (Event n) m = heard_event b (heard_in true b.event (Event n) m)
@@ -115,6 +120,7 @@ pub record Client : Type 0 where
   pub event_drawn : ℕ
   pub abort : Option Tag
 
+-- nothing counted but these features
 abbrev pub no_tally : List Feature → Tally
 no_tally fs = record { failed = false; session = false; todo = []; counted = []; points = []; features = fs; completed = 0 }
 
@@ -134,9 +140,11 @@ new_client p fs window = record {
   abort = None;
 }
 
+-- what was read has no place, or all tags are held: the client is Faulted, and knows why
 abbrev pub faulted : Cause → Client → Client
 faulted cause c = record c { state = State.Faulted; cause = Some cause }
 
+-- the state in which a client may connect
 abbrev pub is_apart : State → Bool
 is_apart State.Apart = true
 is_apart _ = false
@@ -164,6 +172,7 @@ abbrev pub first_free : (ℕ → Tag) → List Held → ℕ → ℕ → Option �
 first_free sort hs n zero = None
 first_free sort hs n (suc left) = elim (is_held (sort n) hs) [ true ↦ first_free sort hs (suc n) left | false ↦ Some n ]
 
+-- the first number that is there
 abbrev pub or_else : Option ℕ → Option ℕ → Option ℕ
 or_else None other = other
 or_else (Some n) other = Some n
@@ -172,6 +181,7 @@ or_else (Some n) other = Some n
 abbrev pub next_number : (ℕ → Tag) → List Held → ℕ → Option ℕ
 next_number sort hs drawn = or_else (first_free sort hs (suc drawn) (9999 - drawn)) (first_free sort hs 1 9999)
 
+-- the command that ends the error state
 abbrev pub is_clearing : Command → Bool
 is_clearing command.ClearAllErrors = true
 is_clearing _ = false
@@ -180,10 +190,12 @@ is_clearing _ = false
 abbrev pub may_go : ℕ → ℕ → Command → Bool
 may_go window open_now c = nat_lt open_now window && (not (is_clearing c) || (open_now == 0))
 
+-- the first command of a plan, if it may go with so many open
 abbrev pub first_due : ℕ → ℕ → List Planned → Option Planned
 first_due window open_now [] = None
 first_due window open_now (p ∷ ps) = if may_go window open_now p.command then Some p else None
 
+-- the state in which commands are due
 abbrev pub is_running : State → Bool
 is_running State.Running = true
 is_running _ = false
@@ -197,9 +209,11 @@ pub record Sends : Type 0 where
   pub client : Client
   pub lines : List Line
 
+-- a command that was just sent
 abbrev pub held_now : Tag → Kind → Held
 held_now t k = record { tag = t; kind = k; stage = Stage.Sent }
 
+-- the first unsent command goes out under this number; without one the client is Faulted
 abbrev pub sends_next : Client → List Planned → Option ℕ → Sends
 sends_next c [] number = record { client = c; lines = [] }
 sends_next c (p ∷ ps) None = record { client = faulted Cause.TagsSpent c; lines = [] }
@@ -216,6 +230,7 @@ sends_next c (p ∷ ps) (Some n) = record {
 abbrev pub client_sent : Client → Sends
 client_sent c = sends_next c c.unsent (next_number Std c.table.standard c.drawn)
 
+-- an abort goes out under this number; without one the client is Faulted
 abbrev pub sends_abort : Client → Option ℕ → Sends
 sends_abort c None = record { client = faulted Cause.TagsSpent c; lines = [] }
 sends_abort c (Some n) = record {
@@ -228,6 +243,7 @@ sends_abort c (Some n) = record {
   lines = record { tag = Event n; command = command.AbortE } ∷ [];
 }
 
+-- the states in which a client may abort
 abbrev pub may_abort : State → Bool
 may_abort State.Running = true
 may_abort State.Failing = true
@@ -271,9 +287,11 @@ last_state State.Halted whole open_now = State.Halted
 last_state State.Done whole open_now = State.Done
 last_state State.Faulted whole open_now = State.Faulted
 
+-- the state after a reply, by whether the reply ended an abort
 abbrev pub state_behind : State → Bool → Table → State
 state_behind state ends b = last_state (first_state state ends b.tally.failed) (is_whole b) (count_open b.standard)
 
+-- a client with the table that a reply leaves, or Faulted
 abbrev pub client_hears : Client → Tag → Mark → Result Table Cause → Client
 client_hears c t m (Ok b) = record c { table = b; state = state_behind c.state (ends_abort c.abort t m) b }
 client_hears c t m (Err cause) = faulted cause c
@@ -282,6 +300,7 @@ client_hears c t m (Err cause) = faulted cause c
 abbrev pub client_read : Client → Tag → Mark → Client
 client_read c t m = if tag_is t (Event 0) then c else client_hears c t m (heard_on c.program.features c.table t m)
 
+-- the state in which a client may resume, where a session was begun on its connection
 abbrev pub may_resume : Client → State → Bool
 may_resume c State.Halted = c.table.tally.session
 may_resume c _ = false
@@ -296,6 +315,7 @@ client_resumed c =
       unsent = steps;
     }
 
+-- what has been measured whole stays Done; all else is begun again
 abbrev pub left_state : State → State
 left_state State.Done = State.Done
 left_state _ = State.Apart

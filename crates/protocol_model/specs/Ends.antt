@@ -1,4 +1,4 @@
--- A client and a server with the bytes that they were fed and the bytes that are to be sent.
+-- A client and a server with the bytes that they were fed and the bytes that are to be sent (this profile; lines as the I++ DME Interface version 1 forms them).
 use Rattle.std.specs.Prelude.{ℕ, if◌then◌else◌, Option, Some, None, List, [], ◌∷◌, ◌++◌, drop, Result, Ok, Err}
 use Rattle.fixed_um.specs.declared.lengths.Point.{Point}
 use Rattle.dmis_program.specs.Meaning.{Meaning}
@@ -26,14 +26,17 @@ use Rattle.protocol_model.specs.declared.machine.Outcome.{Outcome}
 
 -- ---- the client's end
 
+-- a client, the bytes that it was fed and has not read, and those that are to be sent
 pub record ClientEnd : Type 0 where
   pub client : Client
   pub input : Framing
   pub out : List ℕ
 
+-- a client that was never on a connection, with no bytes
 abbrev pub new_client_end : Meaning → List Feature → ℕ → ClientEnd
 new_client_end p fs window = record { client = new_client p fs window; input = no_bytes; out = [] }
 
+-- on a new connection no byte is left of the one before
 abbrev pub end_connected : ℕ → ClientEnd → ClientEnd
 end_connected n e = record { client = client_connected n e.client; input = no_bytes; out = [] }
 
@@ -41,12 +44,15 @@ end_connected n e = record { client = client_connected n e.client; input = no_by
 abbrev pub with_lines : ClientEnd → Sends → ClientEnd
 with_lines e s = record { client = s.client; input = e.input; out = e.out ++ command_bytes s.lines }
 
+-- what is due is written
 abbrev pub end_sent : ClientEnd → ClientEnd
 end_sent e = with_lines e (client_sent e.client)
 
+-- an abort is written
 abbrev pub end_aborted : ClientEnd → ClientEnd
 end_aborted e = with_lines e (client_aborted e.client)
 
+-- bytes come from the connection
 abbrev pub end_fed : List ℕ → ClientEnd → ClientEnd
 end_fed bytes e = record e { input = fed e.input bytes }
 
@@ -55,6 +61,7 @@ abbrev pub held_kind : Tag → List Held → Option Kind
 held_kind t [] = None
 held_kind t (h ∷ hs) = if tag_is h.tag t then Some h.kind else held_kind t hs
 
+-- the kind of the command that is held under a tag of either sort
 abbrev pub held_under : Tag → Client → Option Kind
 held_under (Std n) c = held_kind (Std n) c.table.standard
 held_under (Event n) c = held_kind (Event n) c.table.event
@@ -64,10 +71,12 @@ abbrev pub given_point : Client → Tag → Result Point NotPoint → Client
 given_point c t (Ok p) = client_read c t (Mark.Data p)
 given_point c t (Err why) = faulted Cause.NotResponse c
 
+-- a data text for a command of this kind: it has a place for a touch alone
 abbrev pub given_under : Readers → Client → Tag → List ℕ → Option Kind → Client
 given_under readers c t text None = faulted Cause.UnknownTag c
 given_under readers c t text (Some kind) = if asks_data kind then given_point c t (readers.point text) else faulted Cause.OutOfOrder c
 
+-- a data text under a tag; what comes on the event tag number 0 changes nothing
 abbrev pub given : Readers → Client → Tag → List ℕ → Client
 given readers c t text = if tag_is t (Event 0) then c else given_under readers c t text (held_under t c)
 
@@ -78,6 +87,7 @@ response_read readers c t (mark.Given text) = given readers c t text
 response_read readers c t mark.Done = client_read c t Mark.Done
 response_read readers c t (mark.Error text) = client_read c t Mark.Error
 
+-- a line is read as a response, or is none; want of memory is no reading
 abbrev pub line_read : Readers → Client → Result Response ResponseFault → Client
 line_read readers c (Ok r) = response_read readers c r.tag r.mark
 line_read readers c (Err refused.NotResponse) = faulted Cause.NotResponse c
@@ -91,15 +101,19 @@ front_read readers c (Err framing.LineTooLong) = faulted Cause.LineTooLong c
 front_read readers c (Err framing.BadByte) = faulted Cause.BadByte c
 front_read readers c (Err framing.Memory) = c
 
+-- what stands at the front is read
 abbrev pub end_read : Readers → ClientEnd → ClientEnd
 end_read readers e = record { client = front_read readers e.client (next_of e.input.rest); input = left_by (next_of e.input.rest) e.input; out = e.out }
 
+-- the plan is begun again on the same connection
 abbrev pub end_resumed : ClientEnd → ClientEnd
 end_resumed e = record e { client = client_resumed e.client }
 
+-- the connection is left, and no byte of it is kept
 abbrev pub end_left : ClientEnd → ClientEnd
 end_left e = record { client = client_left e.client; input = no_bytes; out = [] }
 
+-- a new client with the first k features, and no bytes
 abbrev pub end_restarted : ℕ → ClientEnd → ClientEnd
 end_restarted k e = record { client = client_restarted k e.client; input = no_bytes; out = [] }
 
@@ -109,17 +123,21 @@ end_taken k e = record e { out = drop k e.out }
 
 -- ---- the server's end
 
+-- a server, the bytes that it was fed and has not read, and those that are to be sent
 pub record ServerEnd : Type 0 where
   pub server : Server
   pub input : Framing
   pub out : List ℕ
 
+-- a server that was never on a connection, with no bytes
 abbrev pub new_server_end : List (List ℕ) → ServerEnd
 new_server_end rack = record { server = new_server rack; input = no_bytes; out = [] }
 
+-- a connection is taken
 abbrev pub serving_accepted : ℕ → ServerEnd → ServerEnd
 serving_accepted n e = record e { server = server_accepted n e.server }
 
+-- bytes come from the connection
 abbrev pub serving_fed : List ℕ → ServerEnd → ServerEnd
 serving_fed bytes e = record e { input = fed e.input bytes }
 
@@ -133,20 +151,26 @@ front_served readers e (Ok None) = e
 front_served readers e (Ok (Some (line, rest))) = with_answer e (record (e.input) { rest = rest }) (server_read e.server (reading_of (readers.command line)))
 front_served readers e (Err why) = record e { input = record (e.input) { fault = Some why } }
 
+-- what stands at the front is read
 abbrev pub serving_read : Readers → ServerEnd → ServerEnd
 serving_read readers e = front_served readers e (next_of e.input.rest)
 
+-- the first waiting command has its turn
 abbrev pub serving_turned : ServerEnd → ServerEnd
 serving_turned e = with_answer e e.input (server_turned e.server)
 
+-- the machine is done with the running command
 abbrev pub serving_machined : Outcome → ServerEnd → ServerEnd
 serving_machined outcome e = with_answer e e.input (server_machined e.server outcome)
 
+-- the connection is left, and no byte of it is kept
 abbrev pub serving_left : ServerEnd → ServerEnd
 serving_left e = record { server = server_left e.server; input = no_bytes; out = [] }
 
+-- a restarted server keeps no byte
 abbrev pub serving_restarted : ServerEnd → ServerEnd
 serving_restarted e = record { server = server_restarted e.server; input = no_bytes; out = [] }
 
+-- the first bytes are sent
 abbrev pub serving_taken : ℕ → ServerEnd → ServerEnd
 serving_taken k e = record e { out = drop k e.out }

@@ -10,6 +10,7 @@ use Rattle.protocol_model.specs.declared.held.Stage.{Stage}
 abbrev pub Placed : Type 0
 Placed = Bool × Mark
 
+-- the marks alone
 abbrev pub marks_of : List Placed → List Mark
 marks_of [] = []
 marks_of ((front, m) ∷ ms) = m ∷ marks_of ms
@@ -63,6 +64,7 @@ Goes kind ms Closes next = ms ≡ []
 Goes kind ms (Counts given) next = ms ≡ []
 Goes kind ms (Refused cause) next = ⊥
 
+-- the table accepts these marks, one after another, of a command that is at this stage
 abbrev pub Accepts : Kind → Stage → List Placed → Type 0
 Accepts kind stage [] = ⊤
 Accepts kind stage ((front, m) ∷ ms) = Goes kind ms (judged front kind stage m) (λ next. Accepts kind next ms)

@@ -9,3 +9,6 @@ pub mod Lines
 pub mod Ends
 pub mod World
 pub mod Language
+pub mod Rows
+pub mod PlanReading
+pub mod Undisturbed

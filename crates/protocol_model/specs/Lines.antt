@@ -1,4 +1,4 @@
--- Lines as bytes: what is written of commands and replies, and how they are read.
+-- Lines as bytes: what is written of commands and replies, and how they are read (I++ DME Interface version 1; the texts of errors are this profile's).
 use Rattle.std.specs.Prelude.{◌≢◌, ℕ, List, [], ◌∷◌, Result, Ok, Err}
 use Rattle.fixed_um.specs.declared.lengths.Point.{Point}
 use Rattle.dme_line.specs.Points.{written_point, ReadsPoint}
@@ -30,10 +30,12 @@ reply_text (Reply.Gives t p) = written_response (record { tag = t; mark = mark.G
 reply_text (Reply.Completes t) = written_response (record { tag = t; mark = mark.Done })
 reply_text (Reply.Fails t code name) = written_error t code name
 
+-- the lines of commands, and those of replies
 abbrev pub command_texts : List Line → List (List ℕ)
 command_texts [] = []
 command_texts (l ∷ ls) = command_text l ∷ command_texts ls
 
+-- the lines of replies
 abbrev pub reply_texts : List Reply → List (List ℕ)
 reply_texts [] = []
 reply_texts (r ∷ rs) = reply_text r ∷ reply_texts rs
@@ -42,6 +44,7 @@ reply_texts (r ∷ rs) = reply_text r ∷ reply_texts rs
 abbrev pub command_bytes : List Line → List ℕ
 command_bytes ls = line_bytes (command_texts ls)
 
+-- the same of replies
 abbrev pub reply_bytes : List Reply → List ℕ
 reply_bytes rs = line_bytes (reply_texts rs)
 

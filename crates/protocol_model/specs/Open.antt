@@ -10,6 +10,7 @@ use Rattle.protocol_model.specs.declared.states.Cause.{Cause}
 use Rattle.protocol_model.specs.declared.states.Cause.TheVariants.{UnknownTag, OutOfOrder, NoData, SecondData}
 use Rattle.protocol_model.specs.declared.held.Held.{Held}
 
+-- an error was read
 abbrev pub is_failed : Stage → Bool
 is_failed Stage.Sent = false
 is_failed Stage.Received = false
@@ -38,6 +39,7 @@ pub data Verdict : Type 0 where
   Counts : Option Point → Verdict
   Refused : Cause → Verdict
 
+-- received: once, and before all else
 abbrev pub judged_ack : Stage → Verdict
 judged_ack Stage.Sent = Becomes Stage.Received
 judged_ack Stage.Received = Refused OutOfOrder
@@ -52,6 +54,7 @@ judged_data true (Stage.Given q) p = Refused SecondData
 judged_data true Stage.Failed p = Refused OutOfOrder
 judged_data false stage p = Refused OutOfOrder
 
+-- an error: the first fails the command, a further one changes nothing
 abbrev pub judged_error : Stage → Verdict
 judged_error Stage.Sent = Breaks
 judged_error Stage.Received = Breaks
@@ -86,6 +89,7 @@ pub data Effect : Type 0 where
 abbrev pub Heard : Type 0
 Heard = Result (List Held × Effect) Cause
 
+-- the open commands after the command at their front was judged: it stays at another stage, or is gone
 abbrev pub settled : Held → List Held → Verdict → Heard
 settled h hs (Becomes stage) = Ok (record h { stage = stage } ∷ hs, Quiet)
 settled h hs Breaks = Ok (record h { stage = Stage.Failed } ∷ hs, Failure)
@@ -93,6 +97,7 @@ settled h hs Closes = Ok (hs, Quiet)
 settled h hs (Counts given) = Ok (hs, Count h.kind given)
 settled h hs (Refused cause) = Err cause
 
+-- an earlier command stays as it is
 abbrev pub put_before : Held → Heard → Heard
 put_before h (Ok (hs, effect)) = Ok (h ∷ hs, effect)
 put_before h (Err cause) = Err cause
@@ -110,6 +115,7 @@ abbrev pub count_open : List Held → ℕ
 count_open [] = 0
 count_open (h ∷ hs) = if is_failed h.stage then count_open hs else suc (count_open hs)
 
+-- a command is open under this tag
 abbrev pub is_held : Tag → List Held → Bool
 is_held t [] = false
 is_held t (h ∷ hs) = if tag_is h.tag t then true else is_held t hs

@@ -1,4 +1,4 @@
--- The plan of a client: the commands that measure what is left of a program, each with what it stands for (this profile).
+-- The plan of a client: the commands of the I++ DME Interface version 1 that measure what is left of an ISO 22093 program, each with what it stands for (this profile).
 use Rattle.std.specs.Prelude.{ℕ, zero, suc, Bool, true, false, if◌then◌else◌, Option, Some, None, List, [], ◌∷◌, ◌++◌}
 use Rattle.fixed_um.specs.Points.{point_opposite}
 use Rattle.fixed_um.specs.declared.frames.Frame.{Frame}
@@ -15,6 +15,7 @@ use Rattle.protocol_model.specs.declared.plans.Start.{Start}
 use Rattle.protocol_model.specs.declared.plans.Start.TheVariants.{NewConnection, SameConnection}
 use Rattle.protocol_model.specs.declared.plans.Planned.{Planned}
 
+-- nothing is there
 abbrev pub is_empty : {A : Type 0} → List A → Bool
 is_empty [] = true
 is_empty (x ∷ xs) = false
@@ -50,6 +51,7 @@ behind (suc k) (step.Tool n ∷ ss) = behind (suc k) ss
 behind (suc k) (step.Recall p ∷ ss) = behind (suc k) ss
 behind (suc k) (step.End ∷ ss) = behind (suc k) ss
 
+-- the steps up to the last touch of so many features
 abbrev pub up_to : ℕ → List Step → List Step
 up_to zero ss = []
 up_to (suc k) [] = []
@@ -60,6 +62,7 @@ up_to (suc k) (step.Tool n ∷ ss) = step.Tool n ∷ up_to (suc k) ss
 up_to (suc k) (step.Recall p ∷ ss) = step.Recall p ∷ up_to (suc k) ss
 up_to (suc k) (step.End ∷ ss) = step.End ∷ up_to (suc k) ss
 
+-- a command, and what it stands for
 abbrev pub planned : Command → Does → Planned
 planned c does = record { command = c; does = does }
 
@@ -91,6 +94,7 @@ measuring tool frame ss = tooling tool ++ (framing frame ++ (stepping frame ss +
 abbrev pub clearing : List Planned → List Planned
 clearing ps = planned command.ClearAllErrors Nothing ∷ planned command.Home Homes ∷ planned command.OnPtMeasReport Nothing ∷ ps
 
+-- a session is begun on a new connection, and goes on on the same
 abbrev pub starting : Start → List Planned → List Planned
 starting NewConnection ps = planned command.StartSession Nothing ∷ ps
 starting SameConnection ps = ps

@@ -25,12 +25,14 @@ pub data Mark : Type 0 where
   Done : Mark
   Error : Mark
 
+-- the tag that a reply answers
 abbrev pub tag_of : Reply → Tag
 tag_of (Acks t) = t
 tag_of (Gives t p) = t
 tag_of (Completes t) = t
 tag_of (Fails t code kind) = t
 
+-- the mark of a reply
 abbrev pub mark_of : Reply → Mark
 mark_of (Acks t) = Mark.Ack
 mark_of (Gives t p) = Mark.Data p

@@ -47,9 +47,11 @@ pub record Answer : Type 0 where
   pub server : Server
   pub said : List Reply
 
+-- a server that answers these lines
 abbrev pub answers : Server → List Reply → Answer
 answers s said = record { server = s; said = said }
 
+-- the zero point of the machine
 abbrev pub origin : Point
 origin = record { x = pos 0; y = pos 0; z = pos 0 }
 
@@ -101,6 +103,7 @@ acted a s = record s { ledger = s.ledger ++ (s.last, a) ∷ [] }
 
 -- ---- connections
 
+-- a connection is taken, by its number
 abbrev pub server_accepted : ℕ → Server → Server
 server_accepted n s = record s { on = true; last = n }
 
@@ -108,33 +111,40 @@ server_accepted n s = record s { on = true; last = n }
 abbrev pub server_left : Server → Server
 server_left s = record s { on = false; session = false; frame = Machine; stored = origin; error = false; running = None; waiting = [] }
 
+-- a restarted server besides forgets its homing and its tool
 abbrev pub server_restarted : Server → Server
 server_restarted s = record (server_left s) { homed = false; tool = None }
 
 -- ---- a line is read
 
+-- a command runs under this tag
 abbrev pub runs_under : Tag → Option Line → Bool
 runs_under t None = false
 runs_under t (Some line) = tag_is line.tag t
 
+-- a command waits under this tag
 abbrev pub waits_under : Tag → List Waiting → Bool
 waits_under t [] = false
 waits_under t (w ∷ ws) = tag_is w.tag t || waits_under t ws
 
+-- the command that aborts
 abbrev pub is_abort : Result Command LineFault → Bool
 is_abort (Ok command.AbortE) = true
 is_abort (Ok _) = false
 is_abort (Err refused) = false
 
+-- the command that ends the error state
 abbrev pub is_clear : Result Command LineFault → Bool
 is_clear (Ok command.ClearAllErrors) = true
 is_clear (Ok _) = false
 is_clear (Err refused) = false
 
+-- a line that reads as no command
 abbrev pub is_fault : Result Command LineFault → Bool
 is_fault (Ok c) = false
 is_fault (Err refused) = true
 
+-- the number of the error for a line that reads as no command
 abbrev pub fault_number : Result Command LineFault → ℕ
 fault_number (Ok c) = 0
 fault_number (Err fault.NoTag) = 9001
@@ -174,6 +184,7 @@ tagged s t reading =
     if runs_under t s.running || waits_under t s.waiting then answers s (Reply.Fails (Event 0) 9002 None ∷ [])
     else fresh s t reading
 
+-- what is answered to a line that was read; a line without a tag is answered on the event tag number 0
 abbrev pub server_read : Server → Reading → Answer
 server_read s (Err fault.NoTag) = answers s (Reply.Fails (Event 0) 9001 None ∷ [])
 server_read s (Err (fault.UnknownCommand t)) = tagged s t (Err (fault.UnknownCommand t))
@@ -189,32 +200,39 @@ abbrev pub offset : Frame → Point
 offset Machine = origin
 offset (Part p) = p
 
+-- a point that the machine can reach
 abbrev pub in_volume : Point → Bool
 in_volume p = nat_le (unsigned_abs p.x) volume_limit && (nat_le (unsigned_abs p.y) volume_limit && nat_le (unsigned_abs p.z) volume_limit)
 
+-- the command that opens a session
 abbrev pub opens : Command → Bool
 opens command.StartSession = true
 opens _ = false
 
+-- the commands that a session must be open for
 abbrev pub wants_session : Command → Bool
 wants_session command.StartSession = false
 wants_session command.ClearAllErrors = false
 wants_session _ = true
 
+-- the commands that the machine must be homed for
 abbrev pub wants_home : Command → Bool
 wants_home (command.GoTo p) = true
 wants_home (command.PtMeas p d) = true
 wants_home (command.ChangeTool n) = true
 wants_home _ = false
 
+-- a change to a tool that is not in the rack
 abbrev pub lacks_tool : List (List ℕ) → Command → Bool
 lacks_tool rack (command.ChangeTool n) = not (list_any (λ m. bytes_eq m n) rack)
 lacks_tool rack _ = false
 
+-- a touch without a tool
 abbrev pub has_no_tool : Option (List ℕ) → Command → Bool
 has_no_tool tool (command.PtMeas p d) = is_none tool
 has_no_tool tool _ = false
 
+-- a target, in this frame, that the machine cannot reach
 abbrev pub leaves_volume : Frame → Command → Bool
 leaves_volume f (command.GoTo p) = not (in_volume (point_sum p (offset f)))
 leaves_volume f (command.PtMeas p d) = not (in_volume (point_sum p (offset f)))
@@ -225,11 +243,13 @@ abbrev pub first_failing : List (Bool × ℕ) → Option ℕ
 first_failing [] = None
 first_failing ((fails, number) ∷ checks) = if fails then Some number else first_failing checks
 
+-- the checks of a command at its turn, in order, each with its number: a session is wanted, a session is open, homing is wanted, the tool is unknown, no tool is there, the target cannot be reached
 abbrev pub checks : Server → Command → List (Bool × ℕ)
 checks s c =
     (wants_session c && not s.session, 9005) ∷ (opens c && s.session, 9006) ∷ (wants_home c && not s.homed, 9010)
     ∷ (lacks_tool s.rack c, 9012) ∷ (has_no_tool s.tool c, 9011) ∷ (leaves_volume s.frame c, 9013) ∷ []
 
+-- the number with which what waits is refused at its turn, if it is
 abbrev pub refusal : Server → Result Command LineFault → Option ℕ
 refusal s (Err refused) = Some (fault_number (Err refused))
 refusal s (Ok c) = first_failing (checks s c)
@@ -239,6 +259,7 @@ abbrev pub frame_of : Csy → Point → Frame
 frame_of MachineCsy stored = Machine
 frame_of PartCsy stored = Part stored
 
+-- a command runs from now on, and its end is answered later
 abbrev pub starts_running : Server → Tag → Command → Answer
 starts_running s t c = answers (record s { running = Some (record { tag = t; command = c }) }) []
 
@@ -257,6 +278,7 @@ carried_out s t (command.GoTo p) = starts_running s t (command.GoTo p)
 carried_out s t (command.PtMeas p d) = starts_running s t (command.PtMeas p d)
 carried_out s t command.AbortE = answers s []
 
+-- what waits is carried out
 abbrev pub carried : Server → Tag → Result Command LineFault → Answer
 carried s t (Ok c) = carried_out s t c
 carried s t (Err refused) = answers s []
@@ -266,10 +288,12 @@ abbrev pub taken : Server → Waiting → List Waiting → Option ℕ → Answer
 taken s w ws (Some number) = answers (in_error s) (fails w.tag number (kind_in w.reading) ++ all_fail 9007 ws)
 taken s w ws None = carried (record s { waiting = ws }) w.tag w.reading
 
+-- the first of what waits has its turn
 abbrev pub turned_to : Server → List Waiting → Answer
 turned_to s [] = answers s []
 turned_to s (w ∷ ws) = taken s w ws (refusal s w.reading)
 
+-- the first waiting command has its turn
 abbrev pub server_turned : Server → Answer
 server_turned s = turned_to s s.waiting
 
@@ -280,9 +304,11 @@ abbrev pub stopped : Server → Line → ℕ → Answer
 stopped s line number =
     answers (record (in_error s) { running = None }) (fails line.tag number (Some (kind_of line.command)) ++ all_fail 9007 s.waiting)
 
+-- nothing runs any more
 abbrev pub idle : Server → Server
 idle s = record s { running = None }
 
+-- a command other than a touch is done
 abbrev pub finished : Server → Tag → Command → Answer
 finished s t command.Home = answers (acted act.Homed (record (idle s) { homed = true })) (Reply.Completes t ∷ [])
 finished s t (command.ChangeTool n) = answers (acted (act.Changed n) (record (idle s) { tool = Some n })) (Reply.Completes t ∷ [])
@@ -296,6 +322,7 @@ touched s t (command.PtMeas p d) at (Some tool) =
     answers (acted (act.Contact p d tool s.frame point) (idle s)) (Reply.Gives t point ∷ Reply.Completes t ∷ [])
 touched s t c at tool = answers s []
 
+-- how what runs ends: done, touched, without a surface (9014), or by a fault of the machine (9015)
 abbrev pub machined : Server → Outcome → Option Line → Answer
 machined s outcome None = answers s []
 machined s Outcome.Done (Some line) = finished s line.tag line.command
@@ -303,6 +330,7 @@ machined s (Outcome.Touched at) (Some line) = touched s line.tag line.command at
 machined s Outcome.Missed (Some line) = stopped s line 9014
 machined s Outcome.Fault (Some line) = stopped s line 9015
 
+-- the machine is done with what runs
 abbrev pub server_machined : Server → Outcome → Answer
 server_machined s outcome = machined s outcome s.running
 
@@ -316,6 +344,7 @@ has_outcome (command.PtMeas p d) Outcome.Missed = true
 has_outcome c Outcome.Fault = true
 has_outcome c outcome = false
 
+-- whether what runs can end so
 abbrev pub may_end : Option Line → Outcome → Bool
 may_end None outcome = false
 may_end (Some line) outcome = has_outcome line.command outcome
@@ -333,5 +362,6 @@ abbrev pub job_run : Frame → Option Line → Option Job
 job_run f None = None
 job_run f (Some line) = job_of f line.command
 
+-- what the server asks of the machine
 abbrev pub running_job : Server → Option Job
 running_job s = job_run s.frame s.running

@@ -1,4 +1,4 @@
--- A client and a server on connections that carry lines as values. Of each older connection the server may read whatever it likes.
+-- A client and a server on connections that carry lines as values (this profile). Of each older connection the server may read whatever it likes.
 use Rattle.std.specs.Prelude.{ℕ, suc, ◌==◌, nat_lt, nat_le, Bool, true, ◌&&◌, not, if◌then◌else◌, is_none, is_some, List, [], ◌∷◌, ◌++◌, length, Ok}
 use Rattle.dmis_program.specs.Meaning.{Meaning as Program}
 use Rattle.protocol_model.specs.Replies.{Reading, Reply, tag_of, mark_of}
@@ -15,6 +15,7 @@ pub record World : Type 0 where
   pub up : List Line
   pub down : List Reply
 
+-- the events, as where bytes are carried; a line is read whole
 pub data Event : Type 0 where
   Connect : Event
   Accept : ℕ → Event
@@ -32,6 +33,7 @@ pub data Event : Type 0 where
   ClientRestart : ℕ → Event
   ServerRestart : Event
 
+-- a client with this program and this window, and a server with this rack, neither ever on a connection
 abbrev pub start : Program → List (List ℕ) → ℕ → World
 start p rack window = record { client = new_client p [] window; server = new_server rack; up = []; down = [] }
 
@@ -43,13 +45,16 @@ answered w up a = record { client = w.client; server = a.server; up = up; down =
 abbrev pub sent : World → Sends → World
 sent w s = record { client = s.client; server = w.server; up = w.up ++ s.lines; down = w.down }
 
+-- the client makes the next connection: nothing is on its way there
 abbrev pub connected : World → World
 connected w = record { client = client_connected (suc w.client.last) w.client; server = w.server; up = []; down = [] }
 
+-- the server reads the first line on the way up
 abbrev pub server_reads : World → List Line → World
 server_reads w [] = w
 server_reads w (line ∷ up) = answered w up (server_read w.server (Ok line))
 
+-- the client reads the first reply on the way down
 abbrev pub client_reads : World → List Reply → World
 client_reads w [] = w
 client_reads w (r ∷ down) = record { client = client_read w.client (tag_of r) (mark_of r); server = w.server; up = w.up; down = down }
@@ -88,9 +93,11 @@ happens Resume w = record w { client = client_resumed w.client }
 happens (ClientRestart k) w = record w { client = client_restarted k w.client }
 happens ServerRestart w = record w { server = server_restarted w.server }
 
+-- an event that cannot happen changes nothing
 abbrev pub after : Event → World → World
 after e w = if can e w then happens e w else w
 
+-- events, one after another
 abbrev pub run_of : List Event → World → World
 run_of [] w = w
 run_of (e ∷ es) w = run_of es (after e w)

@@ -1,4 +1,4 @@
--- Both ends and the bytes between them: the events, what each does, and lists of them.
+-- Both ends and the bytes between them: the events, what each does, and lists of them (this profile).
 use Rattle.std.specs.Prelude.{ℕ, suc, ◌-◌, nat_lt, nat_le, Bool, true, false, ◌&&◌, not, if◌then◌else◌, Some, None, is_none, is_some, List, [], ◌∷◌, ◌++◌, length, take, drop, slice_set, Ok, Err}
 use Rattle.std.specs.List.{slice_index_or}
 use Rattle.dmis_program.specs.Meaning.{Meaning}
@@ -16,6 +16,7 @@ pub record Link : Type 0 where
   pub up : List ℕ
   pub down : List ℕ
 
+-- no bytes
 abbrev pub no_link : Link
 no_link = record { up = []; down = [] }
 
@@ -26,12 +27,15 @@ pub record World : Type 0 where
   pub links : List Link
   pub written : List ℕ
 
+-- the bytes of the connection of this number
 abbrev pub link_of : List Link → ℕ → Link
 link_of links n = slice_index_or links (n - 1) no_link
 
+-- other bytes for the connection of this number
 abbrev pub with_link : List Link → ℕ → Link → List Link
 with_link links n link = slice_set links (n - 1) link
 
+-- the events of a world: a connection is made, or taken by its number; lines are sent and read; so many bytes move up or down; a waiting command has its turn, and the machine is done; a side leaves; the client aborts or resumes; a side restarts, the client with so many features
 pub data Event : Type 0 where
   Connect : Event
   Accept : ℕ → Event
@@ -49,6 +53,7 @@ pub data Event : Type 0 where
   ClientRestart : ℕ → Event
   ServerRestart : Event
 
+-- a client with this program and this window, and a server with this rack, neither ever on a connection
 abbrev pub start : Meaning → List (List ℕ) → ℕ → World
 start p rack window = record { client = new_client_end p [] window; server = new_server_end rack; links = []; written = [] }
 
@@ -56,6 +61,7 @@ start p rack window = record { client = new_client_end p [] window; server = new
 abbrev pub client_link : World → Link
 client_link w = link_of w.links w.client.client.last
 
+-- the bytes of the connection on which the server stands
 abbrev pub server_link : World → Link
 server_link w = link_of w.links w.server.server.last
 
@@ -77,6 +83,7 @@ server_writes w e = record {
   written = w.written;
 }
 
+-- the client makes the next connection: no bytes are on it yet
 abbrev pub connected : World → World
 connected w = record { client = end_connected (suc w.client.client.last) w.client; server = w.server; links = w.links ++ no_link ∷ []; written = [] }
 
@@ -87,6 +94,7 @@ moved_up k w = record w {
   links = with_link w.links w.server.server.last (record (server_link w) { up = drop k (server_link w).up });
 }
 
+-- bytes move down to the client
 abbrev pub moved_down : ℕ → World → World
 moved_down k w = record w {
   client = end_fed (take k (client_link w).down) w.client;
@@ -99,15 +107,18 @@ is_line (Ok None) = false
 is_line (Ok (Some found)) = true
 is_line (Err why) = false
 
+-- a line or a fault stands at the front
 abbrev pub is_any : Front → Bool
 is_any (Ok None) = false
 is_any (Ok (Some found)) = true
 is_any (Err why) = true
 
+-- the state in which a client reads nothing more
 abbrev pub is_faulted : State → Bool
 is_faulted State.Faulted = true
 is_faulted _ = false
 
+-- a count of bytes, not zero, is there
 abbrev pub has_some : ℕ → List ℕ → Bool
 has_some k bytes = nat_le 1 k && nat_le k (length bytes)
 
@@ -151,6 +162,7 @@ happens readers ServerRestart w = record w { server = serving_restarted w.server
 abbrev pub after : Readers → Event → World → World
 after readers e w = if can e w then happens readers e w else w
 
+-- events, one after another
 abbrev pub run_of : Readers → List Event → World → World
 run_of readers [] w = w
 run_of readers (e ∷ es) w = run_of readers es (after readers e w)

@@ -2,27 +2,38 @@
 // data of which both ends speak.
 //
 // - `specs/`: lines as values, plans, open commands, the client, the server, what is claimed, their lines as bytes, both ends with the
-//   bytes between them, and the language of replies
+//   bytes between them, the language of replies, and worked rows
 // - `lines`, `machine`, `plans`, `held`, `states`: lines as values, jobs and outcomes, planned commands, open commands, states of a client
 // - `theorem`: the theorem over every list of events, with the bytes between both ends
 // - `typed`: the same where lines are carried as values
 // - `replies`: the language of replies and the table of marks
+// - `plan_laws`: what a plan measures, and in which order
+// - `readers`: that lines can be read as the interface says
+// - `undisturbed`: what is written, done and counted in a run that nothing disturbs
+// - `rows`: worked rows, as examples that the definitions compute
 #![tactic(auto)]
 
 pub mod held;
 pub mod lines;
 pub mod machine;
+pub mod plan_laws;
 pub mod plans;
+pub mod readers;
 pub mod replies;
+pub mod rows;
 pub mod states;
 pub mod theorem;
 pub mod typed;
+pub mod undisturbed;
 
 pub use held::{Held, Stage};
 pub use lines::{Line, Waiting};
 pub use machine::{Job, Outcome};
+pub use plan_laws::plans_measure_what_is_left;
 pub use plans::{Does, Planned, Start};
+pub use readers::readers_exist;
 pub use replies::table_accepts_the_language;
 pub use states::{Cause, State};
 pub use theorem::every_run;
 pub use typed::every_typed_run;
+pub use undisturbed::undisturbed_prefixes;

@@ -1,0 +1,19 @@
+-- All that read as the interface says read a line, and a point, in one way.
+use Rattle.std.proofs.Common.{◌≡◌, ℕ, List, Result, Ok, Err}
+use Rattle.fixed_um.specs.declared.lengths.Point.{Point}
+use Rattle.dme_line.specs.Points.{ReadsPoint}
+use Rattle.dme_line.specs.Responses.{ReadsResponse}
+use Rattle.dme_line.specs.declared.points.NotPoint.{NotPoint}
+use Rattle.dme_line.specs.declared.responses.Response.{Response}
+use Rattle.dme_line.specs.declared.responses.ResponseFault.{ResponseFault}
+use Rattle.dme_line.specs.declared.responses.ResponseFault.TheVariants as refused
+use Rattle.dme_line.proofs.OneResponse.{one_response_reading}
+use Rattle.dme_line.proofs.PointLemmas.{one_point_reading}
+use Rattle.protocol_model.specs.Lines.{Readers, AreReaders}
+
+pub one_point : (text : List ℕ) (r : Result Point NotPoint) (readers : Readers) → ReadsPoint text r → AreReaders readers → readers.point text ≡ r
+one_point text r readers read are = one_point_reading text (readers.point text) r (are.point text) read
+
+pub one_response : (line : List ℕ) (r : Result Response ResponseFault) (readers : Readers) → ReadsResponse line r → (r ≡ Err refused.Memory → ⊥)
+    → AreReaders readers → readers.response line ≡ r
+one_response line r readers read sure are = one_response_reading line (readers.response line) r (are.response line) read (are.response_read line) sure

@@ -1,0 +1,5 @@
+pub mod Progress
+pub mod Kept
+pub mod Tables
+pub mod Clients
+pub mod Refusals

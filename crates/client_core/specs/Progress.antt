@@ -1,0 +1,44 @@
+-- What a client has counted, as its code keeps it: a plan with the count of its counted commands in place of what is left of it.
+use Rattle.std.specs.Prelude.{ℕ, Bool, List, [], ◌∷◌, Option, Some, None, drop}
+use Rattle.contact_ledger.specs.declared.acts.Act.{Act}
+use Rattle.dme_line.specs.declared.tags.Tag.{Tag}
+use Rattle.dmis_program.specs.Meaning.{Meaning}
+use Rattle.dme_tags.specs.Opened.{Opened}
+use Rattle.protocol_model.specs.Client.{Client, Tally}
+use Rattle.protocol_model.specs.declared.states.State.{State}
+use Rattle.protocol_model.specs.declared.states.Cause.{Cause}
+use Rattle.client_core.specs.Tables.{table_of}
+use Rattle.client_core.specs.declared.progress.Progress.{Progress}
+
+-- what `protocol_model` says of it, with whether a standard command has failed
+abbrev pub tally_of : Bool → Progress → Tally
+tally_of failed p = record {
+  failed = failed;
+  session = p.session;
+  todo = drop p.completed p.plan.items;
+  counted = p.counted.items;
+  points = p.points;
+  features = p.features;
+  completed = p.completed;
+}
+
+-- an act, if there is one
+abbrev pub listed : Option Act → List Act
+listed None = []
+listed (Some act) = act ∷ []
+
+-- what `protocol_model` says of a client whose code keeps these
+abbrev pub seen : Meaning → ℕ → Bool → ℕ → State → Option Cause → Opened → Progress → ℕ → Option Tag → Client
+seen program window on last state cause commands progress sent abort = record {
+  program = program;
+  window = window;
+  on = on;
+  last = last;
+  state = state;
+  cause = cause;
+  table = table_of commands (tally_of commands.failed progress);
+  unsent = drop sent progress.plan.items;
+  drawn = commands.drawn;
+  event_drawn = commands.event_drawn;
+  abort = abort;
+}

@@ -1,0 +1,314 @@
+// The client with the bytes of its connection.
+
+ghost use Rattle.std.specs.Prelude.{◌≡◌, ◌≢◌, ◌↔◌, ◌⊎◌, ◌≤◌, ◌+◌, ◌&&◌, nat_le, nat_lt, true, false, None, Some, Ok, Err, length, IsTrue, IsOk, IfOk, IfErr, OnOk, OnErr, IfSome, IsSome, is_some, MatchOption};
+ghost use Rattle.std.specs.Result.{IsErrOf};
+ghost use Rattle.line_framing.specs.Next.{next_of};
+ghost use Rattle.line_framing.specs.Framing.{IsLineDue};
+ghost use Rattle.protocol_model.specs.Open.{count_open};
+ghost use Rattle.protocol_model.specs.Lines.{Readers, AreReaders};
+ghost use Rattle.protocol_model.specs.Client.{due, may_abort, may_resume};
+ghost use Rattle.protocol_model.specs.Ends.{new_client_end, end_connected, end_sent, end_aborted, end_fed, end_read, end_resumed, end_left, end_restarted, end_taken};
+ghost use Rattle.client_core.specs.Tables.{command_of};
+ghost use Rattle.client_core.specs.Clients.{are_ours, is_faulted, may_connect, may_read};
+ghost use Rattle.client_core.specs.Refusals.{IsRefused, IsReadRefused, IsSendRefused};
+
+use crate::executor::Executor;
+use crate::faults::{ClientFault, NewFault};
+use crate::ours::are_ours;
+use crate::sending::LINE_MAX;
+use contact_ledger::{Act, Feature, FeatureLedger};
+use dme_line::Command;
+use dmis_program::Program;
+use line_framing::{FramingFault, Lines};
+use protocol_model::{Cause, State};
+use std::alloc::{AllocError, Global};
+use std::marker::Model;
+
+/// The client of a measuring machine: it measures the features of a program through a server (I++ DME Interface version 1; its plan and
+/// its states are this profile's). It stands on at most one connection. Contracts see `protocol_model`'s end of a connection: the client,
+/// the bytes that it was fed and has not read, and those that are to be sent.
+///
+/// `connected` comes to a connection; `send` writes the command that is `due`, `feed` brings bytes, `read_one` reads a line. What it
+/// writes stands in `out` until `sent`. A feature joins `features` with its last counted point. `abort` stops the server, `resume` begins
+/// the plan again behind the last completed feature; `leave` and `restart` give the connection up. Want of memory leaves the client as it
+/// was.
+#[derive(Drop)]
+pub struct Client {
+    executor: Executor,
+    input: Lines,
+    out: Vec<u8>,
+}
+
+impl Model for Client {
+    ghost use Rattle.protocol_model.specs.Ends.{ClientEnd};
+
+    ghost Value = { ClientEnd };
+
+    ghost view = { λ c. record { client = c.executor; input = c.input; out = c.out.items } };
+}
+
+/// The cause that a framing fault is for a client.
+fn cause_of(fault: FramingFault) -> Cause
+    ensures long { fault ≡ FramingFault.LineTooLong → result ≡ Cause.LineTooLong }
+    ensures bad { fault ≡ FramingFault.BadByte → result ≡ Cause.BadByte }
+{
+    match fault {
+        FramingFault::LineTooLong => Cause::LineTooLong,
+        FramingFault::BadByte | FramingFault::Memory => Cause::BadByte,
+    }
+}
+
+impl Client {
+    /// A client that was never on a connection, for a program of which it has the first features. The window, from 1 to 16, is how many
+    /// commands it keeps open at most. Takes no memory.
+    ///
+    /// `BadWindow`, or `NotOurs` where the kept features have not the labels and counts of the first features of the program; both hand
+    /// the program and the features back.
+    #[tactic(auto, using(crate::proofs::Joining::ours_within))]
+    pub fn new(
+        alloc: Global,
+        program: Program,
+        features: FeatureLedger,
+        window: u8,
+    ) -> Result<Client, (NewFault, Program, FeatureLedger)>
+        ensures ok { IfOk result (λ client. client ≡ new_client_end program features window) }
+        ensures window { IfErr result (λ refused. (refused.0 ≡ NewFault.BadWindow) ↔ ((nat_le 1 window && nat_le window 16) ≡ false)) }
+        ensures can { IsOk result ↔ ((nat_le 1 window && (nat_le window 16 && are_ours program.features features)) ≡ true) }
+        ensures given_back { IfErr result (λ refused. (refused.1 ≡ program) × (refused.2 ≡ features)) }
+    {
+        if window < 1 || window > 16 {
+            return Err((NewFault::BadWindow, program, features));
+        }
+        if !are_ours(program.features(), features.list()) {
+            return Err((NewFault::NotOurs, program, features));
+        }
+        Ok(Client {
+            executor: Executor::new(alloc, program, features, window),
+            input: Lines::new(alloc),
+            out: Vec::new(alloc),
+        })
+    }
+
+    /// Comes to the connection of this number, and begins the plan for what is left of the program. `NotNow` where it is not apart, and
+    /// where the number is not above each earlier one or is above 4,000,000,000; `Faulted`, `Memory`.
+    pub fn connected(&mut self, number: u64) -> Result<(), ClientFault>
+        ensures ok { OnOk result (self.new ≡ end_connected number self.old) }
+        ensures can { OnOk result (may_connect number self.old.client ≡ true) }
+        ensures refused { IfErr result (λ fault. IsRefused (may_connect number self.old.client) self.old fault) }
+        ensures err { OnErr result (self.new ≡ self.old) }
+    {
+        if !self.executor.may_connect(number) {
+            return Err(self.executor.refusal());
+        }
+        if self.executor.connect(number).is_err() {
+            return Err(ClientFault::Memory);
+        }
+        self.input.clear();
+        self.out.clear();
+        Ok(())
+    }
+
+    /// The command that is to be sent next, if one is due: while Running, where fewer than `window` standard commands are open, and
+    /// `ClearAllErrors()` only where none is. Takes no memory.
+    pub fn due(&self) -> Option<&Command>
+        ensures { MatchOption result (due self.now.client ≡ None) (λ command. command_of (due self.now.client) ≡ Some command.now) }
+    {
+        self.executor.due()
+    }
+
+    /// Writes the command that is due under a new tag. `NotNow` where none is, `Faulted`, `Memory`. Where all tags are held, the client is
+    /// Faulted by this call.
+    pub fn send(&mut self) -> Result<(), ClientFault>
+        ensures ok { OnOk result (self.new ≡ end_sent self.old) }
+        ensures sent { OnOk result (is_faulted self.new.client.state ≡ false) }
+        ensures can { OnOk result (is_some (due self.old.client) ≡ true) }
+        ensures refused { IfErr result (λ fault. IsSendRefused (is_some (due self.old.client)) self.old self.new (end_sent self.old) fault) }
+        ensures bounded { length self.new.out ≤ length self.old.out + 202 }
+    {
+        if !self.executor.may_send() {
+            return Err(self.executor.refusal());
+        }
+        if self.out.reserve(LINE_MAX).is_err() {
+            return Err(ClientFault::Memory);
+        }
+        if self.executor.send(&mut self.out).is_err() {
+            return Err(ClientFault::Memory);
+        }
+        if let Some(cause) = self.executor.fault_met() {
+            return Err(ClientFault::Faulted(cause));
+        }
+        Ok(())
+    }
+
+    /// Takes bytes of the connection, however they were cut. `NotNow` on no connection, `Faulted`, `Memory`.
+    pub fn feed(&mut self, piece: &[u8]) -> Result<(), ClientFault>
+        ensures ok { OnOk result (self.new ≡ end_fed piece.now self.old) }
+        ensures can { OnOk result (may_read self.old.client ≡ true) }
+        ensures refused { IfErr result (λ fault. IsRefused (may_read self.old.client) self.old fault) }
+        ensures err { OnErr result (self.new ≡ self.old) }
+    {
+        if !self.executor.may_read() {
+            return Err(self.executor.refusal());
+        }
+        match self.input.feed(piece) {
+            Ok(()) => Ok(()),
+            Err(_) => Err(ClientFault::Memory),
+        }
+    }
+
+    /// Reads the first whole line, if one is there; true where a line was read. `NotNow` on no connection, `Memory`. `Faulted` from the
+    /// call on that meets a line that is no response, bytes that are no lines, or a mark that has no place.
+    pub fn read_one(&mut self) -> Result<bool, ClientFault>
+        ensures ok { OnOk result ((readers : Readers) → AreReaders readers → self.new ≡ end_read readers self.old) }
+        ensures read { IfOk result (λ read. IsTrue read ↔ IsLineDue (next_of self.old.input.rest)) }
+        ensures can { OnOk result (may_read self.old.client ≡ true) }
+        ensures refused { IfErr result (λ fault. IsReadRefused self.old self.new fault) }
+        ensures met { IfErr result (λ fault. fault ≢ ClientFault.Memory → may_read self.old.client ≡ true
+            → (readers : Readers) → AreReaders readers → self.new ≡ end_read readers self.old) }
+        ensures before { may_read self.old.client ≡ false → self.new ≡ self.old }
+    {
+        if !self.executor.may_read() {
+            return Err(self.executor.refusal());
+        }
+        let length = match self.input.first_line() {
+            Ok(Some(length)) => length,
+            Ok(None) => return Ok(false),
+            Err(fault) => {
+                self.executor.fault(cause_of(fault));
+                return Err(ClientFault::Faulted(cause_of(fault)));
+            }
+        };
+        if self
+            .executor
+            .hear_line(&self.input.rest()[..length])
+            .is_err()
+        {
+            return Err(ClientFault::Memory);
+        }
+        self.input.drop_line(length);
+        match self.executor.fault_met() {
+            Some(cause) => Err(ClientFault::Faulted(cause)),
+            None => Ok(true),
+        }
+    }
+
+    /// Sends an abort under a new event tag. `NotNow` but in Running and Failing, `Faulted`, `Memory`. Where all event tags are held, the
+    /// client is Faulted by this call.
+    pub fn abort(&mut self) -> Result<(), ClientFault>
+        ensures ok { OnOk result (self.new ≡ end_aborted self.old) }
+        ensures sent { OnOk result (is_faulted self.new.client.state ≡ false) }
+        ensures can { OnOk result (may_abort self.old.client.state ≡ true) }
+        ensures refused { IfErr result (λ fault. IsSendRefused (may_abort self.old.client.state) self.old self.new (end_aborted self.old) fault) }
+        ensures bounded { length self.new.out ≤ length self.old.out + 202 }
+    {
+        if !self.executor.may_abort() {
+            return Err(self.executor.refusal());
+        }
+        if self.out.reserve(LINE_MAX).is_err() {
+            return Err(ClientFault::Memory);
+        }
+        if self.executor.send_abort(&mut self.out).is_err() {
+            return Err(ClientFault::Memory);
+        }
+        if let Some(cause) = self.executor.fault_met() {
+            return Err(ClientFault::Faulted(cause));
+        }
+        Ok(())
+    }
+
+    /// Begins the plan again behind the last completed feature, on the same connection. `NotNow` but in Halted behind a session that was
+    /// begun on this connection, `Faulted`, `Memory`.
+    pub fn resume(&mut self) -> Result<(), ClientFault>
+        ensures ok { OnOk result (self.new ≡ end_resumed self.old) }
+        ensures can { OnOk result (may_resume self.old.client self.old.client.state ≡ true) }
+        ensures refused { IfErr result (λ fault. IsRefused (may_resume self.old.client self.old.client.state) self.old fault) }
+        ensures err { OnErr result (self.new ≡ self.old) }
+    {
+        if !self.executor.may_resume() {
+            return Err(self.executor.refusal());
+        }
+        match self.executor.resume() {
+            Ok(()) => Ok(()),
+            Err(AllocError) => Err(ClientFault::Memory),
+        }
+    }
+
+    /// Gives the connection up: Done stays Done, all else is Apart; what was to be sent and the points of the unfinished feature are given
+    /// up; features and counted acts stay. Takes no memory.
+    pub fn leave(&mut self)
+        ensures { self.new ≡ end_left self.old }
+    {
+        self.executor.leave();
+        self.input.clear();
+        self.out.clear();
+    }
+
+    /// Begins again with the first features, as a client that was stopped and reads them from a file; earlier connection numbers still
+    /// count. `NotNow` where fewer features are held. Takes no memory.
+    pub fn restart(&mut self, count: usize) -> Result<(), ClientFault>
+        ensures ok { OnOk result (self.new ≡ end_restarted count self.old) }
+        ensures can { IsOk result ↔ (count ≤ length self.old.client.table.tally.features) }
+        ensures not_now { IfErr result (λ fault. fault ≡ ClientFault.NotNow) }
+        ensures err { OnErr result (self.new ≡ self.old) }
+    {
+        if count > self.features().len() {
+            return Err(ClientFault::NotNow);
+        }
+        self.executor.restart(count);
+        self.input.clear();
+        self.out.clear();
+        Ok(())
+    }
+
+    /// The bytes that are to be sent.
+    pub fn out(&self) -> &[u8]
+        ensures { result.now ≡ self.now.out }
+    {
+        self.out.as_slice()
+    }
+
+    /// The first bytes of `out` were sent. The caller owes that there are so many. Takes no memory.
+    pub fn sent(&mut self, count: usize)
+        requires { count ≤ length self.old.out }
+        ensures { self.new ≡ end_taken count self.old }
+    {
+        let length = self.out.len();
+        self.out.copy_within(count..length, 0);
+        self.out.truncate(length - count);
+    }
+
+    /// The state.
+    pub fn state(&self) -> State
+        ensures { result ≡ self.now.client.state }
+    {
+        self.executor.state()
+    }
+
+    /// The completed features.
+    pub fn features(&self) -> &[Feature]
+        ensures { result.now ≡ self.now.client.table.tally.features }
+    {
+        self.executor.features()
+    }
+
+    /// The acts that are counted on the present connection, or on the last one where it has left.
+    pub fn counted(&self) -> &[Act]
+        ensures { result.now ≡ self.now.client.table.tally.counted }
+    {
+        self.executor.counted()
+    }
+
+    /// How many commands of the present plan are counted.
+    pub fn completed(&self) -> usize
+        ensures { result ≡ self.now.client.table.tally.completed }
+    {
+        self.executor.completed()
+    }
+
+    /// How many standard commands are open: neither their `!` nor their `%` was read.
+    pub fn open(&self) -> usize
+        ensures { result ≡ count_open self.now.client.table.standard }
+    {
+        self.executor.open()
+    }
+}

@@ -1,0 +1,44 @@
+// A client comes to a connection, and begins its plan again on it (this profile).
+
+ghost use Rattle.std.specs.Prelude.{◌≡◌, OnOk, OnErr};
+ghost use Rattle.protocol_model.specs.Client.{client_connected, client_resumed};
+
+use crate::executor::Executor;
+use protocol_model::{Start, State};
+use resume_plan::plan;
+use std::alloc::AllocError;
+
+impl Executor {
+    /// The client comes to a connection, with the plan for what is left of its program. Only want of memory is an `Err`.
+    pub(crate) fn connect(&mut self, number: u64) -> Result<(), AllocError>
+        ensures ok { OnOk result (self.new ≡ client_connected number self.old) }
+        ensures err { OnErr result (self.new ≡ self.old) }
+    {
+        let completed = self.progress.features.list().len();
+        let plan = plan(self.alloc, &self.program, completed, Start::NewConnection)?;
+        self.on = true;
+        self.last = number;
+        self.state = State::Running;
+        self.cause = None;
+        self.commands.clear();
+        self.progress.restart(completed);
+        self.progress.begin_plan(plan);
+        self.sent = 0;
+        self.abort = None;
+        Ok(())
+    }
+
+    /// Measuring goes on behind the last completed feature, on the same connection. Only want of memory is an `Err`.
+    pub(crate) fn resume(&mut self) -> Result<(), AllocError>
+        ensures ok { OnOk result (self.new ≡ client_resumed self.old) }
+        ensures err { OnErr result (self.new ≡ self.old) }
+    {
+        let completed = self.progress.features.list().len();
+        let plan = plan(self.alloc, &self.program, completed, Start::SameConnection)?;
+        self.state = State::Running;
+        self.commands.begin_plan();
+        self.progress.begin_plan(plan);
+        self.sent = 0;
+        Ok(())
+    }
+}

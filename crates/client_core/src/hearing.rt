@@ -1,0 +1,150 @@
+// What a client makes of a reply (this profile).
+
+ghost use Rattle.std.specs.Prelude.{◌≡◌, Some, false, OnOk, OnErr};
+ghost use Rattle.dme_tags.specs.Answers.{cause_of, effect_heard};
+ghost use Rattle.dme_tags.specs.Opened.{heard};
+ghost use Rattle.protocol_model.specs.Replies.{Mark, tag_is};
+ghost use Rattle.protocol_model.specs.Open.{Effect};
+ghost use Rattle.dme_line.specs.Tags.{is_event_tag};
+ghost use Rattle.protocol_model.specs.Client.{client_read, ends_abort, faulted};
+ghost use Rattle.protocol_model.specs.declared.states.Cause.{Cause as Why};
+ghost use Rattle.client_core.specs.Tables.{opened_of, counts_standard};
+ghost use Rattle.dme_line.specs.declared.tags.Tag.TheVariants as tags;
+
+use crate::executor::Executor;
+use dme_line::{Kind, Tag};
+use dme_tags::{Ended, TagFault};
+use fixed_um::Point;
+use std::alloc::AllocError;
+
+/// Whether a tag marks what a server says unasked.
+pub(crate) fn is_unasked(tag: Tag) -> bool
+    ensures { result ≡ tag_is tag (tags.Event 0) }
+{
+    match tag {
+        Tag::Std(_) => false,
+        Tag::Event(number) => number == 0,
+    }
+}
+
+impl Executor {
+    /// Whether an end or an error under this tag ends the abort that was sent last.
+    fn ends_abort(&self, tag: Tag) -> bool
+        ensures done { result ≡ ends_abort self.now.abort tag Mark.Done }
+        ensures error { result ≡ ends_abort self.now.abort tag Mark.Error }
+    {
+        match self.abort {
+            Some(abort) => abort == tag,
+            None => false,
+        }
+    }
+
+    /// The client gives its connection up, as no command is open under a tag or a mark has no place.
+    pub(crate) fn refuse(&mut self, fault: TagFault)
+        ensures { (cause : Why) → cause_of fault ≡ Some cause → self.new ≡ faulted cause self.old }
+    {
+        if let Some(cause) = fault.cause() {
+            self.fault(cause);
+        }
+    }
+
+    /// `&` is read under a tag.
+    pub(crate) fn hear_received(&mut self, tag: Tag)
+        ensures { self.new ≡ client_read self.old tag Mark.Ack }
+    {
+        if is_unasked(tag) {
+            return;
+        }
+        match self.commands.received(tag) {
+            Ok(()) => self.settle(false),
+            Err(fault) => self.refuse(fault),
+        }
+    }
+
+    /// The point of a touch is read under a tag.
+    pub(crate) fn hear_point(&mut self, tag: Tag, point: Point)
+        ensures { self.new ≡ client_read self.old tag (Mark.Data point) }
+    {
+        if is_unasked(tag) {
+            return;
+        }
+        match self.commands.data(tag, point) {
+            Ok(()) => self.settle(false),
+            Err(fault) => self.refuse(fault),
+        }
+    }
+
+    /// `!` is read under a tag.
+    pub(crate) fn hear_error(&mut self, tag: Tag)
+        ensures { self.new ≡ client_read self.old tag Mark.Error }
+    {
+        if is_unasked(tag) {
+            return;
+        }
+        let ends = self.ends_abort(tag);
+        match self.commands.failed(tag) {
+            Ok(()) => self.settle(ends),
+            Err(fault) => self.refuse(fault),
+        }
+    }
+
+    /// The end of a command is read that counts none of the plan.
+    #[tactic(auto, using(crate::proofs::Tables::uncounted, crate::proofs::Tables::counted_event))]
+    fn close(&mut self, tag: Tag, ends: bool)
+        requires said { tag_is tag (tags.Event 0) ≡ false }
+        requires ends { ends ≡ ends_abort self.old.abort tag Mark.Done }
+        requires closes { counts_standard tag (effect_heard (heard (opened_of self.old) tag Mark.Done)) ≡ false }
+        ensures { self.new ≡ client_read self.old tag Mark.Done }
+    {
+        match self.commands.complete(tag) {
+            Ok(_) => self.settle(ends),
+            Err(fault) => self.refuse(fault),
+        }
+    }
+
+    /// The end of a command is read that counts the next one of the plan. Only want of memory is an `Err`.
+    #[tactic(auto, using(crate::proofs::Tables::counted))]
+    fn count(
+        &mut self,
+        tag: Tag,
+        ends: bool,
+        kind: Kind,
+        given: &Option<Point>,
+    ) -> Result<(), AllocError>
+        requires standard { is_event_tag tag ≡ false }
+        requires ends { ends ≡ ends_abort self.old.abort tag Mark.Done }
+        requires counts { effect_heard (heard (opened_of self.old) tag Mark.Done) ≡ Some (Effect.Count kind given.now) }
+        ensures ok { OnOk result (self.new ≡ client_read self.old tag Mark.Done) }
+        ensures err { OnErr result (self.new ≡ self.old) }
+    {
+        self.progress
+            .count(self.alloc, self.program.features(), kind, given)?;
+        match self.commands.complete(tag) {
+            Ok(_) => self.settle(ends),
+            Err(fault) => self.refuse(fault),
+        }
+        Ok(())
+    }
+
+    /// `%` is read under a tag. Only want of memory is an `Err`.
+    pub(crate) fn hear_done(&mut self, tag: Tag) -> Result<(), AllocError>
+        ensures ok { OnOk result (self.new ≡ client_read self.old tag Mark.Done) }
+        ensures err { OnErr result (self.new ≡ self.old) }
+    {
+        if is_unasked(tag) {
+            return Ok(());
+        }
+        let ends = self.ends_abort(tag);
+        match (tag, self.commands.end_of(tag)) {
+            (Tag::Std(_), Ok(Ended::Counted(kind, given))) => self.count(tag, ends, kind, &given),
+            (_, Ok(_)) => {
+                self.close(tag, ends);
+                Ok(())
+            }
+            (_, Err(fault)) => {
+                self.refuse(fault);
+                Ok(())
+            }
+        }
+    }
+}

@@ -1,0 +1,64 @@
+// What a client makes of a line (this profile).
+
+ghost use Rattle.std.specs.Prelude.{◌≡◌, OnOk, OnErr};
+ghost use Rattle.protocol_model.specs.Lines.{Readers, AreReaders};
+ghost use Rattle.protocol_model.specs.Ends.{given, response_read, line_read};
+
+use crate::executor::Executor;
+use crate::hearing::is_unasked;
+use dme_line::{Kind, Mark, NotPoint, Response, ResponseFault, Tag, read_point, read_response};
+use protocol_model::Cause;
+use std::alloc::AllocError;
+
+impl Executor {
+    /// The text of a data line is read: under a held tag it is a point, where the command asks for one.
+    #[tactic(auto, using(crate::proofs::Readings::one_point))]
+    fn hear_data(&mut self, tag: Tag, text: &[u8])
+        ensures { (readers : Readers) → AreReaders readers → self.new ≡ given readers self.old tag text.now }
+    {
+        if is_unasked(tag) {
+            return;
+        }
+        match self.commands.kind_of(tag) {
+            None => self.fault(Cause::UnknownTag),
+            Some(Kind::PtMeas) => match read_point(text) {
+                Ok(point) => self.hear_point(tag, point),
+                Err(NotPoint) => self.fault(Cause::NotResponse),
+            },
+            Some(_) => self.fault(Cause::OutOfOrder),
+        }
+    }
+
+    /// A response is read. Only want of memory is an `Err`.
+    fn hear(&mut self, response: &Response) -> Result<(), AllocError>
+        ensures ok { OnOk result ((readers : Readers) → AreReaders readers
+            → self.new ≡ response_read readers self.old response.now.tag response.now.mark) }
+        ensures err { OnErr result (self.new ≡ self.old) }
+    {
+        let tag = response.tag;
+        match &response.mark {
+            Mark::Ack => self.hear_received(tag),
+            Mark::Given(text) => self.hear_data(tag, text.as_slice()),
+            Mark::Done => return self.hear_done(tag),
+            Mark::Error(_) => self.hear_error(tag),
+        }
+        Ok(())
+    }
+
+    /// A line is read. Only want of memory is an `Err`.
+    #[tactic(auto, using(crate::proofs::Readings::one_response))]
+    pub(crate) fn hear_line(&mut self, line: &[u8]) -> Result<(), AllocError>
+        ensures ok { OnOk result ((readers : Readers) → AreReaders readers
+            → self.new ≡ line_read readers self.old (readers.response line.now)) }
+        ensures err { OnErr result (self.new ≡ self.old) }
+    {
+        match read_response(self.alloc, line) {
+            Ok(response) => self.hear(&response),
+            Err(ResponseFault::NotResponse) => {
+                self.fault(Cause::NotResponse);
+                Ok(())
+            }
+            Err(ResponseFault::Memory) => Err(AllocError),
+        }
+    }
+}

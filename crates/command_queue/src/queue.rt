@@ -1,0 +1,125 @@
+// The waiting commands.
+
+ghost use Rattle.std.specs.Prelude.{◌≡◌, ◌↔◌, ◌<◌, ◌≤◌, [], ◌∷◌, ◌++◌, length, drop, IsOk, IsTrue, IfOk, IfErr, OnOk, OnErr, MatchOption};
+ghost use Rattle.std.specs.List.{list_any};
+ghost use Rattle.protocol_model.specs.Replies.{tag_is};
+ghost use Rattle.protocol_model.specs.Server.{waits_under};
+
+use dme_line::Tag;
+use protocol_model::Waiting;
+use std::alloc::{AllocError, Global};
+use std::marker::Model;
+
+/// How many commands may wait at a server (this profile).
+pub const PLACES: usize = 64;
+
+/// The commands that wait at a server for their turn, at most 64, the one that came first in front (this profile).
+/// Contracts see their list.
+#[derive(Debug, Drop)]
+pub struct Queue {
+    commands: Vec<Waiting>,
+}
+
+impl Model for Queue {
+    ghost use Rattle.std.specs.Prelude.{List};
+    ghost use Rattle.protocol_model.specs.declared.lines.Waiting.{Waiting};
+
+    ghost Value = { List Waiting };
+
+    ghost use Rattle.std.specs.Prelude.{◌≤◌, length, vec_capacity};
+
+    ghost view = { λ q. q.commands.items };
+
+    ghost invariant = { λ q. (length q.commands.items ≤ 64) × (64 ≤ vec_capacity q.commands) };
+}
+
+fn is_any_under(commands: &[Waiting], tag: Tag) -> bool
+    ensures { result ≡ list_any (λ command. tag_is command.tag tag) commands.now }
+{
+    commands.iter().any(|command| command.tag == tag)
+}
+
+impl Queue {
+    /// An empty queue, which takes the memory of all its places now. Only want of memory is an `Err`.
+    pub fn new(alloc: Global) -> Result<Queue, AllocError>
+        ensures { IfOk result (λ queue. queue ≡ []) }
+    {
+        let commands = Vec::with_capacity(alloc, PLACES)?;
+        Ok(Queue { commands })
+    }
+
+    /// Puts a command behind the others. Where 64 wait it hands the command back, and the queue is as before.
+    /// Takes no memory.
+    pub fn put(&mut self, command: Waiting) -> Result<(), Waiting>
+        ensures room { IsOk result ↔ (length self.old < 64) }
+        ensures ok { OnOk result (self.new ≡ self.old ++ command ∷ []) }
+        ensures err { IfErr result (λ given. (given ≡ command) × (self.new ≡ self.old)) }
+    {
+        if self.commands.len() >= PLACES {
+            return Err(command);
+        }
+        self.commands.push_reserved(command);
+        Ok(())
+    }
+
+    /// The command that came first, which stays; none where none waits. Takes no memory.
+    pub fn first(&self) -> Option<&Waiting>
+        ensures { MatchOption result (self.now ≡ []) (λ command. self.now ≡ command.now ∷ drop 1 self.now) }
+    {
+        match self.commands.as_slice() {
+            [] => None,
+            [command, ..] => Some(command),
+        }
+    }
+
+    /// Takes the command that came first; none where none waits. Takes no memory.
+    pub fn take(&mut self) -> Option<Waiting>
+        ensures { MatchOption result
+            ((self.old ≡ []) × (self.new ≡ []))
+            (λ command. self.old ≡ command ∷ self.new) }
+    {
+        if self.commands.is_empty() {
+            return None;
+        }
+        Some(self.commands.remove(0))
+    }
+
+    /// Takes all commands, in order. Only want of memory is an `Err`, and the queue is then as before.
+    pub fn drain_all(&mut self) -> Result<Vec<Waiting>, AllocError>
+        ensures all { IfOk result (λ commands. commands.items ≡ self.old) }
+        ensures ok { OnOk result (self.new ≡ []) }
+        ensures err { OnErr result (self.new ≡ self.old) }
+    {
+        self.commands.split_off(0)
+    }
+
+    /// Gives up all commands. Takes no memory.
+    pub fn clear(&mut self)
+        ensures { self.new ≡ [] }
+    {
+        self.commands.clear();
+    }
+
+    /// Whether a command waits under this tag. Takes no memory.
+    #[tactic(auto, using(crate::proofs::Queues::waits_under_any))]
+    pub fn holds(&self, tag: Tag) -> bool
+        ensures { result ≡ waits_under tag self.now }
+    {
+        is_any_under(self.commands.as_slice(), tag)
+    }
+
+    /// How many commands wait, at most 64.
+    pub fn len(&self) -> usize
+        ensures count { result ≡ length self.now }
+        ensures within { length self.now ≤ 64 }
+    {
+        self.commands.len()
+    }
+
+    /// Whether none waits.
+    pub fn is_empty(&self) -> bool
+        ensures { IsTrue result ↔ (self.now ≡ []) }
+    {
+        self.commands.is_empty()
+    }
+}

@@ -1,0 +1,24 @@
+-- What a server's ledger holds.
+use Rattle.std.specs.Prelude.{ℕ, ◌≤◌, Bool, true, false, List, All, count_by}
+use Rattle.contact_ledger.specs.declared.acts.Act.{Act}
+use Rattle.contact_ledger.specs.declared.acts.Act.TheVariants as act
+
+-- an act is a contact (this profile)
+abbrev pub is_contact : Act → Bool
+is_contact act.Homed = false
+is_contact (act.Moved target frame) = false
+is_contact (act.Changed tool) = false
+is_contact (act.Framed frame) = false
+is_contact (act.Contact target dir tool frame point) = true
+
+-- how many acts of a ledger are contacts; a contact's number is this count of the acts before it (this profile)
+abbrev pub contact_count : List (ℕ × Act) → ℕ
+contact_count acts = count_by (λ entry. is_contact entry.1) acts
+
+-- a number that a connection may have (this profile)
+abbrev pub IsConnection : ℕ → Type 0
+IsConnection n = (1 ≤ n) × (n ≤ 4000000000)
+
+-- each act of a ledger stands beside such a number
+abbrev pub AreOnConnections : List (ℕ × Act) → Type 0
+AreOnConnections acts = All (λ entry. IsConnection entry.0) acts

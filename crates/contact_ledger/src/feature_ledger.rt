@@ -1,0 +1,57 @@
+// The features that a client holds.
+ghost use Rattle.std.specs.Prelude.{◌≡◌, ◌≤◌, [], ◌∷◌, ◌++◌, length, take, OnOk, OnErr, IfErr};
+
+use crate::features::Feature;
+use std::alloc::{AllocFailed, Global};
+use std::marker::Model;
+
+/// The completed features of a client, in the order in which they were completed. Contracts see this list.
+#[derive(Debug, Drop)]
+pub struct FeatureLedger {
+    features: Vec<Feature>,
+}
+
+impl Model for FeatureLedger {
+    ghost use Rattle.std.specs.Prelude.{List};
+    ghost use Rattle.contact_ledger.specs.declared.features.Feature.{Feature};
+
+    ghost Value = { List Feature };
+
+    ghost view = { λ l. l.features.items };
+}
+
+impl FeatureLedger {
+    /// A list of no features, which takes no memory yet.
+    pub fn new(alloc: Global) -> FeatureLedger
+        ensures { result ≡ [] }
+    {
+        FeatureLedger {
+            features: Vec::new(alloc),
+        }
+    }
+
+    /// Appends a feature. Only want of memory is an `Err`: it hands the feature back, and the list is as before. The room doubles
+    /// when it is full.
+    pub fn push(&mut self, feature: Feature) -> Result<(), AllocFailed<Feature>>
+        ensures appended { OnOk result (self.new ≡ self.old ++ feature ∷ []) }
+        ensures unchanged { OnErr result (self.new ≡ self.old) }
+        ensures given_back { IfErr result (λ failed. failed.value ≡ feature) }
+    {
+        self.features.push(feature)
+    }
+
+    /// The features in order.
+    pub fn list(&self) -> &[Feature]
+        ensures { result.now ≡ self.now }
+    {
+        self.features.as_slice()
+    }
+
+    /// Keeps the first `count` features and gives up the others. The caller owes that there are so many.
+    pub fn keep(&mut self, count: usize)
+        requires { count ≤ length self.old }
+        ensures { self.new ≡ take count self.old }
+    {
+        self.features.truncate(count);
+    }
+}

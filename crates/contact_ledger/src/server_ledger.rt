@@ -1,0 +1,91 @@
+// The acts of a server.
+ghost use Rattle.std.specs.Prelude.{◌≡◌, [], ◌∷◌, ◌++◌, OnOk, OnErr, IfErr};
+ghost use Rattle.contact_ledger.specs.Ledgers.{is_contact, contact_count, IsConnection, AreOnConnections};
+
+use crate::acts::Act;
+use std::alloc::{AllocFailed, Global};
+use std::marker::Model;
+
+/// What a server has done, in order: each act beside the number of its connection (this profile). Contracts see
+/// this list. An act is appended when it is completed, and none is ever taken away.
+#[derive(Debug, Drop)]
+pub struct ServerLedger {
+    acts: Vec<(u64, Act)>,
+    contacts: u64,
+}
+
+impl Model for ServerLedger {
+    ghost use Rattle.std.specs.Prelude.{◌≡◌, ℕ, List};
+    ghost use Rattle.contact_ledger.specs.declared.acts.Act.{Act};
+
+    ghost Value = { List (ℕ × Act) };
+
+    ghost use Rattle.contact_ledger.specs.Ledgers.{contact_count, AreOnConnections};
+
+    ghost view = { λ l. l.acts.items };
+
+    ghost invariant = { λ l. (l.contacts ≡ contact_count l.acts.items) × AreOnConnections l.acts.items };
+}
+
+fn is_contact(act: &Act) -> bool
+    ensures { result ≡ is_contact act.now }
+{
+    match act {
+        Act::Homed | Act::Moved(_, _) | Act::Changed(_) | Act::Framed(_) => false,
+        Act::Contact { .. } => true,
+    }
+}
+
+impl ServerLedger {
+    /// A ledger of no acts, which takes no memory yet.
+    pub fn new(alloc: Global) -> ServerLedger
+        ensures { result ≡ [] }
+    {
+        ServerLedger {
+            acts: Vec::new(alloc),
+            contacts: 0,
+        }
+    }
+
+    /// Appends an act that was completed on this connection. The caller owes a number from 1 to 4,000,000,000.
+    ///
+    /// Only want of memory is an `Err`: it hands the act back, and the ledger is as before. The room doubles
+    /// when it is full, so that all pushes together copy no more than twice what they append.
+    pub fn push(&mut self, connection: u64, act: Act) -> Result<(), AllocFailed<Act>>
+        requires { IsConnection connection }
+        ensures appended { OnOk result (self.new ≡ self.old ++ (connection, act) ∷ []) }
+        ensures unchanged { OnErr result (self.new ≡ self.old) }
+        ensures given_back { IfErr result (λ failed. failed.value ≡ act) }
+    {
+        let _in_memory = self.acts.as_slice();
+        let made = is_contact(&act);
+        match self.acts.push((connection, act)) {
+            Ok(()) => {
+                if made {
+                    self.contacts += 1;
+                }
+                Ok(())
+            }
+            Err(failed) => {
+                let (_, act) = failed.value;
+                Err(AllocFailed { value: act })
+            }
+        }
+    }
+
+    /// The acts in order, each beside the number of its connection.
+    pub fn acts(&self) -> &[(u64, Act)]
+        ensures acts { result.now ≡ self.now }
+        ensures connections { AreOnConnections self.now }
+    {
+        self.acts.as_slice()
+    }
+
+    /// How many of the acts are contacts. It is the number of the next contact, since the first has number 0
+    /// (this profile). Nothing is counted again.
+    pub fn contacts(&self) -> u64
+        ensures { result ≡ contact_count self.now }
+    {
+        self.contacts
+    }
+}

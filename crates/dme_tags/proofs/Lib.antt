@@ -1,0 +1,6 @@
+pub mod Numbers
+pub mod Places
+pub mod Drawn
+pub mod Refusals
+pub mod Tables
+pub mod Effects

@@ -1,0 +1,12 @@
+use Rattle.std.proofs.lemmas.Result.{err_from_is_err_and}
+use Rattle.protocol_model.specs.Replies.{Mark}
+use Rattle.dme_tags.proofs.Places.{failed_at}
+use Rattle.dme_tags.proofs.marks.fail.Goals as goal
+
+pub returns-in_err-index-clause-refused : goal.returns-in_err-index-clause-refused
+returns-in_err-index-clause-refused c =
+    let p = err_from_is_err_and c.from_residual.result c.from_residual.ensures.1 in
+    rw (p.1, p.2, ← c.deref.ensures.value) (λ front. c.in_err-index.ensures.unknown front Mark.Error)
+
+pub returns-clause-ok : goal.returns-clause-ok
+returns-clause-ok c = rw (c.is_failed.ensures, ← c.deref.ensures.value) (λ front. failed_at front _ _ _ _ c.in_ok-index.ensures.found)

@@ -1,0 +1,45 @@
+use Rattle.std.proofs.Common.{Some, None, ap, ◌∙◌}
+use Rattle.std.proofs.lemmas.Result.{IfOk-weaker, on_err_weaker}
+use Rattle.dme_tags.specs.Opened.{Opened}
+use Rattle.dme_tags.proofs.Drawn.{next_standard, next_event, spent_standard, spent_event}
+use Rattle.dme_tags.proofs.open_commands.Open.next_tag.Goals as goal
+
+pub returns-in-Standard-clause-next : goal.returns-in-Standard-clause-next
+returns-in-Standard-clause-next c =
+    IfOk-weaker c.next_tag.result _ _
+    (λ tag e. next_standard c.args.self.now c.args.kind c.of.result _ _ (Some tag) c.of.ensures c.in-Standard.is
+    (c.deref.ensures.value ∙ ap (λ (o : Opened). o.standard) c.self.view_is) (ap (λ (o : Opened). o.drawn) c.self.view_is) e)
+    c.next_tag.ensures.next
+
+pub returns-in-Standard-clause-spent : goal.returns-in-Standard-clause-spent
+returns-in-Standard-clause-spent c =
+    on_err_weaker c.next_tag.result
+    (λ e. next_standard c.args.self.now c.args.kind c.of.result _ _ None c.of.ensures c.in-Standard.is
+    (c.deref.ensures.value ∙ ap (λ (o : Opened). o.standard) c.self.view_is) (ap (λ (o : Opened). o.drawn) c.self.view_is) e)
+    c.next_tag.ensures.spent
+
+pub returns-in-Standard-clause-all_held : goal.returns-in-Standard-clause-all_held
+returns-in-Standard-clause-all_held c =
+    on_err_weaker c.next_tag.result
+    (λ all. spent_standard c.args.self.now c.args.kind c.of.result _ c.of.ensures c.in-Standard.is (c.deref.ensures.value ∙ ap (λ (o : Opened). o.standard) c.self.view_is) all)
+    c.next_tag.ensures.all_held
+
+pub returns-in-Event-clause-next : goal.returns-in-Event-clause-next
+returns-in-Event-clause-next c =
+    IfOk-weaker c.next_tag-in-Event.result _ _
+    (λ tag e. next_event c.args.self.now c.args.kind c.of.result _ _ (Some tag) c.of.ensures c.in-Event.is
+    (c.deref-in-Event.ensures.value ∙ ap (λ (o : Opened). o.event) c.self.view_is) (c.from.ensures ∙ ap (λ (o : Opened). o.event_drawn) c.self.view_is) e)
+    c.next_tag-in-Event.ensures.next
+
+pub returns-in-Event-clause-spent : goal.returns-in-Event-clause-spent
+returns-in-Event-clause-spent c =
+    on_err_weaker c.next_tag-in-Event.result
+    (λ e. next_event c.args.self.now c.args.kind c.of.result _ _ None c.of.ensures c.in-Event.is
+    (c.deref-in-Event.ensures.value ∙ ap (λ (o : Opened). o.event) c.self.view_is) (c.from.ensures ∙ ap (λ (o : Opened). o.event_drawn) c.self.view_is) e)
+    c.next_tag-in-Event.ensures.spent
+
+pub returns-in-Event-clause-all_held : goal.returns-in-Event-clause-all_held
+returns-in-Event-clause-all_held c =
+    on_err_weaker c.next_tag-in-Event.result
+    (λ all. spent_event c.args.self.now c.args.kind c.of.result _ c.of.ensures c.in-Event.is (c.deref-in-Event.ensures.value ∙ ap (λ (o : Opened). o.event) c.self.view_is) all)
+    c.next_tag-in-Event.ensures.all_held

@@ -1,0 +1,5 @@
+pub mod Opened
+pub mod Answers
+pub mod Sorts
+pub mod Places
+pub mod Tables

@@ -1,0 +1,104 @@
+// The tag that is drawn next.
+
+ghost use Rattle.std.specs.Prelude.{◌≡◌, ◌≤◌, ◌+◌, ◌-◌, ◌<◌, ℕ, true, false, IfSome, IfNone, IfOk, IfErr, OnErr};
+ghost use Rattle.dme_line.specs.Kinds.{is_event_kind};
+ghost use Rattle.dme_line.specs.Tags.{IsNumbered, is_event_tag};
+ghost use Rattle.protocol_model.specs.Open.{is_held};
+ghost use Rattle.protocol_model.specs.Client.{first_free, next_number};
+ghost use Rattle.dme_tags.specs.Opened.{tagged, number_of};
+ghost use Rattle.dme_tags.specs.Sorts.{numbered, is_event_sort, AreSpent};
+
+use crate::faults::TagFault;
+use crate::marks::is_held;
+use dme_line::{Kind, Tag};
+use protocol_model::Held;
+
+/// How many tags of each sort a client draws (this profile).
+const TAGS: u32 = 9999;
+
+/// The two sorts of tags.
+#[derive(Clone, Copy, Debug, PartialEq, Eq)]
+pub(crate) enum Sort {
+    Standard,
+    Event,
+}
+
+impl Sort {
+    /// The sort of tags that commands of a kind have.
+    pub(crate) fn of(kind: Kind) -> Sort
+        ensures { is_event_sort result ≡ is_event_kind kind }
+    {
+        match kind {
+            Kind::AbortE => Sort::Event,
+            Kind::StartSession
+            | Kind::EndSession
+            | Kind::ClearAllErrors
+            | Kind::Home
+            | Kind::OnPtMeasReport
+            | Kind::GoTo
+            | Kind::PtMeas
+            | Kind::ChangeTool
+            | Kind::SetCsyTransformation
+            | Kind::SetCoordSystem => Sort::Standard,
+        }
+    }
+
+    /// The tag of this sort with a number.
+    fn tag(self, number: u32) -> Tag
+        requires { number ≤ 9999 }
+        ensures { result ≡ numbered self number }
+    {
+        match self {
+            Sort::Standard => Tag::Std(number),
+            Sort::Event => Tag::Event(number as u16),
+        }
+    }
+}
+
+/// The first number from here on whose tag is not held.
+fn first_free(commands: &[Held], sort: Sort, from: u32) -> Option<u32>
+    requires { from ≤ 10000 }
+    ensures free { result ≡ first_free (numbered sort) commands.now from (10000 - from) }
+    ensures within { IfSome result (λ n. (from ≤ n) × (n ≤ 9999)) }
+    ensures fresh { IfSome result (λ n. is_held (numbered sort n) commands.now ≡ false) }
+    ensures spent { IfNone result ((n : ℕ) → from ≤ n → n ≤ 9999 → is_held (numbered sort n) commands.now ≡ true) }
+{
+    for number in from..TAGS + 1 {
+        if !is_held(commands, sort.tag(number)) {
+            return Some(number);
+        }
+    }
+    None
+}
+
+/// The number that is drawn next behind this one: the numbers come one after another, and again from 1 on.
+#[tactic(auto, using(crate::proofs::Numbers::next_again))]
+fn next_number(commands: &[Held], sort: Sort, drawn: u32) -> Option<u32>
+    requires { drawn ≤ 9999 }
+    ensures next { result ≡ next_number (numbered sort) commands.now drawn }
+    ensures within { IfSome result (λ n. (1 ≤ n) × (n ≤ 9999)) }
+    ensures fresh { IfSome result (λ n. is_held (numbered sort n) commands.now ≡ false) }
+    ensures spent { IfNone result (AreSpent sort commands.now) }
+{
+    match first_free(commands, sort, drawn + 1) {
+        Some(number) => Some(number),
+        None => first_free(commands, sort, 1),
+    }
+}
+
+/// The tag that is drawn next behind the one with this number.
+pub(crate) fn next_tag(commands: &[Held], sort: Sort, drawn: u32) -> Result<Tag, TagFault>
+    requires { drawn ≤ 9999 }
+    ensures next { IfOk result (λ tag. tagged (numbered sort) (next_number (numbered sort) commands.now drawn) ≡ Some tag) }
+    ensures within { IfOk result (λ tag. IsNumbered tag × (number_of tag ≤ 9999)) }
+    ensures sort { IfOk result (λ tag. is_event_tag tag ≡ is_event_sort sort) }
+    ensures spent { OnErr result (tagged (numbered sort) (next_number (numbered sort) commands.now drawn) ≡ None) }
+    ensures fresh { IfOk result (λ tag. is_held tag commands.now ≡ false) }
+    ensures all_held { OnErr result (AreSpent sort commands.now) }
+    ensures named { IfErr result (λ fault. fault ≡ TagFault.TagsSpent) }
+{
+    match next_number(commands, sort, drawn) {
+        Some(number) => Ok(sort.tag(number)),
+        None => Err(TagFault::TagsSpent),
+    }
+}

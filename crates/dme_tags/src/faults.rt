@@ -1,0 +1,51 @@
+// Why a call on open commands is refused.
+
+ghost use Rattle.std.specs.Prelude.{◌≡◌};
+ghost use Rattle.dme_tags.specs.Answers.{cause_of};
+
+use protocol_model::{Cause, Held};
+use std::alloc::AllocFailed;
+
+/// Why a tag is not drawn, or a mark has no place (this profile).
+#[derive(Clone, Copy, Debug, PartialEq, Eq)]
+pub enum TagFault {
+    /// G1: no command is held under the tag. This comes before all else.
+    UnknownTag,
+    /// G2: the mark may not come for the command now.
+    OutOfOrder,
+    /// G3: a touch is complete without its point.
+    NoData,
+    /// G4: a touch is given a second point.
+    SecondData,
+    /// G5: all tags are held.
+    TagsSpent,
+    /// A growth was refused. The call may be made again.
+    Memory,
+}
+
+impl TagFault {
+    /// Why a client that meets this fault gives its connection up; none for want of memory.
+    pub fn cause(self) -> Option<Cause>
+        ensures { result ≡ cause_of self }
+    {
+        match self {
+            TagFault::UnknownTag => Some(Cause::UnknownTag),
+            TagFault::OutOfOrder => Some(Cause::OutOfOrder),
+            TagFault::NoData => Some(Cause::NoData),
+            TagFault::SecondData => Some(Cause::SecondData),
+            TagFault::TagsSpent => Some(Cause::TagsSpent),
+            TagFault::Memory => None,
+        }
+    }
+}
+
+impl From<AllocFailed<Held>> for TagFault {
+    ghost use Rattle.std.specs.Prelude.{◌≡◌};
+    ghost use Rattle.dme_tags.specs.declared.faults.TagFault.TheVariants.{Memory};
+
+    ghost from_gives = { λ _ e. e ≡ Memory };
+
+    fn from(_error: AllocFailed<Held>) -> TagFault {
+        TagFault::Memory
+    }
+}

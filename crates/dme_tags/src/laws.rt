@@ -1,0 +1,38 @@
+// What the open commands have to do with the client of `protocol_model`. These functions do nothing: their contracts are the laws.
+
+ghost use Rattle.std.specs.Prelude.{◌≡◌, false, Some, None, Ok, Err};
+ghost use Rattle.dme_line.specs.Kinds.{is_event_kind};
+ghost use Rattle.dme_line.specs.declared.tags.Tag.TheVariants.{Std, Event};
+ghost use Rattle.protocol_model.specs.Replies.{Mark};
+ghost use Rattle.protocol_model.specs.Open.{Effect};
+ghost use Rattle.protocol_model.specs.Client.{Client, heard_on, next_number};
+ghost use Rattle.protocol_model.specs.declared.states.Cause.{Cause};
+ghost use Rattle.dme_tags.specs.Opened.{Opened, heard, next_tag, number_of};
+ghost use Rattle.dme_tags.specs.Tables.{IsTableOf, table_behind};
+
+use dme_line::{Kind, Tag};
+
+/// A client whose table has these open commands hears a mark as they do. Where they take it in, its table has the new ones, and its
+/// tally the effect; where they refuse it, so does the client, for the same cause.
+#[tactic(auto, using(crate::proofs::Tables::taken, crate::proofs::Tables::kept, crate::proofs::Tables::refused))]
+pub fn client_hears_the_same()
+    ensures taken { (c : Client) (o next : Opened) (tag : Tag) (m : Mark) (effect : Effect) → IsTableOf c.table o
+        → heard o tag m ≡ Ok (next, effect) → heard_on c.program.features c.table tag m ≡ Ok (table_behind c next tag effect) }
+    ensures kept { (c : Client) (o next : Opened) (tag : Tag) (m : Mark) (effect : Effect) → IsTableOf c.table o
+        → heard o tag m ≡ Ok (next, effect) → IsTableOf (table_behind c next tag effect) next }
+    ensures refused { (c : Client) (o : Opened) (tag : Tag) (m : Mark) (cause : Cause) → IsTableOf c.table o
+        → heard o tag m ≡ Err cause → heard_on c.program.features c.table tag m ≡ Err cause }
+{}
+
+/// The tag that is drawn for a command has the number that a client draws: under a standard tag, for all but an abort, which has an
+/// event tag.
+#[tactic(auto, using(crate::proofs::Tables::no_event))]
+pub fn client_draws_the_same()
+    ensures standard { (o : Opened) (kind : Kind) (tag : Tag) → is_event_kind kind ≡ false → next_tag o kind ≡ Some tag
+        → (next_number Std o.standard o.drawn ≡ Some (number_of tag)) × (tag ≡ Std (number_of tag)) }
+    ensures no_standard { (o : Opened) (kind : Kind) → is_event_kind kind ≡ false → next_tag o kind ≡ None
+        → next_number Std o.standard o.drawn ≡ None }
+    ensures event { (o : Opened) (tag : Tag) → next_tag o Kind.AbortE ≡ Some tag
+        → (next_number Event o.event o.event_drawn ≡ Some (number_of tag)) × (tag ≡ Event (number_of tag)) }
+    ensures no_event { (o : Opened) → next_tag o Kind.AbortE ≡ None → next_number Event o.event o.event_drawn ≡ None }
+{}

@@ -1,0 +1,248 @@
+// The open commands of a client.
+
+ghost use Rattle.std.specs.Prelude.{◌≡◌, ◌↔◌, Some, ◌≤◌, ◌⊎◌, ◌==◌, true, false, not, IsErrOf, IfOk, IfErr, OnOk, OnErr};
+ghost use Rattle.dme_line.specs.Kinds.{IsTagOf};
+ghost use Rattle.protocol_model.specs.Replies.{Mark};
+ghost use Rattle.protocol_model.specs.Open.{Effect, count_open, is_held};
+ghost use Rattle.dme_tags.specs.Answers.{cause_of, effect_of, effect_heard, is_counted, IsRefused};
+ghost use Rattle.dme_tags.specs.Opened.{heard, held_beside, kind_under, next_tag, none_open, number_of, with_drawn, IsNext, IsSpentFor};
+
+use crate::drawing::{Sort, next_tag};
+use crate::endings::Ended;
+use crate::faults::TagFault;
+use crate::marks::{count_open, end, end_of, fail, give, kind_of, receive};
+use dme_line::{Kind, Tag};
+use fixed_um::Point;
+use protocol_model::{Held, Stage};
+use std::alloc::Global;
+use std::marker::Model;
+
+/// The commands that a client has sent and whose `%` it has not read, under standard tags and under event tags, each in sending
+/// order (this profile). Contracts see them as `Opened`, with the numbers of the tags that were drawn last and whether a standard
+/// command has failed since the plan began.
+///
+/// A tag is held from `draw` until the `%` of its command was read. Any number of commands may be open; how many a client keeps open
+/// is its own affair.
+#[derive(Debug, Drop)]
+pub struct Open {
+    standard: Vec<Held>,
+    event: Vec<Held>,
+    failed: bool,
+    drawn: u32,
+    event_drawn: u16,
+}
+
+impl Model for Open {
+    ghost use Rattle.std.specs.Prelude.{◌≤◌};
+    ghost use Rattle.dme_tags.specs.Opened.{Opened};
+
+    ghost Value = { Opened };
+
+    ghost view = { λ o. record {
+      standard = o.standard.items;
+      event = o.event.items;
+      failed = o.failed;
+      drawn = o.drawn;
+      event_drawn = o.event_drawn;
+    } };
+
+    ghost invariant = { λ o. (o.drawn ≤ 9999) × (o.event_drawn ≤ 9999) };
+}
+
+impl Open {
+    /// Nothing is open, and no tag was drawn. Takes no memory yet.
+    pub fn new(alloc: Global) -> Open
+        ensures { result ≡ none_open }
+    {
+        Open {
+            standard: Vec::new(alloc),
+            event: Vec::new(alloc),
+            failed: false,
+            drawn: 0,
+            event_drawn: 0,
+        }
+    }
+
+    /// Gives all open commands up for a new connection, on which the tags begin at number 1 again. Takes no memory.
+    pub fn clear(&mut self)
+        ensures { self.new ≡ none_open }
+    {
+        self.standard.clear();
+        self.event.clear();
+        self.begin_plan();
+        self.drawn = 0;
+        self.event_drawn = 0;
+    }
+
+    /// The tag that `draw` would give to a command of this kind; nothing is drawn, and no memory is taken.
+    ///
+    /// The only refusal is `TagsSpent` (G5).
+    pub fn next_tag(&self, kind: Kind) -> Result<Tag, TagFault>
+        ensures next { IfOk result (λ tag. next_tag self.now kind ≡ Some tag) }
+        ensures spent { OnErr result (next_tag self.now kind ≡ None) }
+        ensures named { IfErr result (λ fault. fault ≡ TagFault.TagsSpent) }
+        ensures tag { IfOk result (λ tag. IsTagOf kind tag × (number_of tag ≤ 9999)) }
+        ensures fresh { IfOk result (λ tag. is_held tag (held_beside tag self.now) ≡ false) }
+        ensures all_held { OnErr result (IsSpentFor kind self.now) }
+    {
+        match Sort::of(kind) {
+            Sort::Standard => next_tag(&self.standard, Sort::Standard, self.drawn),
+            Sort::Event => next_tag(&self.event, Sort::Event, u32::from(self.event_drawn)),
+        }
+    }
+
+    /// Draws a tag for a command of this kind, which is open under it from now on: an event tag for an abort, a standard tag for any
+    /// other. Tags are drawn with the numbers 1 to 9999 one after the other, again from 1 on behind the last, and those that are held
+    /// are passed over (this profile).
+    ///
+    /// `TagsSpent` (G5) where all of them are held. `Memory` where a growth was refused; nothing is drawn then. Nothing but this
+    /// growth can fail where `next_tag` has answered a tag.
+    pub fn draw(&mut self, kind: Kind) -> Result<Tag, TagFault>
+        ensures next { IfOk result (λ tag. next_tag self.old kind ≡ Some tag) }
+        ensures held { IfOk result (λ tag. self.new ≡ with_drawn self.old tag kind) }
+        ensures spent { IsErrOf result TagFault.TagsSpent ↔ (next_tag self.old kind ≡ None) }
+        ensures named { IfErr result (λ fault. (fault ≡ TagFault.TagsSpent) ⊎ (fault ≡ TagFault.Memory)) }
+        ensures unchanged { OnErr result (self.new ≡ self.old) }
+        ensures tag { IfOk result (λ tag. IsTagOf kind tag × (number_of tag ≤ 9999)) }
+        ensures fresh { IfOk result (λ tag. is_held tag (held_beside tag self.old) ≡ false) }
+        ensures all_held { IsErrOf result TagFault.TagsSpent → IsSpentFor kind self.old }
+    {
+        let tag = self.next_tag(kind)?;
+        let held = Held {
+            tag,
+            kind,
+            stage: Stage::Sent,
+        };
+        match tag {
+            Tag::Std(number) => {
+                self.standard.push(held)?;
+                self.drawn = number;
+            }
+            Tag::Event(number) => {
+                self.event.push(held)?;
+                self.event_drawn = number;
+            }
+        }
+        Ok(tag)
+    }
+
+    /// The kind of the command that is held under a tag; none where none is. Takes no memory.
+    pub fn kind_of(&self, tag: Tag) -> Option<Kind>
+        ensures { result ≡ kind_under tag self.now }
+    {
+        match tag {
+            Tag::Std(_) => kind_of(&self.standard, tag),
+            Tag::Event(_) => kind_of(&self.event, tag),
+        }
+    }
+
+    /// Takes in that `&` was read under a tag. Takes no memory.
+    ///
+    /// `UnknownTag` (G1) where none is held under it; `OutOfOrder` (G2) where a mark was read for the command before.
+    pub fn received(&mut self, tag: Tag) -> Result<(), TagFault>
+        ensures ok { OnOk result (heard self.old tag Mark.Ack ≡ Ok (self.new, Effect.Quiet)) }
+        ensures refused { IfErr result (λ fault. IsRefused (heard self.old tag Mark.Ack) (cause_of fault)) }
+        ensures unchanged { OnErr result (self.new ≡ self.old) }
+    {
+        match tag {
+            Tag::Std(_) => receive(&mut self.standard, tag),
+            Tag::Event(_) => receive(&mut self.event, tag),
+        }
+    }
+
+    /// Takes in that this point was read under a tag. Takes no memory.
+    ///
+    /// `UnknownTag` (G1) where none is held under it; `SecondData` (G4) where the command, a touch at the front, has a point already;
+    /// `OutOfOrder` (G2) where it is no touch, not at the front, not yet received, or failed.
+    pub fn data(&mut self, tag: Tag, point: Point) -> Result<(), TagFault>
+        ensures ok { OnOk result (heard self.old tag (Mark.Data point) ≡ Ok (self.new, Effect.Quiet)) }
+        ensures refused { IfErr result (λ fault. IsRefused (heard self.old tag (Mark.Data point)) (cause_of fault)) }
+        ensures unchanged { OnErr result (self.new ≡ self.old) }
+    {
+        match tag {
+            Tag::Std(_) => give(&mut self.standard, !self.failed, tag, point),
+            Tag::Event(_) => give(&mut self.event, true, tag, point),
+        }
+    }
+
+    /// Takes in that `!` was read under a tag: the command has failed, and a further `!` of it changes nothing. Takes no memory.
+    ///
+    /// `UnknownTag` (G1) where none is held under it.
+    pub fn failed(&mut self, tag: Tag) -> Result<(), TagFault>
+        ensures ok { OnOk result ((heard self.old tag Mark.Error ≡ Ok (self.new, Effect.Failure))
+            ⊎ (heard self.old tag Mark.Error ≡ Ok (self.new, Effect.Quiet))) }
+        ensures refused { IfErr result (λ fault. IsRefused (heard self.old tag Mark.Error) (cause_of fault)) }
+        ensures unchanged { OnErr result (self.new ≡ self.old) }
+    {
+        match tag {
+            Tag::Std(_) => {
+                if fail(&mut self.standard, tag)? {
+                    self.failed = true;
+                }
+            }
+            Tag::Event(_) => {
+                let _ = fail(&mut self.event, tag)?;
+            }
+        }
+        Ok(())
+    }
+
+    /// How `complete` would answer. Nothing changes, and no memory is taken.
+    #[tactic(auto, using(crate::proofs::Effects::standard_effect, crate::proofs::Effects::event_effect))]
+    pub fn end_of(&self, tag: Tag) -> Result<Ended, TagFault>
+        ensures ok { IfOk result (λ ended. effect_heard (heard self.now tag Mark.Done) ≡ Some (effect_of ended)) }
+        ensures refused { IfErr result (λ fault. IsRefused (heard self.now tag Mark.Done) (cause_of fault)) }
+    {
+        match tag {
+            Tag::Std(_) => end_of(&self.standard, !self.failed, tag),
+            Tag::Event(_) => end_of(&self.event, true, tag),
+        }
+    }
+
+    /// Takes in that `%` was read under a tag, which is free from now on: the command counts, a touch with its point, or is closed
+    /// where it had failed. Takes no memory.
+    ///
+    /// `UnknownTag` (G1) where none is held under it; `NoData` (G3) where a touch at the front was received and has no point;
+    /// `OutOfOrder` (G2) where the command has not failed and is not at the front, or was not received. So commands count in sending
+    /// order, standard ones and event ones each.
+    pub fn complete(&mut self, tag: Tag) -> Result<Ended, TagFault>
+        ensures ok { IfOk result (λ ended. heard self.old tag Mark.Done ≡ Ok (self.new, effect_of ended)) }
+        ensures refused { IfErr result (λ fault. IsRefused (heard self.old tag Mark.Done) (cause_of fault)) }
+        ensures unchanged { OnErr result (self.new ≡ self.old) }
+        ensures in_order { IfOk result (λ ended. is_counted ended ≡ true → IsNext tag self.old) }
+    {
+        match tag {
+            Tag::Std(_) => end(&mut self.standard, !self.failed, tag),
+            Tag::Event(_) => end(&mut self.event, true, tag),
+        }
+    }
+
+    /// How many standard commands are open: neither their `!` nor their `%` was read. Takes no memory.
+    pub fn count(&self) -> usize
+        ensures { result ≡ count_open self.now.standard }
+    {
+        count_open(&self.standard)
+    }
+
+    /// Whether an event command is open. Takes no memory.
+    pub fn event_open(&self) -> bool
+        ensures { result ≡ not (count_open self.now.event == 0) }
+    {
+        count_open(&self.event) != 0
+    }
+
+    /// Whether a standard command has failed since the plan began. Takes no memory.
+    pub fn has_failed(&self) -> bool
+        ensures { result ≡ self.now.failed }
+    {
+        self.failed
+    }
+
+    /// Begins a plan: no command of it has failed yet. Commands that have failed and whose `%` is on its way keep their tags; a client
+    /// begins a plan only while no standard command is open. Takes no memory.
+    pub fn begin_plan(&mut self)
+        ensures { self.new ≡ record self.old { failed = false } }
+    {
+        self.failed = false;
+    }
+}

@@ -1,0 +1,194 @@
+// What no clause says: that tags are drawn with memory, and worked rows.
+
+use crate::{Ended, Open, TagFault};
+use dme_line::{Kind, Tag};
+use fixed_um::{Point, Um};
+use std::alloc::Global;
+use std::test::Fail;
+
+fn point() -> Point {
+    Point {
+        x: Um::volume_limit(),
+        y: Um::zero(),
+        z: Um::zero(),
+    }
+}
+
+/// Draws 9,999 standard tags and completes none.
+fn with_all_drawn(alloc: Global) -> Result<Open, TagFault> {
+    let mut open = Open::new(alloc);
+    for _ in 0..9_999 {
+        let _ = open.draw(Kind::GoTo)?;
+    }
+    Ok(open)
+}
+
+/// Draws a tag for a touch, which is received, given its point and completed.
+fn touch(open: &mut Open) -> Result<Ended, TagFault> {
+    let tag = open.draw(Kind::PtMeas)?;
+    open.received(tag)?;
+    open.data(tag, point())?;
+    open.complete(tag)
+}
+
+/// So many touches, one after another.
+fn touch_often(open: &mut Open, count: u32) -> Result<(), TagFault> {
+    for _ in 0..count {
+        if let Err(fault) = touch(open) {
+            return Err(fault);
+        }
+    }
+    Ok(())
+}
+
+/// Behind 9,999 touches the next tag.
+fn drawn_behind_all(alloc: Global) -> Result<Tag, TagFault> {
+    let mut open = Open::new(alloc);
+    touch_often(&mut open, 9_999)?;
+    open.draw(Kind::PtMeas)
+}
+
+/// 00001 has failed, and its `%` is on the way; the next tag behind 9,998 touches of another plan.
+fn drawn_past_a_held_one(alloc: Global) -> Result<Tag, TagFault> {
+    let mut open = Open::new(alloc);
+    let first = open.draw(Kind::PtMeas)?;
+    open.failed(first)?;
+    if open.count() == 0 {
+        open.begin_plan();
+    }
+    touch_often(&mut open, 9_998)?;
+    open.draw(Kind::PtMeas)
+}
+
+#[test]
+fn tags_come_round(rt: HostRuntime) -> Result<(), Fail> {
+    let alloc = rt.alloc();
+    match with_all_drawn(alloc) {
+        Ok(mut open) => {
+            assert_eq!(rt; open.count(), 9_999);
+            assert_eq!(rt; open.draw(Kind::PtMeas), Err(TagFault::TagsSpent));
+            assert_eq!(rt; open.draw(Kind::AbortE), Ok(Tag::Event(1)));
+            open.clear();
+            assert_eq!(rt; open.draw(Kind::PtMeas), Ok(Tag::Std(1)));
+        }
+        Err(_) => {
+            assert!(rt; false, "a tag was not drawn");
+        }
+    }
+    assert_eq!(rt; drawn_behind_all(alloc), Ok(Tag::Std(1)));
+    assert_eq!(rt; drawn_past_a_held_one(alloc), Ok(Tag::Std(2)));
+    Ok(())
+}
+
+/// Where a command stands.
+#[derive(Clone, Copy, Debug, PartialEq, Eq)]
+enum Place {
+    Front,
+    /// Another command that was sent before it is open.
+    BehindOpen,
+    /// A command that was sent after it has failed.
+    BesideFailed,
+}
+
+/// How many of the marks `&`, `#` were read for a command, or that `!` was.
+#[derive(Clone, Copy, Debug, PartialEq, Eq)]
+enum Read {
+    Nothing,
+    Received,
+    Given,
+    Failed,
+}
+
+/// A command of a kind at a place for which so much was read.
+fn standing(alloc: Global, kind: Kind, place: Place, read: Read) -> Result<(Open, Tag), TagFault> {
+    let mut open = Open::new(alloc);
+    if place == Place::BehindOpen {
+        let _ = open.draw(Kind::GoTo)?;
+    }
+    let tag = open.draw(kind)?;
+    if read == Read::Received || read == Read::Given {
+        open.received(tag)?;
+    }
+    if read == Read::Given {
+        open.data(tag, point())?;
+    }
+    if read == Read::Failed {
+        open.failed(tag)?;
+    }
+    if place == Place::BesideFailed {
+        let later = open.draw(Kind::GoTo)?;
+        open.failed(later)?;
+    }
+    Ok((open, tag))
+}
+
+/// `G2` to `G4` by their digits.
+fn refusal(fault: TagFault) -> u8 {
+    match fault {
+        TagFault::OutOfOrder => b'2',
+        TagFault::NoData => b'3',
+        TagFault::SecondData => b'4',
+        TagFault::UnknownTag | TagFault::TagsSpent | TagFault::Memory => b'?',
+    }
+}
+
+/// A mark that is taken in is a dot.
+fn taking(answer: Result<(), TagFault>) -> u8 {
+    match answer {
+        Ok(()) => b'.',
+        Err(fault) => refusal(fault),
+    }
+}
+
+/// A command that is closed is a dot too; one that counts is `m` for a move, `t` for a touch with its point.
+fn ending(answer: Result<Ended, TagFault>) -> u8 {
+    match answer {
+        Ok(Ended::Closed) => b'.',
+        Ok(Ended::Counted(Kind::GoTo, None)) => b'm',
+        Ok(Ended::Counted(Kind::PtMeas, Some(given))) if given == point() => b't',
+        Ok(Ended::Counted(_, _)) => b'?',
+        Err(fault) => refusal(fault),
+    }
+}
+
+/// What `&`, `#`, `!` and `%` are answered, each for a command that stands so.
+fn answers(alloc: Global, kind: Kind, place: Place, read: Read) -> Result<[u8; 4], TagFault> {
+    let (mut open, tag) = standing(alloc, kind, place, read)?;
+    let received = taking(open.received(tag));
+    let (mut open, tag) = standing(alloc, kind, place, read)?;
+    let data = taking(open.data(tag, point()));
+    let (mut open, tag) = standing(alloc, kind, place, read)?;
+    let failed = taking(open.failed(tag));
+    let (mut open, tag) = standing(alloc, kind, place, read)?;
+    let complete = ending(open.complete(tag));
+    Ok([received, data, failed, complete])
+}
+
+#[test]
+fn marks_have_their_places(rt: HostRuntime) -> Result<(), Fail> {
+    let alloc = rt.alloc();
+    let rows = [
+        (Kind::PtMeas, Place::Front, Read::Nothing, *b".2.2"),
+        (Kind::PtMeas, Place::Front, Read::Received, *b"2..3"),
+        (Kind::PtMeas, Place::Front, Read::Given, *b"24.t"),
+        (Kind::PtMeas, Place::Front, Read::Failed, *b"22.."),
+        (Kind::PtMeas, Place::BehindOpen, Read::Nothing, *b".2.2"),
+        (Kind::PtMeas, Place::BehindOpen, Read::Received, *b"22.2"),
+        (Kind::PtMeas, Place::BehindOpen, Read::Failed, *b"22.."),
+        (Kind::PtMeas, Place::BesideFailed, Read::Nothing, *b".2.2"),
+        (Kind::PtMeas, Place::BesideFailed, Read::Received, *b"22.2"),
+        (Kind::PtMeas, Place::BesideFailed, Read::Given, *b"22.2"),
+        (Kind::PtMeas, Place::BesideFailed, Read::Failed, *b"22.."),
+        (Kind::GoTo, Place::Front, Read::Nothing, *b".2.2"),
+        (Kind::GoTo, Place::Front, Read::Received, *b"22.m"),
+        (Kind::GoTo, Place::Front, Read::Failed, *b"22.."),
+        (Kind::GoTo, Place::BehindOpen, Read::Nothing, *b".2.2"),
+        (Kind::GoTo, Place::BehindOpen, Read::Received, *b"22.2"),
+        (Kind::GoTo, Place::BehindOpen, Read::Failed, *b"22.."),
+        (Kind::GoTo, Place::BesideFailed, Read::Received, *b"22.2"),
+    ];
+    for (kind, place, read, expected) in rows.iter() {
+        assert_eq!(rt; answers(alloc, *kind, *place, *read), Ok(*expected));
+    }
+    Ok(())
+}

@@ -1,0 +1,35 @@
+// What is written, done and counted in a run that nothing disturbs.
+
+ghost use Rattle.std.specs.Prelude.{◌≤◌, ℕ, List};
+ghost use Rattle.dmis_program.specs.Meaning.{Meaning};
+ghost use Rattle.dmis_program.specs.Programs.{IsProgram};
+ghost use Rattle.protocol_model.specs.Lines.{Readers, AreReaders};
+ghost use Rattle.protocol_model.specs.Plan.{plan};
+ghost use Rattle.protocol_model.specs.World.{Event, start, run_of};
+ghost use Rattle.protocol_model.specs.Undisturbed.{AreUndisturbed, AreFirstLines, acts_planned, AreFirstActs, acts_in, AreFirstOf};
+ghost use Rattle.protocol_model.specs.declared.plans.Start.TheVariants as Start;
+
+/// After every list of events in which the two sides only connect, write, read and work, bytes move, and the machine is done with what it
+/// was asked or touches a surface, from any program, any rack and any window up to 16:
+///
+/// - `lines`: the bytes that the client wrote are the first lines of the plan of the whole program, each whole with its CR LF, under the tags
+///   from 1 on, after 9,999 again from 1 on;
+/// - `acts`: the acts of the server are the first that the plan wants, one for one; a contact has the target, direction, tool and frame of
+///   the touch, and any point;
+/// - `counted`: what the client has counted are the first of these acts.
+///
+/// A tool that is not in the rack, or a place outside the volume, may stop the run before the plan is done. Commands are read, as lines and
+/// point texts are, by any functions that read as the interface says.
+pub fn undisturbed_prefixes()
+    ensures lines { (readers : Readers) → AreReaders readers
+        → (program : Meaning) (rack : List (List ℕ)) (window : ℕ) (events : List Event) → IsProgram program → window ≤ 16 → AreUndisturbed events
+        → AreFirstLines (run_of readers events (start program rack window)).written (plan program 0 Start.NewConnection) }
+    ensures acts { (readers : Readers) → AreReaders readers
+        → (program : Meaning) (rack : List (List ℕ)) (window : ℕ) (events : List Event) → IsProgram program → window ≤ 16 → AreUndisturbed events
+        → AreFirstActs (acts_in (run_of readers events (start program rack window)).server.server.ledger)
+        (acts_planned (plan program 0 Start.NewConnection)) }
+    ensures counted { (readers : Readers) → AreReaders readers
+        → (program : Meaning) (rack : List (List ℕ)) (window : ℕ) (events : List Event) → IsProgram program → window ≤ 16 → AreUndisturbed events
+        → AreFirstOf (run_of readers events (start program rack window)).client.client.table.tally.counted
+        (acts_in (run_of readers events (start program rack window)).server.server.ledger) }
+{}

@@ -1,0 +1,164 @@
+// The commands of a plan.
+
+ghost use Rattle.std.specs.Prelude.{◌≡◌, ◌≤◌, ◌++◌, ◌∷◌, [], length, All, OnOk, IfOk, option_copied};
+ghost use Rattle.dmis_program.specs.Meaning.{block_touches};
+ghost use Rattle.protocol_model.specs.Plan.{planned, framing, tooling, stepping, measuring, clearing, starting, plan, is_empty};
+ghost use Rattle.resume_plan.specs.Sendable.{IsSendable};
+
+use crate::position::{Position, ends_feature, position_behind};
+use dme_line::{Command, Csy};
+use dmis_program::{Program, Step, Touch};
+use fixed_um::{Frame, Name};
+use protocol_model::{Does, Planned, Start};
+use std::alloc::{AllocError, Global};
+
+/// The commands of a plan so far.
+#[derive(Drop)]
+struct Commands {
+    alloc: Global,
+    planned: Vec<Planned>,
+}
+
+impl Commands {
+    fn push(&mut self, command: Command, does: Does) -> Result<(), AllocError>
+        ensures { OnOk result (self.new.planned.items ≡ self.old.planned.items ++ planned command does ∷ []) }
+    {
+        self.planned.push(Planned { command, does })?;
+        Ok(())
+    }
+
+    /// Adds the change to a tool.
+    fn push_tool(&mut self, name: &Name) -> Result<(), AllocError>
+        ensures { OnOk result (self.new.planned.items ≡ self.old.planned.items ++ tooling (Some name.now)) }
+    {
+        let tool = name.copy(self.alloc)?;
+        let changed = name.copy(self.alloc)?;
+        self.push(Command::ChangeTool(tool), Does::Changes(changed))
+    }
+
+    /// Adds the commands that select a frame.
+    fn push_frame(&mut self, frame: &Frame) -> Result<(), AllocError>
+        ensures { OnOk result (self.new.planned.items ≡ self.old.planned.items ++ framing frame.now) }
+    {
+        let selects = Does::Frames(*frame);
+        match frame {
+            Frame::Machine => self.push(Command::SetCoordSystem(Csy::MachineCsy), selects),
+            Frame::Part(offset) => {
+                self.push(
+                    Command::SetCsyTransformation(offset.opposite()),
+                    Does::Nothing,
+                )?;
+                self.push(Command::SetCoordSystem(Csy::PartCsy), selects)
+            }
+        }
+    }
+
+    /// Adds a touch, which may be the last of its feature.
+    fn push_touch(&mut self, touch: &Touch, last: bool) -> Result<(), AllocError>
+        ensures { OnOk result (self.new.planned.items
+            ≡ self.old.planned.items ++ planned (Command.PtMeas touch.now.target touch.now.dir) (Does.Touches touch.now last) ∷ []) }
+    {
+        let command = Command::PtMeas(touch.target, touch.dir);
+        let touch = touch.copy(self.alloc)?;
+        self.push(command, Does::Touches { touch, last })
+    }
+
+    /// Adds the commands of a step in a frame, and gives the frame that is selected behind it.
+    fn push_step(
+        &mut self,
+        step: &Step,
+        frame: &Frame,
+        behind: &[Step],
+    ) -> Result<Frame, AllocError>
+        ensures { IfOk result (λ next. self.new.planned.items ++ stepping next behind.now
+            ≡ self.old.planned.items ++ stepping frame.now (step.now ∷ behind.now)) }
+    {
+        match step {
+            Step::Goto(target) => {
+                self.push(Command::GoTo(*target), Does::Moves(*target, *frame))?;
+                Ok(*frame)
+            }
+            Step::Touch(touch) => {
+                self.push_touch(touch, ends_feature(behind))?;
+                Ok(*frame)
+            }
+            Step::Tool(name) => {
+                self.push_tool(name)?;
+                Ok(*frame)
+            }
+            Step::Recall(offset) => {
+                let next = Frame::Part(*offset);
+                self.push_frame(&next)?;
+                Ok(next)
+            }
+            Step::Begin(_) | Step::End => Ok(*frame),
+        }
+    }
+
+    /// Adds the commands of steps, the first of them in this frame.
+    fn push_steps(&mut self, steps: &[Step], frame: Frame) -> Result<(), AllocError>
+        ensures { OnOk result (self.new.planned.items ≡ self.old.planned.items ++ stepping frame steps.now) }
+    {
+        let mut selected = frame;
+        let mut rest = steps;
+        while let Some((step, behind)) = rest.split_first() {
+            selected = self.push_step(step, &selected, behind)?;
+            rest = behind;
+        }
+        Ok(())
+    }
+
+    /// Adds what begins every plan.
+    fn push_preamble(&mut self, start: Start) -> Result<(), AllocError>
+        ensures { OnOk result (self.new.planned.items ≡ self.old.planned.items ++ starting start (clearing [])) }
+    {
+        match start {
+            Start::NewConnection => self.push(Command::StartSession, Does::Nothing)?,
+            Start::SameConnection => {}
+        }
+        self.push(Command::ClearAllErrors, Does::Nothing)?;
+        self.push(Command::Home, Does::Homes)?;
+        self.push(Command::OnPtMeasReport, Does::Nothing)
+    }
+
+    /// Adds what is selected at a position, and what is left to be measured from there.
+    fn push_left(&mut self, position: &Position<'_>) -> Result<(), AllocError>
+        ensures { OnOk result (self.new.planned.items
+            ≡ self.old.planned.items ++ measuring (option_copied position.now.tool) position.now.frame position.now.steps.now) }
+    {
+        if let Some(name) = position.tool {
+            self.push_tool(name)?;
+        }
+        self.push_frame(&position.frame)?;
+        self.push_steps(position.steps, position.frame)?;
+        self.push(Command::EndSession, Does::Nothing)
+    }
+}
+
+/// The commands that measure what is left of a program of which the first `completed` features are measured, each with what it stands
+/// for once it is counted (this profile).
+///
+/// The plan begins a session on a new connection, clears errors, homes the machine and asks for the points of touches. It selects the
+/// tool and the frame again that are selected behind the last touch of the last completed feature, goes on with the steps from there,
+/// and ends the session. A frame is selected by the machine's zero point in its axes: its offset with each sign turned.
+///
+/// The caller owes that the program has so many features. Only want of memory is an `Err`.
+pub fn plan(
+    alloc: Global,
+    program: &Program,
+    completed: usize,
+    start: Start,
+) -> Result<Vec<Planned>, AllocError>
+    requires { completed ≤ length program.now.features }
+    ensures plan { IfOk result (λ planned. planned.items ≡ plan program.now completed start) }
+    // Each of its commands can be written under a standard tag.
+    ensures sendable { IfOk result (λ planned. All IsSendable planned.items) }
+{
+    let mut commands = Commands {
+        alloc,
+        planned: Vec::new(alloc),
+    };
+    commands.push_preamble(start)?;
+    commands.push_left(&position_behind(program.statements(), completed))?;
+    Ok(commands.planned)
+}

@@ -1,0 +1,123 @@
+-- A contact is made by a touch that runs, as it was commanded.
+use Rattle.std.proofs.Common.{◌≡◌, ℕ, ◌+◌, List, [], ◌∷◌, ◌++◌, length, refl, sym, ap, subst, ◌∙◌, arith, Option, Some, None, append-nil, length-append}
+use Rattle.std.proofs.lemmas.List.{append_cancel_left}
+use Rattle.fixed_um.specs.Points.{point_difference}
+use Rattle.fixed_um.specs.Shapes.{Direction}
+use Rattle.fixed_um.specs.declared.lengths.Point.{Point}
+use Rattle.fixed_um.specs.declared.frames.Frame.{Frame}
+use Rattle.dme_line.specs.declared.tags.Tag.{Tag}
+use Rattle.dme_line.specs.declared.commands.Command.{Command}
+use Rattle.dme_line.specs.declared.commands.Command.TheVariants as command
+use Rattle.contact_ledger.specs.declared.acts.Act.{Act}
+use Rattle.contact_ledger.specs.declared.acts.Act.TheVariants as act
+use Rattle.protocol_model.specs.Replies.{Reply}
+use Rattle.protocol_model.specs.Lines.{reply_bytes}
+use Rattle.protocol_model.specs.Claims.{Made, contacts}
+use Rattle.protocol_model.specs.Server.{Server, offset, server_turned, finished, touched, machined, server_machined}
+use Rattle.protocol_model.specs.Ends.{ServerEnd}
+use Rattle.protocol_model.specs.declared.lines.Line.{Line}
+use Rattle.protocol_model.specs.declared.machine.Outcome.{Outcome}
+use Rattle.protocol_model.specs.declared.machine.Outcome.TheVariants as outcome
+use Rattle.protocol_model.proofs.Served.{contacts_more}
+use Rattle.server_core.specs.Acting.{with_act, IsCommanded}
+use Rattle.server_core.proofs.Ledgers.{framed, Frames, turned_frames}
+
+-- ---- no turn makes a contact
+
+frame_no_contact : (n : ℕ) (acts : List (ℕ × Act)) (frame : Option Frame) → contacts (with_act n (framed frame) acts) ≡ contacts acts
+frame_no_contact n acts None = refl
+frame_no_contact n acts (Some f) = contacts_more acts ((n, act.Framed f) ∷ []) ∙ append-nil (contacts acts)
+
+pub turned_no_contact : (s : Server) → contacts (server_turned s).server.ledger ≡ contacts s.ledger
+turned_no_contact s =
+    let f : Frames s (server_turned s) = turned_frames s in
+    ap contacts f.1 ∙ frame_no_contact s.last s.ledger f.0
+
+-- ---- which ends of what runs make one
+
+not_longer : (ms : List Made) (m : Made) → ms ≡ ms ++ m ∷ [] → ⊥
+not_longer ms m e =
+    let longer : length ms ≡ length (ms ++ m ∷ []) = ap length e in
+    let sum : length (ms ++ m ∷ []) ≡ length ms + 1 = length-append ms (m ∷ []) in
+    omega arith
+
+-- an act that is no contact
+no_more : (n : ℕ) (acts : List (ℕ × Act)) (a : Act) (m : Made) → contacts ((n, a) ∷ []) ≡ [] → contacts (acts ++ (n, a) ∷ []) ≡ contacts acts ++ m ∷ [] → ⊥
+no_more n acts a m none e =
+    not_longer (contacts acts) m
+    (sym (contacts_more acts ((n, a) ∷ []) ∙ (ap (λ (ms : List Made). contacts acts ++ ms) none ∙ append-nil (contacts acts))) ∙ e)
+
+abbrev first_or : Made → List Made → Made
+first_or m [] = m
+first_or m (k ∷ ms) = k
+
+first_of : (m k : Made) → m ∷ [] ≡ k ∷ [] → m ≡ k
+first_of m k e = ap (first_or m) e
+
+abbrev contact_of : Server → Point → Point → Option Direction → List ℕ → Made
+contact_of s at p d tool = record { connection = s.last; target = p; dir = d; tool = tool; frame = s.frame; point = point_difference at (offset s.frame) }
+
+as_commanded : (e : ServerEnd) (at : Point) (t : Tag) (p : Point) (d : Option Direction) (tool : List ℕ)
+    → e.server.running ≡ Some (record { tag = t; command = command.PtMeas p d }) → e.server.tool ≡ Some tool
+    → IsCommanded e (outcome.Touched at) (contact_of e.server at p d tool)
+as_commanded e at t p d tool ran head = record {
+  tag = t;
+  at = at;
+  ran = ran;
+  touched = refl;
+  on = refl;
+  tool = head;
+  frame = refl;
+  point = refl;
+  said =
+      ap (λ (running : Option Line). e.out ++ reply_bytes (machined e.server (outcome.Touched at) running).said) ran
+      ∙ ap (λ (in_head : Option (List ℕ)). e.out ++ reply_bytes (touched e.server t (command.PtMeas p d) at in_head).said) head;
+}
+
+same : (e : ServerEnd) (ended : Outcome) (made : Made) → contacts e.server.ledger ≡ contacts e.server.ledger ++ made ∷ [] → IsCommanded e ended made
+same e ended made longer = absurd (not_longer _ _ longer)
+
+finished_made : (e : ServerEnd) (made : Made) (t : Tag) (c : Command)
+    → contacts (finished e.server t c).server.ledger ≡ contacts e.server.ledger ++ made ∷ [] → IsCommanded e outcome.Done made
+finished_made e made t command.StartSession longer = same e outcome.Done made longer
+finished_made e made t command.EndSession longer = same e outcome.Done made longer
+finished_made e made t command.ClearAllErrors longer = same e outcome.Done made longer
+finished_made e made t command.Home longer = absurd (no_more e.server.last e.server.ledger act.Homed made refl longer)
+finished_made e made t command.OnPtMeasReport longer = same e outcome.Done made longer
+finished_made e made t (command.GoTo p) longer = absurd (no_more e.server.last e.server.ledger (act.Moved p e.server.frame) made refl longer)
+finished_made e made t (command.PtMeas p d) longer = same e outcome.Done made longer
+finished_made e made t (command.ChangeTool n) longer = absurd (no_more e.server.last e.server.ledger (act.Changed n) made refl longer)
+finished_made e made t (command.SetCsyTransformation p) longer = same e outcome.Done made longer
+finished_made e made t (command.SetCoordSystem system) longer = same e outcome.Done made longer
+finished_made e made t command.AbortE longer = same e outcome.Done made longer
+
+touched_made : (e : ServerEnd) (made : Made) (at : Point) (t : Tag) (c : Command) (tool : Option (List ℕ))
+    → e.server.running ≡ Some (record { tag = t; command = c }) → e.server.tool ≡ tool
+    → contacts (touched e.server t c at tool).server.ledger ≡ contacts e.server.ledger ++ made ∷ [] → IsCommanded e (outcome.Touched at) made
+touched_made e made at t command.StartSession tool ran head longer = same e (outcome.Touched at) made longer
+touched_made e made at t command.EndSession tool ran head longer = same e (outcome.Touched at) made longer
+touched_made e made at t command.ClearAllErrors tool ran head longer = same e (outcome.Touched at) made longer
+touched_made e made at t command.Home tool ran head longer = same e (outcome.Touched at) made longer
+touched_made e made at t command.OnPtMeasReport tool ran head longer = same e (outcome.Touched at) made longer
+touched_made e made at t (command.GoTo p) tool ran head longer = same e (outcome.Touched at) made longer
+touched_made e made at t (command.PtMeas p d) (Some tool) ran head longer =
+    let one : contact_of e.server at p d tool ≡ made =
+    first_of _ made (append_cancel_left (contacts e.server.ledger) _ _ (sym (contacts_more e.server.ledger (_ ∷ [])) ∙ longer)) in
+    subst (λ (m : Made). IsCommanded e (outcome.Touched at) m) one (as_commanded e at t p d tool ran head)
+touched_made e made at t (command.PtMeas p d) None ran head longer = same e (outcome.Touched at) made longer
+touched_made e made at t (command.ChangeTool n) tool ran head longer = same e (outcome.Touched at) made longer
+touched_made e made at t (command.SetCsyTransformation p) tool ran head longer = same e (outcome.Touched at) made longer
+touched_made e made at t (command.SetCoordSystem system) tool ran head longer = same e (outcome.Touched at) made longer
+touched_made e made at t command.AbortE tool ran head longer = same e (outcome.Touched at) made longer
+
+machined_made : (e : ServerEnd) (made : Made) (ended : Outcome) (running : Option Line) → e.server.running ≡ running
+    → contacts (machined e.server ended running).server.ledger ≡ contacts e.server.ledger ++ made ∷ [] → IsCommanded e ended made
+machined_made e made ended None ran longer = same e ended made longer
+machined_made e made outcome.Done (Some line) ran longer = finished_made e made line.tag line.command longer
+machined_made e made (outcome.Touched at) (Some line) ran longer = touched_made e made at line.tag line.command e.server.tool ran refl longer
+machined_made e made outcome.Missed (Some line) ran longer = same e outcome.Missed made longer
+machined_made e made outcome.Fault (Some line) ran longer = same e outcome.Fault made longer
+
+pub machined_as_commanded : (ended : Outcome) (e : ServerEnd) (made : Made)
+    → contacts (server_machined e.server ended).server.ledger ≡ contacts e.server.ledger ++ made ∷ [] → IsCommanded e ended made
+machined_as_commanded ended e made longer = machined_made e made ended e.server.running refl longer

@@ -1,0 +1,121 @@
+-- What each call of a server appends to its ledger.
+use Rattle.std.proofs.Common.{◌≡◌, ℕ, List, [], ◌∷◌, ◌++◌, refl, sym, ap, ◌∙◌, Option, Some, None, true, Result, Ok, Err, append-nil}
+use Rattle.fixed_um.specs.declared.lengths.Point.{Point}
+use Rattle.fixed_um.specs.declared.frames.Frame.{Frame}
+use Rattle.dme_line.specs.declared.tags.Tag.{Tag}
+use Rattle.dme_line.specs.declared.commands.Command.{Command}
+use Rattle.dme_line.specs.declared.commands.Command.TheVariants as command
+use Rattle.dme_line.specs.declared.reading.LineFault.{LineFault}
+use Rattle.contact_ledger.specs.declared.acts.Act.{Act}
+use Rattle.contact_ledger.specs.declared.acts.Act.TheVariants as act
+use Rattle.line_framing.specs.Next.{Front, next_of}
+use Rattle.protocol_model.specs.Lines.{Readers, reading_of}
+use Rattle.protocol_model.specs.Server.{Server, Answer, frame_of, refusal, carried_out, carried, taken, turned_to, server_turned, finished, touched, machined}
+use Rattle.protocol_model.specs.Ends.{ServerEnd, front_served, serving_read, serving_turned, serving_machined}
+use Rattle.protocol_model.specs.declared.lines.Line.{Line}
+use Rattle.protocol_model.specs.declared.lines.Waiting.{Waiting}
+use Rattle.protocol_model.specs.declared.machine.Job.{Job}
+use Rattle.protocol_model.specs.declared.machine.Outcome.{Outcome}
+use Rattle.protocol_model.proofs.Moves.{read_moves}
+use Rattle.server_core.specs.Acting.{with_act, IsOneMore}
+use Rattle.server_core.specs.Kept.{IsKept}
+
+-- ---- a line that is read appends nothing
+
+front_keeps : (readers : Readers) (e : ServerEnd) (front : Front) → (front_served readers e front).server.ledger ≡ e.server.ledger
+front_keeps readers e (Ok None) = refl
+front_keeps readers e (Ok (Some (line, rest))) = (read_moves e.server (reading_of (readers.command line))).ledger ∙ append-nil e.server.ledger
+front_keeps readers e (Err why) = refl
+
+pub read_keeps : (readers : Readers) (e : ServerEnd) → (serving_read readers e).server.ledger ≡ e.server.ledger
+read_keeps readers e = front_keeps readers e (next_of e.input.rest)
+
+-- ---- a turn appends the choice of a frame, or nothing
+
+abbrev pub framed : Option Frame → Option Act
+framed None = None
+framed (Some f) = Some (act.Framed f)
+
+abbrev pub Frames : Server → Answer → Type 0
+Frames s a = (frame : Option Frame) × (a.server.ledger ≡ with_act s.last (framed frame) s.ledger)
+
+carried_frames : (s : Server) (t : Tag) (c : Command) → Frames s (carried_out s t c)
+carried_frames s t command.StartSession = (None, refl)
+carried_frames s t command.EndSession = (None, refl)
+carried_frames s t command.ClearAllErrors = (None, refl)
+carried_frames s t command.Home = (None, refl)
+carried_frames s t command.OnPtMeasReport = (None, refl)
+carried_frames s t (command.GoTo p) = (None, refl)
+carried_frames s t (command.PtMeas p d) = (None, refl)
+carried_frames s t (command.ChangeTool n) = (None, refl)
+carried_frames s t (command.SetCsyTransformation p) = (None, refl)
+carried_frames s t (command.SetCoordSystem system) = (Some (frame_of system s.stored), refl)
+carried_frames s t command.AbortE = (None, refl)
+
+taken_frames : (s : Server) (w : Waiting) (ws : List Waiting) (number : Option ℕ) → Frames s (taken s w ws number)
+taken_frames s w ws (Some number) = (None, refl)
+taken_frames s w ws None = go w.reading
+  where
+    go : (reading : Result Command LineFault) → Frames s (carried (record s { waiting = ws }) w.tag reading)
+    go (Ok c) = let f = carried_frames (record s { waiting = ws }) w.tag c in (f.0, f.1)
+    go (Err refused) = (None, refl)
+
+turned_to_frames : (s : Server) (ws : List Waiting) → Frames s (turned_to s ws)
+turned_to_frames s [] = (None, refl)
+turned_to_frames s (w ∷ ws) = taken_frames s w ws (refusal s w.reading)
+
+pub turned_frames : (s : Server) → Frames s (server_turned s)
+turned_frames s = turned_to_frames s s.waiting
+
+pub turned_one_more : (e : ServerEnd) → IsOneMore e.server.last e.server.ledger (serving_turned e).server.ledger
+turned_one_more e = let f = turned_frames e.server in record { act = framed f.0; whole = f.1 }
+
+-- in the error state nothing waits, so a turn appends nothing
+pub error_keeps : (e : ServerEnd) (job : Option Job) → IsKept e.server job → e.server.error ≡ true → (serving_turned e).server.ledger ≡ e.server.ledger
+error_keeps e job kept error = ap (λ (ws : List Waiting). (turned_to e.server ws).server.ledger) (kept.quiet error)
+
+-- ---- the end of what runs appends its act, or nothing
+
+abbrev pub Adds : Server → Answer → Type 0
+Adds s a = (added : Option Act) × (a.server.ledger ≡ with_act s.last added s.ledger)
+
+finished_adds : (s : Server) (t : Tag) (c : Command) → Adds s (finished s t c)
+finished_adds s t command.StartSession = (None, refl)
+finished_adds s t command.EndSession = (None, refl)
+finished_adds s t command.ClearAllErrors = (None, refl)
+finished_adds s t command.Home = (Some act.Homed, refl)
+finished_adds s t command.OnPtMeasReport = (None, refl)
+finished_adds s t (command.GoTo p) = (Some (act.Moved p s.frame), refl)
+finished_adds s t (command.PtMeas p d) = (None, refl)
+finished_adds s t (command.ChangeTool n) = (Some (act.Changed n), refl)
+finished_adds s t (command.SetCsyTransformation p) = (None, refl)
+finished_adds s t (command.SetCoordSystem system) = (None, refl)
+finished_adds s t command.AbortE = (None, refl)
+
+touched_adds : (s : Server) (t : Tag) (c : Command) (at : Point) (tool : Option (List ℕ)) → Adds s (touched s t c at tool)
+touched_adds s t command.StartSession at tool = (None, refl)
+touched_adds s t command.EndSession at tool = (None, refl)
+touched_adds s t command.ClearAllErrors at tool = (None, refl)
+touched_adds s t command.Home at tool = (None, refl)
+touched_adds s t command.OnPtMeasReport at tool = (None, refl)
+touched_adds s t (command.GoTo p) at tool = (None, refl)
+touched_adds s t (command.PtMeas p d) at (Some n) = (Some _, refl)
+touched_adds s t (command.PtMeas p d) at None = (None, refl)
+touched_adds s t (command.ChangeTool n) at tool = (None, refl)
+touched_adds s t (command.SetCsyTransformation p) at tool = (None, refl)
+touched_adds s t (command.SetCoordSystem system) at tool = (None, refl)
+touched_adds s t command.AbortE at tool = (None, refl)
+
+machined_adds : (s : Server) (ended : Outcome) (running : Option Line) → Adds s (machined s ended running)
+machined_adds s ended None = (None, refl)
+machined_adds s Outcome.Done (Some line) = finished_adds s line.tag line.command
+machined_adds s (Outcome.Touched at) (Some line) = touched_adds s line.tag line.command at s.tool
+machined_adds s Outcome.Missed (Some line) = (None, refl)
+machined_adds s Outcome.Fault (Some line) = (None, refl)
+
+pub machined_one_more : (ended : Outcome) (e : ServerEnd) → IsOneMore e.server.last e.server.ledger (serving_machined ended e).server.ledger
+machined_one_more ended e = let a = machined_adds e.server ended e.server.running in record { act = a.0; whole = a.1 }
+
+-- where nothing runs nothing ends
+pub idle_keeps : (ended : Outcome) (e : ServerEnd) → e.server.running ≡ None → (serving_machined ended e).server.ledger ≡ e.server.ledger
+idle_keeps ended e none = ap (λ (running : Option Line). (machined e.server ended running).server.ledger) none

@@ -1,0 +1,4 @@
+pub mod Aborting
+pub mod LinesRead
+pub mod Ledgers
+pub mod Contacts

@@ -1,0 +1,122 @@
+// The lines with which a server answers.
+
+ghost use Rattle.std.specs.Prelude.{◌≡◌, ◌≤◌, ◌+◌, ◌*◌, ◌++◌, ◌∷◌, [], length, vec_len, vec_capacity};
+ghost use Rattle.std.specs.List.{AllByRecursion};
+ghost use Rattle.dme_line.specs.Tags.{IsTag};
+ghost use Rattle.dme_line.specs.Points.{IsOnWire};
+ghost use Rattle.protocol_model.specs.Replies.{Reply};
+ghost use Rattle.protocol_model.specs.Lines.{reply_bytes};
+ghost use Rattle.protocol_model.specs.Server.{fails, all_fail, kind_in};
+ghost use Rattle.server_core.specs.Kept.{IsFit};
+
+use command_queue::Queue;
+use dme_line::{
+    Command, Kind, LineFault, Tag, write_complete_reserved, write_data_reserved,
+    write_error_reserved, write_received_reserved,
+};
+use fixed_um::Point;
+
+/// The most bytes that one call of a server answers: 132 lines of at most 80 bytes, ends included. They are the answer to an abort while a
+/// command runs and 64 wait (this profile).
+pub const ANSWER_MAX: usize = 10_560;
+
+/// The end of a line.
+fn write_end(out: &mut Vec<u8>)
+    requires { vec_len out.old + 2 ≤ vec_capacity out.old }
+    ensures text { out.new.items ≡ out.old.items ++ 13 ∷ 10 ∷ [] }
+    ensures len { vec_len out.new ≤ vec_len out.old + 2 }
+    ensures capacity { vec_capacity out.old ≤ vec_capacity out.new }
+{
+    out.push_reserved(b'\r');
+    out.push_reserved(b'\n');
+}
+
+/// A command was received.
+pub(crate) fn write_received(out: &mut Vec<u8>, tag: Tag)
+    requires tag { IsTag tag }
+    requires room { vec_len out.old + 80 ≤ vec_capacity out.old }
+    ensures text { out.new.items ≡ out.old.items ++ reply_bytes (Reply.Acks tag ∷ []) }
+    ensures len { vec_len out.new ≤ vec_len out.old + 80 }
+    ensures capacity { vec_capacity out.old ≤ vec_capacity out.new }
+{
+    write_received_reserved(out, tag);
+    write_end(out);
+}
+
+/// A command is complete.
+pub(crate) fn write_complete(out: &mut Vec<u8>, tag: Tag)
+    requires tag { IsTag tag }
+    requires room { vec_len out.old + 80 ≤ vec_capacity out.old }
+    ensures text { out.new.items ≡ out.old.items ++ reply_bytes (Reply.Completes tag ∷ []) }
+    ensures len { vec_len out.new ≤ vec_len out.old + 80 }
+    ensures capacity { vec_capacity out.old ≤ vec_capacity out.new }
+{
+    write_complete_reserved(out, tag);
+    write_end(out);
+}
+
+/// The point of a touch.
+pub(crate) fn write_point(out: &mut Vec<u8>, tag: Tag, point: Point)
+    requires tag { IsTag tag }
+    requires room { vec_len out.old + 80 ≤ vec_capacity out.old }
+    ensures text { out.new.items ≡ out.old.items ++ reply_bytes (Reply.Gives tag point ∷ []) }
+    ensures len { vec_len out.new ≤ vec_len out.old + 80 }
+    ensures capacity { vec_capacity out.old ≤ vec_capacity out.new }
+{
+    write_data_reserved(out, tag, point);
+    write_end(out);
+}
+
+/// An error, with the command's name where it is known.
+pub(crate) fn write_error(out: &mut Vec<u8>, tag: Tag, code: u16, kind: Option<Kind>)
+    requires tag { IsTag tag }
+    requires low { 9001 ≤ code }
+    requires high { code ≤ 9015 }
+    requires room { vec_len out.old + 80 ≤ vec_capacity out.old }
+    ensures text { out.new.items ≡ out.old.items ++ reply_bytes (Reply.Fails tag code kind ∷ []) }
+    ensures len { vec_len out.new ≤ vec_len out.old + 80 }
+    ensures capacity { vec_capacity out.old ≤ vec_capacity out.new }
+{
+    write_error_reserved(out, tag, code, kind);
+    write_end(out);
+}
+
+/// A command fails: an error, and its end.
+pub(crate) fn write_failure(out: &mut Vec<u8>, tag: Tag, code: u16, kind: Option<Kind>)
+    requires tag { IsTag tag }
+    requires low { 9001 ≤ code }
+    requires high { code ≤ 9015 }
+    requires room { vec_len out.old + 160 ≤ vec_capacity out.old }
+    ensures text { out.new.items ≡ out.old.items ++ reply_bytes (fails tag code kind) }
+    ensures len { vec_len out.new ≤ vec_len out.old + 160 }
+    ensures capacity { vec_capacity out.old ≤ vec_capacity out.new }
+{
+    write_error(out, tag, code, kind);
+    write_complete(out, tag);
+}
+
+/// The kind of what was read, where it is known.
+pub(crate) fn kind_in(reading: &Result<Command, LineFault>) -> Option<Kind>
+    ensures { result ≡ kind_in reading.now }
+{
+    match reading {
+        Ok(command) => Some(command.kind()),
+        Err(LineFault::BadArguments(_, kind)) => Some(*kind),
+        Err(LineFault::NoTag | LineFault::UnknownCommand(_) | LineFault::Memory) => None,
+    }
+}
+
+/// All that waits fails with 9007, in order.
+#[tactic(auto, using(crate::proofs::Aborting::aborted_more, crate::proofs::Aborting::one_less))]
+pub(crate) fn write_all_aborted(out: &mut Vec<u8>, waiting: &mut Queue)
+    requires fit { AllByRecursion IsFit waiting.old }
+    requires room { vec_len out.old + 160 * length waiting.old ≤ vec_capacity out.old }
+    ensures none { waiting.new ≡ [] }
+    ensures text { out.new.items ≡ out.old.items ++ reply_bytes (all_fail 9007 waiting.old) }
+    ensures len { vec_len out.new ≤ vec_len out.old + 160 * length waiting.old }
+    ensures capacity { vec_capacity out.old ≤ vec_capacity out.new }
+{
+    while let Some(command) = waiting.take() {
+        write_failure(out, command.tag, 9007, kind_in(&command.reading));
+    }
+}

@@ -1,0 +1,208 @@
+// What a server does with a line that it has read, case by case (this profile).
+
+ghost use Rattle.std.specs.Prelude.{◌≡◌, ◌≤◌, ◌+◌, ◌++◌, ◌||◌, true, option_map, ◌∷◌, [], length, vec_len, vec_capacity, Err, OnOk, OnErr};
+ghost use Rattle.dme_line.specs.Tags.{IsTag, is_event_tag};
+ghost use Rattle.protocol_model.specs.Lines.{Readers, AreReaders, reply_bytes, reading_of};
+ghost use Rattle.protocol_model.specs.Replies.{Reply};
+ghost use Rattle.protocol_model.specs.Server as server;
+ghost use Rattle.server_core.specs.Serving.{with_answered};
+ghost use Rattle.server_core.specs.Kept.{IsReadingFit, IsRunningFit, IsLineFit};
+
+use crate::answers::{
+    kind_in, write_all_aborted, write_complete, write_error, write_failure, write_received,
+};
+use crate::controller::{Controller, Running};
+use dme_line::{Command, Kind, LineFault, Tag, read_command};
+use protocol_model::Waiting;
+use std::alloc::AllocError;
+
+fn is_clear(reading: &Result<Command, LineFault>) -> bool
+    ensures { result ≡ server.is_clear reading.now }
+{
+    matches!(reading, Ok(Command::ClearAllErrors))
+}
+
+/// The number of a line's fault.
+pub(crate) fn fault_number(fault: &LineFault) -> u16
+    ensures { result ≡ server.fault_number (Err fault.now) }
+{
+    match fault {
+        LineFault::NoTag => 9001,
+        LineFault::UnknownCommand(_) => 9003,
+        LineFault::BadArguments(_, _) => 9004,
+        LineFault::Memory => 0,
+    }
+}
+
+/// What runs, if anything does, fails with 9007.
+fn write_running_aborted(out: &mut Vec<u8>, running: &Option<Running>)
+    requires tag { IsRunningFit (option_map (λ r. r.line) running.now) }
+    requires room { vec_len out.old + 160 ≤ vec_capacity out.old }
+    ensures text { out.new.items ≡ out.old.items ++ reply_bytes (server.running_fails (option_map (λ r. r.line) running.now)) }
+    ensures len { vec_len out.new ≤ vec_len out.old + 160 }
+    ensures capacity { vec_capacity out.old ≤ vec_capacity out.new }
+{
+    if let Some(running) = running {
+        write_failure(
+            out,
+            running.line.tag,
+            9007,
+            Some(running.line.command.kind()),
+        );
+    }
+}
+
+/// The kind of a command whose line is faulty, where it is known.
+fn kind_of_fault(fault: &LineFault) -> Option<Kind>
+    ensures { result ≡ server.kind_in (Err fault.now) }
+{
+    match fault {
+        LineFault::BadArguments(_, kind) => Some(*kind),
+        LineFault::NoTag | LineFault::UnknownCommand(_) | LineFault::Memory => None,
+    }
+}
+
+impl Controller {
+    /// Whether a command runs or waits under this tag.
+    fn is_in_use(&self, tag: Tag) -> bool
+        ensures { result ≡ (server.runs_under tag self.now.server.running || server.waits_under tag self.now.server.waiting) }
+    {
+        let runs = match &self.running {
+            Some(running) => running.line.tag == tag,
+            None => false,
+        };
+        runs || self.waiting.holds(tag)
+    }
+
+    /// An abort: what runs and what waits fails, the error state is entered, and the abort ends.
+    #[tactic(auto, using(crate::proofs::Aborting::abort_said))]
+    fn abort(&mut self, out: &mut Vec<u8>, tag: Tag)
+        requires tag { IsTag tag }
+        requires room { vec_len out.old + 10560 ≤ vec_capacity out.old }
+        ensures controller { self.new ≡ with_answered self.old (server.aborted self.old.server tag) }
+        ensures text { out.new.items ≡ out.old.items ++ reply_bytes (server.aborted self.old.server tag).said }
+        ensures len { vec_len out.new ≤ vec_len out.old + 10560 }
+    {
+        let _at_most = self.waiting.len();
+        write_received(out, tag);
+        write_running_aborted(out, &self.running);
+        self.running = None;
+        write_all_aborted(out, &mut self.waiting);
+        self.error = true;
+        write_complete(out, tag);
+    }
+
+    /// A standard command, or a faulty line on a standard tag: refused in the error state, which `ClearAllErrors` ends; refused where 64
+    /// wait; else it waits.
+    fn stand(&mut self, out: &mut Vec<u8>, tag: Tag, reading: Result<Command, LineFault>)
+        requires tag { IsTag tag }
+        requires reading { IsReadingFit reading }
+        requires on { self.old.server.on ≡ true }
+        requires room { vec_len out.old + 10560 ≤ vec_capacity out.old }
+        ensures controller { self.new ≡ with_answered self.old (server.stands self.old.server tag reading) }
+        ensures text { out.new.items ≡ out.old.items ++ reply_bytes (server.stands self.old.server tag reading).said }
+        ensures len { vec_len out.new ≤ vec_len out.old + 10560 }
+    {
+        let _at_most = self.waiting.len();
+        write_received(out, tag);
+        if self.error && !is_clear(&reading) {
+            write_failure(out, tag, 9008, kind_in(&reading));
+            return;
+        }
+        self.error = false;
+        if let Err(refused) = self.waiting.put(Waiting { tag, reading }) {
+            write_failure(out, tag, 9009, kind_in(&refused.reading));
+            write_all_aborted(out, &mut self.waiting);
+            self.error = true;
+        }
+    }
+
+    /// A faulty line on an event tag: the error state is not entered.
+    fn refuse_event(&self, out: &mut Vec<u8>, tag: Tag, fault: &LineFault)
+        requires tag { IsTag tag }
+        requires fault { IsReadingFit (Err fault.now) }
+        requires room { vec_len out.old + 10560 ≤ vec_capacity out.old }
+        ensures text { out.new.items ≡ out.old.items ++ reply_bytes (Reply.Acks tag ∷ server.fails tag (server.fault_number (Err fault.now)) (server.kind_in (Err fault.now))) }
+        ensures len { vec_len out.new ≤ vec_len out.old + 10560 }
+    {
+        write_received(out, tag);
+        write_failure(out, tag, fault_number(fault), kind_of_fault(fault));
+    }
+
+    /// A line under a tag that is not in use.
+    fn read_fresh(&mut self, out: &mut Vec<u8>, tag: Tag, reading: Result<Command, LineFault>)
+        requires tag { IsTag tag }
+        requires reading { IsReadingFit reading }
+        requires on { self.old.server.on ≡ true }
+        requires room { vec_len out.old + 10560 ≤ vec_capacity out.old }
+        ensures controller { self.new ≡ with_answered self.old (server.fresh self.old.server tag reading) }
+        ensures text { out.new.items ≡ out.old.items ++ reply_bytes (server.fresh self.old.server tag reading).said }
+        ensures len { vec_len out.new ≤ vec_len out.old + 10560 }
+    {
+        match (tag, reading) {
+            (_, Ok(Command::AbortE)) => self.abort(out, tag),
+            (Tag::Event(_), Err(fault)) => self.refuse_event(out, tag, &fault),
+            (_, reading) => self.stand(out, tag, reading),
+        }
+    }
+
+    /// A line with a tag: refused where a command under it runs or waits.
+    fn read_tagged(&mut self, out: &mut Vec<u8>, tag: Tag, reading: Result<Command, LineFault>)
+        requires tag { IsTag tag }
+        requires reading { IsReadingFit reading }
+        requires on { self.old.server.on ≡ true }
+        requires room { vec_len out.old + 10560 ≤ vec_capacity out.old }
+        ensures controller { self.new ≡ with_answered self.old (server.tagged self.old.server tag reading) }
+        ensures text { out.new.items ≡ out.old.items ++ reply_bytes (server.tagged self.old.server tag reading).said }
+        ensures len { vec_len out.new ≤ vec_len out.old + 10560 }
+    {
+        if self.is_in_use(tag) {
+            write_error(out, Tag::Event(0), 9002, None);
+        } else {
+            self.read_fresh(out, tag, reading);
+        }
+    }
+
+    /// What was read of a line, want of memory apart.
+    fn read(&mut self, out: &mut Vec<u8>, reading: Result<(Tag, Command), LineFault>)
+        requires reading { IsLineFit reading }
+        requires on { self.old.server.on ≡ true }
+        requires room { vec_len out.old + 10560 ≤ vec_capacity out.old }
+        ensures controller { self.new ≡ with_answered self.old (server.server_read self.old.server (reading_of reading)) }
+        ensures text { out.new.items ≡ out.old.items ++ reply_bytes (server.server_read self.old.server (reading_of reading)).said }
+        ensures len { vec_len out.new ≤ vec_len out.old + 10560 }
+    {
+        match reading {
+            Ok((tag, command)) => self.read_tagged(out, tag, Ok(command)),
+            Err(LineFault::UnknownCommand(tag)) => {
+                self.read_tagged(out, tag, Err(LineFault::UnknownCommand(tag)));
+            }
+            Err(LineFault::BadArguments(tag, kind)) => {
+                self.read_tagged(out, tag, Err(LineFault::BadArguments(tag, kind)));
+            }
+            Err(LineFault::NoTag) => write_error(out, Tag::Event(0), 9001, None),
+            Err(LineFault::Memory) => {}
+        }
+    }
+
+    /// Reads a line of the connection. Only want of memory is an `Err`.
+    #[tactic(auto, using(crate::proofs::LinesRead::read_is_fit, crate::proofs::LinesRead::one_reading))]
+    pub(crate) fn read_line(&mut self, out: &mut Vec<u8>, line: &[u8]) -> Result<(), AllocError>
+        requires on { self.old.server.on ≡ true }
+        requires room { vec_len out.old + 10560 ≤ vec_capacity out.old }
+        ensures controller { OnOk result ((readers : Readers) → AreReaders readers
+            → self.new ≡ with_answered self.old (server.server_read self.old.server (reading_of (readers.command line.now)))) }
+        ensures text { OnOk result ((readers : Readers) → AreReaders readers
+            → out.new.items ≡ out.old.items ++ reply_bytes (server.server_read self.old.server (reading_of (readers.command line.now))).said) }
+        ensures err { OnErr result (self.new ≡ self.old) }
+        ensures silent { OnErr result (out.new.items ≡ out.old.items) }
+        ensures len { vec_len out.new ≤ vec_len out.old + 10560 }
+    {
+        let reading = read_command(self.alloc, line);
+        if matches!(reading, Err(LineFault::Memory)) {
+            return Err(AllocError);
+        }
+        self.read(out, reading);
+        Ok(())
+    }
+}

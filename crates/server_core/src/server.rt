@@ -1,0 +1,239 @@
+// The server with the bytes of its connection.
+
+ghost use Rattle.std.specs.Prelude.{◌≡◌, ◌≢◌, ◌↔◌, ◌⊎◌, if◌then◌else◌, ◌≤◌, ◌+◌, ◌&&◌, not, true, false, None, Some, Ok, Err, drop, length, is_none, IsTrue, IsOk, IsErr, IfOk, IfErr, OnOk, OnErr, IfSome, MatchOption};
+ghost use Rattle.std.specs.Result.{IsErrOf};
+ghost use Rattle.line_framing.specs.Next.{next_of};
+ghost use Rattle.line_framing.specs.Framing.{IsLineDue};
+ghost use Rattle.contact_ledger.specs.Ledgers.{AreOnConnections};
+ghost use Rattle.protocol_model.specs.Lines.{Readers, AreReaders};
+ghost use Rattle.protocol_model.specs.Server.{may_end, running_job};
+ghost use Rattle.protocol_model.specs.Ends.{serving_accepted, serving_fed, serving_read, serving_turned, serving_machined, serving_left, serving_restarted, serving_taken};
+ghost use Rattle.server_core.specs.Serving.{new_serving, with_end, may_accept, may_turn, fits_running, IsFeedFault, IsReadFault, IsMachineFault};
+
+use crate::answers::ANSWER_MAX;
+use crate::controller::Controller;
+use crate::faults::ServerFault;
+use crate::view::View;
+use contact_ledger::ServerLedger;
+use line_framing::{FramingFault, Lines};
+use protocol_model::{Job, Outcome};
+use std::alloc::{AllocError, Global};
+use std::marker::Model;
+use tool_rack::Setup;
+
+/// The server of a measuring machine (I++ DME Interface version 1; its cases are this profile's). It stands on at most one connection.
+/// Contracts see its setup and `protocol_model`'s end of a connection: the server, the bytes that it was fed and has not read, and those
+/// that are to be sent.
+///
+/// `accept` comes to a connection; `feed` brings bytes, `read_one` reads a line, `turn` lets the first waiting command have its turn, and
+/// `machine` says how what runs has ended. What they answer stands in `out` until `sent`. `leave` and `restart` give the connection up.
+/// Each refusal leaves the server as it was, as does want of memory; a framing fault is kept until the connection is left.
+#[derive(Drop)]
+pub struct Server {
+    controller: Controller,
+    input: Lines,
+    out: Vec<u8>,
+}
+
+impl Model for Server {
+    ghost use Rattle.server_core.specs.Serving.{Serving};
+
+    ghost Value = { Serving };
+
+    ghost view = { λ s. record {
+      setup = s.controller.setup;
+      end = record { server = s.controller.server; input = s.input; out = s.out.items };
+    } };
+}
+
+impl Server {
+    /// A server that was never on a connection: not homed, without a tool, with an empty ledger. Only want of memory is an `Err`.
+    pub fn new(alloc: Global, setup: Setup) -> Result<Server, AllocError>
+        ensures { IfOk result (λ server. server ≡ new_serving setup) }
+    {
+        let controller = Controller::new(alloc, setup)?;
+        Ok(Server {
+            controller,
+            input: Lines::new(alloc),
+            out: Vec::new(alloc),
+        })
+    }
+
+    /// Comes to the connection of this number. `NotNow` while it is on one, and where the number is not above each earlier one or is above
+    /// 4,000,000,000. It takes no memory.
+    pub fn accept(&mut self, number: u64) -> Result<(), ServerFault>
+        ensures can { IsOk result ↔ (may_accept number self.old.end.server ≡ true) }
+        ensures ok { OnOk result (self.new ≡ with_end self.old (serving_accepted number self.old.end)) }
+        ensures not_now { IfErr result (λ fault. fault ≡ ServerFault.NotNow) }
+        ensures err { OnErr result (self.new ≡ self.old) }
+    {
+        if self.controller.may_accept(number) {
+            self.controller.accept(number);
+            Ok(())
+        } else {
+            Err(ServerFault::NotNow)
+        }
+    }
+
+    /// Takes bytes of the connection, however they were cut. `NotNow` on no connection, `Framing` behind a framing fault, `Memory`.
+    pub fn feed(&mut self, piece: &[u8]) -> Result<(), ServerFault>
+        ensures ok { OnOk result (self.new ≡ with_end self.old (serving_fed piece.now self.old.end)) }
+        ensures not_now { IsErrOf result ServerFault.NotNow ↔ (self.old.end.server.on ≡ false) }
+        ensures framing { self.old.end.server.on ≡ true → IfSome self.old.end.input.fault (λ fault. result ≡ Err (ServerFault.Framing fault)) }
+        ensures others { IfErr result (λ fault. IsFeedFault self.old.end fault) }
+        ensures err { OnErr result (self.new ≡ self.old) }
+    {
+        if !self.controller.is_on() {
+            return Err(ServerFault::NotNow);
+        }
+        match self.input.feed(piece) {
+            Ok(()) => Ok(()),
+            Err(FramingFault::Memory) => Err(ServerFault::Memory),
+            Err(fault) => Err(ServerFault::Framing(fault)),
+        }
+    }
+
+    /// Reads the first whole line, if one is there, and answers it; true where a line was read. `NotNow` on no connection, `Framing` where
+    /// what stands at the front is no line, from then on until the connection is left, `Memory`.
+    pub fn read_one(&mut self) -> Result<bool, ServerFault>
+        ensures ok { OnOk result ((readers : Readers) → AreReaders readers
+            → self.new ≡ with_end self.old (serving_read readers self.old.end)) }
+        ensures read { IfOk result (λ read. IsTrue read ↔ IsLineDue (next_of self.old.end.input.rest)) }
+        ensures not_now { IsErrOf result ServerFault.NotNow ↔ (self.old.end.server.on ≡ false) }
+        ensures framing { IfErr result (λ fault. IsReadFault self.old self.new fault) }
+        ensures memory { IsErrOf result ServerFault.Memory → self.new ≡ self.old }
+        ensures bounded { length self.new.end.out ≤ length self.old.end.out + 10560 }
+    {
+        if !self.controller.is_on() {
+            return Err(ServerFault::NotNow);
+        }
+        let length = match self.input.first_line() {
+            Ok(Some(length)) => length,
+            Ok(None) => return Ok(false),
+            Err(fault) => return Err(ServerFault::Framing(fault)),
+        };
+        if self.out.reserve(ANSWER_MAX).is_err() {
+            return Err(ServerFault::Memory);
+        }
+        let line = &self.input.rest()[..length];
+        if self.controller.read_line(&mut self.out, line).is_err() {
+            return Err(ServerFault::Memory);
+        }
+        self.input.drop_line(length);
+        Ok(true)
+    }
+
+    /// Lets the first waiting command have its turn: it is refused, complete at once, or runs from now on. `NotNow` while something runs and
+    /// where nothing waits, `Memory`.
+    pub fn turn(&mut self) -> Result<(), ServerFault>
+        ensures ok { OnOk result (self.new ≡ with_end self.old (serving_turned self.old.end)) }
+        ensures not_now { IsErrOf result ServerFault.NotNow ↔ (may_turn self.old.end.server ≡ false) }
+        ensures others { IfErr result (λ fault. (fault ≡ ServerFault.NotNow) ⊎ (fault ≡ ServerFault.Memory)) }
+        ensures err { OnErr result (self.new ≡ self.old) }
+        ensures bounded { length self.new.end.out ≤ length self.old.end.out + 10560 }
+    {
+        if !self.controller.may_turn() {
+            return Err(ServerFault::NotNow);
+        }
+        if self.out.reserve(ANSWER_MAX).is_err() {
+            return Err(ServerFault::Memory);
+        }
+        match self.controller.turn(&mut self.out) {
+            Ok(()) => Ok(()),
+            Err(AllocError) => Err(ServerFault::Memory),
+        }
+    }
+
+    /// The job of what runs on the machine, its points in machine axes.
+    pub fn running(&self) -> Option<&Job>
+        ensures { MatchOption result (running_job self.now.end.server ≡ None) (λ job. running_job self.now.end.server ≡ Some job.now) }
+    {
+        self.controller.job()
+    }
+
+    /// The machine is done with what runs. `NothingRuns`; `WrongOutcome` where what runs cannot end so: `Done` ends all but a touch, `Touched`
+    /// and `Missed` end a touch, `Fault` each; `OutOfVolume` where a touched point is past the volume limit; in this order; `Memory`.
+    pub fn machine(&mut self, outcome: Outcome) -> Result<(), ServerFault>
+        ensures ok { OnOk result (self.new ≡ with_end self.old (serving_machined outcome self.old.end)) }
+        ensures can { OnOk result (may_end self.old.end.server.running outcome ≡ true) }
+        ensures nothing_runs { IsErrOf result ServerFault.NothingRuns ↔ (self.old.end.server.running ≡ None) }
+        ensures refused { IfErr result (λ fault. IsMachineFault self.old.end.server outcome fault) }
+        ensures wrong { fits_running self.old.end.server.running outcome ≡ false → IsErr result }
+        ensures outside { may_end self.old.end.server.running outcome ≡ false → IsErr result }
+        ensures err { OnErr result (self.new ≡ self.old) }
+        ensures bounded { length self.new.end.out ≤ length self.old.end.out + 10560 }
+    {
+        self.controller.check(&outcome)?;
+        if self.out.reserve(ANSWER_MAX).is_err() {
+            return Err(ServerFault::Memory);
+        }
+        match self.controller.end(&mut self.out, outcome) {
+            Ok(()) => Ok(()),
+            Err(AllocError) => Err(ServerFault::Memory),
+        }
+    }
+
+    /// Gives the connection up: what runs stops uncompleted, and nothing is answered. Homing, tool, ledger and the last number stay. On no
+    /// connection there is nothing to give up. It takes no memory.
+    pub fn leave(&mut self)
+        ensures { self.new ≡ with_end self.old (serving_left self.old.end) }
+    {
+        self.controller.leave();
+        self.input.clear();
+        self.out.clear();
+    }
+
+    /// Begins again, as after the machine was switched off and on: as `leave`, and homing and tool are given up too. The ledger and the last
+    /// number stay. It takes no memory.
+    pub fn restart(&mut self)
+        ensures { self.new ≡ with_end self.old (serving_restarted self.old.end) }
+    {
+        self.controller.restart();
+        self.input.clear();
+        self.out.clear();
+    }
+
+    /// The bytes that are to be sent.
+    pub fn out(&self) -> &[u8]
+        ensures { result.now ≡ self.now.end.out }
+    {
+        self.out.as_slice()
+    }
+
+    /// The first bytes of `out` were sent. The caller owes that there are so many. It takes no memory.
+    pub fn sent(&mut self, count: usize)
+        requires { count ≤ length self.old.end.out }
+        ensures { self.new ≡ with_end self.old (serving_taken count self.old.end) }
+    {
+        let length = self.out.len();
+        self.out.copy_within(count..length, 0);
+        self.out.truncate(length - count);
+    }
+
+    /// The setup.
+    pub fn setup(&self) -> &Setup
+        ensures { result.now ≡ self.now.setup }
+    {
+        self.controller.setup()
+    }
+
+    /// What was done, with the numbers of the connections.
+    pub fn ledger(&self) -> &ServerLedger
+        ensures { result.now ≡ self.now.end.server.ledger }
+    {
+        self.controller.ledger()
+    }
+
+    /// The state.
+    pub fn view(&self) -> View<'_>
+        ensures connection { result.connection ≡ (if self.now.end.server.on then Some self.now.end.server.last else None) }
+        ensures session { result.session ≡ self.now.end.server.session }
+        ensures homed { result.homed ≡ self.now.end.server.homed }
+        ensures tool { MatchOption result.tool (self.now.end.server.tool ≡ None) (λ tool. self.now.end.server.tool ≡ Some tool.now) }
+        ensures frame { result.frame ≡ self.now.end.server.frame }
+        ensures stored { result.stored ≡ self.now.end.server.stored }
+        ensures error { result.error ≡ self.now.end.server.error }
+    {
+        self.controller.view()
+    }
+}

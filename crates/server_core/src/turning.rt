@@ -1,0 +1,210 @@
+// The first waiting command has its turn (this profile).
+
+ghost use Rattle.std.specs.Prelude.{◌≡◌, ◌≤◌, ◌+◌, ◌++◌, ◌∷◌, [], true, false, None, length, vec_len, vec_capacity, option_map, IfOk, OnOk, OnErr, Some, Ok};
+ghost use Rattle.dme_line.specs.Tags.{IsTag};
+ghost use Rattle.protocol_model.specs.Lines.{reply_bytes};
+ghost use Rattle.dme_line.specs.declared.commands.Command.TheVariants as command;
+ghost use Rattle.protocol_model.specs.Server as server;
+ghost use Rattle.server_core.specs.Serving.{with_answered, may_turn, first_refusal, first_command, runs, IsAtOnce};
+
+use crate::answers::{kind_in, write_all_aborted, write_complete, write_failure};
+use crate::checks::offset;
+use crate::controller::{Controller, Running};
+use crate::machining::record;
+use contact_ledger::Act;
+use dme_line::{Command, Csy, Tag};
+use fixed_um::{Frame, Point};
+use protocol_model::{Job, Line, Waiting};
+use std::alloc::{AllocError, Global};
+
+/// The frame that a coordinate system selects.
+fn frame_of(system: Csy, stored: Point) -> Frame
+    ensures { result ≡ server.frame_of system stored }
+{
+    match system {
+        Csy::MachineCsy => Frame::Machine,
+        Csy::PartCsy => Frame::Part(stored),
+    }
+}
+
+/// What a command that has passed the checks asks of the machine, if anything.
+fn job_of(alloc: Global, frame: Frame, command: &Command) -> Result<Option<Job>, AllocError>
+    requires { server.leaves_volume frame command.now ≡ false }
+    ensures { IfOk result (λ job. job ≡ server.job_of frame command.now) }
+{
+    match command {
+        Command::Home => Ok(Some(Job::Home)),
+        Command::ChangeTool(name) => Ok(Some(Job::Change(name.copy(alloc)?))),
+        Command::GoTo(target) => Ok(target.shifted(offset(frame)).map(|point| Job::Move(point))),
+        Command::PtMeas(target, dir) => {
+            Ok(
+                target
+                    .shifted(offset(frame))
+                    .map(|point| Job::Touch(point, *dir)),
+            )
+        }
+        _ => Ok(None),
+    }
+}
+
+impl Controller {
+    /// The first waiting command is refused with a number, and all others that wait fail with 9007.
+    fn refuse(&mut self, out: &mut Vec<u8>, number: u16)
+        requires refused { first_refusal self.old.server ≡ Some number }
+        requires low { 9001 ≤ number }
+        requires high { number ≤ 9015 }
+        requires room { vec_len out.old + 10560 ≤ vec_capacity out.old }
+        ensures controller { self.new ≡ with_answered self.old (server.server_turned self.old.server) }
+        ensures text { out.new.items ≡ out.old.items ++ reply_bytes (server.server_turned self.old.server).said }
+        ensures len { vec_len out.new ≤ vec_len out.old + 10560 }
+    {
+        let _at_most = self.waiting.len();
+        let Some(command) = self.waiting.take() else {
+            return;
+        };
+        write_failure(out, command.tag, number, kind_in(&command.reading));
+        write_all_aborted(out, &mut self.waiting);
+        self.error = true;
+    }
+
+    /// The first waiting command runs on the machine from now on. Only want of memory is an `Err`.
+    fn start(&mut self) -> Result<(), AllocError>
+        requires passed { first_refusal self.old.server ≡ None }
+        requires runs { runs (first_command self.old.server) ≡ true }
+        requires idle { self.old.server.running ≡ None }
+        ensures controller { OnOk result (self.new ≡ with_answered self.old (server.server_turned self.old.server)) }
+        ensures silent { (server.server_turned self.old.server).said ≡ [] }
+        ensures err { OnErr result (self.new ≡ self.old) }
+    {
+        let Some(
+            Waiting {
+                reading: Ok(command),
+                ..
+            },
+        ) = self.waiting.first()
+        else {
+            return Ok(());
+        };
+        let Some(job) = job_of(self.alloc, self.frame, command)? else {
+            return Ok(());
+        };
+        let Some(
+            Waiting {
+                tag,
+                reading: Ok(command),
+            },
+        ) = self.waiting.take()
+        else {
+            return Ok(());
+        };
+        match &command {
+            Command::Home => self.homed = false,
+            Command::ChangeTool(_) => self.tool = None,
+            _ => {}
+        }
+        self.running = Some(Running {
+            line: Line { tag, command },
+            job,
+        });
+        Ok(())
+    }
+
+    /// The first waiting command selects a coordinate system, and is complete. Only want of memory is an `Err`.
+    fn select_frame(&mut self, out: &mut Vec<u8>, system: Csy) -> Result<(), AllocError>
+        requires passed { first_refusal self.old.server ≡ None }
+        requires idle { self.old.server.running ≡ None }
+        requires selects { first_command self.old.server ≡ Some (command.SetCoordSystem system) }
+        requires room { vec_len out.old + 10560 ≤ vec_capacity out.old }
+        ensures controller { OnOk result (self.new ≡ with_answered self.old (server.server_turned self.old.server)) }
+        ensures text { OnOk result (out.new.items ≡ out.old.items ++ reply_bytes (server.server_turned self.old.server).said) }
+        ensures err { OnErr result (self.new ≡ self.old) }
+        ensures silent { OnErr result (out.new.items ≡ out.old.items) }
+        ensures len { vec_len out.new ≤ vec_len out.old + 10560 }
+    {
+        let frame = frame_of(system, self.stored);
+        record(&mut self.ledger, self.last, Act::Framed(frame))?;
+        self.frame = frame_of(system, self.stored);
+        if let Some(selection) = self.waiting.take() {
+            write_complete(out, selection.tag);
+        }
+        Ok(())
+    }
+
+    /// The first waiting command is one that is complete at once and no act.
+    fn complete_first(&mut self, out: &mut Vec<u8>)
+        requires passed { first_refusal self.old.server ≡ None }
+        requires at_once { IsAtOnce (first_command self.old.server) }
+        requires room { vec_len out.old + 10560 ≤ vec_capacity out.old }
+        ensures controller { self.new ≡ with_answered self.old (server.server_turned self.old.server) }
+        ensures text { out.new.items ≡ out.old.items ++ reply_bytes (server.server_turned self.old.server).said }
+        ensures len { vec_len out.new ≤ vec_len out.old + 10560 }
+    {
+        let Some(
+            Waiting {
+                tag,
+                reading: Ok(command),
+            },
+        ) = self.waiting.take()
+        else {
+            return;
+        };
+        match &command {
+            Command::StartSession => self.session = true,
+            Command::EndSession => self.session = false,
+            Command::SetCsyTransformation(lengths) => self.stored = lengths.opposite(),
+            Command::AbortE => return,
+            _ => {}
+        }
+        write_complete(out, tag);
+    }
+
+    /// The first waiting command is carried out: some are complete at once, the others run. Only want of memory is an `Err`.
+    fn carry_out(&mut self, out: &mut Vec<u8>) -> Result<(), AllocError>
+        requires passed { first_refusal self.old.server ≡ None }
+        requires idle { may_turn self.old.server ≡ true }
+        requires room { vec_len out.old + 10560 ≤ vec_capacity out.old }
+        ensures controller { OnOk result (self.new ≡ with_answered self.old (server.server_turned self.old.server)) }
+        ensures text { OnOk result (out.new.items ≡ out.old.items ++ reply_bytes (server.server_turned self.old.server).said) }
+        ensures err { OnErr result (self.new ≡ self.old) }
+        ensures silent { OnErr result (out.new.items ≡ out.old.items) }
+        ensures len { vec_len out.new ≤ vec_len out.old + 10560 }
+    {
+        let Some(first) = self.waiting.first() else {
+            return Ok(());
+        };
+        match &first.reading {
+            Ok(Command::SetCoordSystem(system)) => {
+                let system = *system;
+                self.select_frame(out, system)
+            }
+            Ok(Command::Home | Command::ChangeTool(_) | Command::GoTo(_) | Command::PtMeas(_, _)) =>
+                self.start(),
+            _ => {
+                self.complete_first(out);
+                Ok(())
+            }
+        }
+    }
+
+    /// The first waiting command has its turn. Only want of memory is an `Err`.
+    pub(crate) fn turn(&mut self, out: &mut Vec<u8>) -> Result<(), AllocError>
+        requires may { may_turn self.old.server ≡ true }
+        requires room { vec_len out.old + 10560 ≤ vec_capacity out.old }
+        ensures controller { OnOk result (self.new ≡ with_answered self.old (server.server_turned self.old.server)) }
+        ensures text { OnOk result (out.new.items ≡ out.old.items ++ reply_bytes (server.server_turned self.old.server).said) }
+        ensures err { OnErr result (self.new ≡ self.old) }
+        ensures silent { OnErr result (out.new.items ≡ out.old.items) }
+        ensures len { vec_len out.new ≤ vec_len out.old + 10560 }
+    {
+        let Some(first) = self.waiting.first() else {
+            return Ok(());
+        };
+        match self.refusal(&first.reading) {
+            Some(number) => {
+                self.refuse(out, number);
+                Ok(())
+            }
+            None => self.carry_out(out),
+        }
+    }
+}

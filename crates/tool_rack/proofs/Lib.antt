@@ -1,0 +1,6 @@
+pub mod LineEnds
+pub mod FieldCuts
+pub mod Lengths
+pub mod Growing
+pub mod LineLaws
+pub mod SpacingLaws

@@ -1,0 +1,5 @@
+pub mod Fields
+pub mod Entries
+pub mod Setups
+pub mod Carrying
+pub mod Spacing

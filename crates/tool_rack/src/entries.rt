@@ -1,0 +1,123 @@
+ghost use Rattle.std.specs.Prelude.{◌≡◌, ◌≤◌, unsigned_abs, IfOk, IfSome};
+ghost use Rattle.fixed_um.specs.Limits.{volume_limit};
+ghost use Rattle.fixed_um.specs.Points.{IsInVolume};
+ghost use Rattle.tool_rack.specs.Fields.{fields_of};
+ghost use Rattle.tool_rack.specs.Entries.{length_of, point_of, tool_entry, frame_entry, shift_entry, fields_entry, entry_on, IsEntryInVolume};
+ghost use Rattle.tool_rack.specs.Setups.{GivesSetup};
+
+use crate::faults::SetupFault;
+use crate::fields::{cut_field, has_outer_space, is_dropped, is_word, one_field, three_fields};
+use fixed_um::{Name, NumeralFault, Point, Um, read_um};
+use std::alloc::Global;
+
+/// What a line of a setup says.
+#[derive(Debug, Drop)]
+pub(crate) enum Entry {
+    Nothing,
+    Tool(Name),
+    /// A frame, with its zero point in machine axes.
+    Frame(Name, Point),
+    Shift(Point),
+}
+
+/// The length that a numeral writes, within the machine's volume.
+fn length(text: &[u8]) -> Result<Um, NumeralFault>
+    ensures value { result ≡ length_of text.now }
+    ensures within { IfOk result (λ length. unsigned_abs length ≤ volume_limit) }
+{
+    read_um(text, Um::volume_limit())
+}
+
+/// The point that three numerals write.
+fn point(x: &[u8], y: &[u8], z: &[u8]) -> Option<Point>
+    ensures value { result ≡ point_of x.now y.now z.now }
+    ensures within { IfSome result IsInVolume }
+{
+    match (length(x), length(y), length(z)) {
+        (Ok(x), Ok(y), Ok(z)) => Some(Point { x, y, z }),
+        _ => None,
+    }
+}
+
+/// What the fields behind `TOOL` say.
+fn tool_entry(alloc: Global, number: u64, values: &[u8]) -> Result<Entry, SetupFault>
+    ensures value { GivesSetup result (tool_entry number (fields_of values.now)) }
+    ensures within { IfOk result IsEntryInVolume }
+{
+    let Some(name) = one_field(values) else {
+        return Err(SetupFault::BadLine(number));
+    };
+    match Name::new(alloc, name)? {
+        Some(name) => Ok(Entry::Tool(name)),
+        None => Err(SetupFault::BadLine(number)),
+    }
+}
+
+/// What the fields behind `FRAME` say.
+fn frame_entry(alloc: Global, number: u64, values: &[u8]) -> Result<Entry, SetupFault>
+    ensures value { GivesSetup result (frame_entry number (fields_of values.now)) }
+    ensures within { IfOk result IsEntryInVolume }
+{
+    let Some((name, rest)) = cut_field(values) else {
+        return Err(SetupFault::BadLine(number));
+    };
+    let Some((x, y, z)) = three_fields(rest) else {
+        return Err(SetupFault::BadLine(number));
+    };
+    let Some(name) = Name::new(alloc, name)? else {
+        return Err(SetupFault::BadLine(number));
+    };
+    match point(x, y, z) {
+        Some(offset) => Ok(Entry::Frame(name, offset)),
+        None => Err(SetupFault::BadNumeral(number)),
+    }
+}
+
+/// What the fields behind `SHIFT` say.
+fn shift_entry(number: u64, values: &[u8]) -> Result<Entry, SetupFault>
+    ensures value { GivesSetup result (shift_entry number (fields_of values.now)) }
+    ensures within { IfOk result IsEntryInVolume }
+{
+    let Some((x, y, z)) = three_fields(values) else {
+        return Err(SetupFault::BadLine(number));
+    };
+    match point(x, y, z) {
+        Some(shift) => Ok(Entry::Shift(shift)),
+        None => Err(SetupFault::BadNumeral(number)),
+    }
+}
+
+/// What the fields of a line say.
+#[tactic(auto, unfolding(crate::specs::Entries::fields_entry))]
+fn fields_entry(alloc: Global, number: u64, line: &[u8]) -> Result<Entry, SetupFault>
+    ensures value { GivesSetup result (fields_entry number (fields_of line.now)) }
+    ensures within { IfOk result IsEntryInVolume }
+{
+    let Some((word, values)) = cut_field(line) else {
+        return Err(SetupFault::BadLine(number));
+    };
+    if is_word(b"TOOL", word) {
+        tool_entry(alloc, number, values)
+    } else if is_word(b"FRAME", word) {
+        frame_entry(alloc, number, values)
+    } else if is_word(b"SHIFT", word) {
+        shift_entry(number, values)
+    } else {
+        Err(SetupFault::BadLine(number))
+    }
+}
+
+/// What the line of this number says by itself.
+#[tactic(auto, unfolding(crate::specs::Entries::entry_on))]
+pub(crate) fn entry_on(alloc: Global, number: u64, line: &[u8]) -> Result<Entry, SetupFault>
+    ensures value { GivesSetup result (entry_on number line.now) }
+    ensures within { IfOk result IsEntryInVolume }
+{
+    if is_dropped(line) {
+        return Ok(Entry::Nothing);
+    }
+    if has_outer_space(line) {
+        return Err(SetupFault::BadLine(number));
+    }
+    fields_entry(alloc, number, line)
+}

@@ -1,0 +1,128 @@
+ghost use Rattle.std.specs.Prelude.{◌≡◌, ◌≢◌, ℕ, ◌∷◌, [], ◌<◌, ◌≤◌, ◌==◌, not, List, length, None, MatchOption, IfSome};
+ghost use Rattle.std.specs.List.{position, prefix_len};
+ghost use Rattle.std.specs.Str.Lines.{lines, strip_carriage_return};
+ghost use Rattle.tool_rack.specs.Fields.{fields_of, is_dropped, has_outer_space, is_word};
+
+/// The bytes without one CR at their end.
+fn without_return(line: &[u8]) -> &[u8]
+    ensures { result.now ≡ strip_carriage_return line.now }
+{
+    match line {
+        [front @ .., b'\r'] => front,
+        _ => line,
+    }
+}
+
+/// Where the first LF stands.
+fn line_feed(bytes: &[u8]) -> Option<usize>
+    ensures place { result ≡ position (λ b. b == 10) bytes.now }
+    ensures within { IfSome result (λ at. at < length bytes.now) }
+{
+    bytes.iter().position(|byte| *byte == b'\n')
+}
+
+/// The first line without its end, and the bytes behind that end; none where there is no byte.
+#[tactic(auto, using(crate::proofs::LineEnds::cuts))]
+pub(crate) fn cut_line(bytes: &[u8]) -> Option<(&[u8], &[u8])>
+    ensures cut { MatchOption result (bytes.now ≡ []) (λ p. lines bytes.now ≡ p.0.now ∷ lines p.1.now) }
+    ensures shorter { IfSome result (λ p. length p.1.now < length bytes.now) }
+{
+    if bytes.is_empty() {
+        return None;
+    }
+    match line_feed(bytes) {
+        Some(at) => {
+            let (line, _) = bytes.split_at(at);
+            let (_, after) = bytes.split_at(at + 1);
+            Some((without_return(line), after))
+        }
+        None => Some(bytes.split_at(bytes.len())),
+    }
+}
+
+/// Whether a line says nothing.
+pub(crate) fn is_dropped(line: &[u8]) -> bool
+    ensures { result ≡ is_dropped line.now }
+{
+    match line {
+        [] => true,
+        [first, ..] => *first == b'#',
+    }
+}
+
+/// Whether a space stands at the start of a line or at its end.
+pub(crate) fn has_outer_space(line: &[u8]) -> bool
+    ensures { result ≡ has_outer_space line.now }
+{
+    match line {
+        [b' ', ..] => true,
+        [.., b' '] => true,
+        _ => false,
+    }
+}
+
+/// Whether a field is this word, its letters in any case.
+pub(crate) fn is_word(name: &[u8], field: &[u8]) -> bool
+    ensures { result ≡ is_word name.now field.now }
+{
+    field.eq_ignore_ascii_case(name)
+}
+
+/// The bytes from the first that is no space on.
+#[tactic(auto, using(crate::proofs::FieldCuts::passes))]
+fn skip_spaces(bytes: &[u8]) -> &[u8]
+    ensures same { fields_of result.now ≡ fields_of bytes.now }
+    ensures front { (c : ℕ) (more : List ℕ) → result.now ≡ c ∷ more → c ≢ 32 }
+{
+    let mut left = bytes;
+    while let Some((first, rest)) = left.split_first() {
+        if *first != b' ' {
+            return left;
+        }
+        left = rest;
+    }
+    left
+}
+
+/// How many bytes stand before the first space.
+fn field_len(bytes: &[u8]) -> usize
+    ensures count { result ≡ prefix_len (λ b. not (b == 32)) bytes.now }
+    ensures within { result ≤ length bytes.now }
+{
+    bytes.iter().take_while(|byte| **byte != b' ').count()
+}
+
+/// The first field, and the bytes behind it; none where there is no field.
+#[tactic(auto, using(crate::proofs::FieldCuts::cuts))]
+pub(crate) fn cut_field(bytes: &[u8]) -> Option<(&[u8], &[u8])>
+    ensures { MatchOption result (fields_of bytes.now ≡ []) (λ p. fields_of bytes.now ≡ p.0.now ∷ fields_of p.1.now) }
+{
+    let text = skip_spaces(bytes);
+    if text.is_empty() {
+        return None;
+    }
+    Some(text.split_at(field_len(text)))
+}
+
+/// The one field; none where there are more, or none at all.
+pub(crate) fn one_field(bytes: &[u8]) -> Option<&[u8]>
+    ensures one { IfSome result (λ x. fields_of bytes.now ≡ x.now ∷ []) }
+    ensures other { result ≡ None → (x : List ℕ) → fields_of bytes.now ≢ x ∷ [] }
+{
+    let (field, rest) = cut_field(bytes)?;
+    match cut_field(rest) {
+        Some(_) => None,
+        None => Some(field),
+    }
+}
+
+/// The three fields; none where there are more or less.
+pub(crate) fn three_fields(bytes: &[u8]) -> Option<(&[u8], &[u8], &[u8])>
+    ensures three { IfSome result (λ p. fields_of bytes.now ≡ p.0.now ∷ p.1.now ∷ p.2.now ∷ []) }
+    ensures other { result ≡ None → (x y z : List ℕ) → fields_of bytes.now ≢ x ∷ y ∷ z ∷ [] }
+{
+    let (first, rest) = cut_field(bytes)?;
+    let (second, rest) = cut_field(rest)?;
+    let third = one_field(rest)?;
+    Some((first, second, third))
+}
