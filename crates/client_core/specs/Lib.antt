@@ -3,3 +3,4 @@ pub mod Kept
 pub mod Tables
 pub mod Clients
 pub mod Refusals
+pub mod Calls

@@ -277,6 +277,13 @@ impl Client {
         self.out.truncate(length - count);
     }
 
+    /// Whether it stands on a connection.
+    pub fn is_on(&self) -> bool
+        ensures { result ≡ self.now.client.on }
+    {
+        self.executor.is_on()
+    }
+
     /// The state.
     pub fn state(&self) -> State
         ensures { result ≡ self.now.client.state }

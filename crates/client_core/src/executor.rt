@@ -231,6 +231,12 @@ impl Executor {
         }
     }
 
+    pub(crate) fn is_on(&self) -> bool
+        ensures { result ≡ self.now.on }
+    {
+        self.on
+    }
+
     pub(crate) fn state(&self) -> State
         ensures { result ≡ self.now.state }
     {

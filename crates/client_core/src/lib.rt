@@ -7,6 +7,7 @@
 // - `progress`: what is counted
 // - `ours`: whose features a client may keep
 // - `faults`: why a call is refused
+// - `laws`: what holds behind every list of calls
 #![tactic(auto)]
 
 mod client;
@@ -14,6 +15,7 @@ mod connecting;
 mod executor;
 mod faults;
 mod hearing;
+mod laws;
 mod lines;
 mod ours;
 mod progress;
@@ -21,5 +23,6 @@ mod sending;
 
 pub use client::Client;
 pub use faults::{ClientFault, NewFault};
+pub use laws::whatever_the_peer_sends;
 pub use protocol_model::{Cause, State};
 pub use sending::LINE_MAX;

@@ -18,13 +18,13 @@ data_failed : (b : Bool) (p : Point) → judged_data b Stage.Failed p ≡ Refuse
 data_failed true p = refl
 data_failed false p = refl
 
-failed_stays : (b : Bool) (k : Kind) (m : Mark) (s : Stage) → judged b k Stage.Failed m ≡ Becomes s → s ≡ Stage.Failed
+pub failed_stays : (b : Bool) (k : Kind) (m : Mark) (s : Stage) → judged b k Stage.Failed m ≡ Becomes s → s ≡ Stage.Failed
 failed_stays b k Mark.Ack s e = absurd (cc)
 failed_stays b k (Mark.Data p) s e = let d : judged_data (b && asks_data k) Stage.Failed p ≡ Refused Cause.OutOfOrder = data_failed (b && asks_data k) p in absurd (cc)
 failed_stays b k Mark.Done s e = absurd (cc)
 failed_stays b k Mark.Error s e = cc
 
-is_failed-true : (s : Stage) → is_failed s ≡ true → s ≡ Stage.Failed
+pub is_failed-true : (s : Stage) → is_failed s ≡ true → s ≡ Stage.Failed
 is_failed-true Stage.Sent e = absurd (false≢true e)
 is_failed-true Stage.Received e = absurd (false≢true e)
 is_failed-true (Stage.Given p) e = absurd (false≢true e)
@@ -102,7 +102,7 @@ never_breaks b k (Mark.Data p) e = let d : judged_data (b && asks_data k) Stage.
 never_breaks b k Mark.Done e = cc
 never_breaks b k Mark.Error e = cc
 
-never_counts : (b : Bool) (k : Kind) (m : Mark) (given : Option Point) → judged b k Stage.Failed m ≡ Counts given → ⊥
+pub never_counts : (b : Bool) (k : Kind) (m : Mark) (given : Option Point) → judged b k Stage.Failed m ≡ Counts given → ⊥
 never_counts b k Mark.Ack given e = cc
 never_counts b k (Mark.Data p) given e = let d : judged_data (b && asks_data k) Stage.Failed p ≡ Refused Cause.OutOfOrder = data_failed (b && asks_data k) p in cc
 never_counts b k Mark.Done given e = cc

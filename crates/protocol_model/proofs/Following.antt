@@ -13,7 +13,7 @@ use Rattle.dmis_program.specs.declared.features.Wanted.{Wanted}
 use Rattle.protocol_model.specs.Replies.{Mark}
 use Rattle.protocol_model.specs.Open.{Effect, Becomes, Closes, Counts, judged, judged_data, judged_done, heard_in, is_failed, asks_data}
 use Rattle.protocol_model.specs.Client.{Tally, Table, act_of, begins_session, measured, counted_next, tallied, heard}
-use Rattle.protocol_model.specs.Undisturbed.{tag_at, act_in, acts_planned, StandsFor, AreFirstActs}
+use Rattle.protocol_model.specs.Undisturbed.{tag_at, act_in, acts_planned, StandsFor, AreActs, AreFirstActs}
 use Rattle.protocol_model.proofs.Walks.{two, staged, heard_cases}
 use Rattle.protocol_model.proofs.Replying.{fine, step_cases}
 use Rattle.protocol_model.proofs.Touching.{Keeps, measured_keeps}
@@ -60,19 +60,13 @@ pub fits_asked : (ps : List Planned) (k : Know) → Fits k ps → AreAsked ps
 fits_asked [] k h = tt
 fits_asked (p ∷ ps) k h = (one_asked k p.command p.does h.0, fits_asked ps (known_by k p.command) h.1)
 
-asked_at : (xs : List Planned) (p : Planned) (ys : List Planned) → AreAsked (xs ++ p ∷ ys) → IsAsked p
+pub asked_at : (xs : List Planned) (p : Planned) (ys : List Planned) → AreAsked (xs ++ p ∷ ys) → IsAsked p
 asked_at [] p ys h = h.0
 asked_at (x ∷ xs) p ys h = asked_at xs p ys h.1
 
 -- ---- acts for what is planned
 
-abbrev pub AreActs : List Act → List Does → Type 0
-AreActs [] [] = Unit {0}
-AreActs (a ∷ acts) [] = ⊥
-AreActs [] (d ∷ ds) = ⊥
-AreActs (a ∷ acts) (d ∷ ds) = StandsFor a d × AreActs acts ds
-
-acts_join : (xs ys : List Act) (ds es : List Does) → AreActs xs ds → AreActs ys es → AreActs (xs ++ ys) (ds ++ es)
+pub acts_join : (xs ys : List Act) (ds es : List Does) → AreActs xs ds → AreActs ys es → AreActs (xs ++ ys) (ds ++ es)
 acts_join [] ys [] es h g = g
 acts_join [] ys (d ∷ ds) es h g = absurd h
 acts_join (a ∷ xs) ys [] es h g = absurd h
@@ -88,7 +82,7 @@ planned_more [] qs = refl
 planned_more (p ∷ ps) qs = ap (λ (l : List Does). act_in p.does ++ l) (planned_more ps qs) ∙ sym (append_assoc (act_in p.does) (acts_planned ps) (acts_planned qs))
 
 -- what is counted stands for what was planned; a touch is counted with its point
-act_stands : (d : Does) (given : Option Point) → (given ≡ None → is_touch d ≡ true → ⊥) → AreActs (act_of d given) (act_in d)
+pub act_stands : (d : Does) (given : Option Point) → (given ≡ None → is_touch d ≡ true → ⊥) → AreActs (act_of d given) (act_in d)
 act_stands Does.Nothing given h = tt
 act_stands Does.Homes given h = (tt, tt)
 act_stands (Does.Moves p f) given h = ((refl, refl), tt)
@@ -133,7 +127,7 @@ data_calm true (Stage.Given q) p s e = absurd (cc)
 data_calm true Stage.Failed p s e = absurd (cc)
 data_calm false stage p s e = absurd (cc)
 
-becomes_calm : (front : Bool) (kind : Kind) (stage : Stage) (m : Mark) (s : Stage) → is_failed stage ≡ false → judged front kind stage m ≡ Becomes s → is_failed s ≡ false
+pub becomes_calm : (front : Bool) (kind : Kind) (stage : Stage) (m : Mark) (s : Stage) → is_failed stage ≡ false → judged front kind stage m ≡ Becomes s → is_failed s ≡ false
 becomes_calm front kind stage (Mark.Data p) s calm e = data_calm (front && asks_data kind) stage p s e
 becomes_calm front kind Stage.Sent Mark.Ack s calm e = let same : Stage.Received ≡ s = cc in ap is_failed (sym same)
 becomes_calm front kind Stage.Received Mark.Ack s calm e = absurd (cc)
@@ -167,7 +161,7 @@ data_closes true (Stage.Given q) p e = cc
 data_closes true Stage.Failed p e = cc
 data_closes false stage p e = cc
 
-no_closes : (front : Bool) (kind : Kind) (stage : Stage) (m : Mark) → is_failed stage ≡ false → judged front kind stage m ≡ Closes → ⊥
+pub no_closes : (front : Bool) (kind : Kind) (stage : Stage) (m : Mark) → is_failed stage ≡ false → judged front kind stage m ≡ Closes → ⊥
 no_closes front kind stage (Mark.Data p) calm e = data_closes (front && asks_data kind) stage p e
 no_closes front kind Stage.Sent Mark.Ack calm e = cc
 no_closes front kind Stage.Received Mark.Ack calm e = cc
@@ -199,7 +193,7 @@ data_counts true (Stage.Given q) p given e = cc
 data_counts true Stage.Failed p given e = cc
 data_counts false stage p given e = cc
 
-no_counts : (kind : Kind) (stage : Stage) (m : Mark) (given : Option Point) → judged false kind stage m ≡ Counts given → ⊥
+pub no_counts : (kind : Kind) (stage : Stage) (m : Mark) (given : Option Point) → judged false kind stage m ≡ Counts given → ⊥
 no_counts kind stage (Mark.Data p) given e = data_counts false stage p given e
 no_counts kind Stage.Sent Mark.Ack given e = cc
 no_counts kind Stage.Received Mark.Ack given e = cc
@@ -215,7 +209,7 @@ no_counts kind (Stage.Given q) Mark.Done given e = cc
 no_counts kind Stage.Failed Mark.Done given e = cc
 
 -- what asks for data is counted with its point
-counts_given : (kind : Kind) (stage : Stage) (m : Mark) → judged true kind stage m ≡ Counts None → asks_data kind ≡ false
+pub counts_given : (kind : Kind) (stage : Stage) (m : Mark) → judged true kind stage m ≡ Counts None → asks_data kind ≡ false
 counts_given kind stage (Mark.Data p) e = absurd (data_counts (asks_data kind) stage p None e)
 counts_given kind Stage.Sent Mark.Ack e = absurd (cc)
 counts_given kind Stage.Received Mark.Ack e = absurd (cc)

@@ -17,7 +17,9 @@ use Rattle.protocol_model.specs.Lines.{Readers}
 use Rattle.protocol_model.specs.Open.{asks_data}
 use Rattle.protocol_model.specs.Client.{Client, next_number, faulted}
 use Rattle.protocol_model.specs.Ends.{held_under, given_point, given_under, response_read, line_read, front_read}
-use Rattle.protocol_model.specs.World.{World, Event, Connect, Accept, ClientSends, Up, ServerReads, ServerTurn, Machine, Down, ClientReads, ClientLeaves, ServerLeaves, Abort, Resume, ClientRestart, ServerRestart, can, happens, after, run_of}
+use Rattle.protocol_model.specs.World.{World, can, happens, after, run_of}
+use Rattle.protocol_model.specs.declared.events.Event.{Event}
+use Rattle.protocol_model.specs.declared.events.Event.TheVariants.{Connect, Accept, ClientSends, Up, ServerReads, ServerTurn, Machine, Down, ClientReads, ClientLeaves, ServerLeaves, Abort, Resume, ClientRestart, ServerRestart}
 use Rattle.protocol_model.proofs.Constant.{read_program, sends_program, aborts_program}
 use Rattle.protocol_model.specs.declared.states.Cause.{Cause}
 

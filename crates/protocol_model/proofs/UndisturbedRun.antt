@@ -15,7 +15,9 @@ use Rattle.protocol_model.specs.Server.{may_end}
 use Rattle.protocol_model.specs.Claims.{acts_on}
 use Rattle.protocol_model.specs.Ends.{ServerEnd, front_served, serving_turned, serving_machined}
 use Rattle.protocol_model.specs.Typed.{World as Lined}
-use Rattle.protocol_model.specs.World.{World, Event, Connect, Accept, ClientSends, Up, ServerReads, ServerTurn, Machine, Down, ClientReads, ClientLeaves, ServerLeaves, Abort, Resume, ClientRestart, ServerRestart, start, can, happens, after, run_of, server_writes, connected}
+use Rattle.protocol_model.specs.World.{World, start, can, happens, after, run_of, server_writes, connected}
+use Rattle.protocol_model.specs.declared.events.Event.{Event}
+use Rattle.protocol_model.specs.declared.events.Event.TheVariants.{Connect, Accept, ClientSends, Up, ServerReads, ServerTurn, Machine, Down, ClientReads, ClientLeaves, ServerLeaves, Abort, Resume, ClientRestart, ServerRestart}
 use Rattle.protocol_model.specs.Undisturbed.{IsUndisturbed, AreUndisturbed, lines_from, AreFirstLines, acts_planned, AreFirstActs, acts_in, AreFirstOf}
 use Rattle.protocol_model.proofs.Basics.{if_true}
 use Rattle.protocol_model.proofs.Blocks.{program_is_plain}

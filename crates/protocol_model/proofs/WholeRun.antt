@@ -6,7 +6,9 @@ use Rattle.dmis_program.specs.Programs.{IsProgram}
 use Rattle.protocol_model.specs.Lines.{Readers, AreReaders}
 use Rattle.protocol_model.specs.Server.{may_end}
 use Rattle.protocol_model.specs.Claims.{Sound, Told}
-use Rattle.protocol_model.specs.World.{World, Event, Connect, Accept, ClientSends, Up, ServerReads, ServerTurn, Machine, Down, ClientReads, ClientLeaves, ServerLeaves, Abort, Resume, ClientRestart, ServerRestart, start, can, happens, after, run_of}
+use Rattle.protocol_model.specs.World.{World, start, can, happens, after, run_of}
+use Rattle.protocol_model.specs.declared.events.Event.{Event}
+use Rattle.protocol_model.specs.declared.events.Event.TheVariants.{Connect, Accept, ClientSends, Up, ServerReads, ServerTurn, Machine, Down, ClientReads, ClientLeaves, ServerLeaves, Abort, Resume, ClientRestart, ServerRestart}
 use Rattle.protocol_model.proofs.Blocks.{program_is_plain}
 use Rattle.protocol_model.proofs.SameProgram.{run_same}
 use Rattle.protocol_model.proofs.Served.{served_sound}

@@ -5,7 +5,8 @@ use Rattle.contact_ledger.specs.declared.acts.Act.TheVariants as act
 use Rattle.dme_line.specs.declared.tags.Tag.{Tag}
 use Rattle.dme_line.specs.declared.tags.Tag.TheVariants.{Std}
 use Rattle.protocol_model.specs.Lines.{command_bytes}
-use Rattle.protocol_model.specs.World.{Event, Connect, Accept, ClientSends, Up, ServerReads, ServerTurn, Machine, Down, ClientReads, ClientLeaves, ServerLeaves, Abort, Resume, ClientRestart, ServerRestart}
+use Rattle.protocol_model.specs.declared.events.Event.{Event}
+use Rattle.protocol_model.specs.declared.events.Event.TheVariants.{Connect, Accept, ClientSends, Up, ServerReads, ServerTurn, Machine, Down, ClientReads, ClientLeaves, ServerLeaves, Abort, Resume, ClientRestart, ServerRestart}
 use Rattle.protocol_model.specs.declared.lines.Line.{Line}
 use Rattle.protocol_model.specs.declared.machine.Outcome.{Outcome}
 use Rattle.protocol_model.specs.declared.plans.Does.{Does}
@@ -79,6 +80,13 @@ StandsFor (act.Changed n) (Does.Changes m) = n ≡ m
 StandsFor (act.Framed f) (Does.Frames g) = f ≡ g
 StandsFor (act.Contact target dir tool frame point) (Does.Touches t last) = (target ≡ t.target) × (dir ≡ t.dir) × (tool ≡ t.tool) × (frame ≡ t.frame)
 StandsFor _ _ = ⊥
+
+-- acts are what is planned, one for one
+abbrev pub AreActs : List Act → List Does → Type 0
+AreActs [] [] = Unit {0}
+AreActs (a ∷ acts) [] = ⊥
+AreActs [] (d ∷ ds) = ⊥
+AreActs (a ∷ acts) (d ∷ ds) = StandsFor a d × AreActs acts ds
 
 -- acts are the first of those that are planned, one for one
 abbrev pub AreFirstActs : List Act → List Does → Type 0

@@ -8,6 +8,8 @@ use Rattle.protocol_model.specs.Plan.{is_empty}
 use Rattle.protocol_model.specs.Client.{due, is_apart, may_abort, may_resume}
 use Rattle.protocol_model.specs.Server.{may_end}
 use Rattle.protocol_model.specs.Ends.{ClientEnd, ServerEnd, new_client_end, end_connected, end_sent, end_aborted, end_fed, end_read, end_resumed, end_left, end_restarted, new_server_end, serving_accepted, serving_fed, serving_read, serving_turned, serving_machined, serving_left, serving_restarted}
+use Rattle.protocol_model.specs.declared.events.Event.{Event}
+use Rattle.protocol_model.specs.declared.events.Event.TheVariants.{Connect, Accept, ClientSends, Up, ServerReads, ServerTurn, Machine, Down, ClientReads, ClientLeaves, ServerLeaves, Abort, Resume, ClientRestart, ServerRestart}
 use Rattle.protocol_model.specs.declared.states.State.{State}
 use Rattle.protocol_model.specs.declared.machine.Outcome.{Outcome}
 
@@ -34,24 +36,6 @@ link_of links n = slice_index_or links (n - 1) no_link
 -- other bytes for the connection of this number
 abbrev pub with_link : List Link → ℕ → Link → List Link
 with_link links n link = slice_set links (n - 1) link
-
--- the events of a world: a connection is made, or taken by its number; lines are sent and read; so many bytes move up or down; a waiting command has its turn, and the machine is done; a side leaves; the client aborts or resumes; a side restarts, the client with so many features
-pub data Event : Type 0 where
-  Connect : Event
-  Accept : ℕ → Event
-  ClientSends : Event
-  Up : ℕ → Event
-  ServerReads : Event
-  ServerTurn : Event
-  Machine : Outcome → Event
-  Down : ℕ → Event
-  ClientReads : Event
-  ClientLeaves : Event
-  ServerLeaves : Event
-  Abort : Event
-  Resume : Event
-  ClientRestart : ℕ → Event
-  ServerRestart : Event
 
 -- a client with this program and this window, and a server with this rack, neither ever on a connection
 abbrev pub start : Meaning → List (List ℕ) → ℕ → World

@@ -3,7 +3,8 @@
 //
 // - `specs/`: lines as values, plans, open commands, the client, the server, what is claimed, their lines as bytes, both ends with the
 //   bytes between them, the language of replies, and worked rows
-// - `lines`, `machine`, `plans`, `held`, `states`: lines as values, jobs and outcomes, planned commands, open commands, states of a client
+// - `lines`, `machine`, `plans`, `held`, `states`, `events`: lines as values, jobs and outcomes, planned commands, open commands, states of
+//   a client, what can happen between both ends
 // - `theorem`: the theorem over every list of events, with the bytes between both ends
 // - `typed`: the same where lines are carried as values
 // - `replies`: the language of replies and the table of marks
@@ -13,6 +14,7 @@
 // - `rows`: worked rows, as examples that the definitions compute
 #![tactic(auto)]
 
+pub mod events;
 pub mod held;
 pub mod lines;
 pub mod machine;
@@ -26,6 +28,7 @@ pub mod theorem;
 pub mod typed;
 pub mod undisturbed;
 
+pub use events::Event;
 pub use held::{Held, Stage};
 pub use lines::{Line, Waiting};
 pub use machine::{Job, Outcome};

@@ -6,7 +6,8 @@ ghost use Rattle.dmis_program.specs.Programs.{IsProgram};
 ghost use Rattle.protocol_model.specs.Lines.{Readers, AreReaders};
 ghost use Rattle.protocol_model.specs.declared.states.State.TheVariants as State;
 ghost use Rattle.protocol_model.specs.Claims.{Sound, Told};
-ghost use Rattle.protocol_model.specs.World.{World, Event, start, run_of};
+ghost use Rattle.protocol_model.specs.World.{World, start, run_of};
+ghost use Rattle.protocol_model.specs.declared.events.Event.{Event};
 
 /// After every list of events, from any program, any rack and any window up to 16:
 ///

@@ -5,7 +5,8 @@ ghost use Rattle.dmis_program.specs.Meaning.{Meaning};
 ghost use Rattle.dmis_program.specs.Programs.{IsProgram};
 ghost use Rattle.protocol_model.specs.Lines.{Readers, AreReaders};
 ghost use Rattle.protocol_model.specs.Plan.{plan};
-ghost use Rattle.protocol_model.specs.World.{Event, start, run_of};
+ghost use Rattle.protocol_model.specs.World.{start, run_of};
+ghost use Rattle.protocol_model.specs.declared.events.Event.{Event};
 ghost use Rattle.protocol_model.specs.Undisturbed.{AreUndisturbed, AreFirstLines, acts_planned, AreFirstActs, acts_in, AreFirstOf};
 ghost use Rattle.protocol_model.specs.declared.plans.Start.TheVariants as Start;
 

@@ -1,7 +1,9 @@
 // The commands of a plan.
 
-ghost use Rattle.std.specs.Prelude.{◌≡◌, ◌≤◌, ◌++◌, ◌∷◌, [], length, All, OnOk, IfOk, option_copied};
+ghost use Rattle.std.specs.Prelude.{◌≡◌, ◌≤◌, ◌++◌, ◌∷◌, [], length, All, OnOk, IfOk, drop, option_copied};
 ghost use Rattle.dmis_program.specs.Meaning.{block_touches};
+ghost use Rattle.dmis_program.specs.Programs.{feature_touches};
+ghost use Rattle.protocol_model.specs.PlanReading.{touches_of};
 ghost use Rattle.protocol_model.specs.Plan.{planned, framing, tooling, stepping, measuring, clearing, starting, plan, is_empty};
 ghost use Rattle.resume_plan.specs.Sendable.{IsSendable};
 
@@ -153,6 +155,8 @@ pub fn plan(
     ensures plan { IfOk result (λ planned. planned.items ≡ plan program.now completed start) }
     // Each of its commands can be written under a standard tag.
     ensures sendable { IfOk result (λ planned. All IsSendable planned.items) }
+    // Its touches are, in order, those of the features that are left, each with its target, direction, tool and frame.
+    ensures touches { IfOk result (λ planned. touches_of planned.items ≡ feature_touches (drop completed program.now.features)) }
 {
     let mut commands = Commands {
         alloc,

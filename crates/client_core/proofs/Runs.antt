@@ -1,0 +1,512 @@
+-- What a client holds and counts behind every list of calls.
+use Rattle.std.proofs.Common.{◌≡◌, ℕ, suc, ◌+◌, ◌≤◌, ◌==◌, Bool, true, false, cond, ◌&&◌, ◌||◌, not, is_some, List, [], ◌∷◌, ◌++◌, length, take, drop, refl, sym, ◌∙◌, ap, subst, arith, append_assoc, append-nil, length-append, Option, Some, None, Result, Ok, Err, eqb, eqb-true, le_refl}
+use Rattle.std.proofs.Math.Seq.{take-append_seam}
+use Rattle.std.proofs.lemmas.Bool.{false≢true}
+use Rattle.fixed_um.specs.declared.lengths.Point.{Point}
+use Rattle.dme_line.specs.Kinds.{kind_of}
+use Rattle.dme_line.specs.declared.tags.Tag.{Tag}
+use Rattle.dme_line.specs.declared.tags.Tag.TheVariants as tag
+use Rattle.dme_line.specs.declared.commands.Kind.{Kind}
+use Rattle.dme_line.specs.declared.points.NotPoint.{NotPoint}
+use Rattle.dme_line.specs.declared.responses.Mark.{Mark as Marked}
+use Rattle.dme_line.specs.declared.responses.Mark.TheVariants as mark
+use Rattle.dme_line.specs.declared.responses.Response.{Response}
+use Rattle.dme_line.specs.declared.responses.ResponseFault.{ResponseFault}
+use Rattle.dme_line.specs.declared.responses.ResponseFault.TheVariants as refused
+use Rattle.line_framing.specs.Next.{Front, next_of}
+use Rattle.line_framing.specs.declared.faults.FramingFault.TheVariants as framing
+use Rattle.contact_ledger.specs.declared.acts.Act.{Act}
+use Rattle.contact_ledger.specs.declared.features.Feature.{Feature}
+use Rattle.dmis_program.specs.Meaning.{Meaning}
+use Rattle.dmis_program.specs.Programs.{IsProgram}
+use Rattle.dmis_program.specs.declared.features.Wanted.{Wanted}
+use Rattle.protocol_model.specs.Replies.{Mark, tag_is}
+use Rattle.protocol_model.specs.Lines.{Readers}
+use Rattle.protocol_model.specs.Open.{Effect, heard_in, asks_data, count_open}
+use Rattle.protocol_model.specs.Client.{Client, Table, Tally, act_of, measured, counted_next, begins_session, tallied, heard, heard_on, faulted, new_client, client_connected, is_running, first_due, due, held_now, sends_next, next_number, sends_abort, may_abort, first_state, last_state, state_behind, is_whole, ends_abort, client_hears, client_read, may_resume, client_resumed, client_left, left_state, client_restarted}
+use Rattle.protocol_model.specs.Ends.{ClientEnd, new_client_end, held_under, given_point, given_under, response_read, line_read, front_read}
+use Rattle.protocol_model.specs.Plan.{plan}
+use Rattle.protocol_model.specs.PlanReading.{end_of, ends_of, feature_ends}
+use Rattle.protocol_model.specs.Undisturbed.{act_in, acts_planned, AreActs}
+use Rattle.protocol_model.specs.declared.states.State.{State}
+use Rattle.protocol_model.specs.declared.states.Cause.{Cause}
+use Rattle.protocol_model.specs.declared.held.Held.{Held}
+use Rattle.protocol_model.specs.declared.plans.Planned.{Planned}
+use Rattle.protocol_model.specs.declared.plans.Does.{Does}
+use Rattle.protocol_model.specs.declared.plans.Start.{Start}
+use Rattle.protocol_model.proofs.Basics.{if_false}
+use Rattle.protocol_model.proofs.Blocks.{program_is_plain}
+use Rattle.protocol_model.proofs.Marks.{plan_fits}
+use Rattle.protocol_model.proofs.PlanLaws.{plan_ends_left}
+use Rattle.protocol_model.proofs.Fitting.{unknown}
+use Rattle.protocol_model.proofs.Walks.{two}
+use Rattle.protocol_model.proofs.Counts.{count_keeps}
+use Rattle.protocol_model.proofs.Replying.{fine, tabled, step_cases}
+use Rattle.protocol_model.proofs.Touching.{Keeps, measured_keeps}
+use Rattle.protocol_model.proofs.Following.{is_touch, AreAsked, IsAsked, fits_asked, asked_at, acts_join, act_stands, planned_more, kinds_of}
+use Rattle.client_core.specs.Calls.{Call, Connected, Send, Feed, ReadOne, Abort, Resume, Leave, Restart, Sent, possible, done_by, behind_call, behind_calls, Begun, start_behind, acts_of_fronts, AreCounted}
+use Rattle.client_core.specs.Clients.{are_ours, may_connect, may_read}
+use Rattle.client_core.proofs.Fits.{Fits, both, fits_ours, plan_fits_features, point_fits, last_fits, fewer_are_ours}
+use Rattle.client_core.proofs.Fronts.{live_kinds, Fronted, fronted, none_live, live_more}
+
+-- ---- what holds on a connection
+
+-- the plan that was begun behind so many features: the counted front of it, the acts and the features that it gave, and what is open of it
+pub record IsOnPlan (p : Meaning) (hs : List Held) (y : Tally) (unsent : List Planned) (features : ℕ) (earlier : List Begun) : Type 0 where
+  pub finished : List Planned
+  pub parts : finished ++ y.todo ≡ plan p features (start_behind earlier)
+  pub many : length finished ≡ y.completed
+  pub acts : AreActs y.counted (acts_of_fronts p earlier ++ acts_planned finished)
+  pub fits : Fits p.features y.features (length y.points) (ends_of y.todo)
+  pub calm : y.failed ≡ false → live_kinds hs ++ kinds_of unsent ≡ kinds_of y.todo
+
+plan_asked : (p : Meaning) (k : ℕ) (start : Start) → IsProgram p → AreAsked (plan p k start)
+plan_asked p k start h = fits_asked (plan p k start) unknown (plan_fits p k start unknown (program_is_plain p h))
+
+-- ---- what is counted
+
+abbrev first_kind : List Kind → Kind → Kind
+first_kind [] d = d
+first_kind (k ∷ ks) d = k
+
+abbrev other_kinds : List Kind → List Kind
+other_kinds [] = []
+other_kinds (k ∷ ks) = ks
+
+measured_completed : (ws : List Wanted) (does : Does) (given : Option Point) (y : Tally) → (measured ws does given y).completed ≡ y.completed
+measured_completed ws (Does.Touches t false) (Some p) y = refl
+measured_completed ws (Does.Touches t true) (Some p) y = refl
+measured_completed ws (Does.Touches t last) None y = refl
+measured_completed ws Does.Nothing given y = refl
+measured_completed ws Does.Homes given y = refl
+measured_completed ws (Does.Moves p f) given y = refl
+measured_completed ws (Does.Changes n) given y = refl
+measured_completed ws (Does.Frames f) given y = refl
+
+measured_fits : (p : Meaning) → IsProgram p → (does : Does) (given : Option Point) (y : Tally) (rest : List Planned) → (given ≡ None → is_touch does ≡ true → ⊥)
+    → Fits p.features y.features (length y.points) (end_of does ++ ends_of rest)
+    → Fits p.features (measured p.features does given y).features (length (measured p.features does given y).points) (ends_of rest)
+measured_fits p program (Does.Touches t false) (Some q) y rest has h =
+    subst (λ (n : ℕ). Fits p.features y.features n (ends_of rest)) (omega (arith, length-append y.points (q ∷ []))) (point_fits p.features y.features (length y.points) (ends_of rest) h)
+measured_fits p program (Does.Touches t true) (Some q) y rest has h = last_fits p.features y.features y.points q (ends_of rest) (IsProgram.features program) h
+measured_fits p program (Does.Touches t last) None y rest has h = absurd (has refl refl)
+measured_fits p program Does.Nothing given y rest has h = h
+measured_fits p program Does.Homes given y rest has h = h
+measured_fits p program (Does.Moves q f) given y rest has h = h
+measured_fits p program (Does.Changes n) given y rest has h = h
+measured_fits p program (Does.Frames f) given y rest has h = h
+
+counts_on : (p : Meaning) → IsProgram p → (y : Tally) (gs : List Held) (kind : Kind) (given : Option Point) (todo finished unsent : List Planned) (features : ℕ) (earlier : List Begun)
+    → finished ++ todo ≡ plan p features (start_behind earlier) → length finished ≡ y.completed → AreActs y.counted (acts_of_fronts p earlier ++ acts_planned finished)
+    → Fits p.features y.features (length y.points) (ends_of todo) → kind ∷ (live_kinds gs ++ kinds_of unsent) ≡ kinds_of todo → (given ≡ None → asks_data kind ≡ false)
+    → IsOnPlan p gs (counted_next p.features kind given todo y) unsent features earlier
+counts_on p program y gs kind given [] finished unsent features earlier parts many acts fits kinds given_one = absurd (no kinds)
+  where
+    no : kind ∷ (live_kinds gs ++ kinds_of unsent) ≡ [] → ⊥
+    no e = cc
+counts_on p program y gs kind given (q ∷ rest) finished unsent features earlier parts many acts fits kinds given_one =
+    let same : kind_of q.command ≡ kind = sym (ap (λ (l : List Kind). first_kind l kind) kinds) in
+    let others : live_kinds gs ++ kinds_of unsent ≡ kinds_of rest = ap other_kinds kinds in
+    let one : IsAsked q = asked_at finished q rest (subst AreAsked (sym parts) (plan_asked p features (start_behind earlier) program)) in
+    let has : given ≡ None → is_touch q.does ≡ true → ⊥ = λ none touch. false≢true (sym (given_one none) ∙ (ap asks_data (sym same) ∙ one touch)) in
+    let mid : Tally = record y { session = y.session || begins_session kind; todo = rest; counted = y.counted ++ act_of q.does given; completed = suc y.completed } in
+    let keeps : Keeps mid (measured p.features q.does given mid) = measured_keeps p.features q.does given mid in
+    let stands : AreActs (y.counted ++ act_of q.does given) ((acts_of_fronts p earlier ++ acts_planned finished) ++ act_in q.does) =
+    acts_join y.counted (act_of q.does given) (acts_of_fronts p earlier ++ acts_planned finished) (act_in q.does) acts (act_stands q.does given has) in
+    let longer : (acts_of_fronts p earlier ++ acts_planned finished) ++ act_in q.does ≡ acts_of_fronts p earlier ++ acts_planned (finished ++ q ∷ []) =
+    append_assoc (acts_of_fronts p earlier) (acts_planned finished) (act_in q.does)
+    ∙ ap (λ (l : List Does). acts_of_fronts p earlier ++ l) (ap (λ (l : List Does). acts_planned finished ++ l) (sym (append-nil (act_in q.does))) ∙ sym (planned_more finished (q ∷ []))) in
+    record {
+      finished = finished ++ q ∷ [];
+      parts = ap (λ (l : List Planned). (finished ++ q ∷ []) ++ l) keeps.todo ∙ (append_assoc finished (q ∷ []) rest ∙ parts);
+      many = length-append finished (q ∷ []) ∙ (omega (arith, many) ∙ sym (measured_completed p.features q.does given mid));
+      acts = subst (λ (l : List Act). AreActs l (acts_of_fronts p earlier ++ acts_planned (finished ++ q ∷ []))) (sym keeps.counted)
+          (subst (λ (l : List Does). AreActs (y.counted ++ act_of q.does given) l) longer stands);
+      fits = subst (λ (l : List Planned). Fits p.features (measured p.features q.does given mid).features (length (measured p.features q.does given mid).points) (ends_of l)) (sym keeps.todo)
+          (measured_fits p program q.does given mid rest has fits);
+      calm = λ e. others ∙ ap kinds_of (sym keeps.todo);
+    }
+
+-- ---- a reply
+
+not_true : (b : Bool) → not b ≡ true → b ≡ false
+not_true true e = absurd (false≢true e)
+not_true false e = refl
+
+effect_on : (p : Meaning) → IsProgram p → (hs gs : List Held) (y : Tally) (unsent : List Planned) (features : ℕ) (earlier : List Begun) (e : Effect)
+    → IsOnPlan p hs y unsent features earlier → Fronted (not y.failed) (live_kinds hs) (live_kinds gs) e → IsOnPlan p gs (tallied p.features e y) unsent features earlier
+effect_on p program hs gs y unsent features earlier Effect.Quiet f h =
+    record { finished = f.finished; parts = f.parts; many = f.many; acts = f.acts; fits = f.fits; calm = λ still. ap (λ (l : List Kind). l ++ kinds_of unsent) h ∙ f.calm still }
+effect_on p program hs gs y unsent features earlier Effect.Failure f h =
+    record { finished = f.finished; parts = f.parts; many = f.many; acts = f.acts; fits = f.fits; calm = λ still. absurd (false≢true (sym still)) }
+effect_on p program hs gs y unsent features earlier (Effect.Count kind given) f h =
+    counts_on p program y gs kind given y.todo f.finished unsent features earlier f.parts f.many f.acts f.fits
+    (ap (λ (l : List Kind). l ++ kinds_of unsent) (sym h.1) ∙ f.calm (not_true y.failed h.0)) h.2
+
+abbrev OnPlan : Meaning → Table → List Planned → ℕ → List Begun → Type 0
+OnPlan p b unsent features earlier = IsOnPlan p b.standard b.tally unsent features earlier
+
+record Heard (p : Meaning) (b c : Table) (unsent : List Planned) (features : ℕ) (earlier : List Begun) : Type 0 where
+  plan_is : OnPlan p c unsent features earlier
+  fewer : count_open c.standard ≤ count_open b.standard
+
+heard_on_plan : (p : Meaning) → IsProgram p → (b c : Table) (t : Tag) (m : Mark) (unsent : List Planned) (features : ℕ) (earlier : List Begun) → heard p.features b t m ≡ fine c
+    → OnPlan p b unsent features earlier → Heard p b c unsent features earlier
+heard_on_plan p program b c t m unsent features earlier is f =
+    step_cases p.features b t m c (Heard p b c unsent features earlier) is
+    (λ zero_tag same. subst (λ (x : Table). Heard p b x unsent features earlier) same (record { plan_is = f; fewer = le_refl (count_open b.standard) }))
+    (λ n hs e sort here after. subst (λ (x : Table). Heard p b x unsent features earlier) (sym after)
+    (record {
+      plan_is = effect_on p program b.standard hs b.tally unsent features earlier e f (fronted (not b.tally.failed) b.standard (tag.Std n) m hs e here);
+      fewer = count_keeps (not b.tally.failed) b.standard (tag.Std n) m hs e here;
+    }))
+    (λ n hs e sort other here after. subst (λ (x : Table). Heard p b x unsent features earlier) (sym after) (record { plan_is = f; fewer = le_refl (count_open b.standard) }))
+
+-- ---- states
+
+-- where it has halted nothing is open
+abbrev Rests : State → List Held → Type 0
+Rests State.Halted hs = count_open hs ≡ 0
+Rests State.Apart hs = Unit {0}
+Rests State.Running hs = Unit {0}
+Rests State.Failing hs = Unit {0}
+Rests State.Aborting hs = Unit {0}
+Rests State.Done hs = Unit {0}
+Rests State.Faulted hs = Unit {0}
+
+failing_rests : (b : Table) → Rests (last_state State.Failing (is_whole b) (count_open b.standard)) b.standard
+failing_rests b = go (is_whole b) (eqb (count_open b.standard) 0) refl
+  where
+    go : (whole none : Bool) → eqb (count_open b.standard) 0 ≡ none → Rests (cond whole State.Done (cond none State.Halted State.Failing)) b.standard
+    go true none e = tt
+    go false true e = eqb-true (count_open b.standard) 0 e
+    go false false e = tt
+
+running_rests : (b : Table) → Rests (last_state State.Running (is_whole b) (count_open b.standard)) b.standard
+running_rests b = go (is_whole b)
+  where
+    go : (whole : Bool) → Rests (cond whole State.Done State.Running) b.standard
+    go true = tt
+    go false = tt
+
+behind_rests : (state : State) (ends : Bool) (b : Table) (hs : List Held) → Rests state hs → count_open b.standard ≤ count_open hs → Rests (state_behind state ends b) b.standard
+behind_rests State.Apart ends b hs h le = tt
+behind_rests State.Running ends b hs h le = go b.tally.failed
+  where
+    go : (failed : Bool) → Rests (last_state (first_state State.Running ends failed) (is_whole b) (count_open b.standard)) b.standard
+    go true = failing_rests b
+    go false = running_rests b
+behind_rests State.Failing ends b hs h le = failing_rests b
+behind_rests State.Aborting true b hs h le = failing_rests b
+behind_rests State.Aborting false b hs h le = tt
+behind_rests State.Halted ends b hs h le = let none : count_open hs ≡ 0 = h in omega (arith, none, le)
+behind_rests State.Done ends b hs h le = tt
+behind_rests State.Faulted ends b hs h le = tt
+
+-- on no connection it is apart or done
+abbrev IsOff : State → Type 0
+IsOff State.Apart = Unit {0}
+IsOff State.Done = Unit {0}
+IsOff State.Running = ⊥
+IsOff State.Failing = ⊥
+IsOff State.Aborting = ⊥
+IsOff State.Halted = ⊥
+IsOff State.Faulted = ⊥
+
+-- ---- what holds at any time
+
+record Reads (c : Client) : Type 0 where
+  features : ℕ
+  earlier : List Begun
+  plan_is : OnPlan c.program c.table c.unsent features earlier
+
+record Holds (p : Meaning) (c : Client) : Type 0 where
+  program : IsProgram c.program
+  same : c.program ≡ p
+  ours : are_ours c.program.features c.table.tally.features ≡ true
+  counted : AreCounted c.program c.table.tally.counted c.table.tally.completed
+  live : c.on ≡ true → Reads c
+  off : c.on ≡ false → IsOff c.state
+  rests : Rests c.state c.table.standard
+
+front_is : (p : Meaning) (y : Tally) (hs : List Held) (unsent : List Planned) (features : ℕ) (earlier : List Begun) → (f : IsOnPlan p hs y unsent features earlier)
+    → take y.completed (plan p features (start_behind earlier)) ≡ f.finished
+front_is p y hs unsent features earlier f =
+    subst (λ (n : ℕ). take n (plan p features (start_behind earlier)) ≡ f.finished) f.many
+    (ap (λ (l : List Planned). take (length f.finished) l) (sym f.parts) ∙ take-append_seam f.finished y.todo)
+
+counted_front : (p : Meaning) (y : Tally) (hs : List Held) (unsent : List Planned) (features : ℕ) (earlier : List Begun) → IsOnPlan p hs y unsent features earlier
+    → AreActs y.counted (acts_of_fronts p (record { features = features; completed = y.completed } ∷ earlier))
+counted_front p y hs unsent features earlier f =
+    subst (λ (l : List Planned). AreActs y.counted (acts_of_fronts p earlier ++ acts_planned l)) (sym (front_is p y hs unsent features earlier f)) f.acts
+
+-- what holds on a connection holds
+read_holds : (p : Meaning) (c : Client) → IsProgram c.program → c.program ≡ p → c.on ≡ true → (r : Reads c) → Rests c.state c.table.standard → Holds p c
+read_holds p c program same on r rests = record {
+  program = program;
+  same = same;
+  ours = fits_ours c.program.features c.table.tally.features (length c.table.tally.points) (ends_of c.table.tally.todo) r.plan_is.fits;
+  counted = record { features = r.features; earlier = r.earlier; acts = counted_front c.program c.table.tally c.table.standard c.unsent r.features r.earlier r.plan_is };
+  live = λ e. r;
+  off = λ e. absurd (false≢true (sym e ∙ on));
+  rests = rests;
+}
+
+faulted_holds : (p : Meaning) (c : Client) (cause : Cause) → c.on ≡ true → Holds p c → Holds p (faulted cause c)
+faulted_holds p c cause on h = record {
+  program = h.program;
+  same = h.same;
+  ours = h.ours;
+  counted = h.counted;
+  live = λ e. let r : Reads c = h.live e in record { features = r.features; earlier = r.earlier; plan_is = r.plan_is };
+  off = λ e. absurd (false≢true (sym e ∙ on));
+  rests = tt;
+}
+
+-- ---- what is read
+
+hears_holds : (p : Meaning) (c : Client) (t : Tag) (m : Mark) → c.on ≡ true → Holds p c → (r : Result Table Cause) → heard c.program.features c.table t m ≡ r → Holds p (client_hears c t m r)
+hears_holds p c t m on h (Ok b) is =
+    let r : Reads c = h.live on in
+    let now : Heard c.program c.table b c.unsent r.features r.earlier = heard_on_plan c.program h.program c.table b t m c.unsent r.features r.earlier is r.plan_is in
+    read_holds p (client_hears c t m (Ok b)) h.program h.same on (record { features = r.features; earlier = r.earlier; plan_is = now.plan_is })
+    (behind_rests c.state (ends_abort c.abort t m) b c.table.standard h.rests now.fewer)
+hears_holds p c t m on h (Err cause) is = faulted_holds p c cause on h
+
+reply_holds : (p : Meaning) (c : Client) (t : Tag) (m : Mark) → c.on ≡ true → Holds p c → Holds p (client_read c t m)
+reply_holds p c t m on h = go (tag_is t (tag.Event 0)) refl
+  where
+    go : (b : Bool) → tag_is t (tag.Event 0) ≡ b → Holds p (cond b c (client_hears c t m (heard_on c.program.features c.table t m)))
+    go true e = h
+    go false e = hears_holds p c t m on h (heard_on c.program.features c.table t m) (if_false {A = Result Table Cause} (tag_is t (tag.Event 0)) (fine c.table) (heard_on c.program.features c.table t m) e)
+
+either_holds : (p : Meaning) (b : Bool) (c d : Client) → Holds p c → Holds p d → Holds p (cond b c d)
+either_holds p true c d h g = h
+either_holds p false c d h g = g
+
+point_holds : (p : Meaning) (c : Client) (t : Tag) (r : Result Point NotPoint) → c.on ≡ true → Holds p c → Holds p (given_point c t r)
+point_holds p c t (Ok q) on h = reply_holds p c t (Mark.Data q) on h
+point_holds p c t (Err why) on h = faulted_holds p c Cause.NotResponse on h
+
+under_holds : (readers : Readers) (p : Meaning) (c : Client) (t : Tag) (text : List ℕ) (kind : Option Kind) → c.on ≡ true → Holds p c → Holds p (given_under readers c t text kind)
+under_holds readers p c t text None on h = faulted_holds p c Cause.UnknownTag on h
+under_holds readers p c t text (Some k) on h =
+    either_holds p (asks_data k) (given_point c t (readers.point text)) (faulted Cause.OutOfOrder c) (point_holds p c t (readers.point text) on h) (faulted_holds p c Cause.OutOfOrder on h)
+
+response_holds : (readers : Readers) (p : Meaning) (c : Client) (t : Tag) (m : Marked) → c.on ≡ true → Holds p c → Holds p (response_read readers c t m)
+response_holds readers p c t mark.Ack on h = reply_holds p c t Mark.Ack on h
+response_holds readers p c t (mark.Given text) on h =
+    either_holds p (tag_is t (tag.Event 0)) c (given_under readers c t text (held_under t c)) h (under_holds readers p c t text (held_under t c) on h)
+response_holds readers p c t mark.Done on h = reply_holds p c t Mark.Done on h
+response_holds readers p c t (mark.Error text) on h = reply_holds p c t Mark.Error on h
+
+line_holds : (readers : Readers) (p : Meaning) (c : Client) (r : Result Response ResponseFault) → c.on ≡ true → Holds p c → Holds p (line_read readers c r)
+line_holds readers p c (Ok r) on h = response_holds readers p c r.tag r.mark on h
+line_holds readers p c (Err refused.NotResponse) on h = faulted_holds p c Cause.NotResponse on h
+line_holds readers p c (Err refused.Memory) on h = h
+
+front_holds : (readers : Readers) (p : Meaning) (c : Client) (f : Front) → c.on ≡ true → Holds p c → Holds p (front_read readers c f)
+front_holds readers p c (Ok None) on h = h
+front_holds readers p c (Ok (Some (line, rest))) on h = line_holds readers p c (readers.response line) on h
+front_holds readers p c (Err framing.LineTooLong) on h = faulted_holds p c Cause.LineTooLong on h
+front_holds readers p c (Err framing.BadByte) on h = faulted_holds p c Cause.BadByte on h
+front_holds readers p c (Err framing.Memory) on h = h
+
+-- ---- what is written
+
+on_unless_off : (c : Client) → (c.on ≡ false → ⊥) → c.on ≡ true
+on_unless_off c never = go c.on refl
+  where
+    go : (b : Bool) → c.on ≡ b → c.on ≡ true
+    go true e = e
+    go false e = absurd (never e)
+
+running_by : (s : State) → is_running s ≡ true → s ≡ State.Running
+running_by State.Running e = refl
+running_by State.Apart e = absurd (false≢true e)
+running_by State.Failing e = absurd (false≢true e)
+running_by State.Aborting e = absurd (false≢true e)
+running_by State.Halted e = absurd (false≢true e)
+running_by State.Done e = absurd (false≢true e)
+running_by State.Faulted e = absurd (false≢true e)
+
+due_running : (c : Client) → is_some (due c) ≡ true → c.state ≡ State.Running
+due_running c e = go (is_running c.state) refl e
+  where
+    go : (b : Bool) → is_running c.state ≡ b → is_some (cond b (first_due c.window (count_open c.table.standard) c.unsent) None) ≡ true → c.state ≡ State.Running
+    go true r is = running_by c.state r
+    go false r is = absurd (false≢true is)
+
+sends_holds : (p : Meaning) (c : Client) (l : List Planned) (number : Option ℕ) → c.unsent ≡ l → c.state ≡ State.Running → Holds p c → Holds p (sends_next c l number).client
+sends_holds p c [] number e running h = h
+sends_holds p c (q ∷ qs) None e running h = faulted_holds p c Cause.TagsSpent (on_unless_off c (λ off. subst IsOff running (h.off off))) h
+sends_holds p c (q ∷ qs) (Some n) e running h =
+    let on : c.on ≡ true = on_unless_off c (λ off. subst IsOff running (h.off off)) in
+    let r : Reads c = h.live on in
+    let x : Held = held_now (tag.Std n) (kind_of q.command) in
+    read_holds p (sends_next c (q ∷ qs) (Some n)).client h.program h.same on (record {
+      features = r.features;
+      earlier = r.earlier;
+      plan_is = record {
+        finished = r.plan_is.finished;
+        parts = r.plan_is.parts;
+        many = r.plan_is.many;
+        acts = r.plan_is.acts;
+        fits = r.plan_is.fits;
+        calm = λ still. ap (λ (l : List Kind). l ++ kinds_of qs) (live_more c.table.standard x refl)
+            ∙ (append_assoc (live_kinds c.table.standard) (kind_of q.command ∷ []) (kinds_of qs) ∙ (ap (λ (l : List Planned). live_kinds c.table.standard ++ kinds_of l) (sym e) ∙ r.plan_is.calm still));
+      };
+    }) (subst (λ (s : State). Rests s (c.table.standard ++ x ∷ [])) (sym running) tt)
+
+may_abort_on : (s : State) → may_abort s ≡ true → IsOff s → ⊥
+may_abort_on State.Apart e off = false≢true e
+may_abort_on State.Running e off = off
+may_abort_on State.Failing e off = off
+may_abort_on State.Aborting e off = off
+may_abort_on State.Halted e off = off
+may_abort_on State.Done e off = false≢true e
+may_abort_on State.Faulted e off = off
+
+aborts_holds : (p : Meaning) (c : Client) (number : Option ℕ) → c.on ≡ true → Holds p c → Holds p (sends_abort c number).client
+aborts_holds p c None on h = faulted_holds p c Cause.TagsSpent on h
+aborts_holds p c (Some n) on h =
+    let r : Reads c = h.live on in
+    read_holds p (sends_abort c (Some n)).client h.program h.same on (record { features = r.features; earlier = r.earlier; plan_is = r.plan_is }) tt
+
+-- ---- plans are begun
+
+begins_fit : (p : Meaning) (fs : List Feature) (start : Start) → IsProgram p → are_ours p.features fs ≡ true → Fits p.features fs 0 (ends_of (plan p (length fs) start))
+begins_fit p fs start program ours =
+    subst (λ (l : List Bool). Fits p.features fs 0 l) (sym (plan_ends_left p (length fs) start program)) (plan_fits_features p.features fs (IsProgram.features program) ours)
+
+connected_holds : (p : Meaning) (n : ℕ) (c : Client) → Holds p c → Holds p (client_connected n c)
+connected_holds p n c h =
+    read_holds p (client_connected n c) h.program h.same refl (record {
+      features = length c.table.tally.features;
+      earlier = [];
+      plan_is = record { finished = []; parts = refl; many = refl; acts = tt; fits = begins_fit c.program c.table.tally.features Start.NewConnection h.program h.ours; calm = λ still. refl };
+    }) tt
+
+resumed_state : (c : Client) (s : State) → may_resume c s ≡ true → s ≡ State.Halted
+resumed_state c State.Halted e = refl
+resumed_state c State.Apart e = absurd (false≢true e)
+resumed_state c State.Running e = absurd (false≢true e)
+resumed_state c State.Failing e = absurd (false≢true e)
+resumed_state c State.Aborting e = absurd (false≢true e)
+resumed_state c State.Done e = absurd (false≢true e)
+resumed_state c State.Faulted e = absurd (false≢true e)
+
+resumed_holds : (p : Meaning) (c : Client) → c.state ≡ State.Halted → Holds p c → Holds p (client_resumed c)
+resumed_holds p c halted h =
+    let on : c.on ≡ true = on_unless_off c (λ off. subst IsOff halted (h.off off)) in
+    let r : Reads c = h.live on in
+    let none : live_kinds c.table.standard ≡ [] = none_live c.table.standard (subst (λ (s : State). Rests s c.table.standard) halted h.rests) in
+    let steps : List Planned = plan c.program (length c.table.tally.features) Start.SameConnection in
+    read_holds p (client_resumed c) h.program h.same on (record {
+      features = length c.table.tally.features;
+      earlier = record { features = r.features; completed = c.table.tally.completed } ∷ r.earlier;
+      plan_is = record {
+        finished = [];
+        parts = refl;
+        many = refl;
+        acts = subst (λ (l : List Does). AreActs c.table.tally.counted l) (sym (append-nil (acts_of_fronts c.program (record { features = r.features; completed = c.table.tally.completed } ∷ r.earlier))))
+            (counted_front c.program c.table.tally c.table.standard c.unsent r.features r.earlier r.plan_is);
+        fits = begins_fit c.program c.table.tally.features Start.SameConnection h.program h.ours;
+        calm = λ still. ap (λ (l : List Kind). l ++ kinds_of steps) none;
+      };
+    }) tt
+
+-- ---- the connection is given up
+
+left_off : (s : State) → IsOff (left_state s)
+left_off State.Done = tt
+left_off State.Apart = tt
+left_off State.Running = tt
+left_off State.Failing = tt
+left_off State.Aborting = tt
+left_off State.Halted = tt
+left_off State.Faulted = tt
+
+left_rests : (s : State) (hs : List Held) → Rests (left_state s) hs
+left_rests State.Done hs = tt
+left_rests State.Apart hs = tt
+left_rests State.Running hs = tt
+left_rests State.Failing hs = tt
+left_rests State.Aborting hs = tt
+left_rests State.Halted hs = tt
+left_rests State.Faulted hs = tt
+
+left_holds : (p : Meaning) (c : Client) → Holds p c → Holds p (client_left c)
+left_holds p c h = record {
+  program = h.program;
+  same = h.same;
+  ours = h.ours;
+  counted = h.counted;
+  live = λ e. absurd (false≢true e);
+  off = λ e. left_off c.state;
+  rests = left_rests c.state c.table.standard;
+}
+
+new_holds : (p : Meaning) (fs : List Feature) (window : ℕ) → IsProgram p → are_ours p.features fs ≡ true → Holds p (new_client p fs window)
+new_holds p fs window program ours = record {
+  program = program;
+  same = refl;
+  ours = ours;
+  counted = record { features = 0; earlier = []; acts = tt };
+  live = λ e. absurd (false≢true e);
+  off = λ e. tt;
+  rests = tt;
+}
+
+restarted_holds : (p : Meaning) (k : ℕ) (c : Client) → Holds p c → Holds p (client_restarted k c)
+restarted_holds p k c h = record {
+  program = h.program;
+  same = h.same;
+  ours = fewer_are_ours c.program.features c.table.tally.features k h.ours;
+  counted = record { features = 0; earlier = []; acts = tt };
+  live = λ e. absurd (false≢true e);
+  off = λ e. tt;
+  rests = tt;
+}
+
+-- ---- calls
+
+read_on : (c : Client) → may_read c ≡ true → c.on ≡ true
+read_on c e = (both c.on _ e).0
+
+done_holds : (readers : Readers) (p : Meaning) (call : Call) (e : ClientEnd) → possible call e ≡ true → Holds p e.client → Holds p (done_by readers call e).client
+done_holds readers p (Connected n) e may h = connected_holds p n e.client h
+done_holds readers p Send e may h = sends_holds p e.client e.client.unsent (next_number tag.Std e.client.table.standard e.client.drawn) refl (due_running e.client may) h
+done_holds readers p (Feed bytes) e may h = h
+done_holds readers p ReadOne e may h = front_holds readers p e.client (next_of e.input.rest) (read_on e.client may) h
+done_holds readers p Abort e may h =
+    aborts_holds p e.client (next_number tag.Event e.client.table.event e.client.event_drawn) (on_unless_off e.client (λ off. may_abort_on e.client.state may (h.off off))) h
+done_holds readers p Resume e may h = resumed_holds p e.client (resumed_state e.client e.client.state may) h
+done_holds readers p Leave e may h = left_holds p e.client h
+done_holds readers p (Restart k) e may h = restarted_holds p k e.client h
+done_holds readers p (Sent k) e may h = h
+
+call_holds : (readers : Readers) (p : Meaning) (call : Call) (e : ClientEnd) → Holds p e.client → Holds p (behind_call readers call e).client
+call_holds readers p call e h = go (possible call e) refl
+  where
+    go : (b : Bool) → possible call e ≡ b → Holds p (cond b (done_by readers call e) e).client
+    go true may = done_holds readers p call e may h
+    go false never = h
+
+calls_hold : (readers : Readers) (p : Meaning) (calls : List Call) (e : ClientEnd) → Holds p e.client → Holds p (behind_calls readers calls e).client
+calls_hold readers p [] e h = h
+calls_hold readers p (call ∷ calls) e h = calls_hold readers p calls (behind_call readers call e) (call_holds readers p call e h)
+
+-- the features that a client holds are the first of its program
+pub features_are_ours : (readers : Readers) (p : Meaning) (kept : List Feature) (window : ℕ) (calls : List Call) → IsProgram p → are_ours p.features kept ≡ true
+    → are_ours p.features (behind_calls readers calls (new_client_end p kept window)).client.table.tally.features ≡ true
+features_are_ours readers p kept window calls program ours =
+    let h : Holds p (behind_calls readers calls (new_client_end p kept window)).client = calls_hold readers p calls (new_client_end p kept window) (new_holds p kept window program ours) in
+    subst (λ (q : Meaning). are_ours q.features (behind_calls readers calls (new_client_end p kept window)).client.table.tally.features ≡ true) h.same h.ours
+
+-- and the acts that it has counted are those of the counted fronts of its plans
+pub counted_are_planned : (readers : Readers) (p : Meaning) (kept : List Feature) (window : ℕ) (calls : List Call) → IsProgram p → are_ours p.features kept ≡ true
+    → AreCounted p (behind_calls readers calls (new_client_end p kept window)).client.table.tally.counted (behind_calls readers calls (new_client_end p kept window)).client.table.tally.completed
+counted_are_planned readers p kept window calls program ours =
+    let h : Holds p (behind_calls readers calls (new_client_end p kept window)).client = calls_hold readers p calls (new_client_end p kept window) (new_holds p kept window program ours) in
+    subst (λ (q : Meaning). AreCounted q (behind_calls readers calls (new_client_end p kept window)).client.table.tally.counted (behind_calls readers calls (new_client_end p kept window)).client.table.tally.completed) h.same h.counted
