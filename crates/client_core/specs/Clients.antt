@@ -1,10 +1,9 @@
 -- What callers see of a client: when each call is possible, and whose features it may keep (this profile).
-use Rattle.std.specs.Prelude.{◌≡◌, ◌≢◌, ℕ, ◌==◌, nat_lt, nat_le, Bool, true, false, not, ◌&&◌, List, [], ◌∷◌, length, Ok, Err, bytes_eq, Option, Some, None}
+use Rattle.std.specs.Prelude.{ℕ, ◌==◌, nat_lt, nat_le, Bool, true, false, not, ◌&&◌, List, [], ◌∷◌, length, bytes_eq}
 use Rattle.contact_ledger.specs.declared.features.Feature.{Feature}
 use Rattle.dmis_program.specs.declared.features.Wanted.{Wanted}
 use Rattle.protocol_model.specs.Client.{Client}
 use Rattle.protocol_model.specs.declared.states.State.{State}
-use Rattle.protocol_model.specs.declared.states.State.TheVariants as State
 
 -- a feature has the label of a wanted one, and as many points as that has touches
 abbrev pub is_ours : Wanted → Feature → Bool

@@ -1,11 +1,10 @@
 -- What holds of a client at any time, whatever its peer sends (this profile).
-use Rattle.std.specs.Prelude.{◌≡◌, ℕ, ◌≤◌, List, All, length, Option, IsSome}
+use Rattle.std.specs.Prelude.{ℕ, ◌≤◌, List, All, length, Option, IsSome}
 use Rattle.contact_ledger.specs.declared.features.Feature.{Feature}
 use Rattle.dmis_program.specs.declared.features.Wanted.{Wanted}
 use Rattle.protocol_model.specs.declared.plans.Planned.{Planned}
 use Rattle.protocol_model.specs.declared.states.Cause.{Cause}
 use Rattle.protocol_model.specs.declared.states.State.{State}
-use Rattle.protocol_model.specs.declared.states.State.TheVariants as State
 use Rattle.resume_plan.specs.Sendable.{IsSendable}
 
 -- a Faulted client has a cause

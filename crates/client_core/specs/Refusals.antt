@@ -1,10 +1,8 @@
 -- Why calls of a client are refused (this profile).
 use Rattle.std.specs.Prelude.{◌≡◌, ◌⊎◌, Bool, true, false, Some}
-use Rattle.protocol_model.specs.Lines.{Readers, AreReaders}
 use Rattle.protocol_model.specs.Client.{Client}
 use Rattle.protocol_model.specs.Ends.{ClientEnd}
-use Rattle.protocol_model.specs.declared.states.Cause.{Cause}
-use Rattle.client_core.specs.Clients.{is_faulted, may_read}
+use Rattle.client_core.specs.Clients.{is_faulted}
 use Rattle.client_core.specs.declared.faults.ClientFault.{ClientFault}
 use Rattle.client_core.specs.declared.faults.ClientFault.TheVariants as fault
 

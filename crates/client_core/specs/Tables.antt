@@ -1,5 +1,5 @@
 -- The open commands and what is counted, as one table (this profile).
-use Rattle.std.specs.Prelude.{ℕ, Bool, true, false, List, Option, Some, None}
+use Rattle.std.specs.Prelude.{Bool, true, false, List, Option, Some, None}
 use Rattle.dme_line.specs.declared.tags.Tag.{Tag}
 use Rattle.dme_line.specs.declared.tags.Tag.TheVariants.{Std, Event}
 use Rattle.dme_line.specs.declared.commands.Command.{Command}

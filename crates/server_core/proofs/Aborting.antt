@@ -1,5 +1,5 @@
 -- The lines of what waits, one command after another.
-use Rattle.std.proofs.Common.{◌≡◌, ◌++◌, ◌∷◌, ◌+◌, ◌*◌, ◌≤◌, ℕ, suc, [], Option, List, length, refl, sym, ap, append_assoc, ◌∙◌}
+use Rattle.std.proofs.Common.{◌≡◌, ◌++◌, ◌∷◌, ℕ, suc, [], Option, List, length, sym, ap, append_assoc, ◌∙◌}
 use Rattle.protocol_model.specs.Lines.{reply_bytes}
 use Rattle.protocol_model.specs.Server.{fails, all_fail, running_fails, kind_in}
 use Rattle.dme_line.specs.declared.tags.Tag.{Tag}

@@ -10,7 +10,6 @@ use Rattle.dme_line.specs.declared.commands.Command.{Command}
 use Rattle.dme_line.specs.declared.commands.Command.TheVariants as command
 use Rattle.contact_ledger.specs.declared.acts.Act.{Act}
 use Rattle.contact_ledger.specs.declared.acts.Act.TheVariants as act
-use Rattle.protocol_model.specs.Replies.{Reply}
 use Rattle.protocol_model.specs.Lines.{reply_bytes}
 use Rattle.protocol_model.specs.Claims.{Made, contacts}
 use Rattle.protocol_model.specs.Server.{Server, offset, server_turned, finished, touched, machined, server_machined}

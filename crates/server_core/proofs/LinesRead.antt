@@ -1,8 +1,8 @@
 -- What is read of a line fits a server, and is read in one way.
-use Rattle.std.proofs.Common.{◌≡◌, ℕ, List, Result, Ok, Err, refl, sym, ap}
+use Rattle.std.proofs.Common.{◌≡◌, ℕ, List, Result, Ok, Err}
 use Rattle.dme_line.specs.Tags.{IsTag, IsNumbered}
-use Rattle.dme_line.specs.Written.{HasVolumeLengths, HasArguments, IsWritable}
-use Rattle.dme_line.specs.CommandText.{ReadsCommand, IsCommandText}
+use Rattle.dme_line.specs.Written.{HasVolumeLengths, HasArguments}
+use Rattle.dme_line.specs.CommandText.{ReadsCommand}
 use Rattle.dme_line.specs.declared.tags.Tag.{Tag}
 use Rattle.dme_line.specs.declared.tags.Tag.TheVariants.{Std, Event}
 use Rattle.dme_line.specs.declared.commands.Command.{Command}

@@ -1,5 +1,5 @@
 -- What holds of a server at any time, whatever lines and outcomes have come (this profile).
-use Rattle.std.specs.Prelude.{◌≡◌, ℕ, List, [], Option, Some, None, Result, Ok, Err, true, false, IsSome}
+use Rattle.std.specs.Prelude.{◌≡◌, [], Option, Some, None, Result, Ok, Err, true, false, IsSome}
 use Rattle.std.specs.List.{AllByRecursion}
 use Rattle.fixed_um.specs.Points.{IsInVolume}
 use Rattle.dme_line.specs.Tags.{IsTag}

@@ -15,7 +15,6 @@ use Rattle.protocol_model.specs.Server.{Server, Answer, new_server, refusal, may
 use Rattle.protocol_model.specs.Ends.{ServerEnd, new_server_end}
 use Rattle.protocol_model.specs.declared.lines.Line.{Line}
 use Rattle.protocol_model.specs.declared.machine.Outcome.{Outcome}
-use Rattle.protocol_model.specs.declared.machine.Outcome.TheVariants as Outcome
 
 -- a server's setup, and its end of a connection
 pub record Serving : Type 0 where

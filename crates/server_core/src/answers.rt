@@ -1,6 +1,6 @@
 // The lines with which a server answers.
 
-ghost use Rattle.std.specs.Prelude.{◌≡◌, ◌≤◌, ◌+◌, ◌*◌, ◌++◌, ◌∷◌, [], length, vec_len, vec_capacity};
+ghost use Rattle.std.specs.Prelude.{◌≡◌, ◌≤◌, ◌+◌, ◌*◌, ◌++◌, ◌∷◌, [], Err, length, vec_len, vec_capacity};
 ghost use Rattle.std.specs.List.{AllByRecursion};
 ghost use Rattle.dme_line.specs.Tags.{IsTag};
 ghost use Rattle.dme_line.specs.Points.{IsOnWire};
@@ -95,14 +95,23 @@ pub(crate) fn write_failure(out: &mut Vec<u8>, tag: Tag, code: u16, kind: Option
     write_complete(out, tag);
 }
 
+/// The kind of a command whose line is faulty, where it is known.
+pub(crate) fn kind_of_fault(fault: &LineFault) -> Option<Kind>
+    ensures { result ≡ kind_in (Err fault.now) }
+{
+    match fault {
+        LineFault::BadArguments(_, kind) => Some(*kind),
+        LineFault::NoTag | LineFault::UnknownCommand(_) | LineFault::Memory => None,
+    }
+}
+
 /// The kind of what was read, where it is known.
 pub(crate) fn kind_in(reading: &Result<Command, LineFault>) -> Option<Kind>
     ensures { result ≡ kind_in reading.now }
 {
     match reading {
         Ok(command) => Some(command.kind()),
-        Err(LineFault::BadArguments(_, kind)) => Some(*kind),
-        Err(LineFault::NoTag | LineFault::UnknownCommand(_) | LineFault::Memory) => None,
+        Err(fault) => kind_of_fault(fault),
     }
 }
 

@@ -9,10 +9,11 @@ ghost use Rattle.server_core.specs.Serving.{with_answered};
 ghost use Rattle.server_core.specs.Kept.{IsReadingFit, IsRunningFit, IsLineFit};
 
 use crate::answers::{
-    kind_in, write_all_aborted, write_complete, write_error, write_failure, write_received,
+    kind_in, kind_of_fault, write_all_aborted, write_complete, write_error, write_failure,
+    write_received,
 };
 use crate::controller::{Controller, Running};
-use dme_line::{Command, Kind, LineFault, Tag, read_command};
+use dme_line::{Command, LineFault, Tag, read_command};
 use protocol_model::Waiting;
 use std::alloc::AllocError;
 
@@ -49,16 +50,6 @@ fn write_running_aborted(out: &mut Vec<u8>, running: &Option<Running>)
             9007,
             Some(running.line.command.kind()),
         );
-    }
-}
-
-/// The kind of a command whose line is faulty, where it is known.
-fn kind_of_fault(fault: &LineFault) -> Option<Kind>
-    ensures { result ≡ server.kind_in (Err fault.now) }
-{
-    match fault {
-        LineFault::BadArguments(_, kind) => Some(*kind),
-        LineFault::NoTag | LineFault::UnknownCommand(_) | LineFault::Memory => None,
     }
 }
 

@@ -6,6 +6,7 @@ use crate::{Job, Outcome, Server, ServerFault};
 use contact_ledger::Act;
 use fixed_um::{Dir, Frame, Point, Um, read_um, write_dir, write_um};
 use std::alloc::{AllocError, Global};
+use std::process::Abort;
 use std::test::Fail;
 use tool_rack::Setup;
 
@@ -231,6 +232,99 @@ turn => 00001 %;
 00002 GoTo(X(0), Y(0), Z(0)) => 00002 &;
 turn => 00002 ! Error(3, 9010, \"GoTo\", \"Not homed\");00002 %;
 ledger => 1 HOMED;1 FRAMED M;1 CHANGED P1;1 CONTACT 1.000 0.000 0.000 D -1.000000 0.000000 0.000000 P1 M 1.002 0.000 0.000;1 MOVED 1.000 2.000 3.000 M;1 FRAMED P 100.000 0.000 0.000;1 CONTACT 30.000 0.000 0.000 N P1 P 100.000 0.000 0.000 29.999 0.001 0.000;1 CHANGED P2;";
+
+/// A touch, a homing, a change and a move run while so many commands wait that the next is refused. Each pair of scripts stands before and
+/// behind that. What runs ends as ever, the error state stays, and nothing else is done until it is ended.
+const TOUCH_RUNS: &str = "\
+accept 7 => 
+00001 StartSession() => 00001 &;
+turn => 00001 %;
+00002 Home() => 00002 &;
+turn => 
+done => 00002 %;
+00003 ChangeTool(\"P1\") => 00003 &;
+turn => 
+done => 00003 %;
+00004 SetCsyTransformation(PartCsy, -100, 0, 0, 0, 0, 0) => 00004 &;
+turn => 00004 %;
+00005 SetCoordSystem(PartCsy) => 00005 &;
+turn => 00005 %;
+00006 PtMeas(X(30), Y(0), Z(0), IJK(-1, 0, 0)) => 00006 &;
+turn => 
+state => on 7;session;homed;P1;P 100.000 0.000 0.000;100.000 0.000 0.000;no error;";
+
+const TOUCH_ENDS: &str = "\
+state => on 7;session;homed;P1;P 100.000 0.000 0.000;100.000 0.000 0.000;error;
+running => Touch 130.000 0.000 0.000 D -1.000000 0.000000 0.000000
+turn => NotNow
+done => WrongOutcome
+00006 Home() => E0000 ! Error(3, 9002, \"\", \"Tag in use\");
+00101 Home() => 00101 &;00101 ! Error(3, 9008, \"Home\", \"Error state\");00101 %;
+00165 GoTo(X(0), Y(0)) => 00165 &;00165 ! Error(3, 9008, \"GoTo\", \"Error state\");00165 %;
+turn => NotNow
+touched 129.998 0 0.004 => 00006 # X(29.998), Y(0.000), Z(0.004);00006 %;
+running => nothing
+state => on 7;session;homed;P1;P 100.000 0.000 0.000;100.000 0.000 0.000;error;
+turn => NotNow
+touched 129.998 0 0.004 => NothingRuns
+00007 EndSession() => 00007 &;00007 ! Error(3, 9008, \"EndSession\", \"Error state\");00007 %;
+turn => NotNow
+read => no line;
+state => on 7;session;homed;P1;P 100.000 0.000 0.000;100.000 0.000 0.000;error;
+ledger => 7 HOMED;7 CHANGED P1;7 FRAMED P 100.000 0.000 0.000;7 CONTACT 30.000 0.000 0.000 D -1.000000 0.000000 0.000000 P1 P 100.000 0.000 0.000 29.998 0.000 0.004;
+00008 ClearAllErrors() => 00008 &;
+00009 GoTo(X(0), Y(0), Z(0)) => 00009 &;
+turn => 00008 %;
+turn => 
+running => Move 100.000 0.000 0.000
+done => 00009 %;
+turn => NotNow";
+
+const HOME_RUNS: &str = "\
+00010 Home() => 00010 &;
+turn => 
+state => on 7;session;not homed;P1;P 100.000 0.000 0.000;100.000 0.000 0.000;no error;";
+
+const HOME_ENDS: &str = "\
+state => on 7;session;not homed;P1;P 100.000 0.000 0.000;100.000 0.000 0.000;error;
+running => Home
+turn => NotNow
+done => 00010 %;
+state => on 7;session;homed;P1;P 100.000 0.000 0.000;100.000 0.000 0.000;error;
+turn => NotNow
+00011 Home() => 00011 &;00011 ! Error(3, 9008, \"Home\", \"Error state\");00011 %;
+clear => 09999 &;09999 %;";
+
+const CHANGE_RUNS: &str = "\
+00012 ChangeTool(\"P2\") => 00012 &;
+turn => 
+state => on 7;session;homed;no tool;P 100.000 0.000 0.000;100.000 0.000 0.000;no error;";
+
+const CHANGE_ENDS: &str = "\
+state => on 7;session;homed;no tool;P 100.000 0.000 0.000;100.000 0.000 0.000;error;
+running => Change P2
+turn => NotNow
+done => 00012 %;
+state => on 7;session;homed;P2;P 100.000 0.000 0.000;100.000 0.000 0.000;error;
+turn => NotNow
+clear => 09999 &;09999 %;";
+
+/// The error state is ended while the move still runs, and what waits then has its turn behind the move.
+const MOVE_RUNS: &str = "\
+00013 GoTo(X(1), Y(2), Z(3)) => 00013 &;
+turn => ";
+
+const MOVE_ENDS: &str = "\
+running => Move 101.000 2.000 3.000
+00014 ClearAllErrors() => 00014 &;
+state => on 7;session;homed;P2;P 100.000 0.000 0.000;100.000 0.000 0.000;no error;
+00015 SetCoordSystem(MachineCsy) => 00015 &;
+turn => NotNow
+done => 00013 %;
+turn => 00014 %;
+turn => 00015 %;
+turn => NotNow
+ledger => 7 HOMED;7 CHANGED P1;7 FRAMED P 100.000 0.000 0.000;7 CONTACT 30.000 0.000 0.000 D -1.000000 0.000000 0.000000 P1 P 100.000 0.000 0.000 29.998 0.000 0.004;7 MOVED 0.000 0.000 0.000 P 100.000 0.000 0.000;7 HOMED;7 CHANGED P2;7 MOVED 1.000 2.000 3.000 P 100.000 0.000 0.000;7 FRAMED M;";
 
 fn new_server(alloc: Global) -> Result<Option<Server>, AllocError> {
     match Setup::read(alloc, SETUP) {
@@ -460,6 +554,26 @@ fn answer(alloc: Global, server: &mut Server, action: &str) -> Result<Vec<u8>, A
     Ok(text)
 }
 
+/// Plays a script, and counts its rows.
+fn rows_played(
+    rt: &impl Abort,
+    alloc: Global,
+    server: &mut Server,
+    script: &str,
+) -> Result<u64, Fail> {
+    let mut rows = 0u64;
+    for row in script.lines() {
+        let Some((action, wanted)) = row.split_once(" => ") else {
+            assert!(rt; false, "{row}");
+            return Ok(rows);
+        };
+        let found = answer(alloc, server, action)?;
+        assert_eq!(rt; found.as_slice(), wanted.as_bytes(), "{row}");
+        rows = rows.saturating_add(1);
+    }
+    Ok(rows)
+}
+
 #[test]
 fn each_action_has_its_answer(rt: HostRuntime) -> Result<(), Fail> {
     let alloc = rt.alloc();
@@ -469,15 +583,7 @@ fn each_action_has_its_answer(rt: HostRuntime) -> Result<(), Fail> {
             assert!(rt; false, "the setup");
             return Ok(());
         };
-        for row in script.lines() {
-            let Some((action, wanted)) = row.split_once(" => ") else {
-                assert!(rt; false, "{row}");
-                return Ok(());
-            };
-            let found = answer(alloc, &mut server, action)?;
-            assert_eq!(rt; found.as_slice(), wanted.as_bytes(), "{row}");
-            rows = rows.saturating_add(1);
-        }
+        rows = rows.saturating_add(rows_played(&rt, alloc, &mut server, script)?);
     }
     assert_eq!(rt; rows, 211);
     Ok(())
@@ -494,15 +600,18 @@ fn push_failure(
     out.extend_from_slice(lines.as_bytes())
 }
 
-/// What 65 commands `Home()` with no turn between them answer.
-fn queue_full(alloc: Global) -> Result<Vec<u8>, AllocError> {
+/// What 65 commands `Home()` behind this number, with no turn between them, answer.
+fn queue_full(alloc: Global, number: u32) -> Result<Vec<u8>, AllocError> {
     let mut wanted = Vec::new(alloc);
-    for number in 1..=65u32 {
-        wanted.extend_from_slice(format!(in alloc; "{number:05} &\r\n")?.as_bytes())?;
+    for nth in 1..=65u32 {
+        let tag = number.saturating_add(nth);
+        wanted.extend_from_slice(format!(in alloc; "{tag:05} &\r\n")?.as_bytes())?;
     }
-    push_failure(alloc, &mut wanted, 65, "9009, \"Home\", \"Queue full\"")?;
-    for number in 1..=64u32 {
-        push_failure(alloc, &mut wanted, number, "9007, \"Home\", \"Aborted\"")?;
+    let last = number.saturating_add(65);
+    push_failure(alloc, &mut wanted, last, "9009, \"Home\", \"Queue full\"")?;
+    for nth in 1..=64u32 {
+        let tag = number.saturating_add(nth);
+        push_failure(alloc, &mut wanted, tag, "9007, \"Home\", \"Aborted\"")?;
     }
     Ok(wanted)
 }
@@ -512,11 +621,11 @@ fn is_home_read(alloc: Global, server: &mut Server, number: u32) -> Result<bool,
     Ok(feed_line(server, line.as_bytes(), b"\r\n") == Ok(true))
 }
 
-/// How many of 65 commands `Home()` are read.
-fn homes_read(alloc: Global, server: &mut Server) -> Result<u32, AllocError> {
+/// How many of 65 commands `Home()` behind this number are read.
+fn homes_read(alloc: Global, server: &mut Server, number: u32) -> Result<u32, AllocError> {
     let mut count = 0u32;
-    for number in 1..=65u32 {
-        if is_home_read(alloc, server, number)? {
+    for nth in 1..=65u32 {
+        if is_home_read(alloc, server, number.saturating_add(nth))? {
             count = count.saturating_add(1);
         }
     }
@@ -537,12 +646,37 @@ fn the_65th_command_fails_and_all_that_wait(rt: HostRuntime) -> Result<(), Fail>
         return Ok(());
     };
     push_called(alloc, &mut Vec::new(alloc), &mut server, "accept 1")?;
-    assert_eq!(rt; homes_read(alloc, &mut server)?, 65);
-    let wanted = queue_full(alloc)?;
+    assert_eq!(rt; homes_read(alloc, &mut server, 0)?, 65);
+    let wanted = queue_full(alloc, 0)?;
     assert_eq!(rt; server.out(), wanted.as_slice());
     send_first(&mut server, 9);
     assert!(rt; server.out().starts_with(b"00002 &\r\n00003 &\r\n"));
     server.leave();
     assert!(rt; server.out().is_empty());
+    Ok(())
+}
+
+#[test]
+fn what_runs_completes_in_the_error_state(rt: HostRuntime) -> Result<(), Fail> {
+    let alloc = rt.alloc();
+    let Some(mut server) = new_server(alloc)? else {
+        assert!(rt; false, "the setup");
+        return Ok(());
+    };
+    let mut rows = 0u64;
+    for (before, behind) in [
+        (TOUCH_RUNS, TOUCH_ENDS),
+        (HOME_RUNS, HOME_ENDS),
+        (CHANGE_RUNS, CHANGE_ENDS),
+        (MOVE_RUNS, MOVE_ENDS),
+    ] {
+        rows = rows.saturating_add(rows_played(&rt, alloc, &mut server, before)?);
+        assert_eq!(rt; homes_read(alloc, &mut server, 100)?, 65);
+        let wanted = queue_full(alloc, 100)?;
+        assert_eq!(rt; server.out(), wanted.as_slice());
+        send_first(&mut server, wanted.len());
+        rows = rows.saturating_add(rows_played(&rt, alloc, &mut server, behind)?);
+    }
+    assert_eq!(rt; rows, 74);
     Ok(())
 }

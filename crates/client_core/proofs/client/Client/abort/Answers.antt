@@ -1,7 +1,6 @@
-use Rattle.std.proofs.Common.{rules, inr, ◌≡◌, ◌++◌, ap, ◌∙◌, true}
-use Rattle.std.specs.Option.{is_some}
+use Rattle.std.proofs.Common.{rules, inr, ◌≡◌, ◌++◌, ap, true}
 use Rattle.protocol_model.specs.Lines.{command_bytes}
-use Rattle.protocol_model.specs.Client.{client_aborted, due, may_abort}
+use Rattle.protocol_model.specs.Client.{client_aborted, may_abort}
 use Rattle.protocol_model.specs.Ends.{end_aborted}
 use Rattle.client_core.proofs.client.Client.abort.Goals as goal
 

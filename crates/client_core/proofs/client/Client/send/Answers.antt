@@ -1,7 +1,7 @@
-use Rattle.std.proofs.Common.{rules, inr, ◌≡◌, ◌++◌, ap, ◌∙◌, true}
+use Rattle.std.proofs.Common.{rules, inr, ◌≡◌, ◌++◌, ap, true}
 use Rattle.std.specs.Option.{is_some}
 use Rattle.protocol_model.specs.Lines.{command_bytes}
-use Rattle.protocol_model.specs.Client.{client_sent, due, may_abort}
+use Rattle.protocol_model.specs.Client.{client_sent, due}
 use Rattle.protocol_model.specs.Ends.{end_sent}
 use Rattle.client_core.proofs.client.Client.send.Goals as goal
 

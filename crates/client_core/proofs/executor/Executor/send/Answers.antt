@@ -1,15 +1,13 @@
-use Rattle.std.proofs.Common.{rules, ◌≡◌, ◌<◌, length, slice_index_or, false, None, ap, sym, ◌∙◌, ◌++◌, add-one, List, ℕ, append_assoc, arith, ◌∷◌, []}
+use Rattle.std.proofs.Common.{rules, ◌≡◌, ◌<◌, length, slice_index_or, false, None, ap, sym, ◌∙◌, ◌++◌, add-one, List, append_assoc, arith, ◌∷◌, []}
 use Rattle.dme_line.specs.Written.{written_command}
 use Rattle.dme_line.specs.Kinds.{kind_of, is_event_kind}
-use Rattle.dme_line.specs.declared.commands.Kind.TheVariants as kind
 use Rattle.dme_tags.specs.Opened.{next_tag}
 use Rattle.protocol_model.specs.Lines.{command_bytes}
-use Rattle.protocol_model.specs.Replies.{tag_is}
 use Rattle.protocol_model.specs.declared.lines.Line.{Line}
-use Rattle.protocol_model.specs.Client.{Sends, client_sent, client_aborted, faulted}
+use Rattle.protocol_model.specs.Client.{Sends, client_sent, faulted}
 use Rattle.protocol_model.specs.declared.states.Cause.TheVariants as Cause
 use Rattle.client_core.specs.Progress.{seen}
-use Rattle.client_core.proofs.Sends.{sent_client, sent_lines, sent_none, aborted_client, aborted_lines, aborted_none}
+use Rattle.client_core.proofs.Sends.{sent_client, sent_lines, sent_none}
 use Rattle.client_core.proofs.executor.Executor.send.Goals as goal
 
 pub returns-in-Ok-clause-ok : goal.returns-in-Ok-clause-ok

@@ -1,0 +1,1048 @@
+// What no clause says: that the calls succeed with memory, and what a client writes and counts. In the programs `;` stands for the end of a
+// line. In a row an action stands before ` => `: a line that is fed and read, or a word for another call. Behind it stand the lines that
+// are written, each with `;` for its end, and the state, or why the call is refused; behind a reader's word what it answers.
+//
+// `ended` sends the command that is due and reads that it is received and done, `touched` with the point of its data between them;
+// `ended n` and `sends n` do so with more commands and show no line. `letters n` feeds so many letters A, `bare` a line that ends with LF
+// alone.
+
+use crate::{Cause, Client, ClientFault, NewFault, State};
+use contact_ledger::{Act, Feature, FeatureLedger, Points};
+use dmis_program::{Frames, Program};
+use fixed_um::{Dir, Frame, Name, Point, Um, write_dir, write_um};
+use std::alloc::{AllocError, Global};
+use std::test::Fail;
+
+const ONE: &str =
+    "DMISMN/'ONE',05.2;SNSLCT/S(P1);MEAS/POINT,F(A),1;GOTO/10,20,30;PTMEAS/CART,10,20,25,0,0,1;ENDMES;ENDFIL";
+
+const TWO: &str = "\
+DMISMN/'TWO',05.2;SNSLCT/S(P1);MEAS/POINT,F(A),1;PTMEAS/CART,1,2,3,0,0,1;ENDMES;\
+MEAS/POINT,F(B),1;PTMEAS/CART,4,5,6,0,0,1;ENDMES;ENDFIL";
+
+const THREE: &str = "\
+DMISMN/'THREE',05.2;SNSLCT/S(P1);MEAS/CIRCLE,F(C),3;PTMEAS/CART,1,0,0,-1,0,0;PTMEAS/CART,0,1,0,0,-1,0;\
+PTMEAS/CART,-1,0,0,1,0,0;ENDMES;ENDFIL";
+
+const FRAMES: &str = "\
+DMISMN/'FRAMES',05.2;SNSLCT/S(P1);MEAS/POINT,F(A),1;PTMEAS/CART,10,0,0,0,0,1;ENDMES;\
+MEAS/LINE,F(B),2;PTMEAS/CART,20,0,0,0,0,1;RECALL/D(PART);PTMEAS/CART,30,0,0,0,0,1;ENDMES;ENDFIL";
+
+const MOVES: &str = "\
+DMISMN/'MOVES',05.2;GOTO/1,0,0;GOTO/2,0,0;GOTO/3,0,0;GOTO/4,0,0;GOTO/5,0,0;GOTO/6,0,0;GOTO/7,0,0;GOTO/8,0,0;\
+GOTO/9,0,0;GOTO/10,0,0;GOTO/11,0,0;GOTO/12,0,0;GOTO/13,0,0;GOTO/14,0,0;ENDFIL";
+
+/// A program from its first command to Done; the feature has the point of the data line.
+const WHOLE: &str = "\
+state => Apart
+due => nothing
+connected 1 => Running
+due => StartSession
+open => 0
+send => 00001 StartSession();Running
+open => 1
+due => nothing
+send => NotNow
+00001 & => Running
+due => nothing
+completed => 0
+00001 % => Running
+completed => 1
+open => 0
+due => ClearAllErrors
+send => 00002 ClearAllErrors();Running
+00002 & => Running
+00002 % => Running
+counted => nothing
+send => 00003 Home();Running
+00003 & => Running
+counted => nothing
+00003 % => Running
+counted => HOMED;
+send => 00004 OnPtMeasReport(X(), Y(), Z());Running
+00004 & => Running
+00004 % => Running
+counted => HOMED;
+send => 00005 SetCoordSystem(MachineCsy);Running
+00005 & => Running
+00005 % => Running
+counted => HOMED;FRAMED M;
+send => 00006 ChangeTool(\"P1\");Running
+00006 & => Running
+00006 % => Running
+counted => HOMED;FRAMED M;CHANGED P1;
+send => 00007 GoTo(X(10.000), Y(20.000), Z(30.000));Running
+00007 & => Running
+00007 % => Running
+counted => HOMED;FRAMED M;CHANGED P1;MOVED 10.000 20.000 30.000 M;
+send => 00008 PtMeas(X(10.000), Y(20.000), Z(25.000), IJK(0.000000, 0.000000, 1.000000));Running
+00008 & => Running
+00008 # X(10.002), Y(20.000), Z(25.000) => Running
+completed => 7
+features => nothing
+00008 % => Running
+features => A 10.002 20.000 25.000;
+counted => HOMED;FRAMED M;CHANGED P1;MOVED 10.000 20.000 30.000 M;\
+CONTACT 10.000 20.000 25.000 D 0.000000 0.000000 1.000000 P1 M 10.002 20.000 25.000;
+send => 00009 EndSession();Running
+completed => 8
+00009 & => Running
+00009 % => Done
+completed => 9
+open => 0
+due => nothing
+send => NotNow
+abort => NotNow
+resume => NotNow
+connected 2 => NotNow
+read => no line
+E0000 ! Error(3, 9001, \"\", \"No tag\") => Done
+00009 % => Faulted(UnknownTag)
+features => A 10.002 20.000 25.000;
+leave => Apart
+connected 2 => Running
+completed => 0
+counted => nothing
+send => 00001 StartSession();Running
+";
+
+/// Calls that are not possible now.
+const REFUSED: &str = "\
+send => NotNow
+read => NotNow
+00001 & => NotNow
+abort => NotNow
+resume => NotNow
+leave => Apart
+send => NotNow
+restart 1 => NotNow
+restart 0 => Apart
+connected 0 => NotNow
+connected 4000000001 => NotNow
+connected 3 => Running
+connected 3 => NotNow
+connected 4 => NotNow
+resume => NotNow
+read => no line
+leave => Apart
+read => NotNow
+00001 & => NotNow
+connected 2 => NotNow
+connected 3 => NotNow
+restart 0 => Apart
+connected 3 => NotNow
+connected 4000000000 => Running
+send => 00001 StartSession();Running
+abort => E0001 AbortE();Aborting
+due => nothing
+send => NotNow
+abort => NotNow
+resume => NotNow
+restart 1 => NotNow
+state => Aborting
+leave => Apart
+abort => NotNow
+connected 4000000000 => NotNow
+";
+
+/// What was read has no place, or is no line: the client stays Faulted until it leaves or restarts, and keeps what it has counted.
+const FAULTED: &str = "\
+connected 1 => Running
+send => 00001 StartSession();Running
+00008 % => Faulted(UnknownTag)
+state => Faulted
+due => nothing
+open => 1
+00001 & => Faulted(UnknownTag)
+read => Faulted(UnknownTag)
+send => Faulted(UnknownTag)
+abort => Faulted(UnknownTag)
+resume => Faulted(UnknownTag)
+connected 2 => Faulted(UnknownTag)
+restart 1 => NotNow
+state => Faulted
+leave => Apart
+read => NotNow
+open => 1
+connected 2 => Running
+open => 0
+ended 6 => Running
+touched X(1.002), Y(0.000), Z(0.000) => 00007 PtMeas(X(1.000), Y(0.000), Z(0.000), IJK(-1.000000, 0.000000, 0.000000));Running
+send => 00008 PtMeas(X(0.000), Y(1.000), Z(0.000), IJK(0.000000, -1.000000, 0.000000));Running
+00008 & => Running
+00008 % => Faulted(NoData)
+completed => 7
+counted => HOMED;FRAMED M;CHANGED P1;CONTACT 1.000 0.000 0.000 D -1.000000 0.000000 0.000000 P1 M 1.002 0.000 0.000;
+00008 & => Faulted(NoData)
+send => Faulted(NoData)
+leave => Apart
+completed => 7
+counted => HOMED;FRAMED M;CHANGED P1;CONTACT 1.000 0.000 0.000 D -1.000000 0.000000 0.000000 P1 M 1.002 0.000 0.000;
+connected 3 => Running
+counted => nothing
+letters 65536 => Running
+read => no line
+letters 1 => Running
+read => Faulted(LineTooLong)
+letters 1 => Faulted(LineTooLong)
+leave => Apart
+connected 4 => Running
+letters 65535 => Running
+A => Faulted(NotResponse)
+abort => Faulted(NotResponse)
+restart 0 => Apart
+connected 5 => Running
+send => 00001 StartSession();Running
+bare 00001 & => Faulted(BadByte)
+00001 & => Faulted(BadByte)
+leave => Apart
+";
+
+/// Three touches, broken off behind the first: the plan begins again, and the feature has points of the second connection only.
+const BROKEN: &str = "\
+connected 1 => Running
+ended 6 => Running
+touched X(1.002), Y(0.000), Z(0.000) => 00007 PtMeas(X(1.000), Y(0.000), Z(0.000), IJK(-1.000000, 0.000000, 0.000000));Running
+completed => 7
+features => nothing
+leave => Apart
+counted => HOMED;FRAMED M;CHANGED P1;CONTACT 1.000 0.000 0.000 D -1.000000 0.000000 0.000000 P1 M 1.002 0.000 0.000;
+connected 2 => Running
+counted => nothing
+completed => 0
+ended => 00001 StartSession();Running
+ended => 00002 ClearAllErrors();Running
+ended => 00003 Home();Running
+ended => 00004 OnPtMeasReport(X(), Y(), Z());Running
+ended => 00005 SetCoordSystem(MachineCsy);Running
+ended => 00006 ChangeTool(\"P1\");Running
+touched X(1.000), Y(0.000), Z(0.004) => 00007 PtMeas(X(1.000), Y(0.000), Z(0.000), IJK(-1.000000, 0.000000, 0.000000));Running
+touched X(-0.001), Y(1.001), Z(0.000) => 00008 PtMeas(X(0.000), Y(1.000), Z(0.000), IJK(0.000000, -1.000000, 0.000000));Running
+features => nothing
+touched X(-0.998), Y(0.000), Z(0.000) => 00009 PtMeas(X(-1.000), Y(0.000), Z(0.000), IJK(1.000000, 0.000000, 0.000000));Running
+features => C 1.000 0.000 0.004 -0.001 1.001 0.000 -0.998 0.000 0.000;
+ended => 00010 EndSession();Done
+completed => 10
+counted => HOMED;FRAMED M;CHANGED P1;\
+CONTACT 1.000 0.000 0.000 D -1.000000 0.000000 0.000000 P1 M 1.000 0.000 0.004;\
+CONTACT 0.000 1.000 0.000 D 0.000000 -1.000000 0.000000 P1 M -0.001 1.001 0.000;\
+CONTACT -1.000 0.000 0.000 D 1.000000 0.000000 0.000000 P1 M -0.998 0.000 0.000;
+leave => Done
+features => C 1.000 0.000 0.004 -0.001 1.001 0.000 -0.998 0.000 0.000;
+connected 3 => NotNow
+read => NotNow
+leave => Done
+restart 0 => Apart
+features => nothing
+connected 3 => Running
+";
+
+/// Two features, broken off behind the first: the plan begins behind it, with its tool and its frame.
+const KEPT: &str = "\
+connected 1 => Running
+ended 6 => Running
+touched X(1.002), Y(2.000), Z(3.000) => 00007 PtMeas(X(1.000), Y(2.000), Z(3.000), IJK(0.000000, 0.000000, 1.000000));Running
+features => A 1.002 2.000 3.000;
+send => 00008 PtMeas(X(4.000), Y(5.000), Z(6.000), IJK(0.000000, 0.000000, 1.000000));Running
+00008 & => Running
+00008 # X(4.000), Y(5.000), Z(6.004) => Running
+00008 $ => Faulted(NotResponse)
+features => A 1.002 2.000 3.000;
+leave => Apart
+features => A 1.002 2.000 3.000;
+connected 2 => Running
+ended => 00001 StartSession();Running
+ended => 00002 ClearAllErrors();Running
+ended => 00003 Home();Running
+ended => 00004 OnPtMeasReport(X(), Y(), Z());Running
+ended => 00005 ChangeTool(\"P1\");Running
+ended => 00006 SetCoordSystem(MachineCsy);Running
+touched X(3.999), Y(5.001), Z(6.000) => 00007 PtMeas(X(4.000), Y(5.000), Z(6.000), IJK(0.000000, 0.000000, 1.000000));Running
+features => A 1.002 2.000 3.000;B 3.999 5.001 6.000;
+ended => 00008 EndSession();Done
+completed => 8
+counted => HOMED;CHANGED P1;FRAMED M;CONTACT 4.000 5.000 6.000 D 0.000000 0.000000 1.000000 P1 M 3.999 5.001 6.000;
+restart 3 => NotNow
+state => Done
+restart 1 => Apart
+features => A 1.002 2.000 3.000;
+counted => nothing
+completed => 0
+connected 2 => NotNow
+connected 3 => Running
+ended 6 => Running
+touched X(4.001), Y(5.000), Z(6.000) => 00007 PtMeas(X(4.000), Y(5.000), Z(6.000), IJK(0.000000, 0.000000, 1.000000));Running
+ended => 00008 EndSession();Done
+features => A 1.002 2.000 3.000;B 4.001 5.000 6.000;
+restart 2 => Apart
+connected 4 => Running
+ended 6 => Running
+ended => 00007 EndSession();Done
+counted => HOMED;CHANGED P1;FRAMED M;
+features => A 1.002 2.000 3.000;B 4.001 5.000 6.000;
+";
+
+/// An abort while a touch runs: measuring goes on behind the first feature, and the touch that served nobody stays counted.
+const RESUMED: &str = "\
+connected 1 => Running
+ended 6 => Running
+touched X(10.002), Y(0.000), Z(0.000) => 00007 PtMeas(X(10.000), Y(0.000), Z(0.000), IJK(0.000000, 0.000000, 1.000000));Running
+touched X(20.000), Y(0.000), Z(0.004) => 00008 PtMeas(X(20.000), Y(0.000), Z(0.000), IJK(0.000000, 0.000000, 1.000000));Running
+ended => 00009 SetCsyTransformation(PartCsy, -100.000, 0.000, 0.000, 0, 0, 0);Running
+ended => 00010 SetCoordSystem(PartCsy);Running
+send => 00011 PtMeas(X(30.000), Y(0.000), Z(0.000), IJK(0.000000, 0.000000, 1.000000));Running
+abort => E0001 AbortE();Aborting
+00011 & => Aborting
+E0001 & => Aborting
+00011 ! Error(3, 9007, \"PtMeas\", \"Aborted\") => Aborting
+00011 % => Aborting
+E0001 % => Halted
+completed => 10
+features => A 10.002 0.000 0.000;
+due => nothing
+send => NotNow
+resume => Running
+completed => 0
+features => A 10.002 0.000 0.000;
+counted => HOMED;FRAMED M;CHANGED P1;\
+CONTACT 10.000 0.000 0.000 D 0.000000 0.000000 1.000000 P1 M 10.002 0.000 0.000;\
+CONTACT 20.000 0.000 0.000 D 0.000000 0.000000 1.000000 P1 M 20.000 0.000 0.004;FRAMED P 100.000 0.000 0.000;
+ended => 00012 ClearAllErrors();Running
+ended => 00013 Home();Running
+ended => 00014 OnPtMeasReport(X(), Y(), Z());Running
+ended => 00015 ChangeTool(\"P1\");Running
+ended => 00016 SetCoordSystem(MachineCsy);Running
+touched X(19.999), Y(0.001), Z(0.000) => 00017 PtMeas(X(20.000), Y(0.000), Z(0.000), IJK(0.000000, 0.000000, 1.000000));Running
+ended => 00018 SetCsyTransformation(PartCsy, -100.000, 0.000, 0.000, 0, 0, 0);Running
+ended => 00019 SetCoordSystem(PartCsy);Running
+touched X(30.002), Y(0.000), Z(0.000) => 00020 PtMeas(X(30.000), Y(0.000), Z(0.000), IJK(0.000000, 0.000000, 1.000000));Running
+ended => 00021 EndSession();Done
+completed => 10
+features => A 10.002 0.000 0.000;B 19.999 0.001 0.000 30.002 0.000 0.000;
+counted => HOMED;FRAMED M;CHANGED P1;\
+CONTACT 10.000 0.000 0.000 D 0.000000 0.000000 1.000000 P1 M 10.002 0.000 0.000;\
+CONTACT 20.000 0.000 0.000 D 0.000000 0.000000 1.000000 P1 M 20.000 0.000 0.004;FRAMED P 100.000 0.000 0.000;\
+HOMED;CHANGED P1;FRAMED M;\
+CONTACT 20.000 0.000 0.000 D 0.000000 0.000000 1.000000 P1 M 19.999 0.001 0.000;FRAMED P 100.000 0.000 0.000;\
+CONTACT 30.000 0.000 0.000 D 0.000000 0.000000 1.000000 P1 P 100.000 0.000 0.000 30.002 0.000 0.000;
+";
+
+/// An abort with three commands open: each fails, and the plan begins again.
+const ABORTED: &str = "\
+connected 1 => Running
+ended 4 => Running
+send => 00005 SetCoordSystem(MachineCsy);Running
+send => 00006 ChangeTool(\"P1\");Running
+send => 00007 PtMeas(X(1.000), Y(0.000), Z(0.000), IJK(-1.000000, 0.000000, 0.000000));Running
+open => 3
+due => nothing
+send => NotNow
+00005 & => Running
+00006 & => Running
+00007 & => Running
+00005 % => Running
+counted => HOMED;FRAMED M;
+due => PtMeas
+send => 00008 PtMeas(X(0.000), Y(1.000), Z(0.000), IJK(0.000000, -1.000000, 0.000000));Running
+abort => E0001 AbortE();Aborting
+00008 & => Aborting
+E0001 & => Aborting
+00006 ! Error(3, 9007, \"ChangeTool\", \"Aborted\") => Aborting
+00006 % => Aborting
+00007 ! Error(3, 9007, \"PtMeas\", \"Aborted\") => Aborting
+00007 % => Aborting
+00008 ! Error(3, 9007, \"PtMeas\", \"Aborted\") => Aborting
+open => 0
+resume => NotNow
+00008 % => Aborting
+E0001 % => Halted
+completed => 5
+counted => HOMED;FRAMED M;
+resume => Running
+due => ClearAllErrors
+send => 00009 ClearAllErrors();Running
+send => 00010 Home();Running
+send => 00011 OnPtMeasReport(X(), Y(), Z());Running
+send => NotNow
+00009 & => Running
+00009 % => Running
+send => 00012 SetCoordSystem(MachineCsy);Running
+00010 & => Running
+00010 % => Running
+send => 00013 ChangeTool(\"P1\");Running
+counted => HOMED;FRAMED M;HOMED;
+";
+
+/// A touch meets no surface: what was sent behind it fails too. A mark of the old plan changes nothing of the new one.
+const FAILED: &str = "\
+connected 1 => Running
+ended 6 => Running
+touched X(1.002), Y(0.000), Z(0.000) => 00007 PtMeas(X(1.000), Y(0.000), Z(0.000), IJK(-1.000000, 0.000000, 0.000000));Running
+send => 00008 PtMeas(X(0.000), Y(1.000), Z(0.000), IJK(0.000000, -1.000000, 0.000000));Running
+send => 00009 PtMeas(X(-1.000), Y(0.000), Z(0.000), IJK(1.000000, 0.000000, 0.000000));Running
+send => 00010 EndSession();Running
+00008 & => Running
+00009 & => Running
+00008 ! Error(3, 9014, \"PtMeas\", \"No surface\") => Failing
+due => nothing
+send => NotNow
+resume => NotNow
+00008 % => Failing
+00009 ! Error(3, 9007, \"PtMeas\", \"Aborted\") => Failing
+00009 % => Failing
+open => 1
+00010 & => Failing
+00010 ! Error(3, 9008, \"EndSession\", \"Error state\") => Halted
+due => nothing
+abort => NotNow
+resume => Running
+due => ClearAllErrors
+00010 ! => Running
+00010 % => Running
+open => 0
+completed => 0
+ended => 00011 ClearAllErrors();Running
+ended => 00012 Home();Running
+ended => 00013 OnPtMeasReport(X(), Y(), Z());Running
+ended => 00014 SetCoordSystem(MachineCsy);Running
+ended => 00015 ChangeTool(\"P1\");Running
+touched X(1.000), Y(0.000), Z(0.004) => 00016 PtMeas(X(1.000), Y(0.000), Z(0.000), IJK(-1.000000, 0.000000, 0.000000));Running
+touched X(-0.001), Y(1.001), Z(0.000) => 00017 PtMeas(X(0.000), Y(1.000), Z(0.000), IJK(0.000000, -1.000000, 0.000000));Running
+touched X(-0.998), Y(0.000), Z(0.000) => 00018 PtMeas(X(-1.000), Y(0.000), Z(0.000), IJK(1.000000, 0.000000, 0.000000));Running
+ended => 00019 EndSession();Done
+features => C 1.000 0.000 0.004 -0.001 1.001 0.000 -0.998 0.000 0.000;
+counted => HOMED;FRAMED M;CHANGED P1;\
+CONTACT 1.000 0.000 0.000 D -1.000000 0.000000 0.000000 P1 M 1.002 0.000 0.000;\
+HOMED;FRAMED M;CHANGED P1;\
+CONTACT 1.000 0.000 0.000 D -1.000000 0.000000 0.000000 P1 M 1.000 0.000 0.004;\
+CONTACT 0.000 1.000 0.000 D 0.000000 -1.000000 0.000000 P1 M -0.001 1.001 0.000;\
+CONTACT -1.000 0.000 0.000 D 1.000000 0.000000 0.000000 P1 M -0.998 0.000 0.000;
+";
+
+/// Where an abort ends: Done behind the whole plan, Failing beside an open command, and by its own tag only. A connection whose session
+/// was not begun is not resumed.
+const ENDED: &str = "\
+connected 1 => Running
+ended 7 => Running
+touched X(10.002), Y(20.000), Z(25.000) => \
+00008 PtMeas(X(10.000), Y(20.000), Z(25.000), IJK(0.000000, 0.000000, 1.000000));Running
+send => 00009 EndSession();Running
+00009 & => Running
+abort => E0001 AbortE();Aborting
+00009 % => Aborting
+completed => 9
+open => 0
+E0001 & => Aborting
+E0001 % => Done
+restart 0 => Apart
+connected 2 => Running
+ended 7 => Running
+touched X(10.002), Y(20.000), Z(25.000) => \
+00008 PtMeas(X(10.000), Y(20.000), Z(25.000), IJK(0.000000, 0.000000, 1.000000));Running
+send => 00009 EndSession();Running
+abort => E0001 AbortE();Aborting
+00009 & => Aborting
+00009 % => Aborting
+E0001 ! Error(3, 9004, \"AbortE\", \"Bad arguments\") => Done
+E0001 % => Done
+restart 0 => Apart
+connected 3 => Running
+ended 6 => Running
+send => 00007 GoTo(X(10.000), Y(20.000), Z(30.000));Running
+abort => E0001 AbortE();Aborting
+E0001 ! Error(3, 9003, \"\", \"Unknown command\") => Failing
+due => nothing
+resume => NotNow
+abort => E0002 AbortE();Aborting
+E0001 % => Aborting
+00007 & => Aborting
+E0002 & => Aborting
+E0002 % => Failing
+00007 % => Halted
+completed => 7
+counted => HOMED;FRAMED M;CHANGED P1;MOVED 10.000 20.000 30.000 M;
+resume => Running
+completed => 0
+ended => 00008 ClearAllErrors();Running
+abort => E0003 AbortE();Aborting
+E0003 & => Aborting
+E0003 % => Halted
+resume => Running
+ended => 00009 ClearAllErrors();Running
+leave => Apart
+connected 4 => Running
+send => 00001 StartSession();Running
+00001 ! Error(3, 9006, \"StartSession\", \"Session open\") => Halted
+resume => NotNow
+00001 % => Halted
+resume => NotNow
+send => NotNow
+abort => NotNow
+leave => Apart
+connected 5 => Running
+abort => E0001 AbortE();Aborting
+E0001 & => Aborting
+E0001 % => Halted
+resume => NotNow
+leave => Apart
+";
+
+/// Sixteen commands open, and the one that waits for all others to end.
+const WINDOW: &str = "\
+connected 1 => Running
+send => 00001 StartSession();Running
+due => nothing
+00001 & => Running
+send => NotNow
+00001 % => Running
+due => ClearAllErrors
+sends 15 => Running
+open => 15
+due => GoTo
+sends 1 => Running
+open => 16
+due => nothing
+send => NotNow
+00002 & => Running
+due => nothing
+00002 % => Running
+open => 15
+send => 00018 GoTo(X(13.000), Y(0.000), Z(0.000));Running
+due => nothing
+00003 ! Error(3, 9015, \"Home\", \"Machine fault\") => Failing
+open => 15
+due => nothing
+";
+
+/// What `&`, `#` with a point, `!` and `%` do to the command of a tag, behind the actions that bring it to its stage: the state and how
+/// many commands of the plan are counted, or why the client is Faulted. Up to three commands are open, of which 00003 is `Home`, 00007 the
+/// move and 00008 the touch.
+const MARKS: &str = "\
+00008 | ended 7 / send => Running 7, OutOfOrder, Halted 7, OutOfOrder
+00008 | ended 7 / send / 00008 & => OutOfOrder, Running 7, Halted 7, NoData
+00008 | ended 7 / send / 00008 & / 00008 # X(1), Y(2), Z(3) => OutOfOrder, SecondData, Halted 7, Running 8
+00008 | ended 7 / send / 00008 ! => OutOfOrder, OutOfOrder, Halted 7, Halted 7
+00008 | ended 7 / send / 00008 & / 00008 ! => OutOfOrder, OutOfOrder, Halted 7, Halted 7
+00008 | ended 6 / sends 2 => Running 6, OutOfOrder, Failing 6, OutOfOrder
+00008 | ended 6 / sends 2 / 00008 & => OutOfOrder, OutOfOrder, Failing 6, OutOfOrder
+00008 | ended 6 / sends 2 / 00007 & / 00008 & => OutOfOrder, OutOfOrder, Failing 6, OutOfOrder
+00008 | ended 6 / sends 2 / 00008 ! => OutOfOrder, OutOfOrder, Failing 6, Failing 6
+00008 | ended 7 / sends 2 / 00009 ! => Failing 7, OutOfOrder, Halted 7, OutOfOrder
+00008 | ended 7 / sends 2 / 00008 & / 00009 ! => OutOfOrder, OutOfOrder, Halted 7, OutOfOrder
+00008 | ended 7 / sends 2 / 00008 & / 00008 # X(1), Y(2), Z(3) / 00009 ! => OutOfOrder, OutOfOrder, Halted 7, OutOfOrder
+00008 | ended 7 / sends 2 / 00008 ! / 00009 ! => OutOfOrder, OutOfOrder, Halted 7, Halted 7
+00008 | ended 6 / sends 2 / 00007 ! / 00007 % / 00008 & => OutOfOrder, OutOfOrder, Halted 6, OutOfOrder
+00007 | ended 6 / send => Running 6, OutOfOrder, Halted 6, OutOfOrder
+00007 | ended 6 / send / 00007 & => OutOfOrder, OutOfOrder, Halted 6, Running 7
+00007 | ended 6 / send / 00007 ! => OutOfOrder, OutOfOrder, Halted 6, Halted 6
+00007 | ended 5 / sends 2 => Running 5, OutOfOrder, Failing 5, OutOfOrder
+00007 | ended 5 / sends 2 / 00007 & => OutOfOrder, OutOfOrder, Failing 5, OutOfOrder
+00007 | ended 5 / sends 2 / 00007 ! => OutOfOrder, OutOfOrder, Failing 5, Failing 5
+00007 | ended 6 / sends 2 / 00008 ! => Failing 6, OutOfOrder, Halted 6, OutOfOrder
+00007 | ended 6 / sends 2 / 00007 & / 00008 ! => OutOfOrder, OutOfOrder, Halted 6, OutOfOrder
+00003 | ended 2 / send => Running 2, OutOfOrder, Halted 2, OutOfOrder
+00003 | ended 2 / send / 00003 & => OutOfOrder, OutOfOrder, Halted 2, Running 3
+00003 | ended 2 / send / 00003 ! => OutOfOrder, OutOfOrder, Halted 2, Halted 2
+E0001 | ended 7 / send / abort => Aborting 7, OutOfOrder, Failing 7, OutOfOrder
+E0001 | ended 7 / send / abort / E0001 & => OutOfOrder, OutOfOrder, Failing 7, Failing 7
+E0001 | ended 7 / send / abort / E0001 ! => OutOfOrder, OutOfOrder, Failing 7, Failing 7
+E0001 | ended 7 / abort / E0001 & => OutOfOrder, OutOfOrder, Halted 7, Halted 7
+E0001 | ended 7 / send / 00008 ! / resume / abort / E0001 & => OutOfOrder, OutOfOrder, Halted 0, Halted 0
+E0002 | ended 7 / send / abort / E0001 ! / abort => Aborting 7, OutOfOrder, Failing 7, OutOfOrder
+E0002 | ended 7 / send / abort / E0001 ! / abort / E0002 & => OutOfOrder, OutOfOrder, Failing 7, Failing 7
+00008 | ended 7 / send / 00008 ! / resume => OutOfOrder, OutOfOrder, Running 0, Running 0
+00009 | ended 7 / send / 00008 ! / resume / send / 00009 & => OutOfOrder, OutOfOrder, Halted 0, Running 1
+E0000 | ended 7 / send => Running 7, Running 7, Running 7, Running 7
+00009 | ended 7 / send => UnknownTag, UnknownTag, UnknownTag, UnknownTag
+00007 | ended 7 / send => UnknownTag, UnknownTag, UnknownTag, UnknownTag
+00000 | ended 7 / send => UnknownTag, UnknownTag, UnknownTag, UnknownTag
+E0001 | ended 7 / send => UnknownTag, UnknownTag, UnknownTag, UnknownTag
+E0002 | ended 7 / send / abort => UnknownTag, UnknownTag, UnknownTag, UnknownTag
+";
+
+/// Lines that are none, and data whose text is no point, each behind the actions before it.
+const TEXTS: &str = "\
+ended 7 / send / 00008 # none => NotResponse
+ended 7 / send / 00008 & / 00008 # X(1), Y(2) => NotResponse
+ended 7 / send / 00008 & / 00008 # Y(2), X(1), Z(3) => NotResponse
+ended 7 / send / 00008 & / 00008 # X(1), Y(2), Z(3) / 00008 # none => NotResponse
+ended 7 / send / 00008 ! / 00008 # none => NotResponse
+ended 6 / sends 2 / 00007 & / 00008 & / 00008 # none => NotResponse
+ended 6 / sends 2 / 00007 & / 00007 # none => OutOfOrder
+ended 7 / abort / E0001 & / E0001 # none => OutOfOrder
+ended 7 / send / 00009 # none => UnknownTag
+ended 7 / send / E0001 # none => UnknownTag
+ended 7 / send / E0000 # none => Running 7
+ended 7 / send / E0000 $ => NotResponse
+ended 7 / send / 00008 &  => Running 7
+ended 7 / send / 00008 &! => NotResponse
+ended 7 / send / 00008 &1 => NotResponse
+ended 7 / send / 00008 #X(1), Y(2), Z(3) => NotResponse
+ended 7 / send / 00008& => NotResponse
+ended 7 / send / 8 & => NotResponse
+ended 7 / send / 00008 ! any text => Halted 7
+";
+
+// ---- a client that is driven by words
+
+/// A program with the frame PART, whose zero point stands at x = 100 mm.
+fn program(alloc: Global, text: &str) -> Result<Program, Fail> {
+    let mut frames = Frames::new(alloc);
+    let name = Name::new(alloc, b"PART")?.ok_or("a name")?;
+    let offset = Point {
+        x: Um::new(100_000).ok_or("a length")?,
+        y: Um::zero(),
+        z: Um::zero(),
+    };
+    frames.add(name, offset)?;
+    let mut bytes = Vec::new(alloc);
+    for byte in text.as_bytes() {
+        bytes.push(if *byte == b';' { b'\n' } else { *byte })?;
+    }
+    let program = Program::read(alloc, bytes.as_slice(), &frames)
+        .ok()
+        .ok_or("a program")?;
+    Ok(program)
+}
+
+fn new_client(alloc: Global, text: &str, window: u8) -> Result<Client, Fail> {
+    let program = program(alloc, text)?;
+    match Client::new(alloc, program, FeatureLedger::new(alloc), window) {
+        Ok(client) => Ok(client),
+        Err(_) => Err("a client".into()),
+    }
+}
+
+/// What was written is sent.
+fn take_out(client: &mut Client) {
+    let count = client.out().len();
+    client.sent(count);
+}
+
+fn feed_line(client: &mut Client, parts: &[&[u8]]) -> Result<bool, ClientFault> {
+    for part in parts {
+        client.feed(part)?;
+    }
+    client.read_one()
+}
+
+fn feed_letters(client: &mut Client, count: u32) -> Result<(), ClientFault> {
+    for _ in 0..count {
+        client.feed(b"A")?;
+    }
+    Ok(())
+}
+
+/// The tag with which a line begins.
+fn tag_of(line: &[u8]) -> [u8; 5] {
+    match line {
+        [a, b, c, d, e, ..] => [*a, *b, *c, *d, *e],
+        _ => *b"00000",
+    }
+}
+
+/// The command that is due is sent, received, given a point where one stands here, and done.
+fn end_one(client: &mut Client, point: &str) -> Result<bool, ClientFault> {
+    client.send()?;
+    let tag = tag_of(client.out());
+    feed_line(client, &[&tag, b" &\r\n"])?;
+    if !point.is_empty() {
+        feed_line(client, &[&tag, b" # ", point.as_bytes(), b"\r\n"])?;
+    }
+    feed_line(client, &[&tag, b" %\r\n"])
+}
+
+/// So many commands, one after another.
+fn end_all(client: &mut Client, count: u32) -> Result<(), ClientFault> {
+    for _ in 0..count {
+        end_one(client, "")?;
+        take_out(client);
+    }
+    Ok(())
+}
+
+fn send_all(client: &mut Client, count: u32) -> Result<(), ClientFault> {
+    for _ in 0..count {
+        client.send()?;
+        take_out(client);
+    }
+    Ok(())
+}
+
+/// A call by its word; false where no line was read.
+fn called(client: &mut Client, action: &str) -> Result<bool, ClientFault> {
+    let (word, rest) = action.split_once(" ").unwrap_or((action, ""));
+    match word {
+        "connected" => client.connected(rest.parse().unwrap_or(0))?,
+        "send" => client.send()?,
+        "sends" => send_all(client, rest.parse().unwrap_or(0))?,
+        "abort" => client.abort()?,
+        "resume" => client.resume()?,
+        "leave" => client.leave(),
+        "restart" => client.restart(rest.parse().unwrap_or(0))?,
+        "letters" => feed_letters(client, rest.parse().unwrap_or(0))?,
+        "ended" if rest.is_empty() => return end_one(client, ""),
+        "ended" => end_all(client, rest.parse().unwrap_or(0))?,
+        "touched" => return end_one(client, rest),
+        "read" => return client.read_one(),
+        "bare" => return feed_line(client, &[rest.as_bytes(), b"\n"]),
+        _ => return feed_line(client, &[action.as_bytes(), b"\r\n"]),
+    }
+    Ok(true)
+}
+
+// ---- what is shown of it
+
+fn push_text(out: &mut Vec<u8>, text: &str) -> Result<(), AllocError> {
+    out.extend_from_slice(text.as_bytes())
+}
+
+fn push_number(alloc: Global, out: &mut Vec<u8>, number: usize) -> Result<(), AllocError> {
+    push_text(out, format!(in alloc; "{number}")?.as_str())
+}
+
+fn push_state(alloc: Global, out: &mut Vec<u8>, state: State) -> Result<(), AllocError> {
+    push_text(out, format!(in alloc; "{state:?}")?.as_str())
+}
+
+fn push_point(out: &mut Vec<u8>, point: Point) -> Result<(), AllocError> {
+    out.push(b' ')?;
+    write_um(out, point.x)?;
+    out.push(b' ')?;
+    write_um(out, point.y)?;
+    out.push(b' ')?;
+    write_um(out, point.z)
+}
+
+fn push_frame(out: &mut Vec<u8>, frame: Frame) -> Result<(), AllocError> {
+    match frame {
+        Frame::Machine => push_text(out, " M"),
+        Frame::Part(offset) => {
+            push_text(out, " P")?;
+            push_point(out, offset)
+        }
+    }
+}
+
+fn push_direction(out: &mut Vec<u8>, dir: Option<Dir>) -> Result<(), AllocError> {
+    match dir {
+        None => push_text(out, " N"),
+        Some(dir) => {
+            push_text(out, " D ")?;
+            write_dir(out, dir, b" ")
+        }
+    }
+}
+
+fn push_act(out: &mut Vec<u8>, act: &Act) -> Result<(), AllocError> {
+    match act {
+        Act::Homed => push_text(out, "HOMED")?,
+        Act::Moved(target, frame) => {
+            push_text(out, "MOVED")?;
+            push_point(out, *target)?;
+            push_frame(out, *frame)?;
+        }
+        Act::Changed(tool) => {
+            push_text(out, "CHANGED ")?;
+            out.extend_from_slice(tool.as_bytes())?;
+        }
+        Act::Framed(frame) => {
+            push_text(out, "FRAMED")?;
+            push_frame(out, *frame)?;
+        }
+        Act::Contact {
+            target,
+            dir,
+            tool,
+            frame,
+            point,
+        } => {
+            push_text(out, "CONTACT")?;
+            push_point(out, *target)?;
+            push_direction(out, *dir)?;
+            out.push(b' ')?;
+            out.extend_from_slice(tool.as_bytes())?;
+            push_frame(out, *frame)?;
+            push_point(out, *point)?;
+        }
+    }
+    out.push(b';')?;
+    Ok(())
+}
+
+fn push_acts(out: &mut Vec<u8>, acts: &[Act]) -> Result<(), AllocError> {
+    for act in acts {
+        push_act(out, act)?;
+    }
+    Ok(())
+}
+
+fn push_feature(out: &mut Vec<u8>, feature: &Feature) -> Result<(), AllocError> {
+    out.extend_from_slice(feature.label.as_bytes())?;
+    for point in feature.points.as_slice() {
+        push_point(out, *point)?;
+    }
+    out.push(b';')?;
+    Ok(())
+}
+
+fn push_features(out: &mut Vec<u8>, features: &[Feature]) -> Result<(), AllocError> {
+    for feature in features {
+        push_feature(out, feature)?;
+    }
+    Ok(())
+}
+
+fn push_due(alloc: Global, out: &mut Vec<u8>, client: &Client) -> Result<(), AllocError> {
+    match client.due() {
+        Some(command) => {
+            let kind = command.kind();
+            push_text(out, format!(in alloc; "{kind:?}")?.as_str())
+        }
+        None => Ok(()),
+    }
+}
+
+/// Lines, each with `;` for its end.
+fn push_lines(out: &mut Vec<u8>, lines: &[u8]) -> Result<(), AllocError> {
+    for byte in lines {
+        match *byte {
+            b'\r' => {}
+            b'\n' => out.push(b';')?,
+            content => out.push(content)?,
+        }
+    }
+    Ok(())
+}
+
+/// The lines that a call writes, which are sent, and the state or why it is refused.
+fn push_called(
+    alloc: Global,
+    out: &mut Vec<u8>,
+    client: &mut Client,
+    action: &str,
+) -> Result<(), AllocError> {
+    let done = called(client, action);
+    push_lines(out, client.out())?;
+    take_out(client);
+    match done {
+        Ok(true) => push_state(alloc, out, client.state()),
+        Ok(false) => push_text(out, "no line"),
+        Err(fault) => push_text(out, format!(in alloc; "{fault:?}")?.as_str()),
+    }
+}
+
+/// What an action shows: what a reader answers, or what a call does.
+fn answer(alloc: Global, client: &mut Client, action: &str) -> Result<Vec<u8>, AllocError> {
+    let mut text = Vec::new(alloc);
+    match action {
+        "state" => push_state(alloc, &mut text, client.state())?,
+        "due" => push_due(alloc, &mut text, client)?,
+        "open" => push_number(alloc, &mut text, client.open())?,
+        "completed" => push_number(alloc, &mut text, client.completed())?,
+        "counted" => push_acts(&mut text, client.counted())?,
+        "features" => push_features(&mut text, client.features())?,
+        _ => push_called(alloc, &mut text, client, action)?,
+    }
+    if text.is_empty() {
+        push_text(&mut text, "nothing")?;
+    }
+    Ok(text)
+}
+
+#[test]
+fn each_action_has_its_answer(rt: HostRuntime) -> Result<(), Fail> {
+    let alloc = rt.alloc();
+    let scripts = [
+        (ONE, 1u8, WHOLE),
+        (ONE, 1, REFUSED),
+        (THREE, 1, FAULTED),
+        (THREE, 1, BROKEN),
+        (TWO, 1, KEPT),
+        (FRAMES, 1, RESUMED),
+        (THREE, 3, ABORTED),
+        (THREE, 4, FAILED),
+        (ONE, 1, ENDED),
+        (MOVES, 16, WINDOW),
+    ];
+    let mut rows = 0u64;
+    for (text, window, script) in scripts {
+        let mut client = new_client(alloc, text, window)?;
+        for row in script.lines() {
+            let (action, wanted) = row.split_once(" => ").ok_or("a row")?;
+            let found = answer(alloc, &mut client, action)?;
+            assert_eq!(rt; found.as_slice(), wanted.as_bytes(), "{row}");
+            rows = rows.saturating_add(1);
+        }
+    }
+    assert_eq!(rt; rows, 423);
+    Ok(())
+}
+
+// ---- the marks
+
+/// A client of the first program on a connection, with up to three commands open, behind actions that all succeed.
+fn behind(alloc: Global, actions: &str) -> Result<Client, Fail> {
+    let mut client = new_client(alloc, ONE, 3)?;
+    if client.connected(1).is_err() {
+        return Err("a connection".into());
+    }
+    for action in actions.split(" / ") {
+        if called(&mut client, action) != Ok(true) {
+            return Err("an action before the last one".into());
+        }
+        take_out(&mut client);
+    }
+    Ok(client)
+}
+
+/// The state and how many commands are counted behind a line, or why the client is Faulted.
+fn push_read(
+    alloc: Global,
+    out: &mut Vec<u8>,
+    client: &mut Client,
+    line: &[&[u8]],
+) -> Result<(), AllocError> {
+    match feed_line(client, line) {
+        Ok(_) => {
+            push_state(alloc, out, client.state())?;
+            out.push(b' ')?;
+            push_number(alloc, out, client.completed())
+        }
+        Err(ClientFault::Faulted(cause)) => {
+            push_text(out, format!(in alloc; "{cause:?}")?.as_str())
+        }
+        Err(fault) => push_text(out, format!(in alloc; "{fault:?}")?.as_str()),
+    }
+}
+
+/// What the four marks do to the command of a tag, each for a client of its own.
+fn mark_answers(alloc: Global, tag: &str, actions: &str) -> Result<Vec<u8>, Fail> {
+    let marks = [" &", " # X(1), Y(2), Z(3)", " !", " %"];
+    let mut answers = Vec::new(alloc);
+    for mark in marks {
+        if !answers.is_empty() {
+            push_text(&mut answers, ", ")?;
+        }
+        let mut client = behind(alloc, actions)?;
+        let line: [&[u8]; 3] = [tag.as_bytes(), mark.as_bytes(), b"\r\n"];
+        push_read(alloc, &mut answers, &mut client, &line)?;
+    }
+    Ok(answers)
+}
+
+#[test]
+fn marks_have_their_places(rt: HostRuntime) -> Result<(), Fail> {
+    let alloc = rt.alloc();
+    let mut rows = 0u64;
+    for row in MARKS.lines() {
+        let (given, wanted) = row.split_once(" => ").ok_or("a row")?;
+        let (tag, actions) = given.split_once(" | ").ok_or("a tag")?;
+        let found = mark_answers(alloc, tag, actions)?;
+        assert_eq!(rt; found.as_slice(), wanted.as_bytes(), "{row}");
+        rows = rows.saturating_add(1);
+    }
+    assert_eq!(rt; rows, 40);
+    Ok(())
+}
+
+#[test]
+fn texts_are_read_before_the_table_is_asked(rt: HostRuntime) -> Result<(), Fail> {
+    let alloc = rt.alloc();
+    let mut rows = 0u64;
+    for row in TEXTS.lines() {
+        let (given, wanted) = row.split_once(" => ").ok_or("a row")?;
+        let (actions, line) = given.rsplit_once(" / ").ok_or("a line")?;
+        let mut client = behind(alloc, actions)?;
+        let mut found = Vec::new(alloc);
+        let line: [&[u8]; 2] = [line.as_bytes(), b"\r\n"];
+        push_read(alloc, &mut found, &mut client, &line)?;
+        assert_eq!(rt; found.as_slice(), wanted.as_bytes(), "{row}");
+        rows = rows.saturating_add(1);
+    }
+    assert_eq!(rt; rows, 19);
+    Ok(())
+}
+
+// ---- clients that are not made
+
+/// Features of one label, with one point or more.
+fn kept(alloc: Global, label: &[u8], points: u32) -> Result<FeatureLedger, Fail> {
+    let label = Name::new(alloc, label)?.ok_or("a name")?;
+    let mut all = Points::new(alloc);
+    for _ in 0..points {
+        all.push(Point {
+            x: Um::zero(),
+            y: Um::zero(),
+            z: Um::zero(),
+        })?;
+    }
+    let mut features = FeatureLedger::new(alloc);
+    features.push(Feature { label, points: all })?;
+    Ok(features)
+}
+
+/// Why no client is made, and the counts of features of the program and of those that are kept, which are handed back.
+fn refusal(
+    alloc: Global,
+    label: &[u8],
+    points: u32,
+    window: u8,
+) -> Result<Option<(NewFault, usize, usize)>, Fail> {
+    let program = program(alloc, TWO)?;
+    match Client::new(alloc, program, kept(alloc, label, points)?, window) {
+        Ok(_) => Ok(None),
+        Err((fault, program, features)) => Ok(Some((
+            fault,
+            program.features().len(),
+            features.list().len(),
+        ))),
+    }
+}
+
+#[test]
+fn only_the_first_features_of_a_program_are_kept(rt: HostRuntime) -> Result<(), Fail> {
+    let alloc = rt.alloc();
+    let rows = [
+        (b"A", 1u32, 0u8, Some((NewFault::BadWindow, 2usize, 1usize))),
+        (b"A", 1, 1, None),
+        (b"A", 1, 16, None),
+        (b"A", 1, 17, Some((NewFault::BadWindow, 2, 1))),
+        (b"A", 1, 255, Some((NewFault::BadWindow, 2, 1))),
+        (b"B", 1, 1, Some((NewFault::NotOurs, 2, 1))),
+        (b"A", 2, 1, Some((NewFault::NotOurs, 2, 1))),
+        (b"B", 1, 17, Some((NewFault::BadWindow, 2, 1))),
+    ];
+    for (label, points, window, wanted) in rows {
+        assert_eq!(rt; refusal(alloc, label, points, window)?, wanted);
+    }
+    Ok(())
+}
+
+// ---- tags that are all held
+
+/// So many aborts that have failed.
+fn abort_often(client: &mut Client, count: u32) -> Result<(), ClientFault> {
+    for _ in 0..count {
+        client.abort()?;
+        let tag = tag_of(client.out());
+        feed_line(client, &[&tag, b" !\r\n"])?;
+        take_out(client);
+    }
+    Ok(())
+}
+
+#[test]
+fn an_abort_is_held_until_its_end_is_read(rt: HostRuntime) -> Result<(), Fail> {
+    let alloc = rt.alloc();
+    let spent = Err(ClientFault::Faulted(Cause::TagsSpent));
+    let mut client = behind(alloc, "ended 7 / send")?;
+    assert_eq!(rt; abort_often(&mut client, 9_999), Ok(()));
+    assert_eq!(rt; client.state(), State::Failing);
+    assert_eq!(rt; client.abort(), spent);
+    assert_eq!(rt; client.abort(), spent);
+    assert_eq!(rt; client.open(), 1);
+    client.leave();
+    assert_eq!(rt; client.state(), State::Apart);
+    Ok(())
+}
