@@ -1,0 +1,120 @@
+-- What the client reads in a world, and the bytes that come to it.
+use Rattle.std.proofs.Common.{◌≡◌, ◌≢◌, ℕ, Bool, true, false, not, ◌&&◌, List, refl, sym, ◌∙◌, ap, subst, Some, None, Ok, Err}
+use Rattle.std.proofs.lemmas.Bool.{false≢true, and_parts, and_from}
+use Rattle.line_framing.specs.Next.{Front, next_of}
+use Rattle.line_framing.specs.Framing.{IsLineDue, left_by}
+use Rattle.line_framing.specs.declared.faults.FramingFault.{FramingFault}
+use Rattle.protocol_model.specs.Lines.{Readers, AreReaders}
+use Rattle.protocol_model.specs.Ends.{ClientEnd, end_read, front_read}
+use Rattle.protocol_model.specs.World.{World, Link, no_link, link_of, with_link, client_link, is_any, has_some, can, happens, moved_down}
+use Rattle.protocol_model.specs.World as world
+use Rattle.protocol_model.specs.declared.events.Event.TheVariants as event
+use Rattle.protocol_model.specs.declared.states.State.{State}
+use Rattle.protocol_model.proofs.Carrying.{IsCarried}
+use Rattle.protocol_model.proofs.LineTaking.{no_reply_fault}
+use Rattle.client_core.specs.Clients.{is_faulted, may_read}
+use Rattle.client_core.specs.Refusals.{IsReadRefused}
+use Rattle.client_core.specs.declared.faults.ClientFault.{ClientFault}
+use Rattle.client_core.specs.declared.faults.ClientFault.TheVariants as client_fault
+use Rattle.server_core.specs.Serving.{Serving}
+use Rattle.link_world.specs.declared.connection.Connection.{Connection}
+use Rattle.link_world.specs.declared.faults.WorldFault.TheVariants as world_fault
+use Rattle.link_world.specs.Claims.{refused_by}
+use Rattle.link_world.specs.Links.{seen, IsReached}
+use Rattle.link_world.proofs.Reached.{carried, reached_more}
+use Rattle.link_world.proofs.ClientSteps.{never_faulted_now}
+
+-- whether it reads
+abbrev pub reads_any : ClientEnd → Bool
+reads_any e = e.client.on && (not (world.is_faulted e.client.state) && is_any (next_of e.input.rest))
+
+pub faulted_same : (s : State) → is_faulted s ≡ world.is_faulted s
+faulted_same State.Apart = refl
+faulted_same State.Running = refl
+faulted_same State.Failing = refl
+faulted_same State.Aborting = refl
+faulted_same State.Halted = refl
+faulted_same State.Done = refl
+faulted_same State.Faulted = refl
+
+may_is : (e : ClientEnd) → may_read e.client ≡ true → (e.client.on ≡ true) × (not (world.is_faulted e.client.state) ≡ true)
+may_is e may = let parts = and_parts _ _ may in (parts.0, subst (λ (b : Bool). not b ≡ true) (faulted_same e.client.state) parts.1)
+
+any_line : (f : Front) → IsLineDue f → is_any f ≡ true
+any_line (Ok None) due = absurd (false≢true due)
+any_line (Ok (Some found)) due = refl
+any_line (Err why) due = refl
+
+pub reads_can : (e : ClientEnd) → may_read e.client ≡ true → IsLineDue (next_of e.input.rest) → reads_any e ≡ true
+reads_can e may due = let parts = may_is e may in and_from _ _ parts.0 (and_from _ _ parts.1 (any_line (next_of e.input.rest) due))
+
+-- it never meets what is no line
+no_fault_read : (client : ClientEnd) (server : Serving) (cs : List Connection) (written : List ℕ) → IsReached (seen client server cs written)
+    → client.client.on ≡ true → (why : FramingFault) → next_of client.input.rest ≡ Err why → ⊥
+no_fault_read client server cs written h on why is =
+    let c : IsCarried (seen client server cs written).world = carried (seen client server cs written) h in
+    no_reply_fault c.down client.input.rest (client_link (seen client server cs written).world).down why c.wired.replies (c.wired.down_is on) is
+
+pub read_reached : (client after : ClientEnd) (server : Serving) (cs : List Connection) (written : List ℕ) → IsReached (seen client server cs written)
+    → reads_any client ≡ true → ((readers : Readers) → AreReaders readers → after ≡ end_read readers client) → IsReached (seen after server cs written)
+read_reached client after server cs written h may is =
+    reached_more (seen client server cs written) (seen after server cs written) event.ClientReads h may
+    (λ readers are. ap (λ (e : ClientEnd). seen e server cs written) (is readers are))
+
+-- no line is there
+pub record NothingRead (client after : ClientEnd) : Type 0 where
+  pub same : after ≡ client
+  pub none : reads_any client ≡ false
+
+none_there : (readers : Readers) (client : ClientEnd) (f : Front) → f ≡ Ok None → record { client = front_read readers client.client f; input = left_by f client.input; out = client.out } ≡ client
+none_there readers client f e = ap (λ (x : Front). record { client = front_read readers client.client x; input = left_by x client.input; out = client.out }) e
+
+not_any : (e : ClientEnd) (f : Front) → next_of e.input.rest ≡ f → is_any f ≡ false → reads_any e ≡ false
+not_any e f is none = go (reads_any e) refl
+  where
+    go : (b : Bool) → reads_any e ≡ b → b ≡ false
+    go false x = refl
+    go true x = absurd (false≢true (sym none ∙ (ap is_any (sym is) ∙ (and_parts _ _ (and_parts _ _ x).1).1)))
+
+pub nothing_read : (client after : ClientEnd) (server : Serving) (cs : List Connection) (written : List ℕ) → IsReached (seen client server cs written)
+    → may_read client.client ≡ true → (IsLineDue (next_of client.input.rest) → ⊥) → ((readers : Readers) → AreReaders readers → after ≡ end_read readers client) → NothingRead client after
+nothing_read client after server cs written h may none is = go (next_of client.input.rest) refl
+  where
+    go : (f : Front) → next_of client.input.rest ≡ f → NothingRead client after
+    go (Ok None) e = record { same = is h.readers h.are ∙ none_there h.readers client (next_of client.input.rest) e; none = not_any client (Ok None) e refl }
+    go (Ok (Some found)) e = absurd (none (subst IsLineDue (sym e) refl))
+    go (Err why) e = absurd (no_fault_read client server cs written h (may_is client may).0 why e)
+
+-- a call that is refused found no line, or no memory
+pub record NotRead (client after : ClientEnd) (fault : ClientFault) : Type 0 where
+  pub same : after ≡ client
+  pub none : refused_by fault ≡ world_fault.NotNow → reads_any client ≡ false
+
+off_reads : (e : ClientEnd) → e.client.on ≡ false → reads_any e ≡ false
+off_reads e off = ap (λ (b : Bool). b && (not (world.is_faulted e.client.state) && is_any (next_of e.input.rest))) off
+
+never_met : (client after : ClientEnd) (server : Serving) (cs : List Connection) (written : List ℕ) → IsReached (seen client server cs written) → is_faulted after.client.state ≡ true
+    → (may_read client.client ≡ true → (readers : Readers) → AreReaders readers → after ≡ end_read readers client) → (may_read client.client ≡ false → after ≡ client) → ⊥
+never_met client after server cs written h met is before = go (may_read client.client) refl
+  where
+    front : (f : Front) → next_of client.input.rest ≡ f → may_read client.client ≡ true → ⊥
+    front (Ok None) e may =
+        never_faulted_now client server cs written h
+        (subst (λ (x : ClientEnd). is_faulted x.client.state ≡ true) (is may h.readers h.are ∙ none_there h.readers client (next_of client.input.rest) e) met)
+    front (Ok (Some found)) e may =
+        let parts = may_is client may in
+        let can_now : reads_any client ≡ true = and_from _ _ parts.0 (and_from _ _ parts.1 (ap is_any e)) in
+        never_faulted_now after server cs written (read_reached client after server cs written h can_now (is may)) met
+    front (Err why) e may = no_fault_read client server cs written h (may_is client may).0 why e
+
+    go : (b : Bool) → may_read client.client ≡ b → ⊥
+    go true may = front (next_of client.input.rest) refl may
+    go false never = never_faulted_now client server cs written h (subst (λ (x : ClientEnd). is_faulted x.client.state ≡ true) (before never) met)
+
+pub not_read : (client after : ClientEnd) (server : Serving) (cs : List Connection) (written : List ℕ) (fault : ClientFault) → IsReached (seen client server cs written)
+    → IsReadRefused client after fault → (fault ≢ client_fault.Memory → may_read client.client ≡ true → (readers : Readers) → AreReaders readers → after ≡ end_read readers client)
+    → (may_read client.client ≡ false → after ≡ client) → NotRead client after fault
+not_read client after server cs written client_fault.NotNow h r is before = record { same = r.0; none = λ e. off_reads client r.1 }
+not_read client after server cs written (client_fault.Faulted cause) h r is before =
+    absurd (never_met client after server cs written h r.0 (is (λ (e : client_fault.Faulted cause ≡ client_fault.Memory). cc)) before)
+not_read client after server cs written client_fault.Memory h r is before = record { same = r; none = λ e. absurd (cc) }

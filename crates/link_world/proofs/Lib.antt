@@ -1,0 +1,9 @@
+pub mod Reached
+pub mod Linking
+pub mod ClientSteps
+pub mod ClientWriting
+pub mod ServerSteps
+pub mod ClientReading
+pub mod ClientBytes
+pub mod ServerAnswers
+pub mod Running

@@ -1,0 +1,158 @@
+-- What holds of a world to which a list of events has led.
+use Rattle.std.proofs.Common.{◌≡◌, ◌≢◌, ℕ, suc, ◌-◌, ◌≤◌, ◌<◌, Bool, true, false, ◌&&◌, cond, nat_le, List, [], ◌∷◌, ◌++◌, length, if◌then◌else◌, refl, sym, ◌∙◌, ap, subst, arith, Option, Some, None, Err}
+use Rattle.std.proofs.lemmas.Bool.{false≢true, and_parts, leb-true}
+use Rattle.dmis_program.specs.Meaning.{Meaning}
+use Rattle.dmis_program.specs.Programs.{IsProgram}
+use Rattle.tool_rack.specs.Setups.{SetupValue}
+use Rattle.line_framing.specs.Next.{next_of}
+use Rattle.line_framing.specs.declared.faults.FramingFault.{FramingFault}
+use Rattle.line_framing.proofs.Streams.{no_fault}
+use Rattle.protocol_model.specs.Lines.{Readers, AreReaders, command_texts}
+use Rattle.protocol_model.specs.Ends.{ClientEnd, new_client_end}
+use Rattle.protocol_model.specs.World.{World, start, can, happens, after, run_of, server_link}
+use Rattle.protocol_model.specs.declared.events.Event.{Event}
+use Rattle.protocol_model.specs.declared.states.State.{State}
+use Rattle.protocol_model.proofs.Carrying.{lined, IsCarried}
+use Rattle.protocol_model.proofs.ClientEvents.{served_now, told_now, never_faulted}
+use Rattle.protocol_model.proofs.Served.{served_sound}
+use Rattle.protocol_model.proofs.Wires.{IsWhole}
+use Rattle.protocol_model.proofs.Writable.{command_lines}
+use Rattle.protocol_model.proofs.ReadersExist.{some_are_readers}
+use Rattle.protocol_model.proofs.WholeRun.{run_carried, start_carried}
+use Rattle.server_core.specs.Serving.{Serving, new_serving}
+use Rattle.link_world.specs.declared.connection.Connection.{Connection}
+use Rattle.link_world.specs.Claims.{IsSound, IsTold, DoNotDisagree}
+use Rattle.link_world.specs.Links.{Linked, links_of, seen, with_world, IsReached}
+
+pub carried : (l : Linked) → IsReached l → IsCarried l.world
+carried l h = subst IsCarried (sym h.reached) (run_carried h.readers h.are h.events (start h.program l.setup.tools h.window) (start_carried h.program l.setup.tools h.window h.is_program h.few))
+
+-- ---- one event more
+
+run_more : (readers : Readers) (es : List Event) (e : Event) (w : World) → run_of readers (es ++ e ∷ []) w ≡ after readers e (run_of readers es w)
+run_more readers [] e w = refl
+run_more readers (x ∷ es) e w = run_more readers es e (after readers x w)
+
+happened : (readers : Readers) (e : Event) (w : World) (b : Bool) → can e w ≡ b → b ≡ true → cond b (happens readers e w) w ≡ happens readers e w
+happened readers e w true is may = refl
+happened readers e w false is may = absurd (false≢true may)
+
+pub reached_more : (l m : Linked) (e : Event) → IsReached l → can e l.world ≡ true → ((readers : Readers) → AreReaders readers → m ≡ with_world l (happens readers e l.world)) → IsReached m
+reached_more l m e h may is =
+    subst IsReached (sym (is h.readers h.are)) (record {
+      readers = h.readers;
+      are = h.are;
+      program = h.program;
+      is_program = h.is_program;
+      window = h.window;
+      few = h.few;
+      events = h.events ++ e ∷ [];
+      reached =
+          sym (happened h.readers e l.world (can e l.world) refl may)
+          ∙ (ap (after h.readers e) h.reached ∙ sym (run_more h.readers h.events e (start h.program l.setup.tools h.window)));
+    })
+
+-- ---- the claims
+
+pub sound : (l : Linked) → IsReached l → IsSound l.world
+sound l h = let c : IsCarried l.world = carried l h in
+    served_sound l.world.client.client.program.features l.world.client.client.table.tally.features l.world.server.server.ledger (served_now (lined l.world c.up c.down) c.inv)
+
+pub told : (l : Linked) → IsReached l → IsTold l.world
+told l h = let c : IsCarried l.world = carried l h in let t = told_now (lined l.world c.up c.down) c.inv in record { more = t.0; whole = t.1 }
+
+pub agree : (l : Linked) → IsReached l → DoNotDisagree l.world
+agree l h = let c : IsCarried l.world = carried l h in record { client = never_faulted (lined l.world c.up c.down) c.inv; server = c.server_fault }
+
+-- ---- numbers of connections
+
+pub links_long : (cs : List Connection) → length (links_of cs) ≡ length cs
+links_long [] = refl
+links_long (c ∷ cs) = ap suc (links_long cs)
+
+pub made : (client : ClientEnd) (server : Serving) (cs : List Connection) (written : List ℕ) → IsReached (seen client server cs written) → length cs ≡ client.client.last
+made client server cs written h = sym (links_long cs) ∙ (carried (seen client server cs written) h).wired.made
+
+pub taken : (client : ClientEnd) (server : Serving) (cs : List Connection) (written : List ℕ) → IsReached (seen client server cs written) → server.end.server.last ≤ length cs
+taken client server cs written h =
+    let w = (carried (seen client server cs written) h).wired in
+    let same : length cs ≡ client.client.last = made client server cs written h in
+    let le : server.end.server.last ≤ client.client.last = w.numbers in omega (arith, same, le)
+
+pub server_number : (client : ClientEnd) (server : Serving) (cs : List Connection) (written : List ℕ) → IsReached (seen client server cs written) → server.end.server.on ≡ true → 1 ≤ server.end.server.last
+server_number client server cs written h on = (carried (seen client server cs written) h).wired.taken on
+
+-- the number of the connection on which a server stands
+abbrev pub number_on : Serving → Option ℕ
+number_on server = if server.end.server.on then Some server.end.server.last else None
+
+some_number : (server : Serving) (number : ℕ) → number_on server ≡ Some number → (server.end.server.on ≡ true) × (server.end.server.last ≡ number)
+some_number server number is = go server.end.server.on refl is
+  where
+    value : Option ℕ → ℕ
+    value (Some n) = n
+    value None = number
+
+    go : (b : Bool) → server.end.server.on ≡ b → cond b (Some server.end.server.last) None ≡ Some number → (server.end.server.on ≡ true) × (server.end.server.last ≡ number)
+    go true on e = (on, ap value e)
+    go false off e = absurd (cc)
+
+pub record Stands (l : Linked) (at : ℕ) : Type 0 where
+  pub on : l.world.server.server.on ≡ true
+  pub place : at ≡ l.world.server.server.last - 1
+  pub within : at < length l.world.links
+
+pub stands : (l : Linked) (client : ClientEnd) (server : Serving) (cs : List Connection) (written : List ℕ) (number at : ℕ) → l ≡ seen client server cs written → IsReached (seen client server cs written)
+    → number_on server ≡ Some number → at ≡ number - 1 → (1 ≤ number) × Stands l at
+stands l client server cs written number at view h is place =
+    let two = some_number server number is in
+    let one : 1 ≤ server.end.server.last = server_number client server cs written h two.0 in
+    let le : server.end.server.last ≤ length cs = taken client server cs written h in
+    let last : server.end.server.last ≡ number = two.1 in (
+      omega (arith, one, last),
+      subst (λ (k : Linked). Stands k at) (sym view) (record {
+        on = two.0;
+        place = place ∙ omega (arith, last);
+        within = omega (arith, one, le, last, place, links_long cs);
+      }),
+    )
+
+-- ---- what is to be sent was sent
+
+pub client_quiet : (client : ClientEnd) (server : Serving) (cs : List Connection) (written : List ℕ) → IsReached (seen client server cs written) → client.out ≡ []
+client_quiet client server cs written h = (carried (seen client server cs written) h).client_out
+
+pub server_quiet : (client : ClientEnd) (server : Serving) (cs : List Connection) (written : List ℕ) → IsReached (seen client server cs written) → server.end.out ≡ []
+server_quiet client server cs written h = (carried (seen client server cs written) h).server_out
+
+-- ---- no side meets what is no line
+
+pub server_reads_lines : (client : ClientEnd) (server : Serving) (cs : List Connection) (written : List ℕ) → IsReached (seen client server cs written)
+    → server.end.server.on ≡ true → (why : FramingFault) → next_of server.end.input.rest ≡ Err why → ⊥
+server_reads_lines client server cs written h on why is =
+    let w = (carried (seen client server cs written) h).wired in
+    let whole : IsWhole (server.end.input.rest ++ (server_link (seen client server cs written).world).up) = w.serves on in
+    no_fault server.end.input.rest (server_link (seen client server cs written).world).up (command_texts whole.lines) why (command_lines whole.lines whole.writable) whole.is is
+
+pub never_faulted_behind : (readers : Readers) → AreReaders readers → (l : Linked) (e : Event) → IsReached l → can e l.world ≡ true → (happens readers e l.world).client.client.state ≢ State.Faulted
+never_faulted_behind readers are l e h may =
+    let c : IsCarried (happens readers e l.world) = Rattle.protocol_model.proofs.WholeRun.happens_carried readers are e l.world (carried l h) may in
+    never_faulted (lined (happens readers e l.world) c.up c.down) c.inv
+
+-- ---- before any event
+
+pub start_reached : (program : Meaning) (setup : SetupValue) (window : ℕ) (client : ClientEnd) (server : Serving) (cs : List Connection) (written : List ℕ) → IsProgram program → (nat_le 1 window && nat_le window 16) ≡ true
+    → client ≡ new_client_end program [] window → server ≡ new_serving setup → cs ≡ [] → written ≡ [] → IsReached (seen client server cs written)
+start_reached program setup window client server cs written is_program few c s none nothing =
+    subst (λ (l : Linked). IsReached l) (sym (ap (λ (x : ClientEnd). seen x server cs written) c ∙ (ap (λ (x : Serving). seen (new_client_end program [] window) x cs written) s
+    ∙ (ap (λ (x : List Connection). seen (new_client_end program [] window) (new_serving setup) x written) none ∙ ap (λ (x : List ℕ). seen (new_client_end program [] window) (new_serving setup) [] x) nothing))))
+    (record {
+      readers = some_are_readers.0;
+      are = some_are_readers.1;
+      program = program;
+      is_program = is_program;
+      window = window;
+      few = leb-true window 16 (and_parts _ _ few).1;
+      events = [];
+      reached = refl;
+    })

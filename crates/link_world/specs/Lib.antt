@@ -1,0 +1,4 @@
+pub mod Wires
+pub mod Links
+pub mod Claims
+pub mod Runs

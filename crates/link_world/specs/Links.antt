@@ -1,0 +1,50 @@
+-- Both ends and their connections, as the definitions see them (this profile).
+use Rattle.std.specs.Prelude.{◌≡◌, ℕ, ◌≤◌, List, [], ◌∷◌}
+use Rattle.dmis_program.specs.Meaning.{Meaning}
+use Rattle.dmis_program.specs.Programs.{IsProgram}
+use Rattle.tool_rack.specs.Setups.{SetupValue}
+use Rattle.protocol_model.specs.Lines.{Readers, AreReaders}
+use Rattle.protocol_model.specs.Ends.{ClientEnd, ServerEnd}
+use Rattle.protocol_model.specs.World.{World, Link, start, run_of}
+use Rattle.protocol_model.specs.declared.events.Event.{Event}
+use Rattle.server_core.specs.Serving.{Serving}
+use Rattle.link_world.specs.declared.connection.Connection.{Connection}
+
+-- the bytes of a connection, without the room for more
+abbrev pub link_of_connection : Connection → Link
+link_of_connection c = record { up = c.up.waiting; down = c.down.waiting }
+
+abbrev pub links_of : List Connection → List Link
+links_of [] = []
+links_of (c ∷ cs) = link_of_connection c ∷ links_of cs
+
+-- with no bytes that are to be sent
+abbrev pub quiet_client : ClientEnd → ClientEnd
+quiet_client e = record e { out = [] }
+
+abbrev pub quiet_server : ServerEnd → ServerEnd
+quiet_server e = record e { out = [] }
+
+-- a setup, and the world of its server
+pub record Linked : Type 0 where
+  pub setup : SetupValue
+  pub world : World
+
+-- what is seen of the code's parts
+abbrev pub seen : ClientEnd → Serving → List Connection → List ℕ → Linked
+seen client server connections written =
+    record { setup = server.setup; world = record { client = client; server = server.end; links = links_of connections; written = written } }
+
+abbrev pub with_world : Linked → World → Linked
+with_world l w = record { setup = l.setup; world = w }
+
+-- a list of events leads to it from a world in which nothing has happened
+pub record IsReached (l : Linked) : Type 0 where
+  pub readers : Readers
+  pub are : AreReaders readers
+  pub program : Meaning
+  pub is_program : IsProgram program
+  pub window : ℕ
+  pub few : window ≤ 16
+  pub events : List Event
+  pub reached : l.world ≡ run_of readers events (start program l.setup.tools window)

@@ -1,0 +1,77 @@
+// The bytes of one connection, and what joins them: what a side writes joins them in the same event. Room is made first, so that nothing
+// changes where memory is wanting.
+
+ghost use Rattle.std.specs.Prelude.{◌≡◌, ◌≤◌, ◌+◌, ◌++◌, [], length, vec_len, vec_capacity, OnOk, OnErr};
+ghost use Rattle.server_core.specs.Serving.{Serving, with_end};
+ghost use Rattle.link_world.specs.Links.{link_of_connection, quiet_client, quiet_server};
+
+use crate::pipe::Pipe;
+use client_core::{Client, LINE_MAX};
+use server_core::{ANSWER_MAX, Server};
+use std::alloc::{AllocError, Global};
+
+/// The bytes of one connection: up to the server, and down to the client.
+#[derive(Drop)]
+pub(crate) struct Connection {
+    pub(crate) up: Pipe,
+    pub(crate) down: Pipe,
+}
+
+impl Connection {
+    /// A connection on which nothing was written.
+    pub(crate) fn new(alloc: Global) -> Connection
+        ensures up { result.up.waiting ≡ [] }
+        ensures down { result.down.waiting ≡ [] }
+    {
+        Connection {
+            up: Pipe::new(alloc),
+            down: Pipe::new(alloc),
+        }
+    }
+
+    /// Makes room for a line of the client, here and among all that it wrote. Only want of memory is an `Err`.
+    pub(crate) fn reserve_up(&mut self, written: &mut Vec<u8>) -> Result<(), AllocError>
+        ensures link { link_of_connection self.new ≡ link_of_connection self.old }
+        ensures written { written.new.items ≡ written.old.items }
+        ensures room { OnOk result (202 ≤ self.new.up.room) }
+        ensures room_written { OnOk result (vec_len written.new + 202 ≤ vec_capacity written.new) }
+    {
+        self.up.reserve(LINE_MAX)?;
+        written.reserve(LINE_MAX)
+    }
+
+    /// What the client wrote joins the bytes up.
+    pub(crate) fn join_up(&mut self, client: &mut Client, written: &mut Vec<u8>)
+        requires room { length client.old.out ≤ self.old.up.room }
+        requires room_written { vec_len written.old + length client.old.out ≤ vec_capacity written.old }
+        ensures client { client.new ≡ quiet_client client.old }
+        ensures up { self.new.up.waiting ≡ self.old.up.waiting ++ client.old.out }
+        ensures down { self.new.down.waiting ≡ self.old.down.waiting }
+        ensures written { written.new.items ≡ written.old.items ++ client.old.out }
+    {
+        self.up.append(client.out());
+        written.extend_from_slice(client.out()).unwrap();
+        let count = client.out().len();
+        client.sent(count);
+    }
+
+    /// Makes room for what the server answers in one call. Only want of memory is an `Err`.
+    pub(crate) fn reserve_down(&mut self) -> Result<(), AllocError>
+        ensures link { link_of_connection self.new ≡ link_of_connection self.old }
+        ensures room { OnOk result (10560 ≤ self.new.down.room) }
+    {
+        self.down.reserve(ANSWER_MAX)
+    }
+
+    /// What the server answered joins the bytes down.
+    pub(crate) fn join_down(&mut self, server: &mut Server)
+        requires room { length server.old.end.out ≤ self.old.down.room }
+        ensures server { server.new ≡ with_end server.old (quiet_server server.old.end) }
+        ensures up { self.new.up.waiting ≡ self.old.up.waiting }
+        ensures down { self.new.down.waiting ≡ self.old.down.waiting ++ server.old.end.out }
+    {
+        self.down.append(server.out());
+        let count = server.out().len();
+        server.sent(count);
+    }
+}

@@ -1,0 +1,185 @@
+// Both ends and the connections between them.
+
+ghost use Rattle.std.specs.Prelude.{◌≡◌, ◌≤◌, ◌↔◌, ◌+◌, length, ◌&&◌, nat_le, true, false, [], IsOk, IfOk, IfErr, OnOk, OnErr, MatchOption, None, Some};
+ghost use Rattle.std.specs.Result.{IsErrOf};
+ghost use Rattle.protocol_model.specs.Lines.{Readers, AreReaders};
+ghost use Rattle.protocol_model.specs.Server.{running_job};
+ghost use Rattle.protocol_model.specs.World.{start, can, happens};
+ghost use Rattle.link_world.specs.Links.{with_world};
+ghost use Rattle.link_world.specs.Runs.{HasRun};
+ghost use Rattle.link_world.specs.Claims.{IsSound, IsTold, DoNotDisagree, IsNewFault, takes_memory};
+
+use crate::connection::Connection;
+use crate::faults::{NewFault, WorldFault};
+use client_core::Client;
+use contact_ledger::{FeatureLedger, ServerLedger};
+use dmis_program::Program;
+use protocol_model::{Event, Job};
+use server_core::Server;
+use std::alloc::{AllocError, Global};
+use std::marker::Model;
+use tool_rack::Setup;
+
+/// A client, a server and the connections between them. Contracts see `protocol_model`'s world, and the server's setup.
+///
+/// Whatever events have come, the features that the client holds are the first of the program, and their points are, in order, those of
+/// disjoint ascending runs of the server's contacts, one unbroken run on one connection for each feature, each contact made with its
+/// touch's target, direction, tool and frame; what the client has counted on its connection is a front of what the server did there; and
+/// neither end has met a line or a mark that has no place.
+#[derive(Drop)]
+pub struct World {
+    pub(crate) alloc: Global,
+    pub(crate) client: Client,
+    pub(crate) server: Server,
+    pub(crate) connections: Vec<Connection>,
+    pub(crate) written: Vec<u8>,
+}
+
+/// How many events of a list happened, could not happen, and wanted memory.
+#[derive(Clone, Copy, Debug, PartialEq, Eq)]
+pub struct RunCount {
+    pub done: usize,
+    pub not_now: usize,
+    pub memory: usize,
+}
+
+impl Model for World {
+    ghost use Rattle.link_world.specs.Links.{Linked, seen, IsReached};
+
+    ghost Value = { Linked };
+
+    ghost view = { λ w. seen w.client w.server w.connections.items w.written.items };
+
+    ghost invariant = { λ w. IsReached (seen w.client w.server w.connections.items w.written.items) };
+}
+
+impl World {
+    /// A client with a program and a server with a setup, neither ever on a connection. The window, from 1 to 16, is how many commands the
+    /// client keeps open at most.
+    ///
+    /// `BadWindow` hands both back; `Memory`.
+    pub fn new(alloc: Global, program: Program, setup: Setup, window: u8) -> Result<World, NewFault>
+        ensures ok { IfOk result (λ world. world ≡ record { setup = setup; world = start program setup.tools window }) }
+        ensures can { IfErr result (λ fault. IsNewFault program setup window fault) }
+        ensures window { IsOk result → (nat_le 1 window && nat_le window 16) ≡ true }
+        ensures sound { IfOk result (λ world. IsSound world.world) }
+        ensures told { IfOk result (λ world. IsTold world.world) }
+        ensures agree { IfOk result (λ world. DoNotDisagree world.world) }
+    {
+        match Client::new(alloc, program, FeatureLedger::new(alloc), window) {
+            Ok(client) => match Server::new(alloc, setup) {
+                Ok(server) => Ok(World {
+                    alloc,
+                    client,
+                    server,
+                    connections: Vec::new(alloc),
+                    written: Vec::new(alloc),
+                }),
+                Err(AllocError) => Err(NewFault::Memory),
+            },
+            Err((_, program, _)) => Err(NewFault::BadWindow(program, setup)),
+        }
+    }
+
+    /// An event happens, if it can; which, the functions of each say.
+    fn happen(&mut self, event: Event) -> Result<(), WorldFault>
+        ensures can { OnOk result (can event self.old.world ≡ true) }
+        ensures ok { OnOk result ((readers : Readers) → AreReaders readers
+            → self.new ≡ with_world self.old (happens readers event self.old.world)) }
+        ensures not_now { IsErrOf result WorldFault.NotNow → can event self.old.world ≡ false }
+        ensures memory { IsErrOf result WorldFault.Memory → takes_memory event ≡ true }
+        ensures err { OnErr result (self.new ≡ self.old) }
+    {
+        match event {
+            Event::Connect => self.connect(),
+            Event::Accept(number) => self.accept(number),
+            Event::ClientSends => self.client_sends(),
+            Event::Up(count) => self.up(count),
+            Event::ServerReads => self.server_reads(),
+            Event::ServerTurn => self.server_turn(),
+            Event::Machine(outcome) => self.machine(outcome),
+            Event::Down(count) => self.down(count),
+            Event::ClientReads => self.client_reads(),
+            Event::ClientLeaves => self.client_leaves(),
+            Event::ServerLeaves => self.server_leaves(),
+            Event::Abort => self.abort(),
+            Event::Resume => self.resume(),
+            Event::ClientRestart(count) => self.client_restart(count),
+            Event::ServerRestart => {
+                self.server_restart();
+                Ok(())
+            }
+        }
+    }
+
+    /// An event happens, if it can. `NotNow` where it cannot, `Memory`; neither changes anything, and the events that leave a connection and
+    /// the restart of the server want no memory.
+    #[tactic(auto, using(crate::proofs::Reached::sound, crate::proofs::Reached::told, crate::proofs::Reached::agree))]
+    pub fn step(&mut self, event: Event) -> Result<(), WorldFault>
+        // What the event does, and when it can happen.
+        ensures can { OnOk result (can event self.old.world ≡ true) }
+        ensures ok { OnOk result ((readers : Readers) → AreReaders readers
+            → self.new ≡ with_world self.old (happens readers event self.old.world)) }
+        ensures not_now { IsErrOf result WorldFault.NotNow → can event self.old.world ≡ false }
+        ensures memory { IsErrOf result WorldFault.Memory → takes_memory event ≡ true }
+        ensures err { OnErr result (self.new ≡ self.old) }
+
+        // What holds after any events.
+        ensures sound { IsSound self.new.world }
+        ensures told { IsTold self.new.world }
+        ensures agree { DoNotDisagree self.new.world }
+    {
+        let done = self.happen(event);
+        let _known = &self.alloc;
+        done
+    }
+
+    /// Events happen, one after another; those that cannot, and those for which memory is wanting, change nothing. It answers how many
+    /// happened, could not happen, and wanted memory.
+    #[tactic(auto, using(crate::proofs::Reached::sound, crate::proofs::Reached::told, crate::proofs::Reached::agree))]
+    pub fn run(&mut self, events: &[Event]) -> RunCount
+        ensures run { (readers : Readers) → AreReaders readers
+            → HasRun readers self.old.world events.now self.new.world result.done result.not_now result.memory }
+        ensures setup { self.new.setup ≡ self.old.setup }
+        ensures all { result.done + result.not_now + result.memory ≡ length events.now }
+        ensures sound { IsSound self.new.world }
+        ensures told { IsTold self.new.world }
+        ensures agree { DoNotDisagree self.new.world }
+    {
+        let _known = &self.alloc;
+        let mut count = RunCount {
+            done: 0,
+            not_now: 0,
+            memory: 0,
+        };
+        for event in events {
+            match self.step(*event) {
+                Ok(()) => count.done += 1,
+                Err(WorldFault::NotNow) => count.not_now += 1,
+                Err(WorldFault::Memory) => count.memory += 1,
+            }
+        }
+        count
+    }
+
+    /// The job of what runs on the machine, its points in machine axes.
+    pub fn running(&self) -> Option<&Job>
+        ensures { MatchOption result (running_job self.now.world.server.server ≡ None) (λ job. running_job self.now.world.server.server ≡ Some job.now) }
+    {
+        self.server.running()
+    }
+
+    /// All bytes that the client wrote on the connection that it made last.
+    pub fn written(&self) -> &[u8]
+        ensures { result.now ≡ self.now.world.written }
+    {
+        self.written.as_slice()
+    }
+
+    /// What the server did, with the numbers of the connections.
+    pub fn ledger(&self) -> &ServerLedger
+        ensures { result.now ≡ self.now.world.server.server.ledger }
+    {
+        self.server.ledger()
+    }
+}
