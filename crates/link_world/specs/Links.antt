@@ -14,14 +14,16 @@ use Rattle.link_world.specs.declared.connection.Connection.{Connection}
 abbrev pub link_of_connection : Connection → Link
 link_of_connection c = record { up = c.up.waiting; down = c.down.waiting }
 
+-- the same of all connections, in order
 abbrev pub links_of : List Connection → List Link
 links_of [] = []
 links_of (c ∷ cs) = link_of_connection c ∷ links_of cs
 
--- with no bytes that are to be sent
+-- a client's end with no bytes that are to be sent
 abbrev pub quiet_client : ClientEnd → ClientEnd
 quiet_client e = record e { out = [] }
 
+-- a server's end with no bytes that are to be sent
 abbrev pub quiet_server : ServerEnd → ServerEnd
 quiet_server e = record e { out = [] }
 
@@ -35,6 +37,7 @@ abbrev pub seen : ClientEnd → Serving → List Connection → List ℕ → Lin
 seen client server connections written =
     record { setup = server.setup; world = record { client = client; server = server.end; links = links_of connections; written = written } }
 
+-- the same setup with another world
 abbrev pub with_world : Linked → World → Linked
 with_world l w = record { setup = l.setup; world = w }
 

@@ -19,19 +19,21 @@ Leads readers w (e ∷ es) (Refused ∷ xs) v = (can e w ≡ false) × Leads rea
 Leads readers w (e ∷ es) (Wanting ∷ xs) v = (takes_memory e ≡ true) × Leads readers w es xs v
 Leads readers w _ _ v = ⊥
 
--- how many events had each answer
+-- how many events happened
 abbrev pub happened : List Answer → ℕ
 happened [] = 0
 happened (Happened ∷ xs) = suc (happened xs)
 happened (Refused ∷ xs) = happened xs
 happened (Wanting ∷ xs) = happened xs
 
+-- how many could not happen
 abbrev pub refused : List Answer → ℕ
 refused [] = 0
 refused (Happened ∷ xs) = refused xs
 refused (Refused ∷ xs) = suc (refused xs)
 refused (Wanting ∷ xs) = refused xs
 
+-- how many wanted memory
 abbrev pub wanting : List Answer → ℕ
 wanting [] = 0
 wanting (Happened ∷ xs) = wanting xs
