@@ -69,6 +69,7 @@ pub fn pull_all<R: Source>(alloc: Global, source: &mut R, bound: u64) -> Result<
         → ConsumesFront (R.left source.old) (R.left source.new) bound }
     ensures front { OnErr result (ConsumesFront (R.left source.old) (R.left source.new) 0) }
     ensures stays { R.has_failed source.old ≡ true → R.has_failed source.new ≡ true }
+    ensures piece { PIECE ≡ 65536 }
 {
     let mut text = Vec::new(alloc);
     let Ok(mut piece) = blank_piece(alloc) else {
