@@ -1,6 +1,6 @@
 //! The statements of a DMIS text (ISO 22093), each with the number of the line on which it begins.
 //!
-//! A text is bytes. Its lines are looked at one by one (`lines`): the comment is left out, blank lines count for
+//! A text is bytes. Its lines are cut off one by one (`line_ends`) and looked at (`lines`): the comment is left out, blank lines count for
 //! nothing, and a line that ends in `$` goes on (`joined`). What was joined is cut into label, word and parameters
 //! (`elements`, over the scans of `bytes`). `reading` hands the statements out one by one, and refuses a line that is
 //! too long or has a byte that may not stand there.
@@ -13,10 +13,12 @@ mod bytes;
 mod elements;
 mod joined;
 pub mod laws;
+mod line_ends;
 mod lines;
 mod reading;
 
 pub use elements::{Params, Statement, Text};
+pub use line_ends::cut_line;
 pub use reading::{Statements, TextFault};
 
 #[cfg(test)]

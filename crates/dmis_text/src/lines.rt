@@ -1,11 +1,11 @@
-ghost use Rattle.std.specs.Prelude.{◌≡◌, ◌++◌, ◌∷◌, [], ◌<◌, ◌≤◌, ◌==◌, Bool, true, false, length, MatchOption, IfSome};
-ghost use Rattle.std.specs.List.{position};
-ghost use Rattle.std.specs.Str.Lines.{lines, strip_carriage_return};
+ghost use Rattle.std.specs.Prelude.{◌≡◌, ◌≤◌, Bool, true, false, length, MatchOption, IfSome};
+ghost use Rattle.std.specs.Str.Lines.{lines};
 ghost use Rattle.dmis_text.specs.Texts.{inside_after, before_comment, is_clean};
 ghost use Rattle.dmis_text.specs.Look.{role_of, TellsFlag};
 ghost use Rattle.dmis_text.specs.Reading.{line_role, content_role};
 
 use crate::bytes::{begins_comment, may_be_comment, may_stand, split_end_blanks, turned};
+use crate::line_ends::cut_line;
 
 /// The most bytes that a line may have without its end (this profile).
 const LONGEST_LINE: usize = 4096;
@@ -26,43 +26,6 @@ pub(crate) enum Look<'a> {
     Dropped,
     Continued(Part<'a>),
     Last(&'a [u8]),
-}
-
-/// The bytes without one CR at their end.
-fn without_return(line: &[u8]) -> &[u8]
-    ensures { result.now ≡ strip_carriage_return line.now }
-{
-    match line {
-        [front @ .., b'\r'] => front,
-        _ => line,
-    }
-}
-
-/// Where the first LF stands.
-fn line_feed(bytes: &[u8]) -> Option<usize>
-    ensures place { result ≡ position (λ c. c == 10) bytes.now }
-    ensures within { IfSome result (λ at. at < length bytes.now) }
-{
-    bytes.iter().position(|byte| *byte == b'\n')
-}
-
-/// The first line without its end, and the bytes behind that end; none where there is no byte.
-#[tactic(auto, using(crate::proofs::LineEnds::cuts))]
-pub(crate) fn cut_line(bytes: &[u8]) -> Option<(&[u8], &[u8])>
-    ensures cut { MatchOption result (bytes.now ≡ []) (λ p. lines bytes.now ≡ p.0.now ∷ lines p.1.now) }
-    ensures shorter { IfSome result (λ p. length p.1.now < length bytes.now) }
-{
-    if bytes.is_empty() {
-        return None;
-    }
-    match line_feed(bytes) {
-        Some(at) => {
-            let (line, _) = bytes.split_at(at);
-            let (_, after) = bytes.split_at(at + 1);
-            Some((without_return(line), after))
-        }
-        None => Some(bytes.split_at(bytes.len())),
-    }
 }
 
 /// What stands before the comment, and whether a text is open behind it; none where a byte may not stand in its place.

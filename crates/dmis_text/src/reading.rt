@@ -5,7 +5,8 @@ ghost use Rattle.dmis_text.specs.Found.{Leaves, Refuses};
 
 use crate::elements::Statement;
 use crate::joined::Joined;
-use crate::lines::{Look, count_lines, cut_line, examine};
+use crate::line_ends::cut_line;
+use crate::lines::{Look, count_lines, examine};
 use std::alloc::{AllocError, Global};
 use std::marker::Model;
 

@@ -1,4 +1,3 @@
-pub mod LineEnds
 pub mod FieldCuts
 pub mod Lengths
 pub mod Growing

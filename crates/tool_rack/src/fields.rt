@@ -1,44 +1,6 @@
-ghost use Rattle.std.specs.Prelude.{◌≡◌, ◌≢◌, ℕ, ◌∷◌, [], ◌<◌, ◌≤◌, ◌==◌, not, List, length, None, MatchOption, IfSome};
-ghost use Rattle.std.specs.List.{position, prefix_len};
-ghost use Rattle.std.specs.Str.Lines.{lines, strip_carriage_return};
+ghost use Rattle.std.specs.Prelude.{◌≡◌, ◌≢◌, ℕ, ◌∷◌, [], ◌≤◌, ◌==◌, not, List, length, None, MatchOption, IfSome};
+ghost use Rattle.std.specs.List.{prefix_len};
 ghost use Rattle.tool_rack.specs.Fields.{fields_of, is_dropped, has_outer_space, is_word};
-
-/// The bytes without one CR at their end.
-fn without_return(line: &[u8]) -> &[u8]
-    ensures { result.now ≡ strip_carriage_return line.now }
-{
-    match line {
-        [front @ .., b'\r'] => front,
-        _ => line,
-    }
-}
-
-/// Where the first LF stands.
-fn line_feed(bytes: &[u8]) -> Option<usize>
-    ensures place { result ≡ position (λ b. b == 10) bytes.now }
-    ensures within { IfSome result (λ at. at < length bytes.now) }
-{
-    bytes.iter().position(|byte| *byte == b'\n')
-}
-
-/// The first line without its end, and the bytes behind that end; none where there is no byte.
-#[tactic(auto, using(crate::proofs::LineEnds::cuts))]
-pub(crate) fn cut_line(bytes: &[u8]) -> Option<(&[u8], &[u8])>
-    ensures cut { MatchOption result (bytes.now ≡ []) (λ p. lines bytes.now ≡ p.0.now ∷ lines p.1.now) }
-    ensures shorter { IfSome result (λ p. length p.1.now < length bytes.now) }
-{
-    if bytes.is_empty() {
-        return None;
-    }
-    match line_feed(bytes) {
-        Some(at) => {
-            let (line, _) = bytes.split_at(at);
-            let (_, after) = bytes.split_at(at + 1);
-            Some((without_return(line), after))
-        }
-        None => Some(bytes.split_at(bytes.len())),
-    }
-}
 
 /// Whether a line says nothing.
 pub(crate) fn is_dropped(line: &[u8]) -> bool

@@ -4,7 +4,7 @@
 // - `setups`: `Setup` and `Rack`, read from a text
 // - `faults`: why a text is refused
 // - `entries`: what one line says
-// - `fields`: lines, and the fields of a line
+// - `fields`: the fields of a line
 // - `laws`: what follows from the definitions
 //
 // What a text says is `setup_of` of specs/Setups.antt, a function of its lines: each line is judged by itself and by what the lines

@@ -7,8 +7,8 @@ ghost use Rattle.tool_rack.specs.Carrying.{setup_more, read_line};
 
 use crate::entries::{Entry, entry_on};
 use crate::faults::SetupFault;
-use crate::fields::cut_line;
 use dmis_program::Frames;
+use dmis_text::cut_line;
 use fixed_um::{Name, Point, Um};
 use std::alloc::{AllocError, Global};
 use std::marker::Model;
