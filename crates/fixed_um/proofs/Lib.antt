@@ -5,3 +5,4 @@ pub mod GrammarLemmas
 pub mod ReadLemmas
 pub mod WrittenLemmas
 pub mod ComputedLemmas
+pub mod Displayed

@@ -1,6 +1,7 @@
 -- The written form of lengths and directions, in this profile: a minus below zero, no leading zeros but one before the point, exactly three or six decimals.
 use Rattle.std.specs.Prelude.{ℕ, ◌+◌, ◌/◌, ◌%◌, List, [], ◌∷◌, ◌++◌, ℤ, pos, negsuc, unsigned_abs, codes, decimal}
 use Rattle.fixed_um.specs.Shapes.{Direction}
+use Rattle.fixed_um.specs.declared.lengths.Point.{Point}
 
 -- the minus of a number below zero, so there is none before zero
 abbrev pub minus_sign : ℤ → List ℕ
@@ -29,3 +30,7 @@ written_component z = minus_sign z ++ (decimal (unsigned_abs z / 1000000) ++ (co
 -- the three components of a direction, with a text between each two
 abbrev pub written_direction : Direction → List ℕ → List ℕ
 written_direction d between = written_component d.i ++ (between ++ (written_component d.j ++ (between ++ written_component d.k)))
+
+-- a point as it is printed: its lengths along x, y and z, with a space between each two
+abbrev pub written_point : Point → List ℕ
+written_point p = written p.x ++ (codes " " ++ (written p.y ++ (codes " " ++ written p.z)))

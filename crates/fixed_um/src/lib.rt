@@ -9,10 +9,12 @@
 // - `scanning`: the steps by which a numeral is taken apart
 // - `points`: sums and differences of points
 // - `rounding`: the whole number nearest to a fraction
+// - `display`: how lengths, points, directions and names are printed
 // - `writing`: `write_um`, `write_dir`, and the same for a caller who has made room
 #![tactic(auto)]
 
 pub mod directions;
+mod display;
 pub mod frames;
 pub mod lengths;
 pub mod naming;
