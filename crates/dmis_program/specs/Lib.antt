@@ -11,3 +11,4 @@ pub mod Carrying
 pub mod Programs
 pub mod Sound
 pub mod Order
+pub mod Messages

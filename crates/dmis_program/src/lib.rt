@@ -2,7 +2,7 @@
 //
 // - `programs`: `Program::read`, the features and the steps of a program
 // - `features`, `steps`: what they are made of; `offsets`: the stored frames that a program may recall
-// - `faults`: why a program is refused
+// - `faults`: why a program is refused; `messages`: how that is printed
 // - `keywords`, `parameters`, `positions`: the words of a statement, its names and counts, its numerals
 // - `sayings`: what one statement says by itself; `reading`: what is carried from statement to statement
 // - `laws`: what follows from the definitions
@@ -16,6 +16,7 @@ mod faults;
 mod features;
 mod keywords;
 pub mod laws;
+mod messages;
 mod offsets;
 mod parameters;
 mod positions;

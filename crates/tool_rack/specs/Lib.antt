@@ -3,3 +3,4 @@ pub mod Entries
 pub mod Setups
 pub mod Carrying
 pub mod Spacing
+pub mod Messages

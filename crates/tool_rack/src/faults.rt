@@ -1,4 +1,5 @@
 use std::alloc::{AllocError, AllocFailed};
+use std::fmt;
 
 /// Why a text gives no setup (this profile). The first line that is refused is answered, with its number; lines are counted from 1,
 /// those that say nothing too. Of one line the form is looked at first, then its numerals, then whether its name is there already.
@@ -33,5 +34,21 @@ impl<T: Drop> From<AllocFailed<T>> for SetupFault {
 
     fn from(_error: AllocFailed<T>) -> SetupFault {
         SetupFault::Memory
+    }
+}
+
+impl fmt::Display for SetupFault {
+    ghost use Rattle.std.specs.Prelude.{Some};
+    ghost use Rattle.tool_rack.specs.Messages.{fault_text};
+
+    ghost output = { λ fault. Some (fault_text fault) };
+
+    fn fmt<W: fmt::Write>(&self, f: &mut fmt::Formatter<W>) -> fmt::Result {
+        match self {
+            SetupFault::BadLine(line) => write!(f, "S1 BadLine at line {line}"),
+            SetupFault::Twice(line) => write!(f, "S2 Twice at line {line}"),
+            SetupFault::BadNumeral(line) => write!(f, "S3 BadNumeral at line {line}"),
+            SetupFault::Memory => f.write_str("out of memory"),
+        }
     }
 }
