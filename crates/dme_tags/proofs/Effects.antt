@@ -1,6 +1,5 @@
 -- What a mark does beside the open commands is the same on both sorts of tags.
-use Rattle.std.proofs.Common.{◌≡◌, ℕ, Option, Result, Ok, Err, refl, not, true, ap, sym, ◌∙◌}
-use Rattle.dme_line.specs.declared.tags.Tag.{Tag}
+use Rattle.std.proofs.Common.{◌≡◌, ℕ, Option, Ok, Err, refl, not, true, ◌∙◌}
 use Rattle.dme_line.specs.declared.tags.Tag.TheVariants.{Std, Event}
 use Rattle.protocol_model.specs.Replies.{Mark}
 use Rattle.protocol_model.specs.Open.{Effect, Heard, heard_in}

@@ -4,3 +4,5 @@ pub mod Drawn
 pub mod Refusals
 pub mod Tables
 pub mod Effects
+pub mod Dues
+pub mod Ends

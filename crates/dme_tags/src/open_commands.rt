@@ -1,11 +1,12 @@
 // The open commands of a client.
 
-ghost use Rattle.std.specs.Prelude.{◌≡◌, ◌↔◌, Some, ◌≤◌, ◌⊎◌, ◌==◌, true, false, not, IsErrOf, IfOk, IfErr, OnOk, OnErr};
+ghost use Rattle.std.specs.Prelude.{◌≡◌, ◌↔◌, Option, Ok, Some, None, ◌≤◌, ◌⊎◌, ◌==◌, true, false, not, IsErrOf, IsOk, IfOk, IfErr, OnOk, OnErr};
 ghost use Rattle.dme_line.specs.Kinds.{IsTagOf};
 ghost use Rattle.protocol_model.specs.Replies.{Mark};
 ghost use Rattle.protocol_model.specs.Open.{Effect, count_open, is_held};
 ghost use Rattle.dme_tags.specs.Answers.{cause_of, effect_of, effect_heard, is_counted, IsRefused};
 ghost use Rattle.dme_tags.specs.Opened.{heard, held_beside, kind_under, next_tag, none_open, number_of, with_drawn, IsNext, IsSpentFor};
+ghost use Rattle.dme_tags.specs.Standing.{AwaitsPoint, CountsAs, HasFailed, HasPoint, IsUnread};
 
 use crate::drawing::{Sort, next_tag};
 use crate::endings::Ended;
@@ -140,6 +141,9 @@ impl Open {
     ///
     /// `UnknownTag` (G1) where none is held under it; `OutOfOrder` (G2) where a mark was read for the command before.
     pub fn received(&mut self, tag: Tag) -> Result<(), TagFault>
+        ensures due { IsOk result ↔ IsUnread tag self.old }
+        ensures unknown { IsErrOf result TagFault.UnknownTag ↔ (kind_under tag self.old ≡ None) }
+        ensures named { IfErr result (λ fault. (fault ≡ TagFault.UnknownTag) ⊎ (fault ≡ TagFault.OutOfOrder)) }
         ensures ok { OnOk result (heard self.old tag Mark.Ack ≡ Ok (self.new, Effect.Quiet)) }
         ensures refused { IfErr result (λ fault. IsRefused (heard self.old tag Mark.Ack) (cause_of fault)) }
         ensures unchanged { OnErr result (self.new ≡ self.old) }
@@ -155,6 +159,11 @@ impl Open {
     /// `UnknownTag` (G1) where none is held under it; `SecondData` (G4) where the command, a touch at the front, has a point already;
     /// `OutOfOrder` (G2) where it is no touch, not at the front, not yet received, or failed.
     pub fn data(&mut self, tag: Tag, point: Point) -> Result<(), TagFault>
+        ensures due { IsOk result ↔ AwaitsPoint tag self.old }
+        ensures unknown { IsErrOf result TagFault.UnknownTag ↔ (kind_under tag self.old ≡ None) }
+        ensures second { IsErrOf result TagFault.SecondData ↔ HasPoint tag self.old }
+        ensures named { IfErr result (λ fault. (fault ≡ TagFault.UnknownTag) ⊎ (fault ≡ TagFault.OutOfOrder)
+            ⊎ (fault ≡ TagFault.SecondData)) }
         ensures ok { OnOk result (heard self.old tag (Mark.Data point) ≡ Ok (self.new, Effect.Quiet)) }
         ensures refused { IfErr result (λ fault. IsRefused (heard self.old tag (Mark.Data point)) (cause_of fault)) }
         ensures unchanged { OnErr result (self.new ≡ self.old) }
@@ -169,6 +178,8 @@ impl Open {
     ///
     /// `UnknownTag` (G1) where none is held under it.
     pub fn failed(&mut self, tag: Tag) -> Result<(), TagFault>
+        ensures unknown { IsErrOf result TagFault.UnknownTag ↔ (kind_under tag self.old ≡ None) }
+        ensures named { IfErr result (λ fault. fault ≡ TagFault.UnknownTag) }
         ensures ok { OnOk result ((heard self.old tag Mark.Error ≡ Ok (self.new, Effect.Failure))
             ⊎ (heard self.old tag Mark.Error ≡ Ok (self.new, Effect.Quiet))) }
         ensures refused { IfErr result (λ fault. IsRefused (heard self.old tag Mark.Error) (cause_of fault)) }
@@ -190,6 +201,13 @@ impl Open {
     /// How `complete` would answer. Nothing changes, and no memory is taken.
     #[tactic(auto, using(crate::proofs::Effects::standard_effect, crate::proofs::Effects::event_effect))]
     pub fn end_of(&self, tag: Tag) -> Result<Ended, TagFault>
+        ensures counted { (kind : Kind) (given : Option Point)
+            → (result ≡ Ok (Ended.Counted kind given)) ↔ CountsAs tag self.now kind given }
+        ensures closed { (result ≡ Ok Ended.Closed) ↔ HasFailed tag self.now }
+        ensures unknown { IsErrOf result TagFault.UnknownTag ↔ (kind_under tag self.now ≡ None) }
+        ensures no_data { IsErrOf result TagFault.NoData ↔ AwaitsPoint tag self.now }
+        ensures named { IfErr result (λ fault. (fault ≡ TagFault.UnknownTag) ⊎ (fault ≡ TagFault.OutOfOrder)
+            ⊎ (fault ≡ TagFault.NoData)) }
         ensures ok { IfOk result (λ ended. effect_heard (heard self.now tag Mark.Done) ≡ Some (effect_of ended)) }
         ensures refused { IfErr result (λ fault. IsRefused (heard self.now tag Mark.Done) (cause_of fault)) }
     {
@@ -206,6 +224,13 @@ impl Open {
     /// `OutOfOrder` (G2) where the command has not failed and is not at the front, or was not received. So commands count in sending
     /// order, standard ones and event ones each.
     pub fn complete(&mut self, tag: Tag) -> Result<Ended, TagFault>
+        ensures counted { (kind : Kind) (given : Option Point)
+            → (result ≡ Ok (Ended.Counted kind given)) ↔ CountsAs tag self.old kind given }
+        ensures closed { (result ≡ Ok Ended.Closed) ↔ HasFailed tag self.old }
+        ensures unknown { IsErrOf result TagFault.UnknownTag ↔ (kind_under tag self.old ≡ None) }
+        ensures no_data { IsErrOf result TagFault.NoData ↔ AwaitsPoint tag self.old }
+        ensures named { IfErr result (λ fault. (fault ≡ TagFault.UnknownTag) ⊎ (fault ≡ TagFault.OutOfOrder)
+            ⊎ (fault ≡ TagFault.NoData)) }
         ensures ok { IfOk result (λ ended. heard self.old tag Mark.Done ≡ Ok (self.new, effect_of ended)) }
         ensures refused { IfErr result (λ fault. IsRefused (heard self.old tag Mark.Done) (cause_of fault)) }
         ensures unchanged { OnErr result (self.new ≡ self.old) }

@@ -50,6 +50,9 @@ fn directions_are_rounded_to_millionths(rt: HostRuntime) -> Result<(), Fail> {
     let mut out = Vec::new(rt.alloc());
     write_dir(&mut out, direction, b", ")?;
     assert_eq!(rt; out.as_slice(), b"0.577350, 0.000001, -1.000000".as_slice());
+    out.clear();
+    write_dir(&mut out, direction, &[b' '; 1_001])?;
+    assert_eq!(rt; out.len(), 8 + 1_001 + 8 + 1_001 + 9);
     assert_eq!(rt; read_dir(b"0", b"-0.0000004", b"0e9"), Ok(None));
     assert_eq!(rt;
         read_dir(b"1", b"x", b"1001"),

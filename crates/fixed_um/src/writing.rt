@@ -3,7 +3,7 @@
 // A writer whose name ends in `_reserved` needs room that its caller has made, and cannot fail. The others make the room first,
 // so that want of memory changes nothing.
 
-ghost use Rattle.std.specs.Prelude.{◌≡◌, ◌≤◌, ◌+◌, ◌*◌, ◌%◌, ◌^◌, ◌++◌, ◌∷◌, [], ℕ, length, vec_len, vec_capacity, OnOk, OnErr, Ok, Some, unsigned_abs, decimal, ◌<◌};
+ghost use Rattle.std.specs.Prelude.{◌≡◌, ◌≤◌, ◌+◌, ◌*◌, ◌%◌, ◌^◌, ◌++◌, ◌∷◌, [], ℕ, length, vec_len, vec_capacity, IfSome, IfNone, OnOk, OnErr, Ok, Some, unsigned_abs, decimal, ◌<◌};
 ghost use Rattle.fixed_um.specs.Limits.{wire_limit, component_limit};
 ghost use Rattle.fixed_um.specs.Numerals.{Reads, ReadsDirection};
 ghost use Rattle.fixed_um.specs.Shapes.{IsDirection};
@@ -113,15 +113,23 @@ pub fn write_um(out: &mut Vec<u8>, value: Um) -> Result<(), AllocError>
     Ok(())
 }
 
-/// Appends the three components of a direction with six decimals each, with a text between each two.
-/// The caller owes a text of at most 1,000 bytes. Only want of memory is an `Err`, and then nothing is appended.
+/// The room that a direction needs with a text between each two of its components; none where no memory has so much.
+fn room_with(between: &[u8]) -> Option<usize>
+    ensures room { IfSome result (λ room. room ≡ 45 + 2 * length between.now) }
+    ensures none { IfNone result (2 ^ 64 ≤ 45 + 2 * length between.now) }
+{
+    between.len().checked_mul(2)?.checked_add(45)
+}
+
+/// Appends the three components of a direction with six decimals each, with any text between each two.
+/// Only want of memory is an `Err`, and then nothing is appended; it is the answer too where no memory has room for such a text.
 pub fn write_dir(out: &mut Vec<u8>, direction: Dir, between: &[u8]) -> Result<(), AllocError>
-    requires { length between.now ≤ 1000 }
     ensures ok { OnOk result (out.new.items ≡ out.old.items ++ written_direction direction between.now) }
     ensures err { OnErr result (out.new.items ≡ out.old.items) }
-    ensures reads_back { IsDirection direction → ReadsDirection (written_component direction.i) (written_component direction.j) (written_component direction.k) (Ok (Some direction)) }
+    ensures reads_back { IsDirection direction → ReadsDirection (written_component direction.i)
+        (written_component direction.j) (written_component direction.k) (Ok (Some direction)) }
 {
-    out.reserve(45 + 2 * between.len())?;
+    out.reserve(room_with(between).ok_or(AllocError)?)?;
     write_dir_reserved(out, direction, between);
     Ok(())
 }

@@ -1,0 +1,383 @@
+-- Which mark is taken in and which refusal is due, by what is held under the tag.
+use Rattle.std.proofs.Common.{◌≡◌, ◌↔◌, ◌⊎◌, inl, inr, Bool, true, false, cond, not, ◌&&◌, ℕ, List, [], ◌∷◌, Option, Some, None, Result, Ok, Err, refl, sym, ◌∙◌, ap, subst}
+use Rattle.std.specs.Prelude.{IsOk, IsErrOf, IfOk, IfErr}
+use Rattle.std.proofs.lemmas.Bool.{false≢true, and_parts}
+use Rattle.fixed_um.specs.declared.lengths.Point.{Point}
+use Rattle.dme_line.specs.declared.tags.Tag.{Tag}
+use Rattle.dme_line.specs.declared.tags.Tag.TheVariants.{Std, Event}
+use Rattle.dme_line.specs.declared.commands.Kind.{Kind}
+use Rattle.dme_line.specs.declared.commands.Kind.TheVariants as kind
+use Rattle.protocol_model.specs.Replies.{Mark, tag_is}
+use Rattle.protocol_model.specs.Open.{Verdict, Becomes, Breaks, Closes, Counts, Refused, Effect, Heard, asks_data, is_failed, heard_in, judged, judged_ack, judged_data, judged_done, judged_error, put_before, settled}
+use Rattle.protocol_model.specs.Ends.{held_kind}
+use Rattle.protocol_model.specs.declared.held.Held.{Held}
+use Rattle.protocol_model.specs.declared.held.Stage.{Stage}
+use Rattle.protocol_model.specs.declared.states.Cause.{Cause}
+use Rattle.protocol_model.specs.declared.states.Cause.TheVariants as cause
+use Rattle.dme_tags.specs.Answers.{cause_of, IsRefused}
+use Rattle.dme_tags.specs.Opened.{Opened, Answer, heard, heard_standard, heard_event, kind_under, IsNext}
+use Rattle.dme_tags.specs.Places.{ahead_of, all_failed}
+use Rattle.dme_tags.proofs.Refusals.{refused_standard, refused_event}
+use Rattle.dme_tags.specs.Standing.{standing_in, standing, AwaitsPoint, HasPoint}
+use Rattle.dme_tags.specs.declared.faults.TagFault.{TagFault}
+use Rattle.dme_tags.specs.declared.faults.TagFault.TheVariants as fault
+
+-- ---- why a mark is refused
+
+abbrev pub Standing : Type 0
+Standing = Option (Kind × Stage)
+
+abbrev pub refusal_of : Verdict → Option Cause
+refusal_of (Becomes stage) = None
+refusal_of Breaks = None
+refusal_of Closes = None
+refusal_of (Counts given) = None
+refusal_of (Refused why) = Some why
+
+abbrev pub refusal_under : Standing → Bool → Mark → Option Cause
+refusal_under None front m = Some cause.UnknownTag
+refusal_under (Some (k, stage)) front m = refusal_of (judged front k stage m)
+
+abbrev refusal_in : Heard → Option Cause
+refusal_in (Ok r) = None
+refusal_in (Err why) = Some why
+
+abbrev pub refusal_heard : Answer → Option Cause
+refusal_heard (Ok r) = None
+refusal_heard (Err why) = Some why
+
+settled_refusal : (h : Held) (hs : List Held) (v : Verdict) → refusal_in (settled h hs v) ≡ refusal_of v
+settled_refusal h hs (Becomes stage) = refl
+settled_refusal h hs Breaks = refl
+settled_refusal h hs Closes = refl
+settled_refusal h hs (Counts given) = refl
+settled_refusal h hs (Refused why) = refl
+
+put_refusal : (h : Held) (r : Heard) → refusal_in (put_before h r) ≡ refusal_in r
+put_refusal h (Ok r) = refl
+put_refusal h (Err why) = refl
+
+pub and_true : (b : Bool) → (b && true) ≡ b
+and_true true = refl
+and_true false = refl
+
+pub and_assoc : (a b c : Bool) → ((a && b) && c) ≡ (a && (b && c))
+and_assoc true b c = refl
+and_assoc false b c = refl
+
+refusal_is : (front : Bool) (hs : List Held) (t : Tag) (m : Mark)
+    → refusal_in (heard_in front hs t m) ≡ refusal_under (standing_in t hs) (front && all_failed (ahead_of t hs)) m
+refusal_is front [] t m = refl
+refusal_is front (h ∷ hs) t m = go (refusal_is (front && is_failed h.stage) hs t m) (tag_is h.tag t)
+  where
+    go : refusal_in (heard_in (front && is_failed h.stage) hs t m) ≡ refusal_under (standing_in t hs) ((front && is_failed h.stage) && all_failed (ahead_of t hs)) m
+        → (b : Bool) → refusal_in (cond b (settled h hs (judged front h.kind h.stage m)) (put_before h (heard_in (front && is_failed h.stage) hs t m)))
+        ≡ refusal_under (cond b (Some (h.kind, h.stage)) (standing_in t hs)) (front && all_failed (cond b [] (h ∷ ahead_of t hs))) m
+    go deeper true = settled_refusal h hs (judged front h.kind h.stage m) ∙ ap (λ (b : Bool). refusal_of (judged b h.kind h.stage m)) (sym (and_true front))
+    go deeper false = put_refusal h (heard_in (front && is_failed h.stage) hs t m)
+        ∙ (deeper ∙ ap (λ (b : Bool). refusal_under (standing_in t hs) b m) (and_assoc front (is_failed h.stage) (all_failed (ahead_of t hs))))
+
+abbrev pub is_next : Tag → Opened → Bool
+is_next (Std n) o = not o.failed && all_failed (ahead_of (Std n) o.standard)
+is_next (Event n) o = all_failed (ahead_of (Event n) o.event)
+
+standard_refusal : (o : Opened) (r : Heard) → refusal_heard (heard_standard o r) ≡ refusal_in r
+standard_refusal o (Ok r) = refl
+standard_refusal o (Err why) = refl
+
+event_refusal : (o : Opened) (r : Heard) → refusal_heard (heard_event o r) ≡ refusal_in r
+event_refusal o (Ok r) = refl
+event_refusal o (Err why) = refl
+
+pub refusal_due : (o : Opened) (t : Tag) (m : Mark) → refusal_heard (heard o t m) ≡ refusal_under (standing t o) (is_next t o) m
+refusal_due o (Std n) m = standard_refusal o (heard_in (not o.failed) o.standard (Std n) m) ∙ refusal_is (not o.failed) o.standard (Std n) m
+refusal_due o (Event n) m = event_refusal o (heard_in true o.event (Event n) m) ∙ refusal_is true o.event (Event n) m
+
+pub next_only : (t : Tag) (o : Opened) → is_next t o ≡ true → IsNext t o
+next_only (Std n) o e = go o.failed e
+  where
+    go : (f : Bool) → (not f && all_failed (ahead_of (Std n) o.standard)) ≡ true → (f ≡ false) × (all_failed (ahead_of (Std n) o.standard) ≡ true)
+    go true h = absurd (false≢true h)
+    go false h = (refl, h)
+next_only (Event n) o e = e
+
+pub next_all : (t : Tag) (o : Opened) → IsNext t o → is_next t o ≡ true
+next_all (Std n) o e = ap (λ (f : Bool). not f && all_failed (ahead_of (Std n) o.standard)) e.0 ∙ e.1
+next_all (Event n) o e = e
+
+-- ---- an answer of a call that agrees with the table
+
+abbrev pub IsSaid : Option Cause → Option Cause → Type 0
+IsSaid due None = ⊥
+IsSaid due (Some why) = due ≡ Some why
+
+abbrev pub Fits : {T : Type 0} → Result T TagFault → Option Cause → Type 0
+Fits (Ok x) due = due ≡ None
+Fits (Err f) due = IsSaid due (cause_of f)
+
+refused_said : (a : Answer) (c : Option Cause) → IsRefused a c → IsSaid (refusal_heard a) c
+refused_said a None h = h
+refused_said a (Some why) h = ap refusal_heard h
+
+pub fits_err : (T : Type 0) (o : Opened) (t : Tag) (m : Mark) (f : TagFault) → IsRefused (heard o t m) (cause_of f) → Fits {T = T} (Err f) (refusal_under (standing t o) (is_next t o) m)
+fits_err T o t m f h = subst (λ (due : Option Cause). IsSaid due (cause_of f)) (refusal_due o t m) (refused_said (heard o t m) (cause_of f) h)
+
+pub fits_ok : (T : Type 0) (o n : Opened) (t : Tag) (m : Mark) (e : Effect) (x : T) → heard o t m ≡ Ok (n, e) → Fits {T = T} (Ok x) (refusal_under (standing t o) (is_next t o) m)
+fits_ok T o n t m e x h = sym (refusal_due o t m) ∙ ap refusal_heard h
+
+-- ---- points
+
+abbrev pub OfTouch : Stage → Standing
+OfTouch s = Some (kind.PtMeas, s)
+
+pub touch_only : (k : Kind) → asks_data k ≡ true → k ≡ kind.PtMeas
+touch_only kind.StartSession e = absurd (false≢true e)
+touch_only kind.EndSession e = absurd (false≢true e)
+touch_only kind.ClearAllErrors e = absurd (false≢true e)
+touch_only kind.Home e = absurd (false≢true e)
+touch_only kind.OnPtMeasReport e = absurd (false≢true e)
+touch_only kind.GoTo e = absurd (false≢true e)
+touch_only kind.PtMeas e = refl
+touch_only kind.ChangeTool e = absurd (false≢true e)
+touch_only kind.SetCsyTransformation e = absurd (false≢true e)
+touch_only kind.SetCoordSystem e = absurd (false≢true e)
+touch_only kind.AbortE e = absurd (false≢true e)
+
+-- what a touch at the front, and what any other command is told of a point
+data_none : (d : Bool) (s : Stage) (p : Point) → refusal_of (judged_data d s p) ≡ None → (d ≡ true) × (s ≡ Stage.Received)
+data_none true Stage.Sent p e = absurd (cc)
+data_none true Stage.Received p e = (refl, refl)
+data_none true (Stage.Given q) p e = absurd (cc)
+data_none true Stage.Failed p e = absurd (cc)
+data_none false s p e = absurd (cc)
+
+data_second : (d : Bool) (s : Stage) (p : Point) → refusal_of (judged_data d s p) ≡ Some cause.SecondData → (d ≡ true) × ((q : Point) × (s ≡ Stage.Given q))
+data_second true Stage.Sent p e = absurd (cc)
+data_second true Stage.Received p e = absurd (cc)
+data_second true (Stage.Given q) p e = (refl, (q, refl))
+data_second true Stage.Failed p e = absurd (cc)
+data_second false s p e = absurd (cc)
+
+-- ---- each answer exactly where it is due
+
+pub none_some : (c : Cause) (due : Option Cause) → due ≡ Some c → due ≡ None → ⊥
+none_some c due a b = cc
+
+-- the fault for a cause
+abbrev pub fault_for : Option Cause → TagFault
+fault_for None = fault.Memory
+fault_for (Some cause.NotResponse) = fault.Memory
+fault_for (Some cause.LineTooLong) = fault.Memory
+fault_for (Some cause.BadByte) = fault.Memory
+fault_for (Some cause.UnknownTag) = fault.UnknownTag
+fault_for (Some cause.OutOfOrder) = fault.OutOfOrder
+fault_for (Some cause.NoData) = fault.NoData
+fault_for (Some cause.SecondData) = fault.SecondData
+fault_for (Some cause.TagsSpent) = fault.TagsSpent
+
+fault_back : (f : TagFault) → f ≡ fault_for (cause_of f)
+fault_back fault.UnknownTag = refl
+fault_back fault.OutOfOrder = refl
+fault_back fault.NoData = refl
+fault_back fault.SecondData = refl
+fault_back fault.TagsSpent = refl
+fault_back fault.Memory = refl
+
+pub said_is : (due c : Option Cause) → IsSaid due c → due ≡ c
+said_is due None h = absurd h
+said_is due (Some why) h = h
+
+pub ok_exactly : {T : Type 0} (r : Result T TagFault) (due : Option Cause) → Fits r due → IsOk r ↔ (due ≡ None)
+ok_exactly (Ok x) due h = (λ _. h, λ _. refl)
+ok_exactly (Err f) due h = (λ no. absurd (false≢true no), λ none. absurd (go (cause_of f) h none))
+  where
+    go : (c : Option Cause) → IsSaid due c → due ≡ None → ⊥
+    go None said none = said
+    go (Some why) said none = none_some why due said none
+
+pub err_exactly : {T : Type 0} (r : Result T TagFault) (due : Option Cause) (why : Cause) (f : TagFault) → cause_of f ≡ Some why → Fits r due → IsErrOf r f ↔ (due ≡ Some why)
+err_exactly {T} (Ok x) due why f is h = (λ e. absurd (go e), λ e. absurd (none_some why due e h))
+  where
+    go : ◌≡◌ {A = Result T TagFault} (Ok x) (Err f) → ⊥
+    go e = cc
+err_exactly {T} (Err g) due why f is h = (
+  λ e. said_is due (cause_of g) h ∙ ap cause_of (same e) ∙ is,
+  λ e. ap (λ (k : TagFault). Err k) (fault_back g ∙ ap fault_for (sym (said_is due (cause_of g) h) ∙ e ∙ sym is) ∙ sym (fault_back f)),
+)
+  where
+    same : ◌≡◌ {A = Result T TagFault} (Err g) (Err f) → g ≡ f
+    same e = cc
+
+-- a call that is told no more than these faults
+pub named_by : {T : Type 0} (r : Result T TagFault) (due : Option Cause) (P : TagFault → Type 0) → Fits r due
+    → ((why : Cause) → due ≡ Some why → P (fault_for (Some why))) → IfErr r P
+named_by (Ok x) due P h each = tt
+named_by (Err f) due P h each = go (cause_of f) refl h
+  where
+    go : (c : Option Cause) → cause_of f ≡ c → IsSaid due c → P f
+    go None is said = absurd said
+    go (Some why) is said = subst P (sym (fault_back f ∙ ap fault_for is)) (each why said)
+
+-- ---- the conditions
+
+pub compose : {A B C : Type 0} → A ↔ B → B ↔ C → A ↔ C
+compose f g = (λ a. g.0 (f.0 a), λ c. f.1 (g.1 c))
+
+pub next_iff : (t : Tag) (o : Opened) (A : Type 0) → (A × (is_next t o ≡ true)) ↔ (A × IsNext t o)
+next_iff t o A = (λ h. (h.0, next_only t o h.1), λ h. (h.0, next_all t o h.1))
+
+abbrev kind_part : Standing → Option Kind
+kind_part None = None
+kind_part (Some (k, s)) = Some k
+
+held_kind_is : (t : Tag) (hs : List Held) → held_kind t hs ≡ kind_part (standing_in t hs)
+held_kind_is t [] = refl
+held_kind_is t (h ∷ hs) = go (held_kind_is t hs) (tag_is h.tag t)
+  where
+    go : held_kind t hs ≡ kind_part (standing_in t hs) → (b : Bool) → cond b (Some h.kind) (held_kind t hs) ≡ kind_part (cond b (Some (h.kind, h.stage)) (standing_in t hs))
+    go deeper true = refl
+    go deeper false = deeper
+
+kind_under_is : (t : Tag) (o : Opened) → kind_under t o ≡ kind_part (standing t o)
+kind_under_is (Std n) o = held_kind_is (Std n) o.standard
+kind_under_is (Event n) o = held_kind_is (Event n) o.event
+
+nothing_stands : (s : Standing) → kind_part s ≡ None → s ≡ None
+nothing_stands None e = refl
+nothing_stands (Some (k, s)) e = absurd (cc)
+
+unknown_judged : (front : Bool) (k : Kind) (s : Stage) (m : Mark) → refusal_of (judged front k s m) ≡ Some cause.UnknownTag → ⊥
+unknown_judged front k s Mark.Ack e = go s e
+  where
+    go : (s : Stage) → refusal_of (judged_ack s) ≡ Some cause.UnknownTag → ⊥
+    go Stage.Sent e = cc
+    go Stage.Received e = cc
+    go (Stage.Given q) e = cc
+    go Stage.Failed e = cc
+unknown_judged front k s (Mark.Data p) e = go (front && asks_data k) s e
+  where
+    go : (b : Bool) (s : Stage) → refusal_of (judged_data b s p) ≡ Some cause.UnknownTag → ⊥
+    go true Stage.Sent e = cc
+    go true Stage.Received e = cc
+    go true (Stage.Given q) e = cc
+    go true Stage.Failed e = cc
+    go false s e = cc
+unknown_judged front k s Mark.Error e = go s e
+  where
+    go : (s : Stage) → refusal_of (judged_error s) ≡ Some cause.UnknownTag → ⊥
+    go Stage.Sent e = cc
+    go Stage.Received e = cc
+    go (Stage.Given q) e = cc
+    go Stage.Failed e = cc
+unknown_judged front k s Mark.Done e = go front (asks_data k) s e
+  where
+    go : (b a : Bool) (s : Stage) → refusal_of (judged_done b a s) ≡ Some cause.UnknownTag → ⊥
+    go true true Stage.Sent e = cc
+    go true true Stage.Received e = cc
+    go true true (Stage.Given q) e = cc
+    go true true Stage.Failed e = cc
+    go true false Stage.Sent e = cc
+    go true false Stage.Received e = cc
+    go true false (Stage.Given q) e = cc
+    go true false Stage.Failed e = cc
+    go false a Stage.Sent e = cc
+    go false a Stage.Received e = cc
+    go false a (Stage.Given q) e = cc
+    go false a Stage.Failed e = cc
+
+unknown_due : (s : Standing) (front : Bool) (m : Mark) → (refusal_under s front m ≡ Some cause.UnknownTag) ↔ (s ≡ None)
+unknown_due None front m = (λ _. refl, λ _. refl)
+unknown_due (Some (k, s)) front m = (λ e. absurd (unknown_judged front k s m e), λ e. absurd (cc))
+
+unknown_kind : (o : Opened) (t : Tag) (m : Mark) → (refusal_under (standing t o) (is_next t o) m ≡ Some cause.UnknownTag) ↔ (kind_under t o ≡ None)
+unknown_kind o t m = compose (unknown_due (standing t o) (is_next t o) m)
+    (λ e. kind_under_is t o ∙ ap kind_part e, λ e. nothing_stands (standing t o) (sym (kind_under_is t o) ∙ e))
+
+-- points
+awaits_due : (s : Standing) (b : Bool) (p : Point) → (refusal_under s b (Mark.Data p) ≡ None) ↔ ((s ≡ OfTouch Stage.Received) × (b ≡ true))
+awaits_due None b p = (λ e. absurd (cc), λ e. absurd (go e.0))
+  where
+    go : ◌≡◌ {A = Standing} None (OfTouch Stage.Received) → ⊥
+    go e = cc
+awaits_due (Some (k, s)) b p = (only, all)
+  where
+    only : refusal_of (judged_data (b && asks_data k) s p) ≡ None → (◌≡◌ {A = Standing} (Some (k, s)) (OfTouch Stage.Received)) × (b ≡ true)
+    only e = let both = data_none (b && asks_data k) s p e in let parts = and_parts b (asks_data k) both.0 in
+        (ap (λ (x : Stage). Some (k, x)) both.1 ∙ ap (λ (x : Kind). Some (x, Stage.Received)) (touch_only k parts.1), parts.0)
+
+    all : (◌≡◌ {A = Standing} (Some (k, s)) (OfTouch Stage.Received)) × (b ≡ true) → refusal_of (judged_data (b && asks_data k) s p) ≡ None
+    all e = ap (λ (x : Standing). refusal_under x b (Mark.Data p)) e.0 ∙ ap (λ (x : Bool). refusal_under (OfTouch Stage.Received) x (Mark.Data p)) e.1
+
+second_due : (s : Standing) (b : Bool) (p : Point) → (refusal_under s b (Mark.Data p) ≡ Some cause.SecondData) ↔ (((q : Point) × (s ≡ OfTouch (Stage.Given q))) × (b ≡ true))
+second_due None b p = (λ e. absurd (cc), λ e. absurd (go e.0.0 e.0.1))
+  where
+    go : (q : Point) → ◌≡◌ {A = Standing} None (OfTouch (Stage.Given q)) → ⊥
+    go q e = cc
+second_due (Some (k, s)) b p = (only, all)
+  where
+    only : refusal_of (judged_data (b && asks_data k) s p) ≡ Some cause.SecondData → ((q : Point) × (◌≡◌ {A = Standing} (Some (k, s)) (OfTouch (Stage.Given q)))) × (b ≡ true)
+    only e = let both = data_second (b && asks_data k) s p e in let parts = and_parts b (asks_data k) both.0 in
+        ((both.1.0, ap (λ (x : Stage). Some (k, x)) both.1.1 ∙ ap (λ (x : Kind). Some (x, Stage.Given both.1.0)) (touch_only k parts.1)), parts.0)
+
+    all : ((q : Point) × (◌≡◌ {A = Standing} (Some (k, s)) (OfTouch (Stage.Given q)))) × (b ≡ true) → refusal_of (judged_data (b && asks_data k) s p) ≡ Some cause.SecondData
+    all e = ap (λ (x : Standing). refusal_under x b (Mark.Data p)) e.0.1 ∙ ap (λ (x : Bool). refusal_under (OfTouch (Stage.Given e.0.0)) x (Mark.Data p)) e.1
+
+data_named : (s : Standing) (b : Bool) (p : Point) (why : Cause) → refusal_under s b (Mark.Data p) ≡ Some why
+    → (fault_for (Some why) ≡ fault.UnknownTag) ⊎ (fault_for (Some why) ≡ fault.OutOfOrder) ⊎ (fault_for (Some why) ≡ fault.SecondData)
+data_named None b p why e = inl (ap fault_for (sym e))
+data_named (Some (k, s)) b p why e = go (b && asks_data k) s e
+  where
+    go : (d : Bool) (s : Stage) → refusal_of (judged_data d s p) ≡ Some why
+        → (fault_for (Some why) ≡ fault.UnknownTag) ⊎ (fault_for (Some why) ≡ fault.OutOfOrder) ⊎ (fault_for (Some why) ≡ fault.SecondData)
+    go true Stage.Sent e = inr (inl (ap fault_for (sym e)))
+    go true Stage.Received e = absurd (cc)
+    go true (Stage.Given q) e = inr (inr (ap fault_for (sym e)))
+    go true Stage.Failed e = inr (inl (ap fault_for (sym e)))
+    go false s e = inr (inl (ap fault_for (sym e)))
+
+-- ---- what a call knows of its answer
+
+abbrev pub Agrees : {T : Type 0} → Opened → Tag → Mark → Result T TagFault → Type 0
+Agrees o t m r = Fits r (refusal_under (standing t o) (is_next t o) m)
+
+pub unknown_exactly : {T : Type 0} (o : Opened) (t : Tag) (m : Mark) (r : Result T TagFault) → Agrees o t m r → IsErrOf r fault.UnknownTag ↔ (kind_under t o ≡ None)
+unknown_exactly o t m r h = compose (err_exactly r _ cause.UnknownTag fault.UnknownTag refl h) (unknown_kind o t m)
+
+pub point_exactly : {T : Type 0} (o : Opened) (t : Tag) (p : Point) (r : Result T TagFault) → Agrees o t (Mark.Data p) r → IsOk r ↔ AwaitsPoint t o
+point_exactly o t p r h = compose (ok_exactly r _ h) (compose (awaits_due (standing t o) (is_next t o) p) (next_iff t o (standing t o ≡ OfTouch Stage.Received)))
+
+pub second_exactly : {T : Type 0} (o : Opened) (t : Tag) (p : Point) (r : Result T TagFault) → Agrees o t (Mark.Data p) r → IsErrOf r fault.SecondData ↔ HasPoint t o
+second_exactly o t p r h = compose (err_exactly r _ cause.SecondData fault.SecondData refl h)
+    (compose (second_due (standing t o) (is_next t o) p) (next_iff t o ((q : Point) × (standing t o ≡ OfTouch (Stage.Given q)))))
+
+pub point_named : {T : Type 0} (o : Opened) (t : Tag) (p : Point) (r : Result T TagFault) → Agrees o t (Mark.Data p) r
+    → IfErr r (λ f. (f ≡ fault.UnknownTag) ⊎ (f ≡ fault.OutOfOrder) ⊎ (f ≡ fault.SecondData))
+point_named o t p r h = named_by r _ (λ f. (f ≡ fault.UnknownTag) ⊎ (f ≡ fault.OutOfOrder) ⊎ (f ≡ fault.SecondData)) h (data_named (standing t o) (is_next t o) p)
+
+agrees : (T : Type 0) (o n : Opened) (t : Tag) (m : Mark) (e : T → Effect) (r : Result T TagFault) → IfOk r (λ x. heard o t m ≡ Ok (n, e x))
+    → IfErr r (λ f. IsRefused (heard o t m) (cause_of f)) → Agrees o t m r
+agrees T o n t m e (Ok x) ok refused = fits_ok T o n t m (e x) x ok
+agrees T o n t m e (Err f) ok refused = fits_err T o t m f refused
+
+-- from what is known of the list of one sort of tags
+pub agrees_standard : {T : Type 0} (o : Opened) (failed : Bool) (hs gs : List Held) (t : Tag) (n : ℕ) (m : Mark) (e : T → Effect) (r : Result T TagFault)
+    → t ≡ Std n → failed ≡ o.failed → hs ≡ o.standard
+    → IfOk r (λ x. heard_in (not failed) hs t m ≡ Ok (gs, e x)) → IfErr r (λ f. IsRefused (heard_in (not failed) hs t m) (cause_of f)) → Agrees o t m r
+agrees_standard {T} o failed hs gs t n m e (Ok x) is bad held ok refused =
+    subst (λ (u : Tag). Agrees o u m (Ok x)) (sym is)
+    (sym (refusal_due o (Std n) m) ∙ (standard_refusal o (heard_in (not o.failed) o.standard (Std n) m)
+    ∙ (ap (λ (f : Bool). refusal_in (heard_in (not f) o.standard (Std n) m)) (sym bad)
+    ∙ (ap (λ (l : List Held). refusal_in (heard_in (not failed) l (Std n) m)) (sym held)
+    ∙ (ap (λ (u : Tag). refusal_in (heard_in (not failed) hs u m)) (sym is) ∙ ap refusal_in ok)))))
+agrees_standard {T} o failed hs gs t n m e (Err f) is bad held ok refused =
+    fits_err T o t m f (refused_standard o hs t n m (cause_of f) is held (subst (λ (b : Bool). IsRefused (heard_in (not b) hs t m) (cause_of f)) bad refused))
+
+pub agrees_event : {T : Type 0} (o : Opened) (hs gs : List Held) (t : Tag) (n : ℕ) (m : Mark) (e : T → Effect) (r : Result T TagFault)
+    → t ≡ Event n → hs ≡ o.event
+    → IfOk r (λ x. heard_in true hs t m ≡ Ok (gs, e x)) → IfErr r (λ f. IsRefused (heard_in true hs t m) (cause_of f)) → Agrees o t m r
+agrees_event {T} o hs gs t n m e (Ok x) is held ok refused =
+    subst (λ (u : Tag). Agrees o u m (Ok x)) (sym is)
+    (sym (refusal_due o (Event n) m) ∙ (event_refusal o (heard_in true o.event (Event n) m)
+    ∙ (ap (λ (l : List Held). refusal_in (heard_in true l (Event n) m)) (sym held)
+    ∙ (ap (λ (u : Tag). refusal_in (heard_in true hs u m)) (sym is) ∙ ap refusal_in ok))))
+agrees_event {T} o hs gs t n m e (Err f) is held ok refused = fits_err T o t m f (refused_event o hs t n m (cause_of f) is held refused)
