@@ -37,6 +37,7 @@ pub mod WholeRun
 pub mod Speaking
 pub mod Texts
 pub mod Refused
+pub mod LedgerRefused
 pub mod PlanLaws
 pub mod Deciding
 pub mod ReadersExist

@@ -10,5 +10,6 @@ pub mod Ends
 pub mod World
 pub mod Language
 pub mod Rows
+pub mod LedgerRows
 pub mod PlanReading
 pub mod Undisturbed

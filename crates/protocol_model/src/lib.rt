@@ -12,10 +12,12 @@
 // - `readers`: that lines can be read as the interface says
 // - `undisturbed`: what is written, done and counted in a run that nothing disturbs
 // - `rows`: worked rows, as examples that the definitions compute
+// - `ledger_rows`: worked rows of what is claimed, beside ledgers that are written out
 #![tactic(auto)]
 
 pub mod events;
 pub mod held;
+pub mod ledger_rows;
 pub mod lines;
 pub mod machine;
 pub mod plan_laws;
