@@ -54,9 +54,9 @@ both_at p q one two n (suc zero) h = absurd h.1
 both_at p q one two n (suc (suc zero)) h = absurd h
 both_at p q one two n (suc (suc (suc k))) h = absurd h
 
-hrestboth : (p q : Point) (one two : Made) (starts : List ℕ) → AreRuns one_wanted (feature (codes "A") (p ∷ q ∷ []) ∷ []) starts 0 (one ∷ two ∷ []) → HasBoth both (p ∷ q ∷ []) one two
-hrestboth p q one two [] h = absurd h
-hrestboth p q one two (s ∷ starts) h = both_at p q one two h.1.connection s h.1.serves
+has_both : (p q : Point) (one two : Made) (starts : List ℕ) → AreRuns one_wanted (feature (codes "A") (p ∷ q ∷ []) ∷ []) starts 0 (one ∷ two ∷ []) → HasBoth both (p ∷ q ∷ []) one two
+has_both p q one two [] h = absurd h
+has_both p q one two (s ∷ starts) h = both_at p q one two h.1.connection s h.1.serves
 
 -- the contact of an act
 abbrev made_by : ℕ → Point → Option Direction → List ℕ → Frame → Point → Made
@@ -69,10 +69,10 @@ abbrev second_made : Made
 second_made = made_by 1 (at (pos 20000) (pos 0) (pos 0)) from_above tool frame.Machine second_point
 
 -- what both contacts have where the second is this one
-hrestsecond : (n : ℕ) (target : Point) (dir : Option Direction) (name : List ℕ) (f : Frame) (point : Point)
+has_second : (n : ℕ) (target : Point) (dir : Option Direction) (name : List ℕ) (f : Frame) (point : Point)
     → Sound one_wanted (measured_as (codes "A") ∷ []) (ledger_with (contact_of n target dir name f point))
     → HasBoth both (first_point ∷ second_point ∷ []) first_made (made_by n target dir name f point)
-hrestsecond n target dir name f point h = hrestboth first_point second_point first_made (made_by n target dir name f point) h.starts h.runs
+has_second n target dir name f point h = has_both first_point second_point first_made (made_by n target dir name f point) h.starts h.runs
 
 -- ---- each word of a contact
 
@@ -86,43 +86,43 @@ size_of (Some d) = unsigned_abs d.i + 1
 
 pub other_tool_is_none : Sound one_wanted (measured_as (codes "A") ∷ []) (ledger_with (contact_of 1 (at (pos 20000) (pos 0) (pos 0)) from_above (codes "P2") frame.Machine second_point)) → ⊥
 other_tool_is_none h =
-    let served = hrestsecond 1 (at (pos 20000) (pos 0) (pos 0)) from_above (codes "P2") frame.Machine second_point h in
+    let served = has_second 1 (at (pos 20000) (pos 0) (pos 0)) from_above (codes "P2") frame.Machine second_point h in
     let e : false ≡ true = ap (λ (name : List ℕ). bytes_eq name tool) served.serves.1.0.tool in
     absurd (false≢true e)
 
 pub other_frame_is_none : Sound one_wanted (measured_as (codes "A") ∷ []) (ledger_with (contact_of 1 (at (pos 20000) (pos 0) (pos 0)) from_above tool (frame.Part part) second_point)) → ⊥
 other_frame_is_none h =
-    let served = hrestsecond 1 (at (pos 20000) (pos 0) (pos 0)) from_above tool (frame.Part part) second_point h in
+    let served = has_second 1 (at (pos 20000) (pos 0) (pos 0)) from_above tool (frame.Part part) second_point h in
     let e : false ≡ true = ap is_machine served.serves.1.0.frame in
     absurd (false≢true e)
 
 pub other_target_is_none : Sound one_wanted (measured_as (codes "A") ∷ []) (ledger_with (contact_of 1 (at (pos 20001) (pos 0) (pos 0)) from_above tool frame.Machine second_point)) → ⊥
 other_target_is_none h =
-    let served = hrestsecond 1 (at (pos 20001) (pos 0) (pos 0)) from_above tool frame.Machine second_point h in
+    let served = has_second 1 (at (pos 20001) (pos 0) (pos 0)) from_above tool frame.Machine second_point h in
     let e : ◌≡◌ {A = ℕ} 20001 20000 = ap (λ (q : Point). unsigned_abs q.x) served.serves.1.0.target in
     absurd (omega arith)
 
 pub other_direction_is_none : Sound one_wanted (measured_as (codes "A") ∷ []) (ledger_with (contact_of 1 (at (pos 20000) (pos 0) (pos 0)) (along (pos 1000000) (pos 0) (pos 0)) tool frame.Machine second_point)) → ⊥
 other_direction_is_none h =
-    let served = hrestsecond 1 (at (pos 20000) (pos 0) (pos 0)) (along (pos 1000000) (pos 0) (pos 0)) tool frame.Machine second_point h in
+    let served = has_second 1 (at (pos 20000) (pos 0) (pos 0)) (along (pos 1000000) (pos 0) (pos 0)) tool frame.Machine second_point h in
     let e : ◌≡◌ {A = ℕ} 1000001 1 = ap size_of served.serves.1.0.dir in
     absurd (omega arith)
 
 pub no_direction_is_none : Sound one_wanted (measured_as (codes "A") ∷ []) (ledger_with (contact_of 1 (at (pos 20000) (pos 0) (pos 0)) None tool frame.Machine second_point)) → ⊥
 no_direction_is_none h =
-    let served = hrestsecond 1 (at (pos 20000) (pos 0) (pos 0)) None tool frame.Machine second_point h in
+    let served = has_second 1 (at (pos 20000) (pos 0) (pos 0)) None tool frame.Machine second_point h in
     let e : ◌≡◌ {A = ℕ} 0 1 = ap size_of served.serves.1.0.dir in
     absurd (omega arith)
 
 pub other_point_is_none : Sound one_wanted (measured_as (codes "A") ∷ []) (ledger_with (contact_of 1 (at (pos 20000) (pos 0) (pos 0)) from_above tool frame.Machine (at (pos 20000) (pos 0) (pos 5)))) → ⊥
 other_point_is_none h =
-    let served = hrestsecond 1 (at (pos 20000) (pos 0) (pos 0)) from_above tool frame.Machine (at (pos 20000) (pos 0) (pos 5)) h in
+    let served = has_second 1 (at (pos 20000) (pos 0) (pos 0)) from_above tool frame.Machine (at (pos 20000) (pos 0) (pos 5)) h in
     let e : ◌≡◌ {A = ℕ} 5 4 = ap (λ (q : Point). unsigned_abs q.z) served.serves.1.0.point_is in
     absurd (omega arith)
 
 pub two_connections_are_none : Sound one_wanted (measured_as (codes "A") ∷ []) (ledger_with (contact_of 2 (at (pos 20000) (pos 0) (pos 0)) from_above tool frame.Machine second_point)) → ⊥
 two_connections_are_none h =
-    let served = hrestsecond 2 (at (pos 20000) (pos 0) (pos 0)) from_above tool frame.Machine second_point h in
+    let served = has_second 2 (at (pos 20000) (pos 0) (pos 0)) from_above tool frame.Machine second_point h in
     let e : ◌≡◌ {A = ℕ} 1 2 = served.serves.0.on ∙ sym served.serves.1.0.on in
     absurd (omega arith)
 
@@ -178,7 +178,7 @@ more_points_are_none h = more_by h.starts h.runs
 
 pub exchanged_points_are_none : Sound one_wanted (feature (codes "A") (second_point ∷ first_point ∷ []) ∷ []) right_ledger → ⊥
 exchanged_points_are_none h =
-    let served = hrestboth second_point first_point first_made second_made h.starts h.runs in
+    let served = has_both second_point first_point first_made second_made h.starts h.runs in
     let e : ◌≡◌ {A = ℕ} 10002 20000 = ap (λ (q : Point). unsigned_abs q.x) served.serves.0.point_is in
     absurd (omega arith)
 
