@@ -11,5 +11,6 @@ pub mod World
 pub mod Language
 pub mod Rows
 pub mod LedgerRows
+pub mod TurnRows
 pub mod PlanReading
 pub mod Undisturbed

@@ -13,6 +13,7 @@
 // - `undisturbed`: what is written, done and counted in a run that nothing disturbs
 // - `rows`: worked rows, as examples that the definitions compute
 // - `ledger_rows`: worked rows of what is claimed, beside ledgers that are written out
+// - `turn_rows`: worked rows of the order of checks, and of when a client is done
 #![tactic(auto)]
 
 pub mod events;
@@ -27,6 +28,7 @@ pub mod replies;
 pub mod rows;
 pub mod states;
 pub mod theorem;
+pub mod turn_rows;
 pub mod typed;
 pub mod undisturbed;
 
