@@ -39,6 +39,7 @@ pub mod Texts
 pub mod Refused
 pub mod LedgerRefused
 pub mod PlanLaws
+pub mod Splitting
 pub mod Deciding
 pub mod ReadersExist
 pub mod Following

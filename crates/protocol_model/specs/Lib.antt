@@ -13,4 +13,5 @@ pub mod Rows
 pub mod LedgerRows
 pub mod TurnRows
 pub mod PlanReading
+pub mod Positions
 pub mod Undisturbed

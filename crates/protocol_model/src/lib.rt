@@ -9,6 +9,7 @@
 // - `typed`: the same where lines are carried as values
 // - `replies`: the language of replies and the table of marks
 // - `plan_laws`: what a plan measures, and in which order
+// - `positions`: where a plan goes on in the steps of a program
 // - `readers`: that lines can be read as the interface says
 // - `undisturbed`: what is written, done and counted in a run that nothing disturbs
 // - `rows`: worked rows, as examples that the definitions compute
@@ -23,6 +24,7 @@ pub mod lines;
 pub mod machine;
 pub mod plan_laws;
 pub mod plans;
+pub mod positions;
 pub mod readers;
 pub mod replies;
 pub mod rows;
@@ -38,6 +40,7 @@ pub use lines::{Line, Waiting};
 pub use machine::{Job, Outcome};
 pub use plan_laws::plans_measure_what_is_left;
 pub use plans::{Does, Planned, Start};
+pub use positions::plans_go_on_behind_the_last_touch;
 pub use readers::readers_exist;
 pub use replies::table_accepts_the_language;
 pub use states::{Cause, State};
