@@ -37,7 +37,9 @@ pub mod WholeRun
 pub mod Speaking
 pub mod Texts
 pub mod Refused
+pub mod LedgerRefused
 pub mod PlanLaws
+pub mod Splitting
 pub mod Deciding
 pub mod ReadersExist
 pub mod Following

@@ -225,7 +225,7 @@ plan_makes p k start h = all_makes (plan p k start) nothing_selected (plan_as_pl
 
 -- ---- the order
 
-commands_more : (ps qs : List Planned) → commands_of (ps ++ qs) ≡ commands_of ps ++ commands_of qs
+pub commands_more : (ps qs : List Planned) → commands_of (ps ++ qs) ≡ commands_of ps ++ commands_of qs
 commands_more [] qs = refl
 commands_more (p ∷ ps) qs = ap (λ (l : List Command). p.command ∷ l) (commands_more ps qs)
 
@@ -283,7 +283,7 @@ plan_in_order p k start = go start
 
 -- ---- the plan of a whole program
 
-steps_commands : (frame : Frame) (ss : List Step) → commands_of (stepping frame ss) ≡ flat_map step_commands ss
+pub steps_commands : (frame : Frame) (ss : List Step) → commands_of (stepping frame ss) ≡ flat_map step_commands ss
 steps_commands frame [] = refl
 steps_commands frame (step.Goto p ∷ ss) = ap (λ (l : List Command). command.GoTo p ∷ l) (steps_commands frame ss)
 steps_commands frame (step.Begin l ∷ ss) = steps_commands frame ss

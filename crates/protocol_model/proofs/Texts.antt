@@ -7,6 +7,7 @@ use Rattle.dmis_program.specs.Parameters.{name_within, count_of}
 use Rattle.dmis_program.specs.Positions.{length_of, component_of, position_of, approach_of}
 use Rattle.dmis_program.specs.Sayings.{said_by, said_of}
 use Rattle.fixed_um.specs.Scan.{exponent_of, numeral_of}
+use Rattle.protocol_model.specs.Positions.{moved_between}
 use Rattle.protocol_model.specs.Rows.{part, empty, one_point, circle, two_frames, two_points, same_twice}
 
 pub empty_text : program_of [] (codes "DMISMN/'E',05.2\nENDFIL") ≡ Ok empty
@@ -32,3 +33,7 @@ two_points_text = refl
 pub same_twice_text : program_of [] (codes "DMISMN/'TWICE',05.2\nSNSLCT/S(P1)\nMEAS/LINE,F(A),2\nPTMEAS/CART,10,0,0,0,0,1\nPTMEAS/CART,10,0,0,0,0,1\nENDMES\nENDFIL") ≡ Ok same_twice
 unfolding meaning_of judged keyword_of name_within count_of length_of component_of position_of approach_of said_by said_of exponent_of numeral_of
 same_twice_text = refl
+
+pub moved_between_text : program_of [] (codes "DMISMN/'BETWEEN',05.2\nSNSLCT/S(P1)\nMEAS/POINT,F(A),1\nPTMEAS/CART,1,2,3,0,0,1\nGOTO/1,2,10\nSNSLCT/S(P2)\nENDMES\nGOTO/4,5,10\nMEAS/POINT,F(B),1\nPTMEAS/CART,4,5,6,0,0,1\nENDMES\nENDFIL") ≡ Ok moved_between
+unfolding meaning_of judged keyword_of name_within count_of length_of component_of position_of approach_of said_by said_of exponent_of numeral_of
+moved_between_text = refl

@@ -10,5 +10,8 @@ pub mod Ends
 pub mod World
 pub mod Language
 pub mod Rows
+pub mod LedgerRows
+pub mod TurnRows
 pub mod PlanReading
+pub mod Positions
 pub mod Undisturbed

@@ -9,22 +9,28 @@
 // - `typed`: the same where lines are carried as values
 // - `replies`: the language of replies and the table of marks
 // - `plan_laws`: what a plan measures, and in which order
+// - `positions`: where a plan goes on in the steps of a program
 // - `readers`: that lines can be read as the interface says
 // - `undisturbed`: what is written, done and counted in a run that nothing disturbs
 // - `rows`: worked rows, as examples that the definitions compute
+// - `ledger_rows`: worked rows of what is claimed, beside ledgers that are written out
+// - `turn_rows`: worked rows of the order of checks, and of when a client is done
 #![tactic(auto)]
 
 pub mod events;
 pub mod held;
+pub mod ledger_rows;
 pub mod lines;
 pub mod machine;
 pub mod plan_laws;
 pub mod plans;
+pub mod positions;
 pub mod readers;
 pub mod replies;
 pub mod rows;
 pub mod states;
 pub mod theorem;
+pub mod turn_rows;
 pub mod typed;
 pub mod undisturbed;
 
@@ -34,6 +40,7 @@ pub use lines::{Line, Waiting};
 pub use machine::{Job, Outcome};
 pub use plan_laws::plans_measure_what_is_left;
 pub use plans::{Does, Planned, Start};
+pub use positions::plans_go_on_behind_the_last_touch;
 pub use readers::readers_exist;
 pub use replies::table_accepts_the_language;
 pub use states::{Cause, State};
