@@ -1,6 +1,6 @@
 // The client with the bytes of its connection.
 
-ghost use Rattle.std.specs.Prelude.{◌≡◌, ◌≢◌, ◌↔◌, ◌⊎◌, ◌≤◌, ◌+◌, ◌&&◌, nat_le, nat_lt, true, false, None, Some, Ok, Err, length, IsTrue, IsOk, IfOk, IfErr, OnOk, OnErr, IfSome, IsSome, is_some, MatchOption};
+ghost use Rattle.std.specs.Prelude.{◌≡◌, ◌≢◌, ◌↔◌, ◌⊎◌, ◌≤◌, ◌+◌, ◌&&◌, not, nat_le, true, false, None, Some, Ok, Err, length, IsTrue, IsOk, IfOk, IfErr, OnOk, OnErr, IfSome, IsSome, is_some, MatchOption};
 ghost use Rattle.std.specs.Result.{IsErrOf};
 ghost use Rattle.line_framing.specs.Next.{next_of};
 ghost use Rattle.line_framing.specs.Framing.{IsLineDue};
@@ -72,8 +72,12 @@ impl Client {
         window: u8,
     ) -> Result<Client, (NewFault, Program, FeatureLedger)>
         ensures ok { IfOk result (λ client. client ≡ new_client_end program features window) }
-        ensures window { IfErr result (λ refused. (refused.0 ≡ NewFault.BadWindow) ↔ ((nat_le 1 window && nat_le window 16) ≡ false)) }
-        ensures can { IsOk result ↔ ((nat_le 1 window && (nat_le window 16 && are_ours program.features features)) ≡ true) }
+        ensures can { IsOk result
+            ↔ ((nat_le 1 window && (nat_le window 16 && are_ours program.features features)) ≡ true) }
+        ensures window { IfErr result (λ refused. (refused.0 ≡ NewFault.BadWindow)
+            ↔ ((nat_le 1 window && nat_le window 16) ≡ false)) }
+        ensures ours { IfErr result (λ refused. (refused.0 ≡ NewFault.NotOurs)
+            ↔ ((nat_le 1 window && (nat_le window 16 && not (are_ours program.features features))) ≡ true)) }
         ensures given_back { IfErr result (λ refused. (refused.1 ≡ program) × (refused.2 ≡ features)) }
     {
         if window < 1 || window > 16 {
@@ -122,7 +126,9 @@ impl Client {
         ensures ok { OnOk result (self.new ≡ end_sent self.old) }
         ensures sent { OnOk result (is_faulted self.new.client.state ≡ false) }
         ensures can { OnOk result (is_some (due self.old.client) ≡ true) }
-        ensures refused { IfErr result (λ fault. IsSendRefused (is_some (due self.old.client)) self.old self.new (end_sent self.old) fault) }
+        ensures refused { IfErr result (λ fault.
+            IsSendRefused (is_some (due self.old.client)) self.old self.new (end_sent self.old) fault) }
+        ensures memory { IsErrOf result ClientFault.Memory → is_some (due self.old.client) ≡ true }
         ensures bounded { length self.new.out ≤ length self.old.out + 202 }
     {
         if !self.executor.may_send() {
@@ -160,12 +166,15 @@ impl Client {
     /// call on that meets a line that is no response, bytes that are no lines, or a mark that has no place.
     pub fn read_one(&mut self) -> Result<bool, ClientFault>
         ensures ok { OnOk result ((readers : Readers) → AreReaders readers → self.new ≡ end_read readers self.old) }
+        ensures fine { OnOk result (is_faulted self.new.client.state ≡ false) }
         ensures read { IfOk result (λ read. IsTrue read ↔ IsLineDue (next_of self.old.input.rest)) }
         ensures can { OnOk result (may_read self.old.client ≡ true) }
         ensures refused { IfErr result (λ fault. IsReadRefused self.old self.new fault) }
         ensures met { IfErr result (λ fault. fault ≢ ClientFault.Memory → may_read self.old.client ≡ true
             → (readers : Readers) → AreReaders readers → self.new ≡ end_read readers self.old) }
         ensures before { may_read self.old.client ≡ false → self.new ≡ self.old }
+        ensures memory { IsErrOf result ClientFault.Memory → may_read self.old.client ≡ true }
+        ensures line { IsErrOf result ClientFault.Memory → IsLineDue (next_of self.old.input.rest) }
     {
         if !self.executor.may_read() {
             return Err(self.executor.refusal());
@@ -198,7 +207,9 @@ impl Client {
         ensures ok { OnOk result (self.new ≡ end_aborted self.old) }
         ensures sent { OnOk result (is_faulted self.new.client.state ≡ false) }
         ensures can { OnOk result (may_abort self.old.client.state ≡ true) }
-        ensures refused { IfErr result (λ fault. IsSendRefused (may_abort self.old.client.state) self.old self.new (end_aborted self.old) fault) }
+        ensures refused { IfErr result (λ fault.
+            IsSendRefused (may_abort self.old.client.state) self.old self.new (end_aborted self.old) fault) }
+        ensures memory { IsErrOf result ClientFault.Memory → may_abort self.old.client.state ≡ true }
         ensures bounded { length self.new.out ≤ length self.old.out + 202 }
     {
         if !self.executor.may_abort() {
