@@ -342,14 +342,14 @@ front_holds readers p plans c (Err framing.Memory) on h = h
 
 -- ---- what is written
 
-on_unless_off : (c : Client) → (c.on ≡ false → ⊥) → c.on ≡ true
+pub on_unless_off : (c : Client) → (c.on ≡ false → ⊥) → c.on ≡ true
 on_unless_off c never = go c.on refl
   where
     go : (b : Bool) → c.on ≡ b → c.on ≡ true
     go true e = e
     go false e = absurd (never e)
 
-running_by : (s : State) → is_running s ≡ true → s ≡ State.Running
+pub running_by : (s : State) → is_running s ≡ true → s ≡ State.Running
 running_by State.Running e = refl
 running_by State.Apart e = absurd (false≢true e)
 running_by State.Failing e = absurd (false≢true e)
@@ -358,7 +358,7 @@ running_by State.Halted e = absurd (false≢true e)
 running_by State.Done e = absurd (false≢true e)
 running_by State.Faulted e = absurd (false≢true e)
 
-due_running : (c : Client) → is_some (due c) ≡ true → c.state ≡ State.Running
+pub due_running : (c : Client) → is_some (due c) ≡ true → c.state ≡ State.Running
 due_running c e = go (is_running c.state) refl e
   where
     go : (b : Bool) → is_running c.state ≡ b → is_some (cond b (first_due c.window (count_open c.table.standard) c.unsent) None) ≡ true → c.state ≡ State.Running
@@ -416,7 +416,7 @@ connected_holds p plans n c h =
       calm = λ still. refl;
     }) tt
 
-resumed_state : (c : Client) (s : State) → may_resume c s ≡ true → s ≡ State.Halted
+pub resumed_state : (c : Client) (s : State) → may_resume c s ≡ true → s ≡ State.Halted
 resumed_state c State.Halted e = refl
 resumed_state c State.Apart e = absurd (false≢true e)
 resumed_state c State.Running e = absurd (false≢true e)
