@@ -86,6 +86,16 @@ point_fits (w ∷ ws) [] points rest h = let n : NextFits w ws points (false ∷
 point_fits [] (f ∷ fs) points rest h = absurd h
 point_fits (w ∷ ws) (f ∷ fs) points rest h = (h.0, point_fits ws fs points rest h.1)
 
+-- it ends a feature, which joins the others
+pub joined_more : (ws : List Wanted) (fs : List Feature) (points : ℕ) (all : List Point) (rest : List Bool) → Fits ws fs points (true ∷ rest) → length (joined ws fs all) ≡ suc (length fs)
+joined_more [] [] points all rest h = absurd (no h)
+  where
+    no : true ∷ rest ≡ [] → ⊥
+    no e = cc
+joined_more (w ∷ ws) [] points all rest h = refl
+joined_more [] (f ∷ fs) points all rest h = absurd h
+joined_more (w ∷ ws) (f ∷ fs) points all rest h = ap suc (joined_more ws fs points all rest h.1)
+
 -- the last point of a feature
 same_bytes : (xs : List ℕ) → bytes_eq xs xs ≡ true
 same_bytes [] = refl

@@ -5,3 +5,5 @@ pub mod Readings
 pub mod Fronts
 pub mod Fits
 pub mod Runs
+pub mod Always
+pub mod Reached

@@ -1,13 +1,19 @@
 -- Lists of calls of a client, whatever its peer sends, and what is claimed of them (this profile).
-use Rattle.std.specs.Prelude.{ℕ, nat_le, Bool, true, if◌then◌else◌, is_some, List, [], ◌∷◌, ◌++◌, length, take}
-use Rattle.contact_ledger.specs.declared.acts.Act.{Act}
+use Rattle.std.specs.Prelude.{◌≡◌, ℕ, suc, ◌+◌, nat_le, Bool, true, false, not, if◌then◌else◌, is_some, Option, Some, None, List, [], ◌∷◌, ◌++◌, length, take, Ok, Err}
+use Rattle.contact_ledger.specs.declared.features.Feature.{Feature}
+use Rattle.dme_line.specs.Kinds.{kind_of}
+use Rattle.dme_line.specs.declared.commands.Kind.{Kind}
+use Rattle.dme_line.specs.declared.tags.Tag.TheVariants.{Std}
 use Rattle.dmis_program.specs.Meaning.{Meaning}
+use Rattle.protocol_model.specs.Replies.{Mark}
+use Rattle.protocol_model.specs.Open.{Effect, Heard, heard_in}
 use Rattle.protocol_model.specs.Lines.{Readers}
 use Rattle.protocol_model.specs.Plan.{plan}
-use Rattle.protocol_model.specs.Client.{due, may_abort, may_resume}
-use Rattle.protocol_model.specs.Ends.{ClientEnd, end_connected, end_sent, end_aborted, end_fed, end_read, end_resumed, end_left, end_restarted, end_taken}
+use Rattle.protocol_model.specs.Client.{Client, Tally, due, may_abort, may_resume}
+use Rattle.protocol_model.specs.Ends.{ClientEnd, new_client_end, end_connected, end_sent, end_aborted, end_fed, end_read, end_resumed, end_left, end_restarted, end_taken}
 use Rattle.protocol_model.specs.Undisturbed.{acts_planned, AreActs}
 use Rattle.protocol_model.specs.declared.plans.Does.{Does}
+use Rattle.protocol_model.specs.declared.plans.Planned.{Planned}
 use Rattle.protocol_model.specs.declared.plans.Start.{Start}
 use Rattle.protocol_model.specs.declared.plans.Start.TheVariants.{NewConnection, SameConnection}
 use Rattle.client_core.specs.Clients.{may_connect, may_read}
@@ -72,8 +78,76 @@ abbrev pub acts_of_fronts : Meaning → List Begun → List Does
 acts_of_fronts p [] = []
 acts_of_fronts p (b ∷ bs) = acts_of_fronts p bs ++ acts_planned (take b.completed (plan p b.features (start_behind bs)))
 
--- acts are those for which the counted front of the present plan stands, behind those of the plans that were begun before it on the connection
-pub record AreCounted (p : Meaning) (counted : List Act) (completed : ℕ) : Type 0 where
+-- the plan that a client is on, by how many features it held when that was begun, and the plans that were begun before it on the connection, the latest first
+pub record Plans : Type 0 where
   pub features : ℕ
   pub earlier : List Begun
-  pub acts : AreActs counted (acts_of_fronts p (record { features = features; completed = completed } ∷ earlier))
+
+-- the first plan of a connection, for a client that holds these features
+abbrev pub first_plan : List Feature → Plans
+first_plan features = record { features = length features; earlier = [] }
+
+-- the plans behind a call: a connection begins the first, a resume one more behind the features that are held then, a restart forgets all
+abbrev pub plans_by : Call → ClientEnd → Plans → Plans
+plans_by (Connected n) e plans = first_plan e.client.table.tally.features
+plans_by Resume e plans = record {
+  features = length e.client.table.tally.features;
+  earlier = record { features = plans.features; completed = e.client.table.tally.completed } ∷ plans.earlier;
+}
+plans_by (Restart k) e plans = first_plan (take k e.client.table.tally.features)
+plans_by Send e plans = plans
+plans_by (Feed bytes) e plans = plans
+plans_by ReadOne e plans = plans
+plans_by Abort e plans = plans
+plans_by Leave e plans = plans
+plans_by (Sent k) e plans = plans
+
+-- the plans behind calls, one after another
+abbrev pub plans_behind : Readers → List Call → ClientEnd → Plans → Plans
+plans_behind readers [] e plans = plans
+plans_behind readers (call ∷ calls) e plans =
+    plans_behind readers calls (behind_call readers call e) (if possible call e then plans_by call e plans else plans)
+
+-- a client behind calls, from one that was never on a connection
+abbrev pub client_behind : Readers → List Call → Meaning → List Feature → ℕ → Client
+client_behind readers calls p kept window = (behind_calls readers calls (new_client_end p kept window)).client
+
+-- and its plans
+abbrev pub plans_begun : Readers → List Call → Meaning → List Feature → ℕ → Plans
+plans_begun readers calls p kept window = plans_behind readers calls (new_client_end p kept window) (first_plan kept)
+
+-- the counted front of the present plan
+abbrev pub front_of : Meaning → Plans → ℕ → List Planned
+front_of p plans completed = take completed (plan p plans.features (start_behind plans.earlier))
+
+-- the last touch of a feature
+abbrev pub is_last : Does → Bool
+is_last (Does.Touches t last) = last
+is_last _ = false
+
+-- how many features end in planned commands, each with its last touch
+abbrev pub features_ended : List Planned → ℕ
+features_ended [] = 0
+features_ended (p ∷ ps) = if is_last p.does then suc (features_ended ps) else features_ended ps
+
+-- a client's tally is that of its plans: its acts are those for which the counted front of the present plan stands, behind those of the plans before it;
+-- and its features are those that it held when that was begun and one for each that ends in the front
+pub record AreCounted (p : Meaning) (plans : Plans) (tally : Tally) : Type 0 where
+  pub acts : AreActs tally.counted (acts_of_fronts p (record { features = plans.features; completed = tally.completed } ∷ plans.earlier))
+  pub joined : length tally.features ≡ plans.features + features_ended (front_of p plans tally.completed)
+
+-- the kind of the command that is to be counted next
+abbrev pub next_kind : List Planned → Option Kind
+next_kind [] = None
+next_kind (p ∷ ps) = Some (kind_of p.command)
+
+-- the kind of the command that was counted, if one was
+abbrev pub kind_counted : Heard → Option Kind
+kind_counted (Ok (hs, Effect.Quiet)) = None
+kind_counted (Ok (hs, Effect.Failure)) = None
+kind_counted (Ok (hs, Effect.Count kind given)) = Some kind
+kind_counted (Err cause) = None
+
+-- the kind of the command that a mark on a standard tag counts, if it counts one
+abbrev pub counted_by : Client → ℕ → Mark → Option Kind
+counted_by c n m = kind_counted (heard_in (not c.table.tally.failed) c.table.standard (Std n) m)

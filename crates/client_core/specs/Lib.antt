@@ -4,3 +4,4 @@ pub mod Tables
 pub mod Clients
 pub mod Refusals
 pub mod Calls
+pub mod Always

@@ -1,6 +1,6 @@
 // The client with the bytes of its connection.
 
-ghost use Rattle.std.specs.Prelude.{◌≡◌, ◌≢◌, ◌↔◌, ◌⊎◌, ◌≤◌, ◌+◌, ◌&&◌, nat_le, nat_lt, true, false, None, Some, Ok, Err, length, IsTrue, IsOk, IfOk, IfErr, OnOk, OnErr, IfSome, IsSome, is_some, MatchOption};
+ghost use Rattle.std.specs.Prelude.{◌≡◌, ◌≢◌, ◌↔◌, ◌⊎◌, ◌≤◌, ◌+◌, ◌&&◌, not, nat_le, true, false, None, Some, Ok, Err, length, IsTrue, IsOk, IfOk, IfErr, OnOk, OnErr, IfSome, IsSome, is_some, MatchOption};
 ghost use Rattle.std.specs.Result.{IsErrOf};
 ghost use Rattle.line_framing.specs.Next.{next_of};
 ghost use Rattle.line_framing.specs.Framing.{IsLineDue};
@@ -9,6 +9,7 @@ ghost use Rattle.protocol_model.specs.Lines.{Readers, AreReaders};
 ghost use Rattle.protocol_model.specs.Client.{due, may_abort, may_resume};
 ghost use Rattle.protocol_model.specs.Ends.{new_client_end, end_connected, end_sent, end_aborted, end_fed, end_read, end_resumed, end_left, end_restarted, end_taken};
 ghost use Rattle.client_core.specs.Tables.{command_of};
+ghost use Rattle.client_core.specs.Always.{IsReached, FitsState, IsQuiet};
 ghost use Rattle.client_core.specs.Clients.{are_ours, is_faulted, may_connect, may_read};
 ghost use Rattle.client_core.specs.Refusals.{IsRefused, IsReadRefused, IsSendRefused};
 
@@ -41,10 +42,13 @@ pub struct Client {
 
 impl Model for Client {
     ghost use Rattle.protocol_model.specs.Ends.{ClientEnd};
+    ghost use Rattle.client_core.specs.Always.{IsReached};
 
     ghost Value = { ClientEnd };
 
     ghost view = { λ c. record { client = c.executor; input = c.input; out = c.out.items } };
+
+    ghost invariant = { λ c. IsReached (record { client = c.executor; input = c.input; out = c.out.items }) };
 }
 
 /// The cause that a framing fault is for a client.
@@ -64,7 +68,7 @@ impl Client {
     ///
     /// `BadWindow`, or `NotOurs` where the kept features have not the labels and counts of the first features of the program; both hand
     /// the program and the features back.
-    #[tactic(auto, using(crate::proofs::Joining::ours_within))]
+    #[tactic(auto, using(crate::proofs::Joining::ours_within, crate::proofs::Reached::new_reached))]
     pub fn new(
         alloc: Global,
         program: Program,
@@ -72,8 +76,12 @@ impl Client {
         window: u8,
     ) -> Result<Client, (NewFault, Program, FeatureLedger)>
         ensures ok { IfOk result (λ client. client ≡ new_client_end program features window) }
-        ensures window { IfErr result (λ refused. (refused.0 ≡ NewFault.BadWindow) ↔ ((nat_le 1 window && nat_le window 16) ≡ false)) }
-        ensures can { IsOk result ↔ ((nat_le 1 window && (nat_le window 16 && are_ours program.features features)) ≡ true) }
+        ensures can { IsOk result
+            ↔ ((nat_le 1 window && (nat_le window 16 && are_ours program.features features)) ≡ true) }
+        ensures window { IfErr result (λ refused. (refused.0 ≡ NewFault.BadWindow)
+            ↔ ((nat_le 1 window && nat_le window 16) ≡ false)) }
+        ensures ours { IfErr result (λ refused. (refused.0 ≡ NewFault.NotOurs)
+            ↔ ((nat_le 1 window && (nat_le window 16 && not (are_ours program.features features))) ≡ true)) }
         ensures given_back { IfErr result (λ refused. (refused.1 ≡ program) × (refused.2 ≡ features)) }
     {
         if window < 1 || window > 16 {
@@ -91,6 +99,7 @@ impl Client {
 
     /// Comes to the connection of this number, and begins the plan for what is left of the program. `NotNow` where it is not apart, and
     /// where the number is not above each earlier one or is above 4,000,000,000; `Faulted`, `Memory`.
+    #[tactic(auto, using(crate::proofs::Reached::connected_reached, crate::proofs::Reached::same_reached))]
     pub fn connected(&mut self, number: u64) -> Result<(), ClientFault>
         ensures ok { OnOk result (self.new ≡ end_connected number self.old) }
         ensures can { OnOk result (may_connect number self.old.client ≡ true) }
@@ -118,11 +127,14 @@ impl Client {
 
     /// Writes the command that is due under a new tag. `NotNow` where none is, `Faulted`, `Memory`. Where all tags are held, the client is
     /// Faulted by this call.
+    #[tactic(auto, using(crate::proofs::Reached::sent_reached, crate::proofs::Reached::same_reached))]
     pub fn send(&mut self) -> Result<(), ClientFault>
         ensures ok { OnOk result (self.new ≡ end_sent self.old) }
         ensures sent { OnOk result (is_faulted self.new.client.state ≡ false) }
         ensures can { OnOk result (is_some (due self.old.client) ≡ true) }
-        ensures refused { IfErr result (λ fault. IsSendRefused (is_some (due self.old.client)) self.old self.new (end_sent self.old) fault) }
+        ensures refused { IfErr result (λ fault.
+            IsSendRefused (is_some (due self.old.client)) self.old self.new (end_sent self.old) fault) }
+        ensures memory { IsErrOf result ClientFault.Memory → is_some (due self.old.client) ≡ true }
         ensures bounded { length self.new.out ≤ length self.old.out + 202 }
     {
         if !self.executor.may_send() {
@@ -141,6 +153,7 @@ impl Client {
     }
 
     /// Takes bytes of the connection, however they were cut. `NotNow` on no connection, `Faulted`, `Memory`.
+    #[tactic(auto, using(crate::proofs::Reached::fed_reached, crate::proofs::Reached::same_reached))]
     pub fn feed(&mut self, piece: &[u8]) -> Result<(), ClientFault>
         ensures ok { OnOk result (self.new ≡ end_fed piece.now self.old) }
         ensures can { OnOk result (may_read self.old.client ≡ true) }
@@ -158,14 +171,18 @@ impl Client {
 
     /// Reads the first whole line, if one is there; true where a line was read. `NotNow` on no connection, `Memory`. `Faulted` from the
     /// call on that meets a line that is no response, bytes that are no lines, or a mark that has no place.
+    #[tactic(auto, using(crate::proofs::Reached::read_reached, crate::proofs::Reached::line_reached, crate::proofs::Reached::same_reached))]
     pub fn read_one(&mut self) -> Result<bool, ClientFault>
         ensures ok { OnOk result ((readers : Readers) → AreReaders readers → self.new ≡ end_read readers self.old) }
+        ensures fine { OnOk result (is_faulted self.new.client.state ≡ false) }
         ensures read { IfOk result (λ read. IsTrue read ↔ IsLineDue (next_of self.old.input.rest)) }
         ensures can { OnOk result (may_read self.old.client ≡ true) }
         ensures refused { IfErr result (λ fault. IsReadRefused self.old self.new fault) }
         ensures met { IfErr result (λ fault. fault ≢ ClientFault.Memory → may_read self.old.client ≡ true
             → (readers : Readers) → AreReaders readers → self.new ≡ end_read readers self.old) }
         ensures before { may_read self.old.client ≡ false → self.new ≡ self.old }
+        ensures memory { IsErrOf result ClientFault.Memory → may_read self.old.client ≡ true }
+        ensures line { IsErrOf result ClientFault.Memory → IsLineDue (next_of self.old.input.rest) }
     {
         if !self.executor.may_read() {
             return Err(self.executor.refusal());
@@ -194,11 +211,14 @@ impl Client {
 
     /// Sends an abort under a new event tag. `NotNow` but in Running and Failing, `Faulted`, `Memory`. Where all event tags are held, the
     /// client is Faulted by this call.
+    #[tactic(auto, using(crate::proofs::Reached::aborted_reached, crate::proofs::Reached::same_reached))]
     pub fn abort(&mut self) -> Result<(), ClientFault>
         ensures ok { OnOk result (self.new ≡ end_aborted self.old) }
         ensures sent { OnOk result (is_faulted self.new.client.state ≡ false) }
         ensures can { OnOk result (may_abort self.old.client.state ≡ true) }
-        ensures refused { IfErr result (λ fault. IsSendRefused (may_abort self.old.client.state) self.old self.new (end_aborted self.old) fault) }
+        ensures refused { IfErr result (λ fault.
+            IsSendRefused (may_abort self.old.client.state) self.old self.new (end_aborted self.old) fault) }
+        ensures memory { IsErrOf result ClientFault.Memory → may_abort self.old.client.state ≡ true }
         ensures bounded { length self.new.out ≤ length self.old.out + 202 }
     {
         if !self.executor.may_abort() {
@@ -218,6 +238,7 @@ impl Client {
 
     /// Begins the plan again behind the last completed feature, on the same connection. `NotNow` but in Halted behind a session that was
     /// begun on this connection, `Faulted`, `Memory`.
+    #[tactic(auto, using(crate::proofs::Reached::resumed_reached, crate::proofs::Reached::same_reached))]
     pub fn resume(&mut self) -> Result<(), ClientFault>
         ensures ok { OnOk result (self.new ≡ end_resumed self.old) }
         ensures can { OnOk result (may_resume self.old.client self.old.client.state ≡ true) }
@@ -235,6 +256,7 @@ impl Client {
 
     /// Gives the connection up: Done stays Done, all else is Apart; what was to be sent and the points of the unfinished feature are given
     /// up; features and counted acts stay. Takes no memory.
+    #[tactic(auto, using(crate::proofs::Reached::left_reached))]
     pub fn leave(&mut self)
         ensures { self.new ≡ end_left self.old }
     {
@@ -245,6 +267,7 @@ impl Client {
 
     /// Begins again with the first features, as a client that was stopped and reads them from a file; earlier connection numbers still
     /// count. `NotNow` where fewer features are held. Takes no memory.
+    #[tactic(auto, using(crate::proofs::Reached::restarted_reached))]
     pub fn restart(&mut self, count: usize) -> Result<(), ClientFault>
         ensures ok { OnOk result (self.new ≡ end_restarted count self.old) }
         ensures can { IsOk result ↔ (count ≤ length self.old.client.table.tally.features) }
@@ -268,6 +291,7 @@ impl Client {
     }
 
     /// The first bytes of `out` were sent. The caller owes that there are so many. Takes no memory.
+    #[tactic(auto, using(crate::proofs::Reached::taken_reached))]
     pub fn sent(&mut self, count: usize)
         requires { count ≤ length self.old.out }
         ensures { self.new ≡ end_taken count self.old }
@@ -284,9 +308,20 @@ impl Client {
         self.executor.is_on()
     }
 
-    /// The state.
+    /// The state. Its contract tells as well what holds of a client at any time, whatever was called and whatever the peer has sent: each
+    /// of these facts, and that a list of calls leads to it, of which `whatever_the_peer_sends` speaks.
     pub fn state(&self) -> State
-        ensures { result ≡ self.now.client.state }
+        ensures state { result ≡ self.now.client.state }
+        ensures reached { IsReached self.now }
+        ensures on { FitsState self.now.client.state self.now.client.on }
+        ensures cause { is_some self.now.client.cause ≡ is_faulted self.now.client.state }
+        ensures window_some { 1 ≤ self.now.client.window }
+        ensures window_few { self.now.client.window ≤ 16 }
+        ensures open { count_open self.now.client.table.standard ≤ self.now.client.window }
+        ensures last { self.now.client.last ≤ 4000000000 }
+        ensures ours { are_ours self.now.client.program.features self.now.client.table.tally.features ≡ true }
+        ensures quiet { self.now.client.on ≡ false → IsQuiet self.now }
+        ensures unmet { is_faulted self.now.client.state ≡ false → self.now.input.fault ≡ None }
     {
         self.executor.state()
     }

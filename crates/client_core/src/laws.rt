@@ -1,28 +1,37 @@
 // What follows from the definitions for a client, whatever its peer sends. Each function has laws for its contract and does nothing.
 
-ghost use Rattle.std.specs.Prelude.{◌≡◌, ℕ, List, true};
+ghost use Rattle.std.specs.Prelude.{◌≡◌, ℕ, List, Some, true};
 ghost use Rattle.contact_ledger.specs.declared.features.Feature.{Feature as OneFeature};
 ghost use Rattle.dmis_program.specs.Meaning.{Meaning};
 ghost use Rattle.dmis_program.specs.Programs.{IsProgram};
+ghost use Rattle.dme_line.specs.declared.commands.Kind.{Kind};
+ghost use Rattle.protocol_model.specs.Replies.{Mark};
 ghost use Rattle.protocol_model.specs.Lines.{Readers};
-ghost use Rattle.protocol_model.specs.Ends.{new_client_end};
-ghost use Rattle.client_core.specs.Calls.{Call, behind_calls, AreCounted};
+ghost use Rattle.client_core.specs.Calls.{Call, client_behind, plans_begun, AreCounted, counted_by, next_kind};
 ghost use Rattle.client_core.specs.Clients.{are_ours};
 
 /// Behind every list of calls of a client, from any program and any features of it that are kept, whatever bytes are fed:
 ///
 /// - `features`: the features that it holds are the first of the program, by their labels and their counts of points;
-/// - `counted`: the acts that it has counted on its connection are those for which the counted front of its plan stands, behind those of
-///   the plans that were begun before it on the connection: a contact with the target, direction, tool and frame of its touch.
+/// - `counted`: each plan was begun behind the features that were held when it was. The acts that are counted on the connection are
+///   those for which the counted front of the present plan stands, behind those of the plans that were begun before it: a contact with
+///   the target, direction, tool and frame of its touch. And the features are those that were held when the present plan was begun, and
+///   one for each that ends in its counted front;
+/// - `next`: a mark that counts a command counts one of the kind of the first command of the plan that is not counted.
 ///
 /// A call that is not possible changes nothing. What reads lines and points may be any functions.
-#[tactic(auto, using(crate::proofs::Runs::features_are_ours, crate::proofs::Runs::counted_are_planned))]
 pub fn whatever_the_peer_sends()
     ensures features { (readers : Readers) (program : Meaning) (kept : List OneFeature) (window : ℕ) (calls : List Call)
         → IsProgram program → are_ours program.features kept ≡ true
-        → are_ours program.features (behind_calls readers calls (new_client_end program kept window)).client.table.tally.features ≡ true }
+        → are_ours program.features (client_behind readers calls program kept window).table.tally.features ≡ true }
     ensures counted { (readers : Readers) (program : Meaning) (kept : List OneFeature) (window : ℕ) (calls : List Call)
         → IsProgram program → are_ours program.features kept ≡ true
-        → AreCounted program (behind_calls readers calls (new_client_end program kept window)).client.table.tally.counted
-        (behind_calls readers calls (new_client_end program kept window)).client.table.tally.completed }
+        → AreCounted program (plans_begun readers calls program kept window)
+        (client_behind readers calls program kept window).table.tally }
+    ensures next { (readers : Readers) (program : Meaning) (kept : List OneFeature) (window : ℕ) (calls : List Call)
+        → IsProgram program → are_ours program.features kept ≡ true
+        → (client_behind readers calls program kept window).on ≡ true
+        → (number : ℕ) (mark : Mark) (kind : Kind)
+        → counted_by (client_behind readers calls program kept window) number mark ≡ Some kind
+        → next_kind (client_behind readers calls program kept window).table.tally.todo ≡ Some kind }
 {}

@@ -2,7 +2,16 @@ use Rattle.std.proofs.Common.{rules, inr, ◌≡◌, ◌++◌, ap, true}
 use Rattle.protocol_model.specs.Lines.{command_bytes}
 use Rattle.protocol_model.specs.Client.{client_aborted, may_abort}
 use Rattle.protocol_model.specs.Ends.{end_aborted}
+use Rattle.client_core.proofs.Reached.{aborted_reached}
 use Rattle.client_core.proofs.client.Client.abort.Goals as goal
+
+pub invariant_of-self-in-Some : goal.invariant_of-self-in-Some
+invariant_of-self-in-Some c =
+    aborted_reached c.self.inside.executor c.send_abort.new.self c.self.inside.input c.self.inside.out.items c.send_abort.new.out.items c.self.invariant (search rules) (search rules) (search rules)
+
+pub invariant_of-self-2 : goal.invariant_of-self-2
+invariant_of-self-2 c =
+    aborted_reached c.self.inside.executor c.send_abort.new.self c.self.inside.input c.self.inside.out.items c.send_abort.new.out.items c.self.invariant (search rules) (search rules) (search rules)
 
 pub returns-clause-ok : goal.returns-clause-ok
 returns-clause-ok c =

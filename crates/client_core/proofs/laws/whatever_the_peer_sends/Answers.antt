@@ -1,0 +1,11 @@
+use Rattle.client_core.proofs.Runs.{features_are_ours, counted_are_planned, counted_is_next}
+use Rattle.client_core.proofs.laws.whatever_the_peer_sends.Goals as goal
+
+pub returns-clause-features : goal.returns-clause-features
+returns-clause-features c = features_are_ours
+
+pub returns-clause-counted : goal.returns-clause-counted
+returns-clause-counted c = counted_are_planned
+
+pub returns-clause-next : goal.returns-clause-next
+returns-clause-next c = counted_is_next
