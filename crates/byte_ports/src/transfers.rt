@@ -1,5 +1,5 @@
 // Moving all bytes, over any port.
-ghost use Rattle.std.specs.Prelude.{◌≡◌, ◌<◌, ◌≤◌, ◌*◌, ◌-◌, [], true, false, length, vec_len, IfOk, OnOk, OnErr, IfSome, IsErrOf};
+ghost use Rattle.std.specs.Prelude.{◌≡◌, ◌⊎◌, ◌<◌, ◌≤◌, ◌*◌, ◌-◌, [], true, false, length, vec_len, IfOk, OnOk, OnErr, IfSome, IsErrOf};
 ghost use Rattle.std.specs.Io.KnownBytes.{Appends};
 ghost use Rattle.byte_ports.specs.Transfers.{AppendsFront, ConsumesFront, GaveTimes};
 
@@ -52,7 +52,8 @@ fn blank_piece(alloc: Global) -> Result<Vec<u8>, AllocError>
 /// Pulls to the end of the input, in at most `bound` pulls of at most `PIECE`
 /// bytes, the one that finds the end among them, and answers all bytes.
 ///
-/// After a fault the bytes that were pulled are given up.
+/// A source that has failed is told as that, or as want of memory where it
+/// had failed before. After a fault the bytes that were pulled are given up.
 #[tactic(auto, using(crate::proofs::Moved::pulled))]
 pub fn pull_all<R: Source>(alloc: Global, source: &mut R, bound: u64) -> Result<Vec<u8>, PullFault>
     ensures all { IfOk result (λ bytes. IfSome (R.left source.old) (λ xs. bytes.items ≡ xs)) }
@@ -63,6 +64,8 @@ pub fn pull_all<R: Source>(alloc: Global, source: &mut R, bound: u64) -> Result<
     ensures failed { IsErrOf result PullFault.Failed → R.has_failed source.new ≡ true }
     ensures unfailed { R.has_failed source.old ≡ false → R.has_failed source.new ≡ true
         → IsErrOf result PullFault.Failed }
+    ensures told { 0 < bound → R.has_failed source.new ≡ true
+        → IsErrOf result PullFault.Failed ⊎ IsErrOf result PullFault.Memory }
     ensures many { IsErrOf result PullFault.TooMany
         → GaveTimes R.left R.has_failed bound source.old source.new }
     ensures long { IsErrOf result PullFault.TooMany

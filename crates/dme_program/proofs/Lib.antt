@@ -1,1 +1,3 @@
 pub mod PlanLemmas
+pub mod WordsLemmas
+pub mod HelpLemmas

@@ -3,3 +3,4 @@ pub mod Numbered
 pub mod Checked
 pub mod Printed
 pub mod Ordered
+pub mod CommandLine

@@ -1,9 +1,11 @@
 // The command line.
 
-ghost use Rattle.std.specs.Prelude.{◌≡◌, IfOk, IfErr, codes, string_bytes};
+ghost use Rattle.std.specs.Prelude.{◌≡◌, IfOk, IfErr, OnOk, IsErrAnd, Some, true, false, map, codes, string_bytes};
 ghost use Rattle.std.specs.Option.{option_map};
-ghost use Rattle.clap.specs.Words.{first_value, found_of};
-ghost use Rattle.dme_program.specs.Ordered.{IsCheckOf, TellsMemory};
+ghost use Rattle.clap.specs.declared.builder.command.Command.TheViews.{out-Command};
+ghost use Rattle.clap.specs.Words.{first_value, found_of, app_of, rule_of, subcommand_name_of, subcommand_rows_of};
+ghost use Rattle.dme_program.specs.CommandLine.{setup_rule, program_rule, check_line, whole_line};
+ghost use Rattle.dme_program.specs.Ordered.{IsCheckOf, IsOrderOf, Asks, IsRefusal, IsCalled};
 
 use clap::error::ErrorKind;
 use clap::{Arg, ArgMatches, Command, Error};
@@ -30,24 +32,44 @@ pub enum WordsFault {
     Memory,
 }
 
-fn setup_option<'a>(alloc: Global) -> Arg<'a> {
+/// `--setup FILE`.
+fn setup_option<'a>(alloc: Global) -> Arg<'a>
+    ensures rule { rule_of result ≡ setup_rule }
+    ensures local { result.global ≡ false }
+{
     Arg::new(alloc, "setup")
         .long("setup")
         .value_name("FILE")
         .help("The machine's setup; - is standard input")
 }
 
-fn check_command<'a>(alloc: Global) -> Result<Command<'a>, AllocError> {
-    let program = Arg::new(alloc, "PROGRAM")
+/// `PROGRAM`.
+fn program_argument<'a>(alloc: Global) -> Arg<'a>
+    ensures rule { rule_of result ≡ program_rule }
+    ensures local { result.global ≡ false }
+{
+    Arg::new(alloc, "PROGRAM")
         .help("The DMIS program; - is standard input")
-        .default_value("-");
+        .default_value("-")
+}
+
+/// `check [--setup FILE] [PROGRAM]`.
+fn check_command<'a>(alloc: Global) -> Result<Command<'a>, AllocError>
+    ensures shape { IfOk result (λ command. app_of command ≡ check_line) }
+    ensures local { IfOk result (λ command. (out-Command command).has_globals ≡ false) }
+{
     Command::new(alloc, "check")
         .about("Prints the I++ DME command lines of a DMIS program")
         .arg(setup_option(alloc))?
-        .arg(program)
+        .arg(program_argument(alloc))
 }
 
-fn whole_command<'a>(alloc: Global) -> Result<Command<'a>, AllocError> {
+/// `dme COMMAND ..`.
+fn whole_command<'a>(alloc: Global) -> Result<Command<'a>, AllocError>
+    ensures shape { IfOk result (λ command. app_of command ≡ whole_line) }
+    ensures local { IfOk result (λ command. (out-Command command).has_globals ≡ false) }
+    ensures required { IfOk result (λ command. (out-Command command).subcommand_required ≡ true) }
+{
     Command::new(alloc, "dme")
         .about("Runs DMIS inspection programs over the I++ DME interface")
         .subcommand_required(true)
@@ -74,27 +96,50 @@ fn check_order(alloc: Global, values: &ArgMatches) -> Result<Order, AllocError>
     Ok(Order::Check { setup, program })
 }
 
-fn order_of(alloc: Global, matches: &ArgMatches) -> Result<Order, AllocError> {
+/// The order of the subcommand that `clap` found, with its values.
+fn order_of(alloc: Global, matches: &ArgMatches) -> Result<Order, AllocError>
+    requires { subcommand_name_of matches.now ≡ Some (codes "check") }
+    ensures { IfOk result (IsOrderOf (subcommand_rows_of matches.now)) }
+{
     match matches.subcommand() {
-        Some((_, values)) => check_order(alloc, values),
-        None => check_order(alloc, matches),
+        Some(("check", values)) => check_order(alloc, values),
+        _ => unreachable!(),
+    }
+}
+
+/// What an error of `clap` is called: want of memory where it is that, else a bad line.
+fn refusal_of(error: Error) -> WordsFault
+    ensures { IsCalled error result }
+{
+    if error.kind() == ErrorKind::OutOfMemory {
+        return WordsFault::Memory;
+    }
+    WordsFault::Line(error)
+}
+
+/// What `clap`'s answer asks for. Words that it takes are refused only for want of memory, in copying a value.
+fn answered(alloc: Global, answer: Result<ArgMatches, Error>) -> Result<Order, WordsFault>
+    requires { IfOk answer (λ matches. subcommand_name_of matches ≡ Some (codes "check")) }
+    ensures order { IfOk answer.entry (λ matches. IfOk result (IsOrderOf (subcommand_rows_of matches))) }
+    ensures taken { OnOk answer.entry (IfErr result (λ fault. fault ≡ WordsFault.Memory)) }
+    ensures refused { IfErr answer.entry (λ error. IsErrAnd result (IsCalled error)) }
+{
+    match answer {
+        Ok(matches) => order_of(alloc, &matches).map_err(|_| WordsFault::Memory),
+        Err(error) => Err(refusal_of(error)),
     }
 }
 
 /// What the words of a command line ask for. The first word names the program in `clap`'s texts.
+///
+/// Words are a bad line only for a fault that they have. Want of memory is told as that alone, in building the command, in `clap`,
+/// or in copying a value.
 pub fn read_words<'a>(alloc: Global, words: &'a [&'a str]) -> Result<Order, WordsFault>
-    ensures { IfErr result TellsMemory }
+    ensures order { IfOk result (Asks (map (λ word. word.now) words.now)) }
+    ensures refused { IfErr result (IsRefusal (map (λ word. word.now) words.now)) }
 {
     let Ok(command) = whole_command(alloc) else {
         return Err(WordsFault::Memory);
     };
-    match command.try_get_matches_from(words) {
-        Ok(matches) => order_of(alloc, &matches).map_err(|_| WordsFault::Memory),
-        Err(error) => {
-            if error.kind() == ErrorKind::OutOfMemory {
-                return Err(WordsFault::Memory);
-            }
-            Err(WordsFault::Line(error))
-        }
-    }
+    answered(alloc, command.try_get_matches_from(words))
 }

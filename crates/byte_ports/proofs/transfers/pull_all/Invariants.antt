@@ -1,4 +1,4 @@
-use Rattle.std.proofs.Common.{◌≡◌, ◌≤◌, ◌*◌, true, false, vec_len}
+use Rattle.std.proofs.Common.{◌≡◌, ◌≤◌, ◌<◌, ◌*◌, true, false, vec_len}
 use Rattle.std.specs.Io.KnownBytes.{Consumes}
 use Rattle.byte_ports.specs.Transfers.{GaveTimes}
 use Rattle.byte_ports.proofs.transfers.pull_all.Given as goal
@@ -10,3 +10,4 @@ invariant-loop g l =
     × (l.counter ≤ vec_len l.text) × (vec_len l.text ≤ l.counter * 65536)
     × (g.R.Source.has_failed l.initial.source ≡ true → g.R.Source.has_failed l.source ≡ true)
     × (g.R.Source.has_failed l.initial.source ≡ false → g.R.Source.has_failed l.source ≡ false)
+    × (0 < l.counter → g.R.Source.has_failed l.source ≡ false)
