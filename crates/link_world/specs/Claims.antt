@@ -32,10 +32,12 @@ IsNewFault program setup window (fault.BadWindow given_program given_setup) =
     ((nat_le 1 window && nat_le window 16) ≡ false) × (given_program ≡ program) × (given_setup ≡ setup)
 IsNewFault program setup window fault.Memory = (nat_le 1 window && nat_le window 16) ≡ true
 
--- the events that may want memory
+-- the events that may want memory: all but to take a connection, to leave one, and to begin again
 abbrev pub takes_memory : Event → Bool
+takes_memory (Event.Accept n) = false
 takes_memory Event.ClientLeaves = false
 takes_memory Event.ServerLeaves = false
+takes_memory (Event.ClientRestart k) = false
 takes_memory Event.ServerRestart = false
 takes_memory _ = true
 

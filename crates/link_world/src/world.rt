@@ -88,6 +88,7 @@ impl World {
             → self.new ≡ with_world self.old (happens readers event self.old.world)) }
         ensures not_now { IsErrOf result WorldFault.NotNow → can event self.old.world ≡ false }
         ensures memory { IsErrOf result WorldFault.Memory → takes_memory event ≡ true }
+        ensures wanted { IsErrOf result WorldFault.Memory → can event self.old.world ≡ true }
         ensures err { OnErr result (self.new ≡ self.old) }
     {
         match event {
