@@ -11,6 +11,7 @@ use Rattle.protocol_model.specs.Ends.{ClientEnd, ServerEnd, new_client_end, end_
 use Rattle.protocol_model.specs.declared.events.Event.{Event}
 use Rattle.protocol_model.specs.declared.events.Event.TheVariants.{Connect, Accept, ClientSends, Up, ServerReads, ServerTurn, Machine, Down, ClientReads, ClientLeaves, ServerLeaves, Abort, Resume, ClientRestart, ServerRestart}
 use Rattle.protocol_model.specs.declared.states.State.{State}
+use Rattle.protocol_model.specs.declared.machine.Outcome.{Outcome}
 
 -- the unread bytes of a connection: those of the client, and those of the server
 pub record Link : Type 0 where
