@@ -209,6 +209,13 @@ impl Client {
         }
     }
 
+    /// Whether a whole line stands at the front of the bytes that were fed and not read. It takes no memory.
+    pub fn has_line(&self) -> bool
+        ensures { IsTrue result ↔ IsLineDue (next_of self.now.input.rest) }
+    {
+        self.input.has_line()
+    }
+
     /// Sends an abort under a new event tag. `NotNow` but in Running and Failing, `Faulted`, `Memory`. Where all event tags are held, the
     /// client is Faulted by this call.
     #[tactic(auto, using(crate::proofs::Reached::aborted_reached, crate::proofs::Reached::same_reached))]

@@ -1,4 +1,4 @@
-ghost use Rattle.std.specs.Prelude.{◌≡◌, ◌≢◌, ◌+◌, ◌≤◌, length, take, drop, vec_len, MatchOption, IfOk, IfErr, OnOk, OnErr, IfSome, IfNone};
+ghost use Rattle.std.specs.Prelude.{◌≡◌, ◌≢◌, ◌↔◌, IsTrue, ◌+◌, ◌≤◌, length, take, drop, vec_len, MatchOption, IfOk, IfErr, OnOk, OnErr, IfSome, IfNone};
 ghost use Rattle.std.specs.Result.{IsErrOf};
 ghost use Rattle.line_framing.specs.Content.{IsLine};
 ghost use Rattle.line_framing.specs.Next.{next_of};
@@ -170,6 +170,16 @@ impl Lines {
                 Err(fault)
             }
         }
+    }
+
+    /// Whether a whole line stands at the front of the rest; what stands there otherwise, `first_line` says. It
+    /// takes no memory.
+    pub fn has_line(&self) -> bool
+        ensures { IsTrue result ↔ IsLineDue (next_of self.now.rest) }
+    {
+        let bytes = self.bytes.as_slice();
+        let end = content_end(bytes, self.searched);
+        matches!(has_line(bytes, self.start, end), Ok(true))
     }
 
     /// Takes the first line, of `length` bytes, and its CR LF off the front of the rest. The caller owes that

@@ -23,6 +23,7 @@ use Rattle.link_world.specs.Claims.{refused_by}
 use Rattle.link_world.specs.Links.{seen, IsReached}
 use Rattle.link_world.proofs.Reached.{carried, reached_more}
 use Rattle.link_world.proofs.ClientSteps.{never_faulted_now}
+use Rattle.link_world.proofs.ClientWriting.{awake}
 
 -- whether it reads
 abbrev pub reads_any : ClientEnd → Bool
@@ -90,7 +91,7 @@ pub record NotRead (client after : ClientEnd) (fault : ClientFault) : Type 0 whe
   pub same : after ≡ client
   pub none : refused_by fault ≡ world_fault.NotNow → reads_any client ≡ false
 
-off_reads : (e : ClientEnd) → e.client.on ≡ false → reads_any e ≡ false
+pub off_reads : (e : ClientEnd) → e.client.on ≡ false → reads_any e ≡ false
 off_reads e off = ap (λ (b : Bool). b && (not (world.is_faulted e.client.state) && is_any (next_of e.input.rest))) off
 
 never_met : (client after : ClientEnd) (server : Serving) (cs : List Connection) (written : List ℕ) → IsReached (seen client server cs written) → is_faulted after.client.state ≡ true
@@ -118,3 +119,17 @@ not_read client after server cs written client_fault.NotNow h r is before = reco
 not_read client after server cs written (client_fault.Faulted cause) h r is before =
     absurd (never_met client after server cs written h r.0 (is (λ (e : client_fault.Faulted cause ≡ client_fault.Memory). cc)) before)
 not_read client after server cs written client_fault.Memory h r is before = record { same = r; none = λ e. absurd (cc) }
+
+pub no_line : (client : ClientEnd) (server : Serving) (cs : List Connection) (written : List ℕ) → IsReached (seen client server cs written)
+    → client.client.on ≡ true → (IsLineDue (next_of client.input.rest) → ⊥) → reads_any client ≡ false
+no_line client server cs written h on none = go (next_of client.input.rest) refl
+  where
+    go : (f : Front) → next_of client.input.rest ≡ f → reads_any client ≡ false
+    go (Ok None) e = not_any client (Ok None) e refl
+    go (Ok (Some found)) e = absurd (none (subst IsLineDue (sym e) refl))
+    go (Err why) e = absurd (no_fault_read client server cs written h on why e)
+
+pub line_can : (client : ClientEnd) (server : Serving) (cs : List Connection) (written : List ℕ) → IsReached (seen client server cs written)
+    → client.client.on ≡ true → IsLineDue (next_of client.input.rest) → reads_any client ≡ true
+line_can client server cs written h on due =
+    and_from _ _ on (and_from _ _ (subst (λ (b : Bool). not b ≡ true) (faulted_same client.client.state) (ap not (awake client server cs written h))) (any_line (next_of client.input.rest) due))

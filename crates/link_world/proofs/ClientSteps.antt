@@ -68,6 +68,20 @@ pub connect_is : (l : Linked) (client after : ClientEnd) (server : Serving) (cs 
 connect_is l client after server cs ds written now c number view h is n d up down none =
     connect_seen client after server cs ds written now c number h is n d up down none ∙ ap (λ (k : Linked). with_world k (connected k.world)) (sym view)
 
+-- whether the number of the next connection is one that a client may take
+next_number_fits : (last most : ℕ) → nat_le (suc last) most ≡ nat_lt last most
+next_number_fits last most = refl
+
+pub connect_may : (l : Linked) (client : ClientEnd) (server : Serving) (cs : List Connection) (written : List ℕ) (number : ℕ) (b : Bool)
+    → l ≡ seen client server cs written → IsReached (seen client server cs written) → number ≡ length cs + 1 → (is_apart client.client.state && nat_le number 4000000000) ≡ b
+    → (is_apart l.world.client.client.state && nat_lt l.world.client.client.last 4000000000) ≡ b
+connect_may l client server cs written number b view h n is =
+    let same : length cs ≡ client.client.last = made client server cs written h in
+    let next : number ≡ suc client.client.last = n ∙ omega (arith, same) in
+    subst (λ (k : Linked). (is_apart k.world.client.client.state && nat_lt k.world.client.client.last 4000000000) ≡ b) (sym view)
+    (ap (λ (x : Bool). is_apart client.client.state && x) (sym (next_number_fits client.client.last 4000000000))
+    ∙ (ap (λ (k : ℕ). is_apart client.client.state && nat_le k 4000000000) (sym next) ∙ is))
+
 -- it is refused where the client is not apart, or each number is taken
 pub connect_refused : (l : Linked) (client : ClientEnd) (server : Serving) (cs : List Connection) (written : List ℕ) (number : ℕ)
     → l ≡ seen client server cs written → IsReached (seen client server cs written) → number ≡ length cs + 1 → may_connect number client.client ≡ false

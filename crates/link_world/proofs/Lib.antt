@@ -7,3 +7,5 @@ pub mod ClientReading
 pub mod ClientBytes
 pub mod ServerAnswers
 pub mod Running
+pub mod Undisturbed
+pub mod SameKind

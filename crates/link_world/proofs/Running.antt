@@ -1,6 +1,6 @@
 -- A list of events with one more at its end.
-use Rattle.std.proofs.Common.{◌≡◌, ℕ, suc, ◌+◌, ◌<◌, true, false, List, [], ◌∷◌, ◌++◌, length, take, slice_index_or, sym, ◌∙◌, ap, subst, arith}
-use Rattle.std.proofs.lemmas.List.{take_more}
+use Rattle.std.proofs.Common.{◌≡◌, ℕ, suc, ◌+◌, ◌<◌, ◌≤◌, true, false, List, [], ◌∷◌, ◌++◌, length, take, slice_index_or, sym, ◌∙◌, ap, subst, arith}
+use Rattle.std.proofs.lemmas.List.{take_more, take_all}
 use Rattle.protocol_model.specs.Lines.{Readers}
 use Rattle.protocol_model.specs.World.{World, can, happens}
 use Rattle.protocol_model.specs.declared.events.Event.{Event}
@@ -17,7 +17,7 @@ leads_more readers w u v [] (b ∷ xs) e a h one = absurd h
 leads_more readers w u v (f ∷ es) [] e a h one = absurd h
 leads_more readers w u v (f ∷ es) (Happened ∷ xs) e a h one = (h.0, leads_more readers (happens readers f w) u v es xs e a h.1 one)
 leads_more readers w u v (f ∷ es) (Refused ∷ xs) e a h one = (h.0, leads_more readers w u v es xs e a h.1 one)
-leads_more readers w u v (f ∷ es) (Wanting ∷ xs) e a h one = (h.0, leads_more readers w u v es xs e a h.1 one)
+leads_more readers w u v (f ∷ es) (Wanting ∷ xs) e a h one = (h.0, h.1, leads_more readers w u v es xs e a h.2 one)
 
 happened_more : (xs : List Answer) (a : Answer) → happened (xs ++ a ∷ []) ≡ happened xs + happened (a ∷ [])
 happened_more [] a = omega arith
@@ -67,7 +67,11 @@ ran_refused readers w u v events i e done not_now memory short is h may so =
     (subst (λ (n : ℕ). HasRun readers w (take (i + 1) events) v (done + 0) (not_now + 1) n) (nothing_more memory) (more readers w u v events i e Refused done not_now memory short is h (may, so)))
 
 pub ran_wanting : (readers : Readers) (w u v : World) (events : List Event) (i : ℕ) (e : Event) (done not_now memory : ℕ) → i < length events → e ≡ slice_index_or events i e
-    → HasRun readers w (take i events) u done not_now memory → takes_memory e ≡ true → v ≡ u → HasRun readers w (take (i + 1) events) v done not_now (memory + 1)
-ran_wanting readers w u v events i e done not_now memory short is h may so =
+    → HasRun readers w (take i events) u done not_now memory → takes_memory e ≡ true → can e u ≡ true → v ≡ u → HasRun readers w (take (i + 1) events) v done not_now (memory + 1)
+ran_wanting readers w u v events i e done not_now memory short is h takes may so =
     subst (λ (n : ℕ). HasRun readers w (take (i + 1) events) v n not_now (memory + 1)) (nothing_more done)
-    (subst (λ (n : ℕ). HasRun readers w (take (i + 1) events) v (done + 0) n (memory + 1)) (nothing_more not_now) (more readers w u v events i e Wanting done not_now memory short is h (may, so)))
+    (subst (λ (n : ℕ). HasRun readers w (take (i + 1) events) v (done + 0) n (memory + 1)) (nothing_more not_now) (more readers w u v events i e Wanting done not_now memory short is h (takes, may, so)))
+
+-- behind the last event
+pub ran_all : (readers : Readers) (w v : World) (events : List Event) (i done not_now memory : ℕ) → length events ≤ i → HasRun readers w (take i events) v done not_now memory → HasRun readers w events v done not_now memory
+ran_all readers w v events i done not_now memory all h = subst (λ (es : List Event). HasRun readers w es v done not_now memory) (take_all i events all) h

@@ -1,10 +1,13 @@
 -- What is promised of a world after any events, and when none is made (this profile).
-use Rattle.std.specs.Prelude.{◌≡◌, ◌≢◌, ℕ, nat_le, Bool, true, false, ◌&&◌, None}
+use Rattle.std.specs.Prelude.{◌≡◌, ◌≢◌, ℕ, nat_le, Bool, true, false, ◌&&◌, None, List}
 use Rattle.dmis_program.specs.Meaning.{Meaning}
 use Rattle.tool_rack.specs.Setups.{SetupValue}
 use Rattle.protocol_model.specs.Claims.{Sound, Told}
-use Rattle.protocol_model.specs.World.{World}
+use Rattle.protocol_model.specs.Plan.{plan}
+use Rattle.protocol_model.specs.World.{World, start}
 use Rattle.protocol_model.specs.declared.events.Event.{Event}
+use Rattle.protocol_model.specs.declared.plans.Planned.{Planned}
+use Rattle.protocol_model.specs.declared.plans.Start.{Start}
 use Rattle.protocol_model.specs.declared.states.State.{State}
 use Rattle.client_core.specs.declared.faults.ClientFault.{ClientFault}
 use Rattle.client_core.specs.declared.faults.ClientFault.TheVariants as client_fault
@@ -26,16 +29,40 @@ pub record DoNotDisagree (w : World) : Type 0 where
   pub client : w.client.client.state ≢ State.Faulted
   pub server : w.server.input.fault ≡ None
 
--- why there is no world: the window, and both are handed back, or want of memory
-abbrev pub IsNewFault : Meaning → SetupValue → ℕ → NewFault → Type 0
-IsNewFault program setup window (fault.BadWindow given_program given_setup) =
-    ((nat_le 1 window && nat_le window 16) ≡ false) × (given_program ≡ program) × (given_setup ≡ setup)
-IsNewFault program setup window fault.Memory = (nat_le 1 window && nat_le window 16) ≡ true
+-- a window is from 1 to 16
+abbrev pub is_window : ℕ → Bool
+is_window window = nat_le 1 window && nat_le window 16
 
--- the events that may want memory
+-- a program and a setup are handed back for the window's sake
+abbrev pub HandsBack : Meaning → SetupValue → NewFault → Type 0
+HandsBack program setup (fault.BadWindow given_program given_setup) = (given_program ≡ program) × (given_setup ≡ setup)
+HandsBack program setup fault.Memory = ⊥
+
+-- it is for want of memory that there is no world
+abbrev pub IsWant : NewFault → Type 0
+IsWant (fault.BadWindow given_program given_setup) = ⊥
+IsWant fault.Memory = Unit {0}
+
+-- a world in which nothing has happened: it is as its program, its rack and its window make it
+abbrev pub IsNew : World → Type 0
+IsNew w = w ≡ start w.client.client.program w.server.server.rack w.client.client.window
+
+-- the plan of a world's whole program, as it is begun on the first connection
+abbrev pub first_plan : World → List Planned
+first_plan w = plan w.client.client.program 0 Start.NewConnection
+
+-- the events by which a side reads a line
+abbrev pub reads : Event → Bool
+reads Event.ServerReads = true
+reads Event.ClientReads = true
+reads _ = false
+
+-- the events that may want memory: all but to take a connection, to leave one, and to begin again
 abbrev pub takes_memory : Event → Bool
+takes_memory (Event.Accept n) = false
 takes_memory Event.ClientLeaves = false
 takes_memory Event.ServerLeaves = false
+takes_memory (Event.ClientRestart k) = false
 takes_memory Event.ServerRestart = false
 takes_memory _ = true
 

@@ -16,7 +16,7 @@ abbrev pub Leads : Readers → World → List Event → List Answer → World �
 Leads readers w [] [] v = v ≡ w
 Leads readers w (e ∷ es) (Happened ∷ xs) v = (can e w ≡ true) × Leads readers (happens readers e w) es xs v
 Leads readers w (e ∷ es) (Refused ∷ xs) v = (can e w ≡ false) × Leads readers w es xs v
-Leads readers w (e ∷ es) (Wanting ∷ xs) v = (takes_memory e ≡ true) × Leads readers w es xs v
+Leads readers w (e ∷ es) (Wanting ∷ xs) v = (takes_memory e ≡ true) × (can e w ≡ true) × Leads readers w es xs v
 Leads readers w _ _ v = ⊥
 
 -- how many events happened

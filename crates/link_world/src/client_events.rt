@@ -1,9 +1,9 @@
 // What the client does in a world, and the bytes that come to it.
 
-ghost use Rattle.std.specs.Prelude.{◌≡◌, ◌++◌, [], true, false, is_some, take, drop, OnOk, OnErr, IfErr};
+ghost use Rattle.std.specs.Prelude.{◌≡◌, ◌++◌, [], nat_le, ◌&&◌, true, false, is_some, take, drop, OnOk, OnErr, IfErr};
 ghost use Rattle.std.specs.Result.{IsErrOf};
 ghost use Rattle.protocol_model.specs.Lines.{Readers, AreReaders};
-ghost use Rattle.protocol_model.specs.Client.{due, may_abort};
+ghost use Rattle.protocol_model.specs.Client.{due, is_apart, may_abort};
 ghost use Rattle.protocol_model.specs.Ends.{end_sent, end_aborted, end_fed, end_read, end_resumed, end_left, end_restarted};
 ghost use Rattle.protocol_model.specs.World.{can, has_some, connected, client_writes, moved_down};
 ghost use Rattle.protocol_model.specs.declared.events.Event.TheVariants as event;
@@ -14,7 +14,7 @@ ghost use Rattle.link_world.specs.Links.{link_of_connection, quiet_client, with_
 use crate::connection::Connection;
 use crate::faults::{WorldFault, refused_by};
 use crate::world::World;
-use client_core::Client;
+use client_core::{Client, State};
 
 /// The client writes the command that is due.
 fn send(
@@ -31,10 +31,14 @@ fn send(
     ensures down { OnOk result (connection.new.down.waiting ≡ connection.old.down.waiting) }
     ensures written { OnOk result (written.new.items ≡ written.old.items ++ (end_sent client.old).out) }
     ensures not_now { IsErrOf result WorldFault.NotNow → is_some (due client.old.client) ≡ false }
+    ensures memory { IsErrOf result WorldFault.Memory → is_some (due client.old.client) ≡ true }
     ensures client_err { OnErr result (client.new ≡ client.old) }
     ensures link_err { OnErr result (link_of_connection connection.new ≡ link_of_connection connection.old) }
     ensures written_err { OnErr result (written.new.items ≡ written.old.items) }
 {
+    if client.due().is_none() {
+        return Err(WorldFault::NotNow);
+    }
     if connection.reserve_up(written).is_err() {
         return Err(WorldFault::Memory);
     }
@@ -45,6 +49,13 @@ fn send(
         }
         Err(fault) => Err(refused_by(fault)),
     }
+}
+
+/// Whether a client in this state may send an abort.
+fn may_abort(state: State) -> bool
+    ensures { result ≡ may_abort state }
+{
+    matches!(state, State::Running | State::Failing)
 }
 
 /// The client writes an abort.
@@ -62,10 +73,14 @@ fn abort(
     ensures down { OnOk result (connection.new.down.waiting ≡ connection.old.down.waiting) }
     ensures written { OnOk result (written.new.items ≡ written.old.items ++ (end_aborted client.old).out) }
     ensures not_now { IsErrOf result WorldFault.NotNow → may_abort client.old.client.state ≡ false }
+    ensures memory { IsErrOf result WorldFault.Memory → may_abort client.old.client.state ≡ true }
     ensures client_err { OnErr result (client.new ≡ client.old) }
     ensures link_err { OnErr result (link_of_connection connection.new ≡ link_of_connection connection.old) }
     ensures written_err { OnErr result (written.new.items ≡ written.old.items) }
 {
+    if !may_abort(client.state()) {
+        return Err(WorldFault::NotNow);
+    }
     if connection.reserve_up(written).is_err() {
         return Err(WorldFault::Memory);
     }
@@ -90,6 +105,7 @@ fn bring_down(
     ensures up { OnOk result (connection.new.up.waiting ≡ connection.old.up.waiting) }
     ensures down { OnOk result (connection.new.down.waiting ≡ drop count connection.old.down.waiting) }
     ensures not_now { IsErrOf result WorldFault.NotNow → has_some count connection.old.down.waiting ≡ false }
+    ensures memory { IsErrOf result WorldFault.Memory → has_some count connection.old.down.waiting ≡ true }
     ensures client_err { OnErr result (client.new ≡ client.old) }
     ensures link_err { OnErr result (link_of_connection connection.new ≡ link_of_connection connection.old) }
 {
@@ -105,6 +121,13 @@ fn bring_down(
     }
 }
 
+/// Whether a client in this state may make the connection of this number.
+fn may_connect(state: State, number: u64) -> bool
+    ensures { result ≡ (is_apart state && nat_le number 4000000000) }
+{
+    matches!(state, State::Apart) && number <= 4_000_000_000
+}
+
 impl World {
     /// The client makes the next connection.
     #[tactic(auto, using(crate::proofs::Reached::made, crate::proofs::ClientSteps::connect_is, crate::proofs::ClientSteps::connect_reached))]
@@ -112,12 +135,16 @@ impl World {
         ensures can { OnOk result (can event.Connect self.old.world ≡ true) }
         ensures ok { OnOk result (self.new ≡ with_world self.old (connected self.old.world)) }
         ensures not_now { IsErrOf result WorldFault.NotNow → can event.Connect self.old.world ≡ false }
+        ensures memory { IsErrOf result WorldFault.Memory → can event.Connect self.old.world ≡ true }
         ensures err { OnErr result (self.new ≡ self.old) }
     {
+        let number = self.connections.len() as u64 + 1;
+        if !may_connect(self.client.state(), number) {
+            return Err(WorldFault::NotNow);
+        }
         if self.connections.reserve(1).is_err() {
             return Err(WorldFault::Memory);
         }
-        let number = self.connections.len() as u64 + 1;
         match self.client.connected(number) {
             Ok(()) => {
                 self.connections.push_reserved(Connection::new(self.alloc));
@@ -134,6 +161,7 @@ impl World {
         ensures can { OnOk result (can event.ClientSends self.old.world ≡ true) }
         ensures ok { OnOk result (self.new ≡ with_world self.old (client_writes self.old.world (end_sent self.old.world.client))) }
         ensures not_now { IsErrOf result WorldFault.NotNow → can event.ClientSends self.old.world ≡ false }
+        ensures memory { IsErrOf result WorldFault.Memory → can event.ClientSends self.old.world ≡ true }
         ensures err { OnErr result (self.new ≡ self.old) }
     {
         let Some(connection) = self.connections.last_mut() else {
@@ -151,6 +179,7 @@ impl World {
         ensures can { OnOk result (can event.Abort self.old.world ≡ true) }
         ensures ok { OnOk result (self.new ≡ with_world self.old (client_writes self.old.world (end_aborted self.old.world.client))) }
         ensures not_now { IsErrOf result WorldFault.NotNow → can event.Abort self.old.world ≡ false }
+        ensures memory { IsErrOf result WorldFault.Memory → can event.Abort self.old.world ≡ true }
         ensures err { OnErr result (self.new ≡ self.old) }
     {
         let Some(connection) = self.connections.last_mut() else {
@@ -168,6 +197,7 @@ impl World {
         ensures can { OnOk result (can (event.Down count) self.old.world ≡ true) }
         ensures ok { OnOk result (self.new ≡ with_world self.old (moved_down count self.old.world)) }
         ensures not_now { IsErrOf result WorldFault.NotNow → can (event.Down count) self.old.world ≡ false }
+        ensures memory { IsErrOf result WorldFault.Memory → can (event.Down count) self.old.world ≡ true }
         ensures err { OnErr result (self.new ≡ self.old) }
     {
         if !self.client.is_on() {
@@ -188,6 +218,7 @@ impl World {
         ensures can { OnOk result (can event.Resume self.old.world ≡ true) }
         ensures ok { OnOk result (self.new ≡ with_world self.old (record self.old.world { client = end_resumed self.old.world.client })) }
         ensures not_now { IsErrOf result WorldFault.NotNow → can event.Resume self.old.world ≡ false }
+        ensures memory { IsErrOf result WorldFault.Memory → can event.Resume self.old.world ≡ true }
         ensures err { OnErr result (self.new ≡ self.old) }
     {
         match self.client.resume() {
@@ -201,7 +232,7 @@ impl World {
     pub(crate) fn client_leaves(&mut self) -> Result<(), WorldFault>
         ensures can { OnOk result (can event.ClientLeaves self.old.world ≡ true) }
         ensures ok { OnOk result (self.new ≡ with_world self.old (record self.old.world { client = end_left self.old.world.client })) }
-        ensures not_now { IsErrOf result WorldFault.NotNow → can event.ClientLeaves self.old.world ≡ false }
+        ensures not_now { OnErr result (can event.ClientLeaves self.old.world ≡ false) }
         ensures memory { IfErr result (λ fault. fault ≡ WorldFault.NotNow) }
         ensures err { OnErr result (self.new ≡ self.old) }
     {
@@ -217,7 +248,8 @@ impl World {
     pub(crate) fn client_restart(&mut self, count: usize) -> Result<(), WorldFault>
         ensures can { OnOk result (can (event.ClientRestart count) self.old.world ≡ true) }
         ensures ok { OnOk result (self.new ≡ with_world self.old (record self.old.world { client = end_restarted count self.old.world.client })) }
-        ensures not_now { IsErrOf result WorldFault.NotNow → can (event.ClientRestart count) self.old.world ≡ false }
+        ensures not_now { OnErr result (can (event.ClientRestart count) self.old.world ≡ false) }
+        ensures memory { IfErr result (λ fault. fault ≡ WorldFault.NotNow) }
         ensures err { OnErr result (self.new ≡ self.old) }
     {
         match self.client.restart(count) {
@@ -232,12 +264,17 @@ impl World {
         ensures ok { OnOk result ((readers : Readers) → AreReaders readers
             → self.new ≡ with_world self.old (record self.old.world { client = end_read readers self.old.world.client })) }
         ensures not_now { IsErrOf result WorldFault.NotNow → can event.ClientReads self.old.world ≡ false }
+        ensures memory { IsErrOf result WorldFault.Memory → can event.ClientReads self.old.world ≡ true }
         ensures err { OnErr result (self.new ≡ self.old) }
     {
-        match self.client.read_one() {
-            Ok(true) => {}
-            Ok(false) => return Err(WorldFault::NotNow),
-            Err(fault) => return Err(refused_by(fault)),
+        if !self.client.is_on() {
+            return Err(WorldFault::NotNow);
+        }
+        if !self.client.has_line() {
+            return Err(WorldFault::NotNow);
+        }
+        if let Err(fault) = self.client.read_one() {
+            return Err(refused_by(fault));
         }
         Ok(())
     }

@@ -30,9 +30,13 @@ fn read_line(server: &mut Server, connection: &mut Connection) -> Result<(), Wor
     ensures down { OnOk result ((readers : Readers) → AreReaders readers
         → connection.new.down.waiting ≡ connection.old.down.waiting ++ (serving_read readers server.old.end).out) }
     ensures not_now { IsErrOf result WorldFault.NotNow → is_line (next_of server.old.end.input.rest) ≡ false }
+    ensures memory { IsErrOf result WorldFault.Memory → is_line (next_of server.old.end.input.rest) ≡ true }
     ensures server_err { OnErr result (server.new ≡ server.old) }
     ensures link_err { OnErr result (link_of_connection connection.new ≡ link_of_connection connection.old) }
 {
+    if !server.has_line() {
+        return Err(WorldFault::NotNow);
+    }
     if connection.reserve_down().is_err() {
         return Err(WorldFault::Memory);
     }
@@ -55,9 +59,13 @@ fn take_turn(server: &mut Server, connection: &mut Connection) -> Result<(), Wor
     ensures up { OnOk result (connection.new.up.waiting ≡ connection.old.up.waiting) }
     ensures down { OnOk result (connection.new.down.waiting ≡ connection.old.down.waiting ++ (serving_turned server.old.end).out) }
     ensures not_now { IsErrOf result WorldFault.NotNow → may_turn server.old.end.server ≡ false }
+    ensures memory { IsErrOf result WorldFault.Memory → may_turn server.old.end.server ≡ true }
     ensures server_err { OnErr result (server.new ≡ server.old) }
     ensures link_err { OnErr result (link_of_connection connection.new ≡ link_of_connection connection.old) }
 {
+    if !server.may_turn() {
+        return Err(WorldFault::NotNow);
+    }
     if connection.reserve_down().is_err() {
         return Err(WorldFault::Memory);
     }
@@ -83,9 +91,13 @@ fn end_job(
     ensures up { OnOk result (connection.new.up.waiting ≡ connection.old.up.waiting) }
     ensures down { OnOk result (connection.new.down.waiting ≡ connection.old.down.waiting ++ (serving_machined outcome server.old.end).out) }
     ensures not_now { IsErrOf result WorldFault.NotNow → may_end server.old.end.server.running outcome ≡ false }
+    ensures memory { IsErrOf result WorldFault.Memory → may_end server.old.end.server.running outcome ≡ true }
     ensures server_err { OnErr result (server.new ≡ server.old) }
     ensures link_err { OnErr result (link_of_connection connection.new ≡ link_of_connection connection.old) }
 {
+    if !server.may_end(&outcome) {
+        return Err(WorldFault::NotNow);
+    }
     if connection.reserve_down().is_err() {
         return Err(WorldFault::Memory);
     }
@@ -112,6 +124,7 @@ fn bring_up(
     ensures up { OnOk result (connection.new.up.waiting ≡ drop count connection.old.up.waiting) }
     ensures down { OnOk result (connection.new.down.waiting ≡ connection.old.down.waiting) }
     ensures not_now { IsErrOf result WorldFault.NotNow → has_some count connection.old.up.waiting ≡ false }
+    ensures memory { IsErrOf result WorldFault.Memory → has_some count connection.old.up.waiting ≡ true }
     ensures server_err { OnErr result (server.new ≡ server.old) }
     ensures link_err { OnErr result (link_of_connection connection.new ≡ link_of_connection connection.old) }
 {
@@ -144,7 +157,8 @@ impl World {
     pub(crate) fn accept(&mut self, number: u64) -> Result<(), WorldFault>
         ensures can { OnOk result (can (event.Accept number) self.old.world ≡ true) }
         ensures ok { OnOk result (self.new ≡ with_world self.old (record self.old.world { server = serving_accepted number self.old.world.server })) }
-        ensures not_now { IsErrOf result WorldFault.NotNow → can (event.Accept number) self.old.world ≡ false }
+        ensures not_now { OnErr result (can (event.Accept number) self.old.world ≡ false) }
+        ensures memory { IfErr result (λ fault. fault ≡ WorldFault.NotNow) }
         ensures err { OnErr result (self.new ≡ self.old) }
     {
         if number > self.connections.len() as u64 {
@@ -161,6 +175,7 @@ impl World {
         ensures can { OnOk result (can (event.Up count) self.old.world ≡ true) }
         ensures ok { OnOk result (self.new ≡ with_world self.old (moved_up count self.old.world)) }
         ensures not_now { IsErrOf result WorldFault.NotNow → can (event.Up count) self.old.world ≡ false }
+        ensures memory { IsErrOf result WorldFault.Memory → can (event.Up count) self.old.world ≡ true }
         ensures err { OnErr result (self.new ≡ self.old) }
     {
         let Some(at) = self.server_place() else {
@@ -180,6 +195,7 @@ impl World {
         ensures can { OnOk result (can event.ServerTurn self.old.world ≡ true) }
         ensures ok { OnOk result (self.new ≡ with_world self.old (server_writes self.old.world (serving_turned self.old.world.server))) }
         ensures not_now { IsErrOf result WorldFault.NotNow → can event.ServerTurn self.old.world ≡ false }
+        ensures memory { IsErrOf result WorldFault.Memory → can event.ServerTurn self.old.world ≡ true }
         ensures err { OnErr result (self.new ≡ self.old) }
     {
         let Some(at) = self.server_place() else {
@@ -200,6 +216,7 @@ impl World {
         ensures ok { OnOk result ((readers : Readers) → AreReaders readers
             → self.new ≡ with_world self.old (server_writes self.old.world (serving_read readers self.old.world.server))) }
         ensures not_now { IsErrOf result WorldFault.NotNow → can event.ServerReads self.old.world ≡ false }
+        ensures memory { IsErrOf result WorldFault.Memory → can event.ServerReads self.old.world ≡ true }
         ensures err { OnErr result (self.new ≡ self.old) }
     {
         let Some(at) = self.server_place() else {
@@ -219,6 +236,7 @@ impl World {
         ensures can { OnOk result (can (event.Machine outcome) self.old.world ≡ true) }
         ensures ok { OnOk result (self.new ≡ with_world self.old (server_writes self.old.world (serving_machined outcome self.old.world.server))) }
         ensures not_now { IsErrOf result WorldFault.NotNow → can (event.Machine outcome) self.old.world ≡ false }
+        ensures memory { IsErrOf result WorldFault.Memory → can (event.Machine outcome) self.old.world ≡ true }
         ensures err { OnErr result (self.new ≡ self.old) }
     {
         let Some(at) = self.server_place() else {

@@ -233,7 +233,7 @@ fn push_point(out: &mut Vec<u8>, point: Point) -> Result<(), AllocError> {
 }
 
 fn push_features(out: &mut Vec<u8>, world: &World) -> Result<(), AllocError> {
-    for feature in world.client.features() {
+    for feature in world.features() {
         out.extend_from_slice(feature.label.as_bytes())?;
         for point in feature.points.as_slice() {
             push_point(out, *point)?;
@@ -256,8 +256,8 @@ fn push_contacts(alloc: Global, out: &mut Vec<u8>, world: &World) -> Result<(), 
 
 fn report(alloc: Global, world: &World) -> Result<Vec<u8>, AllocError> {
     let mut out = Vec::new(alloc);
-    let state = world.client.state();
-    let counted = world.client.counted().len();
+    let state = world.state();
+    let counted = world.counted().len();
     push_text(
         &mut out,
         format!(in alloc; "{state:?};{counted};")?.as_str(),

@@ -1,18 +1,19 @@
 // Both ends and the connections between them.
 
-ghost use Rattle.std.specs.Prelude.{◌≡◌, ◌≤◌, ◌↔◌, ◌+◌, length, ◌&&◌, nat_le, true, false, [], IsOk, IfOk, IfErr, OnOk, OnErr, MatchOption, None, Some};
+ghost use Rattle.std.specs.Prelude.{◌≡◌, ◌↔◌, ◌+◌, length, true, false, [], IsOk, IsErrAnd, IfOk, OnOk, OnErr, MatchOption, None, Some};
 ghost use Rattle.std.specs.Result.{IsErrOf};
 ghost use Rattle.protocol_model.specs.Lines.{Readers, AreReaders};
 ghost use Rattle.protocol_model.specs.Server.{running_job};
-ghost use Rattle.protocol_model.specs.World.{start, can, happens};
+ghost use Rattle.protocol_model.specs.World.{start, can, happens, run_of};
+ghost use Rattle.protocol_model.specs.Undisturbed.{AreUndisturbed, AreFirstLines, acts_planned, AreFirstActs, acts_in, AreFirstOf};
 ghost use Rattle.link_world.specs.Links.{with_world};
 ghost use Rattle.link_world.specs.Runs.{HasRun};
-ghost use Rattle.link_world.specs.Claims.{IsSound, IsTold, DoNotDisagree, IsNewFault, takes_memory};
+ghost use Rattle.link_world.specs.Claims.{IsSound, IsTold, DoNotDisagree, IsNew, first_plan, is_window, HandsBack, IsWant, takes_memory, reads};
 
 use crate::connection::Connection;
 use crate::faults::{NewFault, WorldFault};
-use client_core::Client;
-use contact_ledger::{FeatureLedger, ServerLedger};
+use client_core::{Client, State};
+use contact_ledger::{Act, Feature, FeatureLedger, ServerLedger};
 use dmis_program::Program;
 use protocol_model::{Event, Job};
 use server_core::Server;
@@ -59,9 +60,14 @@ impl World {
     ///
     /// `BadWindow` hands both back; `Memory`.
     pub fn new(alloc: Global, program: Program, setup: Setup, window: u8) -> Result<World, NewFault>
+        // The world that is made, and when none is.
         ensures ok { IfOk result (λ world. world ≡ record { setup = setup; world = start program setup.tools window }) }
-        ensures can { IfErr result (λ fault. IsNewFault program setup window fault) }
-        ensures window { IsOk result → (nat_le 1 window && nat_le window 16) ≡ true }
+        ensures window { IsOk result → is_window window ≡ true }
+        ensures bad_window { IsErrAnd result (λ fault. HandsBack program setup fault) ↔ (is_window window ≡ false) }
+        ensures memory { IsErrAnd result (λ fault. IsWant fault) → is_window window ≡ true }
+
+        // What holds before any event.
+        ensures untouched { IfOk result (λ world. IsNew world.world) }
         ensures sound { IfOk result (λ world. IsSound world.world) }
         ensures told { IfOk result (λ world. IsTold world.world) }
         ensures agree { IfOk result (λ world. DoNotDisagree world.world) }
@@ -84,10 +90,13 @@ impl World {
     /// An event happens, if it can; which, the functions of each say.
     fn happen(&mut self, event: Event) -> Result<(), WorldFault>
         ensures can { OnOk result (can event self.old.world ≡ true) }
+        ensures not_now { IsErrOf result WorldFault.NotNow → can event self.old.world ≡ false }
+        ensures takes { IsErrOf result WorldFault.Memory → takes_memory event ≡ true }
+        ensures memory { IsErrOf result WorldFault.Memory → can event self.old.world ≡ true }
         ensures ok { OnOk result ((readers : Readers) → AreReaders readers
             → self.new ≡ with_world self.old (happens readers event self.old.world)) }
-        ensures not_now { IsErrOf result WorldFault.NotNow → can event self.old.world ≡ false }
-        ensures memory { IsErrOf result WorldFault.Memory → takes_memory event ≡ true }
+        ensures unread { reads event ≡ false
+            → OnOk result ((readers : Readers) → self.new ≡ with_world self.old (happens readers event self.old.world)) }
         ensures err { OnErr result (self.new ≡ self.old) }
     {
         match event {
@@ -112,17 +121,28 @@ impl World {
         }
     }
 
-    /// An event happens, if it can. `NotNow` where it cannot, `Memory`; neither changes anything, and the events that leave a connection and
-    /// the restart of the server want no memory.
+    /// An event happens, if it can. `NotNow` exactly where it cannot; `Memory` only where it can; neither changes anything. To take or to leave
+    /// a connection and to begin again wants no memory.
     #[tactic(auto, using(crate::proofs::Reached::sound, crate::proofs::Reached::told, crate::proofs::Reached::agree))]
     pub fn step(&mut self, event: Event) -> Result<(), WorldFault>
-        // What the event does, and when it can happen.
+        // When the event happens, and when it is refused.
         ensures can { OnOk result (can event self.old.world ≡ true) }
+        ensures not_now { IsErrOf result WorldFault.NotNow ↔ (can event self.old.world ≡ false) }
+        ensures memory { IsErrOf result WorldFault.Memory → can event self.old.world ≡ true }
+        ensures takes { IsErrOf result WorldFault.Memory → takes_memory event ≡ true }
+        ensures owed { can event self.old.world ≡ true → takes_memory event ≡ false → IsOk result }
+
+        // What it does; only what reads a line speaks of readers.
         ensures ok { OnOk result ((readers : Readers) → AreReaders readers
             → self.new ≡ with_world self.old (happens readers event self.old.world)) }
-        ensures not_now { IsErrOf result WorldFault.NotNow → can event self.old.world ≡ false }
-        ensures memory { IsErrOf result WorldFault.Memory → takes_memory event ≡ true }
+        ensures unread { reads event ≡ false
+            → OnOk result ((readers : Readers) → self.new ≡ with_world self.old (happens readers event self.old.world)) }
         ensures err { OnErr result (self.new ≡ self.old) }
+
+        // What no event changes.
+        ensures setup { self.new.setup ≡ self.old.setup }
+        ensures program { self.new.world.client.client.program ≡ self.old.world.client.client.program }
+        ensures window { self.new.world.client.client.window ≡ self.old.world.client.client.window }
 
         // What holds after any events.
         ensures sound { IsSound self.new.world }
@@ -136,12 +156,33 @@ impl World {
 
     /// Events happen, one after another; those that cannot, and those for which memory is wanting, change nothing. It answers how many
     /// happened, could not happen, and wanted memory.
+    ///
+    /// Where nothing has happened yet and none of the events disturbs, what the client has written is a first part of the plan's lines, what
+    /// the server did are the first of the plan's acts, and what is counted is a front of them, whichever of the events were not possible or
+    /// wanted memory.
     #[tactic(auto, using(crate::proofs::Reached::sound, crate::proofs::Reached::told, crate::proofs::Reached::agree))]
     pub fn run(&mut self, events: &[Event]) -> RunCount
+        // What became of each event.
         ensures run { (readers : Readers) → AreReaders readers
             → HasRun readers self.old.world events.now self.new.world result.done result.not_now result.memory }
-        ensures setup { self.new.setup ≡ self.old.setup }
         ensures all { result.done + result.not_now + result.memory ≡ length events.now }
+        ensures runs { result.memory ≡ 0 → (readers : Readers) → AreReaders readers
+            → self.new.world ≡ run_of readers events.now self.old.world }
+
+        // What no event changes.
+        ensures setup { self.new.setup ≡ self.old.setup }
+        ensures program { self.new.world.client.client.program ≡ self.old.world.client.client.program }
+        ensures window { self.new.world.client.client.window ≡ self.old.world.client.client.window }
+
+        // What comes of events of which none disturbs, from a new world.
+        ensures lines { IsNew self.old.world → AreUndisturbed events.now
+            → AreFirstLines self.new.world.written (first_plan self.old.world) }
+        ensures acts { IsNew self.old.world → AreUndisturbed events.now
+            → AreFirstActs (acts_in self.new.world.server.server.ledger) (acts_planned (first_plan self.old.world)) }
+        ensures counted { IsNew self.old.world → AreUndisturbed events.now
+            → AreFirstOf self.new.world.client.client.table.tally.counted (acts_in self.new.world.server.server.ledger) }
+
+        // What holds after any events.
         ensures sound { IsSound self.new.world }
         ensures told { IsTold self.new.world }
         ensures agree { DoNotDisagree self.new.world }
@@ -176,10 +217,46 @@ impl World {
         self.written.as_slice()
     }
 
-    /// What the server did, with the numbers of the connections.
+    /// What the server did, with the numbers of the connections: the features that the client holds are true of it, what the client has
+    /// counted is a front of it on its connection, and neither side has met a line or a mark that has no place.
+    #[tactic(auto, using(crate::proofs::Reached::sound, crate::proofs::Reached::told, crate::proofs::Reached::agree))]
     pub fn ledger(&self) -> &ServerLedger
-        ensures { result.now ≡ self.now.world.server.server.ledger }
+        ensures value { result.now ≡ self.now.world.server.server.ledger }
+        ensures sound { IsSound self.now.world }
+        ensures told { IsTold self.now.world }
+        ensures agree { DoNotDisagree self.now.world }
     {
+        let _known = &self.alloc;
         self.server.ledger()
+    }
+
+    /// The features that the client holds: they are true of what the server did.
+    #[tactic(auto, using(crate::proofs::Reached::sound))]
+    pub fn features(&self) -> &[Feature]
+        ensures value { result.now ≡ self.now.world.client.client.table.tally.features }
+        ensures sound { IsSound self.now.world }
+    {
+        let _known = &self.alloc;
+        self.client.features()
+    }
+
+    /// The acts that the client has counted on its connection, or on the last one where it has left: a front of what the server did there.
+    #[tactic(auto, using(crate::proofs::Reached::told))]
+    pub fn counted(&self) -> &[Act]
+        ensures value { result.now ≡ self.now.world.client.client.table.tally.counted }
+        ensures told { IsTold self.now.world }
+    {
+        let _known = &self.alloc;
+        self.client.counted()
+    }
+
+    /// The client's state, which is never Faulted.
+    #[tactic(auto, using(crate::proofs::Reached::agree))]
+    pub fn state(&self) -> State
+        ensures value { result ≡ self.now.world.client.client.state }
+        ensures agree { DoNotDisagree self.now.world }
+    {
+        let _known = &self.alloc;
+        self.client.state()
     }
 }

@@ -123,6 +123,13 @@ impl Server {
         Ok(true)
     }
 
+    /// Whether a whole line stands at the front of the bytes that were fed and not read. It takes no memory.
+    pub fn has_line(&self) -> bool
+        ensures { IsTrue result ↔ IsLineDue (next_of self.now.end.input.rest) }
+    {
+        self.input.has_line()
+    }
+
     /// Lets the first waiting command have its turn: it is refused, complete at once, or runs from now on. `NotNow` while something runs and
     /// where nothing waits, `Memory`.
     pub fn turn(&mut self) -> Result<(), ServerFault>
@@ -142,6 +149,13 @@ impl Server {
             Ok(()) => Ok(()),
             Err(AllocError) => Err(ServerFault::Memory),
         }
+    }
+
+    /// Whether a waiting command may have its turn: one waits, and nothing runs. It takes no memory.
+    pub fn may_turn(&self) -> bool
+        ensures { result ≡ may_turn self.now.end.server }
+    {
+        self.controller.may_turn()
     }
 
     /// The job of what runs on the machine, its points in machine axes.
@@ -171,6 +185,13 @@ impl Server {
             Ok(()) => Ok(()),
             Err(AllocError) => Err(ServerFault::Memory),
         }
+    }
+
+    /// Whether what runs can end so: something runs, its outcome is of that kind, and a touched point is inside the volume. It takes no memory.
+    pub fn may_end(&self, outcome: &Outcome) -> bool
+        ensures { result ≡ may_end self.now.end.server.running outcome.now }
+    {
+        self.controller.check(outcome).is_ok()
     }
 
     /// Gives the connection up: what runs stops uncompleted, and nothing is answered. Homing, tool, ledger and the last number stay. On no

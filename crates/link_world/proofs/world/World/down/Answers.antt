@@ -26,3 +26,8 @@ pub returns-clause-ok : goal.returns-clause-ok
 returns-clause-ok c =
     down_is c.args.self.now c.args.count c.self.inside.client c.bring_down.new.client c.self.inside.server c.self.inside.connections.items c.self.inside.written.items
     (vec_len c.self.inside.connections - 1) c.in-Some.connection.now c.bring_down.new.connection (sym c.self.view_is) c.self.invariant (search rules) (search rules) (search rules) (search rules) (search rules) (search rules)
+
+pub returns-in-Err-clause-memory : goal.returns-in-Err-clause-memory
+returns-in-Err-clause-memory c =
+    λ e. down_can c.args.self.now c.args.count c.self.inside.client c.self.inside.server c.self.inside.connections.items c.self.inside.written.items (vec_len c.self.inside.connections - 1) c.in-Some.connection.now true
+    (sym c.self.view_is) c.self.invariant (search rules) (search rules) (search rules) (search rules) (search rules)

@@ -62,3 +62,9 @@ returns-clause-can c =
     let p : Placed c.self.inside.server c.self.inside.connections.items c.in-Some.at =
     placed c.args.self.now c.self.inside.client c.self.inside.server c.self.inside.connections.items c.self.inside.written.items c.in-Some.at (sym c.self.view_is) (search rules) (search rules) (search rules) in
     reads_can c.args.self.now c.self.inside.client c.self.inside.server c.self.inside.connections.items c.self.inside.written.items true (sym c.self.view_is) c.self.invariant p.on (search rules)
+
+pub returns-in-Err-clause-memory : goal.returns-in-Err-clause-memory
+returns-in-Err-clause-memory c =
+    let p : Placed c.self.inside.server c.self.inside.connections.items c.in-Some.at =
+    placed c.args.self.now c.self.inside.client c.self.inside.server c.self.inside.connections.items c.self.inside.written.items c.in-Some.at (sym c.self.view_is) (search rules) (search rules) (search rules) in
+    λ e. reads_can c.args.self.now c.self.inside.client c.self.inside.server c.self.inside.connections.items c.self.inside.written.items true (sym c.self.view_is) c.self.invariant p.on (search rules)

@@ -60,3 +60,9 @@ returns-clause-can c =
     let p : Placed c.self.inside.server c.self.inside.connections.items c.in-Some.at =
     placed c.args.self.now c.self.inside.client c.self.inside.server c.self.inside.connections.items c.self.inside.written.items c.in-Some.at (sym c.self.view_is) (search rules) (search rules) (search rules) in
     up_can c.args.self.now c.args.count c.self.inside.client c.self.inside.server c.self.inside.connections.items c.self.inside.written.items c.in-Some.at c.in-Some-get_mut.connection.now true (sym c.self.view_is) c.self.invariant p.on p.place p.short (search rules) (search rules)
+
+pub returns-in-Err-clause-memory : goal.returns-in-Err-clause-memory
+returns-in-Err-clause-memory c =
+    let p : Placed c.self.inside.server c.self.inside.connections.items c.in-Some.at =
+    placed c.args.self.now c.self.inside.client c.self.inside.server c.self.inside.connections.items c.self.inside.written.items c.in-Some.at (sym c.self.view_is) (search rules) (search rules) (search rules) in
+    λ e. up_can c.args.self.now c.args.count c.self.inside.client c.self.inside.server c.self.inside.connections.items c.self.inside.written.items c.in-Some.at c.in-Some-get_mut.connection.now true (sym c.self.view_is) c.self.invariant p.on p.place p.short (search rules) (search rules)

@@ -1,0 +1,38 @@
+-- No event changes the setup, the program or the window.
+use Rattle.std.proofs.Common.{◌≡◌, true, [], ◌∷◌, refl, sym, ◌∙◌, ap, Result, Ok, Err}
+use Rattle.std.specs.Prelude.{OnOk, OnErr}
+use Rattle.protocol_model.specs.Lines.{Readers, AreReaders}
+use Rattle.protocol_model.specs.World.{World, can, happens}
+use Rattle.protocol_model.specs.declared.events.Event.{Event}
+use Rattle.protocol_model.proofs.ReadersExist.{some_are_readers}
+use Rattle.protocol_model.proofs.SameProgram.{run_same, run_window}
+use Rattle.link_world.specs.Links.{Linked, with_world}
+use Rattle.link_world.specs.declared.faults.WorldFault.{WorldFault}
+use Rattle.link_world.proofs.Undisturbed.{after_can}
+
+-- what is the same behind an event as before it
+pub record IsSameKind (old new : Linked) : Type 0 where
+  pub setup : new.setup ≡ old.setup
+  pub program : new.world.client.client.program ≡ old.world.client.client.program
+  pub window : new.world.client.client.window ≡ old.world.client.client.window
+
+same_kind : (l m : Linked) (e : Event) → can e l.world ≡ true → ((readers : Readers) → AreReaders readers → m ≡ with_world l (happens readers e l.world)) → IsSameKind l m
+same_kind l m e may is =
+    let new : m ≡ with_world l (happens some_are_readers.0 e l.world) = is some_are_readers.0 some_are_readers.1 in record {
+      setup = ap (λ (k : Linked). k.setup) new;
+      program =
+          ap (λ (k : Linked). k.world.client.client.program) new
+          ∙ (ap (λ (w : World). w.client.client.program) (sym (after_can some_are_readers.0 e l.world (can e l.world) refl may)) ∙ run_same some_are_readers.0 (e ∷ []) l.world);
+      window =
+          ap (λ (k : Linked). k.world.client.client.window) new
+          ∙ (ap (λ (w : World). w.client.client.window) (sym (after_can some_are_readers.0 e l.world (can e l.world) refl may)) ∙ run_window some_are_readers.0 (e ∷ []) l.world);
+    }
+
+pub same_behind : (l m : Linked) (e : Event) (r : Result (Unit {0}) WorldFault) → OnOk r (can e l.world ≡ true)
+    → OnOk r ((readers : Readers) → AreReaders readers → m ≡ with_world l (happens readers e l.world)) → OnErr r (m ≡ l) → IsSameKind l m
+same_behind l m e (Ok u) may is stays = same_kind l m e may is
+same_behind l m e (Err fault) may is stays = record {
+  setup = ap (λ (k : Linked). k.setup) stays;
+  program = ap (λ (k : Linked). k.world.client.client.program) stays;
+  window = ap (λ (k : Linked). k.world.client.client.window) stays;
+}
