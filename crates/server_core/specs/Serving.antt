@@ -5,7 +5,8 @@ use Rattle.dme_line.specs.declared.commands.Command.TheVariants as command
 use Rattle.dme_line.specs.declared.reading.LineFault.{LineFault}
 use Rattle.protocol_model.specs.declared.lines.Waiting.{Waiting}
 use Rattle.line_framing.specs.Next.{next_of}
-use Rattle.line_framing.specs.Framing.{after_next}
+use Rattle.line_framing.specs.Framing.{IsLineDue}
+use Rattle.line_framing.specs.declared.faults.FramingFault.{FramingFault}
 use Rattle.server_core.specs.declared.faults.ServerFault.{ServerFault}
 use Rattle.server_core.specs.declared.faults.ServerFault.TheVariants as server_fault
 use Rattle.fixed_um.specs.Points.{IsInVolume}
@@ -31,6 +32,10 @@ with_end s e = record { setup = s.setup; end = e }
 -- a server comes to a connection while it is on none, and to each number once, in rising order
 abbrev pub may_accept : ℕ → Server → Bool
 may_accept n s = not s.on && (nat_lt s.last n && nat_le n 4000000000)
+
+-- bytes are taken on a connection, until a framing fault is met in them
+abbrev pub may_feed : ServerEnd → Bool
+may_feed e = e.server.on && is_none e.input.fault
 
 -- a waiting command has its turn while nothing runs
 abbrev pub may_turn : Server → Bool
@@ -105,19 +110,22 @@ with_server c s = record { setup = c.setup; server = s }
 abbrev pub with_answered : Controlled → Answer → Controlled
 with_answered c a = record { setup = c.setup; server = a.server }
 
--- why bytes are not taken: the server is on no connection, it keeps a framing fault, or memory is wanting
+-- why bytes are not taken: the server is on no connection, it keeps a framing fault, or memory is wanting where neither is so
 abbrev pub IsFeedFault : ServerEnd → ServerFault → Type 0
 IsFeedFault e server_fault.NotNow = e.server.on ≡ false
 IsFeedFault e (server_fault.Framing why) = e.input.fault ≡ Some why
-IsFeedFault e server_fault.Memory = Unit {0}
+IsFeedFault e server_fault.Memory = may_feed e ≡ true
 IsFeedFault e _ = ⊥
 
--- why no line is read: the server is on no connection, what stands at the front is no line, which is kept, or memory is wanting
+-- a framing fault is kept, and all else is as it was
+abbrev pub with_fault : Serving → FramingFault → Serving
+with_fault s why = with_end s (record (s.end) { input = record (s.end.input) { fault = Some why } })
+
+-- why no line is read, and what the server is then: it is on no connection, what stands at the front is no line, which is kept, or memory is wanting for a line
 abbrev pub IsReadFault : Serving → Serving → ServerFault → Type 0
 IsReadFault old new server_fault.NotNow = new ≡ old
-IsReadFault old new (server_fault.Framing why) =
-    (next_of old.end.input.rest ≡ Err why) × (new ≡ with_end old (record { server = old.end.server; input = after_next old.end.input; out = old.end.out }))
-IsReadFault old new server_fault.Memory = new ≡ old
+IsReadFault old new (server_fault.Framing why) = (next_of old.end.input.rest ≡ Err why) × (new ≡ with_fault old why)
+IsReadFault old new server_fault.Memory = IsLineDue (next_of old.end.input.rest) × (new ≡ old)
 IsReadFault old new _ = ⊥
 
 -- why an outcome is refused: nothing runs, what runs cannot end so, a touched point is outside the volume, or memory is wanting

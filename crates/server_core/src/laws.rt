@@ -9,6 +9,8 @@ ghost use Rattle.protocol_model.specs.declared.machine.Outcome.{Outcome as OneOu
 ghost use Rattle.server_core.specs.Acting.{IsOneMore, IsCommanded};
 ghost use Rattle.server_core.specs.Kept.{IsKept};
 
+use crate::answers::ANSWER_MAX;
+
 /// No act is ever taken back or changed: a turn and the end of what runs append at most one act, on the present connection, and the other
 /// calls leave the ledger as it is (this profile).
 #[tactic(auto, using(crate::proofs::Ledgers::read_keeps, crate::proofs::Ledgers::turned_one_more, crate::proofs::Ledgers::machined_one_more))]
@@ -36,4 +38,9 @@ pub fn contacts_are_as_commanded()
         → (serving_turned e).server.ledger ≡ e.server.ledger }
     ensures idle { (ended : OneOutcome) (e : ServerEnd) → e.server.running ≡ None
         → (serving_machined ended e).server.ledger ≡ e.server.ledger }
+{}
+
+/// What one call answers has at most 10,560 bytes: 132 lines of at most 80 bytes, ends included (this profile).
+pub fn one_call_answers_at_most()
+    ensures { ANSWER_MAX ≡ 10560 }
 {}

@@ -8,7 +8,8 @@ ghost use Rattle.contact_ledger.specs.Ledgers.{AreOnConnections};
 ghost use Rattle.protocol_model.specs.Lines.{Readers, AreReaders};
 ghost use Rattle.protocol_model.specs.Server.{may_end, running_job};
 ghost use Rattle.protocol_model.specs.Ends.{serving_accepted, serving_fed, serving_read, serving_turned, serving_machined, serving_left, serving_restarted, serving_taken};
-ghost use Rattle.server_core.specs.Serving.{new_serving, with_end, may_accept, may_turn, fits_running, IsFeedFault, IsReadFault, IsMachineFault};
+ghost use Rattle.line_framing.specs.declared.faults.FramingFault.{FramingFault as OneFault};
+ghost use Rattle.server_core.specs.Serving.{new_serving, with_end, may_accept, may_feed, may_turn, fits_running, IsFeedFault, IsReadFault, IsMachineFault};
 
 use crate::answers::ANSWER_MAX;
 use crate::controller::Controller;
@@ -75,11 +76,14 @@ impl Server {
         }
     }
 
-    /// Takes bytes of the connection, however they were cut. `NotNow` on no connection, `Framing` behind a framing fault, `Memory`.
+    /// Takes bytes of the connection, however they were cut. `NotNow` on no connection, `Framing` behind a framing fault, in this order;
+    /// `Memory` only where neither is due.
     pub fn feed(&mut self, piece: &[u8]) -> Result<(), ServerFault>
+        ensures can { OnOk result (may_feed self.old.end ≡ true) }
         ensures ok { OnOk result (self.new ≡ with_end self.old (serving_fed piece.now self.old.end)) }
         ensures not_now { IsErrOf result ServerFault.NotNow ↔ (self.old.end.server.on ≡ false) }
-        ensures framing { self.old.end.server.on ≡ true → IfSome self.old.end.input.fault (λ fault. result ≡ Err (ServerFault.Framing fault)) }
+        ensures framing { (why : OneFault) → (result ≡ Err (ServerFault.Framing why))
+            ↔ ((self.old.end.server.on ≡ true) × (self.old.end.input.fault ≡ Some why)) }
         ensures others { IfErr result (λ fault. IsFeedFault self.old.end fault) }
         ensures err { OnErr result (self.new ≡ self.old) }
     {
@@ -93,16 +97,19 @@ impl Server {
         }
     }
 
-    /// Reads the first whole line, if one is there, and answers it; true where a line was read. `NotNow` on no connection, `Framing` where
-    /// what stands at the front is no line, from then on until the connection is left, `Memory`.
+    /// Reads the first whole line and answers it: true where one stood at the front, false where nothing whole does. `NotNow` on no
+    /// connection; `Framing` where what stands at the front is no line, from then on until the connection is left; `Memory` for a line alone.
     pub fn read_one(&mut self) -> Result<bool, ServerFault>
         ensures ok { OnOk result ((readers : Readers) → AreReaders readers
             → self.new ≡ with_end self.old (serving_read readers self.old.end)) }
         ensures read { IfOk result (λ read. IsTrue read ↔ IsLineDue (next_of self.old.end.input.rest)) }
+        ensures nothing { (result ≡ Ok false) ↔ ((self.old.end.server.on ≡ true) × (next_of self.old.end.input.rest ≡ Ok None)) }
+        ensures unread { result ≡ Ok false → self.new ≡ self.old }
         ensures not_now { IsErrOf result ServerFault.NotNow ↔ (self.old.end.server.on ≡ false) }
-        ensures framing { IfErr result (λ fault. IsReadFault self.old self.new fault) }
-        ensures memory { IsErrOf result ServerFault.Memory → self.new ≡ self.old }
-        ensures bounded { length self.new.end.out ≤ length self.old.end.out + 10560 }
+        ensures framing { (why : OneFault) → (result ≡ Err (ServerFault.Framing why))
+            ↔ ((self.old.end.server.on ≡ true) × (next_of self.old.end.input.rest ≡ Err why)) }
+        ensures others { IfErr result (λ fault. IsReadFault self.old self.new fault) }
+        ensures bounded { length self.new.end.out ≤ length self.old.end.out + ANSWER_MAX }
     {
         if !self.controller.is_on() {
             return Err(ServerFault::NotNow);
@@ -137,7 +144,7 @@ impl Server {
         ensures not_now { IsErrOf result ServerFault.NotNow ↔ (may_turn self.old.end.server ≡ false) }
         ensures others { IfErr result (λ fault. (fault ≡ ServerFault.NotNow) ⊎ (fault ≡ ServerFault.Memory)) }
         ensures err { OnErr result (self.new ≡ self.old) }
-        ensures bounded { length self.new.end.out ≤ length self.old.end.out + 10560 }
+        ensures bounded { length self.new.end.out ≤ length self.old.end.out + ANSWER_MAX }
     {
         if !self.controller.may_turn() {
             return Err(ServerFault::NotNow);
@@ -166,16 +173,19 @@ impl Server {
     }
 
     /// The machine is done with what runs. `NothingRuns`; `WrongOutcome` where what runs cannot end so: `Done` ends all but a touch, `Touched`
-    /// and `Missed` end a touch, `Fault` each; `OutOfVolume` where a touched point is past the volume limit; in this order; `Memory`.
+    /// and `Missed` end a touch, `Fault` each; `OutOfVolume` where a touched point is past the volume limit; in this order. `Memory` only where
+    /// none of them is due.
     pub fn machine(&mut self, outcome: Outcome) -> Result<(), ServerFault>
         ensures ok { OnOk result (self.new ≡ with_end self.old (serving_machined outcome self.old.end)) }
         ensures can { OnOk result (may_end self.old.end.server.running outcome ≡ true) }
         ensures nothing_runs { IsErrOf result ServerFault.NothingRuns ↔ (self.old.end.server.running ≡ None) }
-        ensures refused { IfErr result (λ fault. IsMachineFault self.old.end.server outcome fault) }
-        ensures wrong { fits_running self.old.end.server.running outcome ≡ false → IsErr result }
-        ensures outside { may_end self.old.end.server.running outcome ≡ false → IsErr result }
+        ensures wrong { IsErrOf result ServerFault.WrongOutcome
+            ↔ ((self.old.end.server.running ≢ None) × (fits_running self.old.end.server.running outcome ≡ false)) }
+        ensures outside { IsErrOf result ServerFault.OutOfVolume
+            ↔ ((fits_running self.old.end.server.running outcome ≡ true) × (may_end self.old.end.server.running outcome ≡ false)) }
+        ensures others { IfErr result (λ fault. IsMachineFault self.old.end.server outcome fault) }
         ensures err { OnErr result (self.new ≡ self.old) }
-        ensures bounded { length self.new.end.out ≤ length self.old.end.out + 10560 }
+        ensures bounded { length self.new.end.out ≤ length self.old.end.out + ANSWER_MAX }
     {
         self.controller.check(&outcome)?;
         if self.out.reserve(ANSWER_MAX).is_err() {
