@@ -11,8 +11,7 @@ use Rattle.dme_line.specs.declared.points.NotPoint.{NotPoint}
 use Rattle.dme_line.specs.declared.responses.Mark.{Mark as Marked}
 use Rattle.dme_line.specs.declared.responses.Mark.TheVariants as mark
 use Rattle.dme_line.specs.declared.responses.Response.{Response}
-use Rattle.dme_line.specs.declared.responses.ResponseFault.{ResponseFault}
-use Rattle.dme_line.specs.declared.responses.ResponseFault.TheVariants as refused
+use Rattle.dme_line.specs.declared.responses.NotResponse.{NotResponse}
 use Rattle.line_framing.specs.Next.{Front, next_of}
 use Rattle.line_framing.specs.declared.faults.FramingFault.TheVariants as framing
 use Rattle.contact_ledger.specs.declared.acts.Act.{Act}
@@ -328,10 +327,9 @@ response_holds readers p plans c t (mark.Given text) on h =
 response_holds readers p plans c t mark.Done on h = reply_holds p plans c t Mark.Done on h
 response_holds readers p plans c t (mark.Error text) on h = reply_holds p plans c t Mark.Error on h
 
-line_holds : (readers : Readers) (p : Meaning) (plans : Plans) (c : Client) (r : Result Response ResponseFault) → c.on ≡ true → Holds p c plans → Holds p (line_read readers c r) plans
+line_holds : (readers : Readers) (p : Meaning) (plans : Plans) (c : Client) (r : Result Response NotResponse) → c.on ≡ true → Holds p c plans → Holds p (line_read readers c r) plans
 line_holds readers p plans c (Ok r) on h = response_holds readers p plans c r.tag r.mark on h
-line_holds readers p plans c (Err refused.NotResponse) on h = faulted_holds p plans c Cause.NotResponse on h
-line_holds readers p plans c (Err refused.Memory) on h = h
+line_holds readers p plans c (Err refused) on h = faulted_holds p plans c Cause.NotResponse on h
 
 front_holds : (readers : Readers) (p : Meaning) (plans : Plans) (c : Client) (f : Front) → c.on ≡ true → Holds p c plans → Holds p (front_read readers c f) plans
 front_holds readers p plans c (Ok None) on h = h

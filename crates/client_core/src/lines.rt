@@ -6,7 +6,7 @@ ghost use Rattle.protocol_model.specs.Ends.{given, response_read, line_read};
 
 use crate::executor::Executor;
 use crate::hearing::is_unasked;
-use dme_line::{Kind, Mark, NotPoint, Response, ResponseFault, Tag, read_point, read_response};
+use dme_line::{Kind, Mark, NotPoint, NotResponse, Response, Tag, read_point, read_response};
 use protocol_model::Cause;
 use std::alloc::AllocError;
 
@@ -52,13 +52,12 @@ impl Executor {
             → self.new ≡ line_read readers self.old (readers.response line.now)) }
         ensures err { OnErr result (self.new ≡ self.old) }
     {
-        match read_response(self.alloc, line) {
+        match read_response(self.alloc, line)? {
             Ok(response) => self.hear(&response),
-            Err(ResponseFault::NotResponse) => {
+            Err(NotResponse) => {
                 self.fault(Cause::NotResponse);
                 Ok(())
             }
-            Err(ResponseFault::Memory) => Err(AllocError),
         }
     }
 }

@@ -7,7 +7,7 @@
 pub mod laws;
 mod queue;
 
-pub use protocol_model::Waiting;
+pub use protocol_model::{Misread, Waiting};
 pub use queue::{PLACES, Queue};
 
 #[cfg(test)]

@@ -1,7 +1,7 @@
 // What no clause says: that the calls which want memory succeed with it, and that the places are used again.
 
-use crate::{Queue, Waiting};
-use dme_line::{Command, LineFault, Tag};
+use crate::{Misread, Queue, Waiting};
+use dme_line::{Command, Tag};
 use std::test::Fail;
 
 fn home(number: u32) -> Waiting {
@@ -16,7 +16,7 @@ fn unknown(number: u32) -> Waiting {
     let tag = Tag::Std(number);
     Waiting {
         tag,
-        reading: Err(LineFault::UnknownCommand(tag)),
+        reading: Err(Misread::UnknownCommand),
     }
 }
 
@@ -73,7 +73,7 @@ fn three_commands_are_drained_in_order(rt: HostRuntime) -> Result<(), Fail> {
             has_number(a, 7)
                 && has_number(b, 8)
                 && has_number(c, 9)
-                && matches!(b.reading, Err(LineFault::UnknownCommand(Tag::Std(8))))
+                && matches!(b.reading, Err(Misread::UnknownCommand))
         }
         _ => false,
     };

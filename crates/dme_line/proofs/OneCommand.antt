@@ -16,7 +16,7 @@ use Rattle.dme_line.specs.declared.commands.Kind.TheVariants as kind
 use Rattle.dme_line.specs.declared.commands.Command.{Command}
 use Rattle.dme_line.specs.declared.commands.Command.TheVariants.{GoTo, PtMeas, ChangeTool, SetCsyTransformation, SetCoordSystem}
 use Rattle.dme_line.specs.declared.reading.LineFault.{LineFault}
-use Rattle.dme_line.specs.declared.reading.LineFault.TheVariants.{NoTag, UnknownCommand, BadArguments, Memory}
+use Rattle.dme_line.specs.declared.reading.LineFault.TheVariants.{NoTag, UnknownCommand, BadArguments}
 use Rattle.dme_line.proofs.PlaceLemmas.{one_place, one_length, same_point}
 use Rattle.dme_line.proofs.ToolLemmas.{same_word, one_tool_word}
 use Rattle.dme_line.proofs.CommandLemmas.{same_letters, one_kind, one_front, says_here}
@@ -85,10 +85,6 @@ known_name line t u c name rest f g =
     let front = one_front line t u f.name name f.rest rest f.begins g in
     (f.kind, subst (λ (n : List ℕ). is_word (kind_name f.kind) n ≡ true) front.name f.known, front.tag)
 
--- what was met is no want of memory
-abbrev IsMet : Result (Tag × Command) LineFault → Type 0
-IsMet x = x ≡ Err Memory → ⊥
-
 abbrev Met : Type 0
 Met = Result (Tag × Command) LineFault
 
@@ -113,26 +109,21 @@ bad_bad line t u k l f g =
     let kinds = one_kind k l g.0 (subst (λ (n : List ℕ). is_word (kind_name k) n ≡ true) front.name f.3) g.3 in
     λ n. Err (BadArguments (front.tag n) (kinds n))
 
--- a line is read in one way, want of memory apart
-pub one_command_reading : (line : List ℕ) (x y : Result (Tag × Command) LineFault) → ReadsCommand line x → ReadsCommand line y → (x ≡ Err Memory → ⊥) → (y ≡ Err Memory → ⊥) → x ≡ y
-one_command_reading line (Ok (t, c)) (Ok (u, d)) f g p q = ok_ok line t u c d f g
-one_command_reading line (Ok (t, c)) (Err NoTag) f g p q = absurd (g t f.begins.text f.begins.tagged)
-one_command_reading line (Ok (t, c)) (Err (UnknownCommand u)) f g p q = absurd (ok_unknown line t u c f g)
-one_command_reading line (Ok (t, c)) (Err (BadArguments u k)) f g p q = absurd (ok_bad line t u c k f g)
-one_command_reading line (Err NoTag) (Ok (u, d)) f g p q = absurd (f u g.begins.text g.begins.tagged)
-one_command_reading line (Err NoTag) (Err NoTag) f g p q = refl
-one_command_reading line (Err NoTag) (Err (UnknownCommand u)) f g p q = absurd (f u g.2.text g.2.tagged)
-one_command_reading line (Err NoTag) (Err (BadArguments u k)) f g p q = absurd (f u g.2.text g.2.tagged)
-one_command_reading line (Err (UnknownCommand t)) (Ok (u, d)) f g p q = absurd (ok_unknown line u t d g f)
-one_command_reading line (Err (UnknownCommand t)) (Err NoTag) f g p q = absurd (g t f.2.text f.2.tagged)
-one_command_reading line (Err (UnknownCommand t)) (Err (UnknownCommand u)) f g p q = unknown_unknown line t u f g
-one_command_reading line (Err (UnknownCommand t)) (Err (BadArguments u k)) f g p q = absurd (unknown_bad line t u k f g)
-one_command_reading line (Err (BadArguments t k)) (Ok (u, d)) f g p q = absurd (ok_bad line u t d k g f)
-one_command_reading line (Err (BadArguments t k)) (Err NoTag) f g p q = absurd (g t f.2.text f.2.tagged)
-one_command_reading line (Err (BadArguments t k)) (Err (UnknownCommand u)) f g p q = absurd (unknown_bad line u t k g f)
-one_command_reading line (Err (BadArguments t k)) (Err (BadArguments u l)) f g p q = bad_bad line t u k l f g
-one_command_reading line (Err Memory) y f g p q = absurd (p refl)
-one_command_reading line (Ok (t, c)) (Err Memory) f g p q = absurd (q refl)
-one_command_reading line (Err NoTag) (Err Memory) f g p q = absurd (q refl)
-one_command_reading line (Err (UnknownCommand t)) (Err Memory) f g p q = absurd (q refl)
-one_command_reading line (Err (BadArguments t k)) (Err Memory) f g p q = absurd (q refl)
+-- a line is read in one way
+pub one_command_reading : (line : List ℕ) (x y : Result (Tag × Command) LineFault) → ReadsCommand line x → ReadsCommand line y → x ≡ y
+one_command_reading line (Ok (t, c)) (Ok (u, d)) f g = ok_ok line t u c d f g
+one_command_reading line (Ok (t, c)) (Err NoTag) f g = absurd (g t f.begins.text f.begins.tagged)
+one_command_reading line (Ok (t, c)) (Err (UnknownCommand u)) f g = absurd (ok_unknown line t u c f g)
+one_command_reading line (Ok (t, c)) (Err (BadArguments u k)) f g = absurd (ok_bad line t u c k f g)
+one_command_reading line (Err NoTag) (Ok (u, d)) f g = absurd (f u g.begins.text g.begins.tagged)
+one_command_reading line (Err NoTag) (Err NoTag) f g = refl
+one_command_reading line (Err NoTag) (Err (UnknownCommand u)) f g = absurd (f u g.2.text g.2.tagged)
+one_command_reading line (Err NoTag) (Err (BadArguments u k)) f g = absurd (f u g.2.text g.2.tagged)
+one_command_reading line (Err (UnknownCommand t)) (Ok (u, d)) f g = absurd (ok_unknown line u t d g f)
+one_command_reading line (Err (UnknownCommand t)) (Err NoTag) f g = absurd (g t f.2.text f.2.tagged)
+one_command_reading line (Err (UnknownCommand t)) (Err (UnknownCommand u)) f g = unknown_unknown line t u f g
+one_command_reading line (Err (UnknownCommand t)) (Err (BadArguments u k)) f g = absurd (unknown_bad line t u k f g)
+one_command_reading line (Err (BadArguments t k)) (Ok (u, d)) f g = absurd (ok_bad line u t d k g f)
+one_command_reading line (Err (BadArguments t k)) (Err NoTag) f g = absurd (g t f.2.text f.2.tagged)
+one_command_reading line (Err (BadArguments t k)) (Err (UnknownCommand u)) f g = absurd (unknown_bad line u t k g f)
+one_command_reading line (Err (BadArguments t k)) (Err (BadArguments u l)) f g = bad_bad line t u k l f g

@@ -4,8 +4,7 @@ use Rattle.dme_line.specs.Responses.{IsMarkText, IsResponseLine, ReadsResponse}
 use Rattle.dme_line.specs.declared.responses.Mark.{Mark}
 use Rattle.dme_line.specs.declared.responses.Mark.TheVariants.{Ack, Given, Done, Error}
 use Rattle.dme_line.specs.declared.responses.Response.{Response}
-use Rattle.dme_line.specs.declared.responses.ResponseFault.{ResponseFault}
-use Rattle.dme_line.specs.declared.responses.ResponseFault.TheVariants.{NotResponse, Memory}
+use Rattle.dme_line.specs.declared.responses.NotResponse.{NotResponse}
 use Rattle.dme_line.proofs.TagLemmas.{one_tag}
 
 -- what a mark begins with
@@ -73,12 +72,12 @@ one_response line r s f g =
     let marked = subst (λ (t : List ℕ). IsMarkText t r.mark) texts f.marked in
     same_response r s tags.tag (one_mark g.text r.mark s.mark marked g.marked (same_byte g.text r.mark s.mark marked g.marked))
 
--- a line is read in one way, want of memory apart
-pub one_response_reading : (line : List ℕ) (x y : Result Response ResponseFault) → ReadsResponse line x → ReadsResponse line y → (x ≡ Err Memory → ⊥) → (y ≡ Err Memory → ⊥) → x ≡ y
-one_response_reading line (Ok r) (Ok s) f g p q = ap (λ (t : Response). Ok t) (one_response line r s f g)
-one_response_reading line (Ok r) (Err NotResponse) f g p q = absurd (g r f)
-one_response_reading line (Ok r) (Err Memory) f g p q = absurd (q refl)
-one_response_reading line (Err NotResponse) (Ok s) f g p q = absurd (f s g)
-one_response_reading line (Err NotResponse) (Err NotResponse) f g p q = refl
-one_response_reading line (Err NotResponse) (Err Memory) f g p q = absurd (q refl)
-one_response_reading line (Err Memory) y f g p q = absurd (p refl)
+one_refusal : (a b : NotResponse) → a ≡ b
+one_refusal a b = λ n. record {}
+
+-- a line is read in one way
+pub one_response_reading : (line : List ℕ) (x y : Result Response NotResponse) → ReadsResponse line x → ReadsResponse line y → x ≡ y
+one_response_reading line (Ok r) (Ok s) f g = ap (λ (t : Response). Ok t) (one_response line r s f g)
+one_response_reading line (Ok r) (Err b) f g = absurd (g r f)
+one_response_reading line (Err a) (Ok s) f g = absurd (f s g)
+one_response_reading line (Err a) (Err b) f g = ap (λ (x : NotResponse). Err x) (one_refusal a b)

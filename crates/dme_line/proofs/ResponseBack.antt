@@ -1,6 +1,5 @@
 -- What is written of responses, points and errors can stand in a line, and reads back.
-use Rattle.std.proofs.Common.{◌≡◌, ℕ, ◌+◌, inl, Bool, true, false, cond, List, [], ◌∷◌, ◌++◌, Option, Some, None, Ok, refl, ap, sym, subst, ◌∙◌, arith, codes, append-nil}
-use Rattle.std.specs.Prelude.{◌==◌}
+use Rattle.std.proofs.Common.{◌≡◌, ℕ, ◌+◌, inl, List, [], ◌∷◌, ◌++◌, Option, Some, None, Ok, refl, ap, sym, subst, ◌∙◌, arith, codes, append-nil}
 use Rattle.fixed_um.specs.declared.lengths.Point.{Point}
 use Rattle.fixed_um.specs.Written.{written}
 use Rattle.dme_line.specs.Words.{IsWireText, quoted}
@@ -8,7 +7,9 @@ use Rattle.dme_line.specs.Tokens.{tokens}
 use Rattle.dme_line.specs.Tags.{four_digits, written_tag, IsTag}
 use Rattle.dme_line.specs.Points.{written_point, IsOnWire, ReadsPoint}
 use Rattle.dme_line.specs.Responses.{data_response, written_mark, written_response, HasText, IsWritableResponse, IsMarkText, ReadsResponse}
-use Rattle.dme_line.specs.Errors.{error_text, error_name, error_report, written_error, error_response}
+use Rattle.dme_line.specs.Errors.{text_of, numbered, said_of, error_text, error_name, error_report, written_error, error_response}
+use Rattle.dme_line.specs.declared.errors.ErrorNumber.{ErrorNumber}
+use Rattle.dme_line.specs.declared.errors.ErrorNumber.TheVariants.{NoTag, TagInUse, UnknownCommand, BadArguments, NoSession, SessionOpen, Aborted, ErrorState, QueueFull, NotHomed, NoTool, UnknownTool, OutOfVolume, NoSurface, MachineFault}
 use Rattle.dme_line.specs.declared.tags.Tag.{Tag}
 use Rattle.dme_line.specs.declared.commands.Kind.{Kind}
 use Rattle.dme_line.specs.declared.responses.Mark.{Mark}
@@ -76,13 +77,30 @@ error_name-wire : (kind : Option Kind) → IsWireText 20 (error_name kind)
 error_name-wire None = record { free = refl; short = omega arith }
 error_name-wire (Some kind) = name-wire kind
 
-cond_wire : (n : ℕ) (b : Bool) (x y : List ℕ) → IsWireText n x → IsWireText n y → IsWireText n (cond b x y)
-cond_wire n true x y f g = f
-cond_wire n false x y f g = g
+text-wire : (e : ErrorNumber) → IsWireText 15 (text_of e)
+text-wire NoTag = record { free = refl; short = omega arith }
+text-wire TagInUse = record { free = refl; short = omega arith }
+text-wire UnknownCommand = record { free = refl; short = omega arith }
+text-wire BadArguments = record { free = refl; short = omega arith }
+text-wire NoSession = record { free = refl; short = omega arith }
+text-wire SessionOpen = record { free = refl; short = omega arith }
+text-wire Aborted = record { free = refl; short = omega arith }
+text-wire ErrorState = record { free = refl; short = omega arith }
+text-wire QueueFull = record { free = refl; short = omega arith }
+text-wire NotHomed = record { free = refl; short = omega arith }
+text-wire NoTool = record { free = refl; short = omega arith }
+text-wire UnknownTool = record { free = refl; short = omega arith }
+text-wire OutOfVolume = record { free = refl; short = omega arith }
+text-wire NoSurface = record { free = refl; short = omega arith }
+text-wire MachineFault = record { free = refl; short = omega arith }
+
+said-wire : (o : Option ErrorNumber) → IsWireText 15 (said_of o)
+said-wire None = record { free = refl; short = omega arith }
+said-wire (Some e) = text-wire e
 
 error_text-wire : (code : ℕ) → IsWireText 15 (error_text code)
 unfolding error_text
-error_text-wire code = cond_wire 15 (code == 9001) _ _ (record { free = refl; short = omega arith }) (cond_wire 15 (code == 9002) _ _ (record { free = refl; short = omega arith }) (cond_wire 15 (code == 9003) _ _ (record { free = refl; short = omega arith }) (cond_wire 15 (code == 9004) _ _ (record { free = refl; short = omega arith }) (cond_wire 15 (code == 9005) _ _ (record { free = refl; short = omega arith }) (cond_wire 15 (code == 9006) _ _ (record { free = refl; short = omega arith }) (cond_wire 15 (code == 9007) _ _ (record { free = refl; short = omega arith }) (cond_wire 15 (code == 9008) _ _ (record { free = refl; short = omega arith }) (cond_wire 15 (code == 9009) _ _ (record { free = refl; short = omega arith }) (cond_wire 15 (code == 9010) _ _ (record { free = refl; short = omega arith }) (cond_wire 15 (code == 9011) _ _ (record { free = refl; short = omega arith }) (cond_wire 15 (code == 9012) _ _ (record { free = refl; short = omega arith }) (cond_wire 15 (code == 9013) _ _ (record { free = refl; short = omega arith }) (cond_wire 15 (code == 9014) _ _ (record { free = refl; short = omega arith }) (record { free = refl; short = omega arith }))))))))))))))
+error_text-wire code = said-wire (numbered code)
 
 pub report-wire : (code : ℕ) (kind : Option Kind) → IsWireText 57 (error_report code kind)
 report-wire code kind =

@@ -11,7 +11,7 @@ use Rattle.dme_line.specs.declared.commands.Kind.{Kind}
 use Rattle.dme_line.specs.declared.commands.Kind.TheVariants.{ChangeTool}
 use Rattle.dme_line.specs.declared.commands.Command.{Command}
 use Rattle.dme_line.specs.declared.reading.LineFault.{LineFault}
-use Rattle.dme_line.specs.declared.reading.LineFault.TheVariants.{NoTag, UnknownCommand, BadArguments, Memory}
+use Rattle.dme_line.specs.declared.reading.LineFault.TheVariants.{NoTag, UnknownCommand, BadArguments}
 
 -- a line begins with a tag other than number 0 and one space
 pub record IsTagged (line : List ℕ) (tag : Tag) (text : List ℕ) : Type 0 where
@@ -44,7 +44,7 @@ pub record IsCommandText (line : List ℕ) (tag : Tag) (command : Command) : Typ
   pub fits : IsTagOf kind tag
   pub says : Says kind (tokens rest) command
 
--- the line begins as a change of tool to one word, the only command that holds a text
+-- the line begins as a change of tool to one word, the only command that holds a text; memory can be wanted for its name alone
 pub record HoldsTool (line : List ℕ) : Type 0 where
   pub tag : Tag
   pub name : List ℕ
@@ -55,11 +55,9 @@ pub record HoldsTool (line : List ℕ) : Type 0 where
   pub fits : IsTagOf ChangeTool tag
   pub spelled : IsOneWord (tokens rest) word
 
--- reading a line gives its command, or the fault that is due: no tag before an unknown name, and that before bad arguments;
--- memory can be wanted for the name of a tool alone
+-- reading a line gives its command, or the fault that is due: no tag before an unknown name, and that before bad arguments
 abbrev pub ReadsCommand : List ℕ → Result (Tag × Command) LineFault → Type 0
 ReadsCommand line (Ok (tag, command)) = IsCommandText line tag command
 ReadsCommand line (Err NoTag) = (tag : Tag) (text : List ℕ) → IsTagged line tag text → ⊥
 ReadsCommand line (Err (UnknownCommand tag)) = (name rest : List ℕ) × Begins line tag name rest × ((kind : Kind) → is_word (kind_name kind) name ≡ true → ⊥)
 ReadsCommand line (Err (BadArguments tag kind)) = (name rest : List ℕ) × Begins line tag name rest × (is_word (kind_name kind) name ≡ true) × ((command : Command) → IsCommandText line tag command → ⊥)
-ReadsCommand line (Err Memory) = HoldsTool line

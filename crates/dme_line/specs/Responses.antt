@@ -9,8 +9,7 @@ use Rattle.dme_line.specs.declared.tags.Tag.{Tag}
 use Rattle.dme_line.specs.declared.responses.Mark.{Mark}
 use Rattle.dme_line.specs.declared.responses.Mark.TheVariants.{Ack, Given, Done, Error}
 use Rattle.dme_line.specs.declared.responses.Response.{Response}
-use Rattle.dme_line.specs.declared.responses.ResponseFault.{ResponseFault}
-use Rattle.dme_line.specs.declared.responses.ResponseFault.TheVariants.{NotResponse, Memory}
+use Rattle.dme_line.specs.declared.responses.NotResponse.{NotResponse}
 
 -- a mark as it is written: & received, # data, % complete, ! error
 abbrev pub written_mark : Mark → List ℕ
@@ -59,11 +58,14 @@ HoldsText (Given text) = Unit {0}
 HoldsText Done = ⊥
 HoldsText (Error text) = Unit {0}
 
--- reading a line gives its response, or that it is none; memory can be wanted for the text of one alone
-abbrev pub ReadsResponse : List ℕ → Result Response ResponseFault → Type 0
+-- the line stands for a response that holds a text; memory can be wanted for that text alone
+abbrev pub HoldsResponseText : List ℕ → Type 0
+HoldsResponseText line = (r : Response) × IsResponseLine line r × HoldsText r.mark
+
+-- reading a line gives its response, or that it is none
+abbrev pub ReadsResponse : List ℕ → Result Response NotResponse → Type 0
 ReadsResponse line (Ok r) = IsResponseLine line r
-ReadsResponse line (Err NotResponse) = (r : Response) → IsResponseLine line r → ⊥
-ReadsResponse line (Err Memory) = (r : Response) × IsResponseLine line r × HoldsText r.mark
+ReadsResponse line (Err fault) = (r : Response) → IsResponseLine line r → ⊥
 
 -- the response that carries a point
 abbrev pub data_response : Tag → Point → Response

@@ -1,6 +1,6 @@
 // What holds of the texts of this crate, whoever writes and reads them. These functions do nothing: their contracts are the laws.
 
-ghost use Rattle.std.specs.Prelude.{◌≡◌, ◌≤◌, ℕ, List, Option, Result, Ok, Err};
+ghost use Rattle.std.specs.Prelude.{◌≡◌, ◌≤◌, ℕ, List, Option, Result, Ok};
 ghost use Rattle.dme_line.specs.Words.{IsWireText};
 ghost use Rattle.dme_line.specs.Tags.{IsTag};
 ghost use Rattle.dme_line.specs.Points.{written_point, IsOnWire, ReadsPoint};
@@ -13,16 +13,15 @@ ghost use Rattle.dme_line.specs.declared.points.NotPoint.{NotPoint};
 
 use crate::commands::{Command, Kind};
 use crate::reading::LineFault;
-use crate::responses::{Response, ResponseFault};
+use crate::responses::{NotResponse, Response};
 use crate::tags::Tag;
 
-/// A line stands for at most one command under one tag, and is read in one way, want of memory apart.
+/// A line stands for at most one command under one tag, and is read in one way.
 pub fn one_command_reading()
     ensures command { (line : List ℕ) (t u : Tag) (c d : Command)
         → IsCommandText line t c → IsCommandText line u d → (t ≡ u) × (c ≡ d) }
     ensures reading { (line : List ℕ) (x y : Result (Tag × Command) LineFault)
-        → ReadsCommand line x → ReadsCommand line y
-        → (x ≡ Err LineFault.Memory → ⊥) → (y ≡ Err LineFault.Memory → ⊥) → x ≡ y }
+        → ReadsCommand line x → ReadsCommand line y → x ≡ y }
 {}
 
 /// What is written of a command has at most 200 bytes, none of them CR or LF, and reads back as this command with its tag.
@@ -39,13 +38,12 @@ pub fn read_command_is_writable()
         → IsCommandText line tag command → IsWritable tag command }
 {}
 
-/// A line stands for at most one response, and is read in one way, want of memory apart.
+/// A line stands for at most one response, and is read in one way.
 pub fn one_response_reading()
     ensures response { (line : List ℕ) (r s : Response)
         → IsResponseLine line r → IsResponseLine line s → r ≡ s }
-    ensures reading { (line : List ℕ) (x y : Result Response ResponseFault)
-        → ReadsResponse line x → ReadsResponse line y
-        → (x ≡ Err ResponseFault.Memory → ⊥) → (y ≡ Err ResponseFault.Memory → ⊥) → x ≡ y }
+    ensures reading { (line : List ℕ) (x y : Result Response NotResponse)
+        → ReadsResponse line x → ReadsResponse line y → x ≡ y }
 {}
 
 /// What is written of a response has at most 200 bytes, none of them CR or LF, and reads back as this response.

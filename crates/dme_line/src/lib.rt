@@ -4,7 +4,7 @@
 // - `tags`, `commands`: `Tag`; `Command`, its `Kind`, `Csy`
 // - `writing`, `reading`: `write_command`; `read_command` and `LineFault`
 // - `responses`, `text`: `Response`, `Mark`, `Text`, and their lines
-// - `points`: the text of a data line; `errors`: the line of an error
+// - `points`: the text of a data line; `errors`: `ErrorNumber` and the line of an error
 // - `tokens`, `arguments`, `places`, `settings`, `lengths`: the steps by which arguments are read
 // - `appending`: texts where there is room for them
 // - `laws`: what holds of these texts: each is read in one way, and what is written reads back
@@ -27,11 +27,11 @@ mod tokens;
 pub mod writing;
 
 pub use commands::{Command, Csy, Kind};
-pub use errors::{write_error, write_error_reserved};
+pub use errors::{ErrorNumber, write_error, write_error_reserved};
 pub use points::{NotPoint, read_point, write_point, write_point_reserved};
 pub use reading::{LineFault, read_command};
 pub use responses::{
-    Mark, Response, ResponseFault, read_response, write_complete_reserved, write_data,
+    Mark, NotResponse, Response, read_response, write_complete_reserved, write_data,
     write_data_reserved, write_received_reserved, write_response, write_response_reserved,
 };
 pub use tags::Tag;

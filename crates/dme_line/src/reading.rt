@@ -7,7 +7,7 @@ ghost use Rattle.dme_line.specs.Kinds.{kind_name, is_event_kind, IsTagOf};
 ghost use Rattle.dme_line.specs.Tags.{IsNumbered};
 ghost use Rattle.dme_line.specs.Tokens.{tokens};
 ghost use Rattle.dme_line.specs.Arguments.{Says, IsOneWord, enclosed};
-ghost use Rattle.dme_line.specs.CommandText.{is_name_part, IsNamed, IsTagged, ReadsCommand};
+ghost use Rattle.dme_line.specs.CommandText.{is_name_part, IsNamed, IsTagged, HoldsTool, ReadsCommand};
 
 use crate::arguments::is_empty_list;
 use crate::commands::{Command, Kind};
@@ -26,8 +26,6 @@ pub enum LineFault {
     UnknownCommand(Tag),
     /// The arguments don't read, or the tag is not of the command's kind.
     BadArguments(Tag, Kind),
-    /// Want of memory for the name of a tool.
-    Memory,
 }
 
 /// A tag that a command can have at the front of a line, and what stands behind the space that follows it.
@@ -165,23 +163,26 @@ fn read_arguments(alloc: Global, kind: Kind, bytes: &[u8]) -> Result<Option<Comm
 /// The command that a line without its end stands for, with its tag; or why it stands for none.
 ///
 /// Names of commands, axes and coordinate systems are read in any case, with any number of spaces beside parentheses and commas
-/// and behind the last parenthesis. Takes memory for the name of a tool alone; after `Memory` the same line may be read again.
-pub fn read_command(alloc: Global, line: &[u8]) -> Result<(Tag, Command), LineFault>
-    ensures { ReadsCommand line.now result }
+/// and behind the last parenthesis. Only want of memory is an outer `Err`, and only for the name of a tool; the same line may be read again.
+pub fn read_command(
+    alloc: Global,
+    line: &[u8],
+) -> Result<Result<(Tag, Command), LineFault>, AllocError>
+    ensures reads { IfOk result (λ reading. ReadsCommand line.now reading) }
+    ensures memory { OnErr result (HoldsTool line.now) }
 {
     let Some((tag, text)) = cut_numbered_tag(line) else {
-        return Err(LineFault::NoTag);
+        return Ok(Err(LineFault::NoTag));
     };
     let (name, bytes) = cut_name(text);
     let Some(kind) = kind_named(name) else {
-        return Err(LineFault::UnknownCommand(tag));
+        return Ok(Err(LineFault::UnknownCommand(tag)));
     };
     if tag.is_event() != kind.is_event() {
-        return Err(LineFault::BadArguments(tag, kind));
+        return Ok(Err(LineFault::BadArguments(tag, kind)));
     }
-    match read_arguments(alloc, kind, bytes) {
-        Ok(Some(command)) => Ok((tag, command)),
-        Ok(None) => Err(LineFault::BadArguments(tag, kind)),
-        Err(AllocError) => Err(LineFault::Memory),
+    match read_arguments(alloc, kind, bytes)? {
+        Some(command) => Ok(Ok((tag, command))),
+        None => Ok(Err(LineFault::BadArguments(tag, kind))),
     }
 }

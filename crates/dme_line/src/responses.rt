@@ -4,7 +4,7 @@ ghost use Rattle.std.specs.Prelude.{◌≡◌, ◌↔◌, ◌≤◌, ◌+◌, �
 ghost use Rattle.dme_line.specs.Tags.{IsTag};
 ghost use Rattle.dme_line.specs.declared.responses.Mark.TheVariants as mark;
 ghost use Rattle.dme_line.specs.Taken.{the_mark};
-ghost use Rattle.dme_line.specs.Responses.{written_mark, written_response, IsWritableResponse, HasText, are_spaces, IsMarkText, HoldsText, ReadsResponse, data_response};
+ghost use Rattle.dme_line.specs.Responses.{written_mark, written_response, IsWritableResponse, HasText, are_spaces, IsMarkText, HoldsText, HoldsResponseText, ReadsResponse, data_response};
 ghost use Rattle.dme_line.specs.Points.{IsOnWire};
 
 use crate::appending::append_reserved;
@@ -37,14 +37,9 @@ pub struct Response {
     pub mark: Mark,
 }
 
-/// Why a line is no response.
+/// A line that is no response: it is not a tag, one space and one of the four marks with what it may hold.
 #[derive(Clone, Copy, Debug, PartialEq, Eq)]
-pub enum ResponseFault {
-    /// It is not a tag, one space and one of the four marks with what it may hold.
-    NotResponse,
-    /// Want of memory for the text of the response.
-    Memory,
-}
+pub struct NotResponse;
 
 fn write_mark_reserved(out: &mut Vec<u8>, mark: &Mark)
     requires text { HasText mark.now }
@@ -203,19 +198,21 @@ fn copied(alloc: Global, mark: MarkSlice<'_>) -> Result<Mark, AllocError>
 
 /// The response that a line without its end stands for.
 ///
-/// Spaces behind `&` and `%` are accepted; a `!` with nothing behind it has an empty text. Takes memory for a text alone;
-/// after `Memory` the same line may be read again.
-pub fn read_response(alloc: Global, line: &[u8]) -> Result<Response, ResponseFault>
-    ensures { ReadsResponse line.now result }
+/// Spaces behind `&` and `%` are accepted; a `!` with nothing behind it has an empty text. Only want of memory is an outer `Err`, and only
+/// for the text of a response; the same line may be read again.
+pub fn read_response(
+    alloc: Global,
+    line: &[u8],
+) -> Result<Result<Response, NotResponse>, AllocError>
+    ensures reads { IfOk result (λ reading. ReadsResponse line.now reading) }
+    ensures memory { OnErr result (HoldsResponseText line.now) }
 {
     let Some((tag, text)) = cut_tag(line) else {
-        return Err(ResponseFault::NotResponse);
+        return Ok(Err(NotResponse));
     };
     let Some(mark) = cut_mark(text) else {
-        return Err(ResponseFault::NotResponse);
+        return Ok(Err(NotResponse));
     };
-    match copied(alloc, mark) {
-        Ok(mark) => Ok(Response { tag, mark }),
-        Err(AllocError) => Err(ResponseFault::Memory),
-    }
+    let mark = copied(alloc, mark)?;
+    Ok(Ok(Response { tag, mark }))
 }

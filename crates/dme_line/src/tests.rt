@@ -5,9 +5,8 @@ ghost use Rattle.dme_line.specs.Kinds.{kind_of, IsTagOf};
 ghost use Rattle.dme_line.specs.Written.{HasVolumeLengths};
 
 use crate::{
-    Command, Csy, Kind, LineFault, Mark, NotPoint, Response, ResponseFault, Tag, Text,
-    read_command, read_point, read_response, write_command, write_data, write_error, write_point,
-    write_response,
+    Command, Csy, Kind, LineFault, Mark, NotPoint, NotResponse, Response, Tag, Text, read_command,
+    read_point, read_response, write_command, write_data, write_error, write_point, write_response,
 };
 use fixed_um::{Dir, Name, Point, Um, read_dir, read_um};
 use std::alloc::{AllocError, Global};
@@ -160,7 +159,7 @@ xyz => NotResponse
 
 /// The command of a line as it is written, or the fault.
 fn command_reading(alloc: Global, line: &str) -> Result<Vec<u8>, AllocError> {
-    match read_command(alloc, line.as_bytes()) {
+    match read_command(alloc, line.as_bytes())? {
         Ok((tag, command)) => {
             let mut out = Vec::new(alloc);
             write_command(&mut out, tag, &command)?;
@@ -188,7 +187,7 @@ fn command_lines_are_read_or_refused(rt: HostRuntime) -> Result<(), Fail> {
 
 /// The tag, mark and text of the response of a line, or the fault.
 fn response_reading(alloc: Global, line: &str) -> Result<Vec<u8>, AllocError> {
-    match read_response(alloc, line.as_bytes()) {
+    match read_response(alloc, line.as_bytes())? {
         Ok(response) => {
             let tag = response.tag;
             let mut out = format!(in alloc; "{tag:?} ")?.into_bytes();
@@ -253,7 +252,7 @@ fn arguments_stand_in_their_places(rt: HostRuntime) -> Result<(), Fail> {
     let touch = read_command(
         rt.alloc(),
         b"00005 PtMeas(IJK(0, 0.5, 1), Z(3), X(1), Y(2))",
-    );
+    )?;
     match &touch {
         Ok((tag, Command::PtMeas(target, along))) => {
             assert_eq!(rt; *tag, Tag::Std(5));
@@ -265,7 +264,7 @@ fn arguments_stand_in_their_places(rt: HostRuntime) -> Result<(), Fail> {
     let transformation = read_command(
         rt.alloc(),
         b"00012 SETCSYTRANSFORMATION ( partcsy , 1 , 2 , 3 , 0 , 0.0 , 0E5 )",
-    );
+    )?;
     match &transformation {
         Ok((tag, Command::SetCsyTransformation(lengths))) => {
             assert_eq!(rt; *tag, Tag::Std(12));

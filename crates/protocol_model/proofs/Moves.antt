@@ -8,13 +8,14 @@ use Rattle.dme_line.specs.declared.commands.Command.TheVariants as command
 use Rattle.contact_ledger.specs.declared.acts.Act.{Act}
 use Rattle.contact_ledger.specs.declared.acts.Act.TheVariants as act
 use Rattle.protocol_model.specs.Replies.{Reading}
-use Rattle.dme_line.specs.declared.reading.LineFault.{LineFault}
 use Rattle.dme_line.specs.declared.reading.LineFault.TheVariants as fault
-use Rattle.protocol_model.specs.Server.{Server, Answer, in_error, queued, runs_under, waits_under, is_abort, is_clear, is_fault, stands, tagged, server_read, refusal, frame_of, carried_out, carried, taken, turned_to, server_turned, finished, touched, machined, server_machined}
+use Rattle.protocol_model.specs.Server.{Server, Answer, in_error, queued, runs_under, waits_under, is_abort, is_clear, stands, fresh, tagged, server_read, refusal, frame_of, carried_out, carried, taken, turned_to, server_turned, finished, touched, machined, server_machined}
 use Rattle.protocol_model.specs.Claims.{acts_on}
 use Rattle.protocol_model.proofs.Basics.{if_true, if_false}
 use Rattle.protocol_model.proofs.Served.{AreUpTo}
 use Rattle.protocol_model.specs.declared.lines.Line.{Line}
+use Rattle.protocol_model.specs.declared.lines.Misread.{Misread}
+use Rattle.protocol_model.specs.declared.lines.Misread.TheVariants as misread
 use Rattle.protocol_model.specs.declared.lines.Waiting.{Waiting}
 use Rattle.protocol_model.specs.declared.machine.Outcome.{Outcome}
 
@@ -65,24 +66,24 @@ either P false x y p q = q
 abbrev Stays : Server → Answer → Type 0
 Stays s a = Moves s a.server []
 
-stands_stays : (s : Server) (t : Tag) (reading : Result Command LineFault) → Stays s (stands s t reading)
+stands_stays : (s : Server) (t : Tag) (reading : Result Command Misread) → Stays s (stands s t reading)
 stands_stays s t reading =
     either (Stays s) (s.error && not (is_clear reading)) _ _ (stays s s refl refl refl)
     (either (Stays s) s.error _ _ (stays s (queued t reading (record s { error = false })) refl refl refl)
     (either (Stays s) (nat_le 64 (length s.waiting)) _ _ (stays s (in_error s) refl refl refl) (stays s (queued t reading s) refl refl refl)))
 
-tagged_stays : (s : Server) (t : Tag) (reading : Result Command LineFault) → Stays s (tagged s t reading)
-tagged_stays s t reading =
-    either (Stays s) (runs_under t s.running || waits_under t s.waiting) _ _ (stays s s refl refl refl)
-    (either (Stays s) (is_abort reading) _ _ (stays s (record (in_error s) { running = None }) refl refl refl)
-    (either (Stays s) (is_event_tag t && is_fault reading) _ _ (stays s s refl refl refl) (stands_stays s t reading)))
+fresh_stays : (s : Server) (t : Tag) (reading : Result Command Misread) → Stays s (fresh s t reading)
+fresh_stays s t (Ok c) = either (Stays s) (is_abort (Ok c)) _ _ (stays s _ refl refl refl) (stands_stays s t (Ok c))
+fresh_stays s t (Err why) = either (Stays s) (is_event_tag t) _ _ (stays s _ refl refl refl) (stands_stays s t (Err why))
+
+tagged_stays : (s : Server) (t : Tag) (reading : Result Command Misread) → Stays s (tagged s t reading)
+tagged_stays s t reading = either (Stays s) (runs_under t s.running || waits_under t s.waiting) _ _ (stays s s refl refl refl) (fresh_stays s t reading)
 
 pub read_moves : (s : Server) (reading : Reading) → Moves s (server_read s reading).server []
 read_moves s (Ok line) = tagged_stays s line.tag (Ok line.command)
 read_moves s (Err fault.NoTag) = stays s s refl refl refl
-read_moves s (Err (fault.UnknownCommand t)) = tagged_stays s t (Err (fault.UnknownCommand t))
-read_moves s (Err (fault.BadArguments t k)) = tagged_stays s t (Err (fault.BadArguments t k))
-read_moves s (Err fault.Memory) = stays s s refl refl refl
+read_moves s (Err (fault.UnknownCommand t)) = tagged_stays s t (Err misread.UnknownCommand)
+read_moves s (Err (fault.BadArguments t k)) = tagged_stays s t (Err (misread.BadArguments k))
 
 carried_moves : (s : Server) (t : Tag) (c : Command) → (acts : List Act) × Moves s (carried_out s t c).server acts
 carried_moves s t command.StartSession = ([], stays s _ refl refl refl)
@@ -101,7 +102,7 @@ taken_moves : (s : Server) (w : Waiting) (ws : List Waiting) (number : Option �
 taken_moves s w ws (Some number) = ([], stays s _ refl refl refl)
 taken_moves s w ws None = go w.reading
   where
-    go : (reading : Result Command LineFault) → (acts : List Act) × Moves s (carried (record s { waiting = ws }) w.tag reading).server acts
+    go : (reading : Result Command Misread) → (acts : List Act) × Moves s (carried (record s { waiting = ws }) w.tag reading).server acts
     go (Ok c) = let m = carried_moves (record s { waiting = ws }) w.tag c in (m.0, record { on = m.1.on; last = m.1.last; ledger = m.1.ledger })
     go (Err refused) = ([], stays s _ refl refl refl)
 

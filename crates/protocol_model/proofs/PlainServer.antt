@@ -6,7 +6,7 @@ use Rattle.fixed_um.specs.Points.{IsInVolume}
 use Rattle.fixed_um.specs.declared.lengths.Point.{Point}
 use Rattle.fixed_um.specs.declared.frames.Frame.TheVariants.{Machine}
 use Rattle.dme_line.specs.Kinds.{kind_of}
-use Rattle.dme_line.specs.Tags.{IsTag, IsNumbered, is_event_tag}
+use Rattle.dme_line.specs.Tags.{IsTag, IsNumbered}
 use Rattle.dme_line.specs.Written.{IsWritable}
 use Rattle.dme_line.specs.declared.tags.Tag.{Tag}
 use Rattle.dme_line.specs.declared.tags.Tag.TheVariants.{Std, Event}
@@ -16,7 +16,7 @@ use Rattle.dme_line.specs.declared.commands.Command.{Command}
 use Rattle.dme_line.specs.declared.commands.Command.TheVariants as command
 use Rattle.dme_line.specs.declared.commands.Kind.{Kind}
 use Rattle.protocol_model.specs.Replies.{Reply}
-use Rattle.protocol_model.specs.Server.{Server, Answer, origin, fails, all_fail, in_error, queued, runs_under, waits_under, is_abort, is_clear, is_fault, running_fails, aborted, stands, server_read, refusal, frame_of, carried_out, taken, turned_to, server_turned, offset, in_volume, stopped, idle, finished, touched, machined, server_machined, has_outcome, may_end, server_left}
+use Rattle.protocol_model.specs.Server.{Server, Answer, origin, fails, all_fail, in_error, queued, runs_under, waits_under, is_abort, is_clear, running_fails, aborted, stands, server_read, refusal, frame_of, carried_out, taken, turned_to, server_turned, offset, in_volume, stopped, idle, finished, touched, machined, server_machined, has_outcome, may_end, server_left}
 use Rattle.protocol_model.proofs.Holding.{listed, waits, all_wait}
 use Rattle.protocol_model.proofs.LineFacts.{wait_more}
 use Rattle.protocol_model.proofs.Writable.{AreWritable, writable_join, AreReplies, replies_join, difference_on_wire, opposite_in_volume}
@@ -124,8 +124,7 @@ pub read_plain : (s : Server) (l : Line) → IsPlainServer s → IsWritable l.ta
 read_plain s l h w =
     let tag : IsTag l.tag = line_tag l w in
     either IsPlainAnswer (runs_under l.tag s.running || waits_under l.tag s.waiting) _ _ (record { server = h; said = (omega arith, tt) })
-    (either IsPlainAnswer (is_abort (Ok l.command)) _ _ (aborted_plain s l.tag h tag)
-    (either IsPlainAnswer (is_event_tag l.tag && is_fault (Ok l.command)) _ _ (record { server = h; said = (tag, fails_plain l.tag 0 (Some (kind_of l.command)) tag) }) (stands_plain s l.tag l.command h w)))
+    (either IsPlainAnswer (is_abort (Ok l.command)) _ _ (aborted_plain s l.tag h tag) (stands_plain s l.tag l.command h w))
 
 -- ---- a turn
 

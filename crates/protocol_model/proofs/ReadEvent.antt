@@ -14,7 +14,7 @@ use Rattle.protocol_model.specs.Client.{Table, Tally, is_clearing}
 use Rattle.protocol_model.specs.Server.{Server, Answer, answers, fails, all_fail, queued, runs_under, waits_under, is_abort, is_clear, running_fails, aborted, stands, server_read}
 use Rattle.protocol_model.specs.Claims.{Made, contacts}
 use Rattle.protocol_model.specs.Typed.{World}
-use Rattle.protocol_model.proofs.Basics.{if_true, if_false, and_false}
+use Rattle.protocol_model.proofs.Basics.{if_true, if_false}
 use Rattle.protocol_model.proofs.Walks.{AreDistinct}
 use Rattle.protocol_model.proofs.Replying.{tabled, Reads}
 use Rattle.protocol_model.proofs.Fitting.{Know, Fits, IsSane}
@@ -60,7 +60,7 @@ quiet_answer w table left up a standard event flag moves progress reads tidy nea
 stands_is : (s : Server) (x : Line) (waiting : List Line) → s.waiting ≡ all_wait waiting → is_held x.tag (all_received (listed s.running ++ waiting)) ≡ false → is_abort (Ok x.command) ≡ false → server_read s (Ok x) ≡ stands s x.tag (Ok x.command)
 stands_is s x waiting e free plain =
     let unused : (runs_under x.tag s.running || waits_under x.tag s.waiting) ≡ false = ap (λ (l : List Waiting). runs_under x.tag s.running || waits_under x.tag l) e ∙ not_in_use x.tag s.running waiting free in
-    if_false {A = Answer} _ _ _ unused ∙ (if_false {A = Answer} _ _ _ plain ∙ if_false {A = Answer} _ _ _ (and_false (is_event_tag x.tag)))
+    if_false {A = Answer} _ _ _ unused ∙ if_false {A = Answer} _ _ _ plain
 
 -- what the facts say of a line that is the next to be read
 pub record IsReading (w : World) (table : Table) (left : List Wanted) (x : Line) (queued coming : List Line) (aborts : List ℕ) : Type 0 where

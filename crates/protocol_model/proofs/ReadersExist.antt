@@ -23,8 +23,7 @@ use Rattle.dme_line.specs.declared.reading.LineFault.TheVariants as fault
 use Rattle.dme_line.specs.declared.responses.Mark.{Mark}
 use Rattle.dme_line.specs.declared.responses.Mark.TheVariants as mark
 use Rattle.dme_line.specs.declared.responses.Response.{Response}
-use Rattle.dme_line.specs.declared.responses.ResponseFault.{ResponseFault}
-use Rattle.dme_line.specs.declared.responses.ResponseFault.TheVariants as refused
+use Rattle.dme_line.specs.declared.responses.NotResponse.{NotResponse}
 use Rattle.dme_line.specs.declared.points.NotPoint.{NotPoint}
 use Rattle.dme_line.proofs.TagLemmas.{one_tag, tag_numbered}
 use Rattle.dme_line.proofs.NameCutLemmas.{name_cut}
@@ -166,22 +165,6 @@ numbered (Event n) le = decided_by (λ (e : nat_le 1 n ≡ true). (leb-true 1 n 
 record CommandRead (line : List ℕ) : Type 0 where
   pub result : Result (Tag × Command) LineFault
   pub reads : ReadsCommand line result
-  pub met : result ≡ Err fault.Memory → ⊥
-
-abbrev Met : Type 0
-Met = Result (Tag × Command) LineFault
-
-ok_met : (t : Tag) (c : Command) → ◌≡◌ {A = Met} (Ok (t, c)) (Err fault.Memory) → ⊥
-ok_met t c e = cc
-
-no_tag_met : ◌≡◌ {A = Met} (Err fault.NoTag) (Err fault.Memory) → ⊥
-no_tag_met e = cc
-
-unknown_met : (t : Tag) → ◌≡◌ {A = Met} (Err (fault.UnknownCommand t)) (Err fault.Memory) → ⊥
-unknown_met t e = cc
-
-bad_met : (t : Tag) (k : Kind) → ◌≡◌ {A = Met} (Err (fault.BadArguments t k)) (Err fault.Memory) → ⊥
-bad_met t k e = cc
 
 same_sort : (a b : Bool) → Decided (a ≡ b)
 same_sort true true = inl refl
@@ -194,17 +177,14 @@ known : (line : List ℕ) (t : Tag) (name rest : List ℕ) (k : Kind) → Begins
 known line t name rest k b is (inr sort) says = record {
   result = Err (fault.BadArguments t k);
   reads = (name, rest, b, is, λ c h. let here : SaysHere t k rest c = says_here line t t name rest k c b is h in sort here.fits.sort);
-  met = bad_met t k;
 }
 known line t name rest k b is (inl sort) (inr none) = record {
   result = Err (fault.BadArguments t k);
   reads = (name, rest, b, is, λ c h. let here : SaysHere t k rest c = says_here line t t name rest k c b is h in none (record { command = c; says = here.says }));
-  met = bad_met t k;
 }
 known line t name rest k b is (inl sort) (inl s) = record {
   result = Ok (t, s.command);
   reads = record { name = name; rest = rest; kind = k; begins = b; known = is; fits = record { numbered = b.tagged.numbered; sort = sort }; says = s.says };
-  met = ok_met t s.command;
 }
 
 -- a word is the name of one of these kinds
@@ -254,11 +234,11 @@ named line t name rest b = go (one_of name all_kinds)
     found n = known line t name rest n.kind b n.is (same_sort (is_event_tag t) (is_event_kind n.kind)) (saying n.kind (tokens rest))
 
     go : Decided (IsOneOf name all_kinds) → CommandRead line
-    go (inr none) = record { result = Err (fault.UnknownCommand t); reads = (name, rest, b, λ k e. none (among_all name k e)); met = unknown_met t }
+    go (inr none) = record { result = Err (fault.UnknownCommand t); reads = (name, rest, b, λ k e. none (among_all name k e)) }
     go (inl h) = found (named_one name all_kinds h)
 
 no_tag : (line : List ℕ) → ((t : Tag) (text : List ℕ) → IsTagged line t text → ⊥) → CommandRead line
-no_tag line none = record { result = Err fault.NoTag; reads = none; met = no_tag_met }
+no_tag line none = record { result = Err fault.NoTag; reads = none }
 
 command_reading : (line : List ℕ) → CommandRead line
 command_reading line = go (tagged line)
@@ -279,18 +259,8 @@ command_reading line = go (tagged line)
 -- ---- responses
 
 record ResponseRead (line : List ℕ) : Type 0 where
-  pub result : Result Response ResponseFault
+  pub result : Result Response NotResponse
   pub reads : ReadsResponse line result
-  pub met : result ≡ Err refused.Memory → ⊥
-
-abbrev Said : Type 0
-Said = Result Response ResponseFault
-
-response_met : (r : Response) → ◌≡◌ {A = Said} (Ok r) (Err refused.Memory) → ⊥
-response_met r e = cc
-
-refusal_met : ◌≡◌ {A = Said} (Err refused.NotResponse) (Err refused.Memory) → ⊥
-refusal_met e = cc
 
 abbrev given_of : List ℕ → Option Mark
 given_of [] = None
@@ -366,16 +336,15 @@ response_reading line = go (tagged line)
     none_in a e r h = no_mark r.mark (sym e ∙ mark_only a.text r.mark (subst (λ (t : List ℕ). IsMarkText t r.mark) (text_is a r h) h.marked))
 
     marks : (a : Tagged line) (o : Option Mark) → mark_from a.text ≡ o → ResponseRead line
-    marks a None e = record { result = Err refused.NotResponse; reads = none_in a e; met = refusal_met }
+    marks a None e = record { result = Err (record {}); reads = none_in a e }
     marks a (Some m) e = record {
       result = Ok (record { tag = a.tag; mark = m });
       reads = record { text = a.text; tagged = a.is_tag; parts = a.parts; marked = mark_found a.text m e };
-      met = response_met (record { tag = a.tag; mark = m });
     }
 
     go : Decided (Tagged line) → ResponseRead line
     go (inl a) = marks a (mark_from a.text) refl
-    go (inr none) = record { result = Err refused.NotResponse; reads = λ r h. none (record { tag = r.tag; text = h.text; is_tag = h.tagged; parts = h.parts }); met = refusal_met }
+    go (inr none) = record { result = Err (record {}); reads = λ r h. none (record { tag = r.tag; text = h.text; is_tag = h.tagged; parts = h.parts }) }
 
 -- ---- points
 
@@ -486,9 +455,7 @@ some_readers = record {
 readers_are : AreReaders some_readers
 readers_are = record {
   command = λ line. (command_reading line).reads;
-  command_read = λ line. (command_reading line).met;
   response = λ line. (response_reading line).reads;
-  response_read = λ line. (response_reading line).met;
   point = λ text. (point_reading text).reads;
 }
 

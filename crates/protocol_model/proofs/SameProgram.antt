@@ -8,8 +8,7 @@ use Rattle.dme_line.specs.declared.points.NotPoint.{NotPoint}
 use Rattle.dme_line.specs.declared.responses.Mark.{Mark as Marked}
 use Rattle.dme_line.specs.declared.responses.Mark.TheVariants as mark
 use Rattle.dme_line.specs.declared.responses.Response.{Response}
-use Rattle.dme_line.specs.declared.responses.ResponseFault.{ResponseFault}
-use Rattle.dme_line.specs.declared.responses.ResponseFault.TheVariants as refused
+use Rattle.dme_line.specs.declared.responses.NotResponse.{NotResponse}
 use Rattle.fixed_um.specs.declared.lengths.Point.{Point}
 use Rattle.line_framing.specs.Next.{Front, next_of}
 use Rattle.line_framing.specs.declared.faults.FramingFault.TheVariants as framing
@@ -66,10 +65,9 @@ response_same readers c t (mark.Given text) = one_of c (tag_is t (tag.Event 0)) 
 response_same readers c t mark.Done = read_same c t Mark.Done
 response_same readers c t (mark.Error text) = read_same c t Mark.Error
 
-line_same : (readers : Readers) (c : Client) (r : Result Response ResponseFault) → Same c (line_read readers c r)
+line_same : (readers : Readers) (c : Client) (r : Result Response NotResponse) → Same c (line_read readers c r)
 line_same readers c (Ok r) = response_same readers c r.tag r.mark
-line_same readers c (Err refused.NotResponse) = refl
-line_same readers c (Err refused.Memory) = refl
+line_same readers c (Err refused) = refl
 
 front_same : (readers : Readers) (c : Client) (f : Front) → Same c (front_read readers c f)
 front_same readers c (Ok None) = refl

@@ -9,8 +9,7 @@ use Rattle.dme_line.specs.declared.points.NotPoint.{NotPoint}
 use Rattle.dme_line.specs.declared.responses.Mark.{Mark as Marked}
 use Rattle.dme_line.specs.declared.responses.Mark.TheVariants as mark
 use Rattle.dme_line.specs.declared.responses.Response.{Response}
-use Rattle.dme_line.specs.declared.responses.ResponseFault.{ResponseFault}
-use Rattle.dme_line.specs.declared.responses.ResponseFault.TheVariants as refused
+use Rattle.dme_line.specs.declared.responses.NotResponse.{NotResponse}
 use Rattle.line_framing.specs.Next.{Front}
 use Rattle.line_framing.specs.declared.faults.FramingFault.TheVariants as framing
 use Rattle.protocol_model.specs.Replies.{Mark, tag_is}
@@ -116,10 +115,9 @@ response_on readers steps c written t (mark.Given text) asked h =
 response_on readers steps c written t mark.Done asked h = read_on steps c written t Mark.Done asked h
 response_on readers steps c written t (mark.Error text) asked h = read_on steps c written t Mark.Error asked h
 
-line_on : (readers : Readers) (steps : List Planned) (c : Client) (written : List ℕ) (r : Result Response ResponseFault) → AreAsked steps → IsOnPlan steps c written → IsOnPlan steps (line_read readers c r) written
+line_on : (readers : Readers) (steps : List Planned) (c : Client) (written : List ℕ) (r : Result Response NotResponse) → AreAsked steps → IsOnPlan steps c written → IsOnPlan steps (line_read readers c r) written
 line_on readers steps c written (Ok r) asked h = response_on readers steps c written r.tag r.mark asked h
-line_on readers steps c written (Err refused.NotResponse) asked h = stays_faulted steps c written Cause.NotResponse h
-line_on readers steps c written (Err refused.Memory) asked h = h
+line_on readers steps c written (Err refused) asked h = stays_faulted steps c written Cause.NotResponse h
 
 pub front_on : (readers : Readers) (steps : List Planned) (c : Client) (written : List ℕ) (f : Front) → AreAsked steps → IsOnPlan steps c written → IsOnPlan steps (front_read readers c f) written
 front_on readers steps c written (Ok None) asked h = h

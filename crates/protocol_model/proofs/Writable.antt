@@ -1,5 +1,5 @@
 -- Lines that can be written: their bytes are lines, and they read back.
-use Rattle.std.proofs.Common.{◌≡◌, ℕ, ◌≤◌, List, [], ◌∷◌, ◌++◌, refl, ◌∙◌, ap, arith, Result, Ok, Err, unsigned_abs, ℤ, ◌-ℤ◌, neg_ℤ}
+use Rattle.std.proofs.Common.{◌≡◌, ℕ, ◌≤◌, List, [], ◌∷◌, ◌++◌, refl, ◌∙◌, ap, arith, Ok, unsigned_abs, ℤ, ◌-ℤ◌, neg_ℤ}
 use Rattle.std.proofs.lemmas.Int.{ints}
 use Rattle.fixed_um.specs.Limits.{volume_limit, wire_limit}
 use Rattle.fixed_um.specs.Points.{IsInVolume, point_difference, point_opposite}
@@ -12,11 +12,8 @@ use Rattle.dme_line.specs.Responses.{written_response}
 use Rattle.dme_line.specs.Errors.{written_error, error_report}
 use Rattle.dme_line.specs.declared.tags.Tag.{Tag}
 use Rattle.dme_line.specs.declared.commands.Command.{Command}
-use Rattle.dme_line.specs.declared.reading.LineFault.{LineFault}
-use Rattle.dme_line.specs.declared.reading.LineFault.TheVariants as fault
 use Rattle.dme_line.specs.declared.responses.Mark.TheVariants as mark
 use Rattle.dme_line.specs.declared.responses.Response.{Response}
-use Rattle.dme_line.specs.declared.responses.ResponseFault.{ResponseFault}
 use Rattle.dme_line.proofs.CommandWire.{command-wire, wire_weaker}
 use Rattle.dme_line.proofs.CommandBack.{command_reads_back}
 use Rattle.dme_line.proofs.OneCommand.{one_command_reading}
@@ -58,14 +55,8 @@ texts_more (x ∷ xs) ys = ap (λ (l : List (List ℕ)). command_text x ∷ l) (
 pub command_bytes_more : (xs ys : List Line) → command_bytes (xs ++ ys) ≡ command_bytes xs ++ command_bytes ys
 command_bytes_more xs ys = ap line_bytes (texts_more xs ys) ∙ line_bytes-append (command_texts xs) (command_texts ys)
 
-abbrev Met : Type 0
-Met = Result (Tag × Command) LineFault
-
-no_fault : (t : Tag) (c : Command) → ◌≡◌ {A = Met} (Ok (t, c)) (Err fault.Memory) → ⊥
-no_fault t c e = cc
-
 pub command_read : (r : Readers) → AreReaders r → (t : Tag) (c : Command) → IsWritable t c → r.command (written_command t c) ≡ Ok (t, c)
-command_read r h t c w = one_command_reading (written_command t c) (r.command (written_command t c)) (Ok (t, c)) (h.command (written_command t c)) (command_reads_back t c w) (h.command_read (written_command t c)) (no_fault t c)
+command_read r h t c w = one_command_reading (written_command t c) (r.command (written_command t c)) (Ok (t, c)) (h.command (written_command t c)) (command_reads_back t c w)
 
 -- ---- replies
 
@@ -107,21 +98,15 @@ reply_texts_more (x ∷ xs) ys = ap (λ (l : List (List ℕ)). reply_text x ∷ 
 pub reply_bytes_more : (xs ys : List Reply) → reply_bytes (xs ++ ys) ≡ reply_bytes xs ++ reply_bytes ys
 reply_bytes_more xs ys = ap line_bytes (reply_texts_more xs ys) ∙ line_bytes-append (reply_texts xs) (reply_texts ys)
 
-abbrev Said : Type 0
-Said = Result Response ResponseFault
-
-no_refusal : (r : Response) (f : ResponseFault) → ◌≡◌ {A = Said} (Ok r) (Err f) → ⊥
-no_refusal r f e = cc
-
 response_back : (r : Readers) → AreReaders r → (x : Response) → IsTag x.tag → r.response (written_response x) ≡ Ok x
-response_back r h x t = one_response_reading (written_response x) (r.response (written_response x)) (Ok x) (h.response (written_response x)) (response_reads_back x t) (h.response_read (written_response x)) (no_refusal x _)
+response_back r h x t = one_response_reading (written_response x) (r.response (written_response x)) (Ok x) (h.response (written_response x)) (response_reads_back x t)
 
 pub reply_read : (r : Readers) → AreReaders r → (x : Reply) → IsWritableReply x → r.response (reply_text x) ≡ Ok (response_of x)
 reply_read r h (Reply.Acks t) w = response_back r h (record { tag = t; mark = mark.Ack }) w
 reply_read r h (Reply.Gives t p) w = response_back r h (record { tag = t; mark = mark.Given (written_point p) }) w.0
 reply_read r h (Reply.Completes t) w = response_back r h (record { tag = t; mark = mark.Done }) w
 reply_read r h (Reply.Fails t code name) w =
-    one_response_reading (written_error t code name) (r.response (written_error t code name)) (Ok (record { tag = t; mark = mark.Error (error_report code name) })) (h.response (written_error t code name)) (error_reads_back t code name w) (h.response_read (written_error t code name)) (no_refusal _ _)
+    one_response_reading (written_error t code name) (r.response (written_error t code name)) (Ok (record { tag = t; mark = mark.Error (error_report code name) })) (h.response (written_error t code name)) (error_reads_back t code name w)
 
 pub point_read : (r : Readers) → AreReaders r → (p : Point) → IsOnWire p → r.point (written_point p) ≡ Ok p
 point_read r h p w = one_point_reading (written_point p) (r.point (written_point p)) (Ok p) (h.point (written_point p)) (point_reads_back p w)

@@ -8,8 +8,7 @@ use Rattle.dme_line.specs.declared.commands.Kind.{Kind}
 use Rattle.dme_line.specs.declared.responses.Mark.{Mark as Marked}
 use Rattle.dme_line.specs.declared.responses.Mark.TheVariants as mark
 use Rattle.dme_line.specs.declared.responses.Response.{Response}
-use Rattle.dme_line.specs.declared.responses.ResponseFault.{ResponseFault}
-use Rattle.dme_line.specs.declared.responses.ResponseFault.TheVariants as refused
+use Rattle.dme_line.specs.declared.responses.NotResponse.{NotResponse}
 use Rattle.dme_line.specs.declared.points.NotPoint.{NotPoint}
 use Rattle.contact_ledger.specs.declared.features.Feature.{Feature}
 use Rattle.line_framing.specs.Next.{Front, next_of}
@@ -87,11 +86,10 @@ response_read readers c t (mark.Given text) = given readers c t text
 response_read readers c t mark.Done = client_read c t Mark.Done
 response_read readers c t (mark.Error text) = client_read c t Mark.Error
 
--- a line is read as a response, or is none; want of memory is no reading
-abbrev pub line_read : Readers → Client → Result Response ResponseFault → Client
+-- a line is read as a response, or is none
+abbrev pub line_read : Readers → Client → Result Response NotResponse → Client
 line_read readers c (Ok r) = response_read readers c r.tag r.mark
-line_read readers c (Err refused.NotResponse) = faulted Cause.NotResponse c
-line_read readers c (Err refused.Memory) = c
+line_read readers c (Err refused) = faulted Cause.NotResponse c
 
 -- what stands at the front of the bytes: nothing whole, a line, or a fault, which ends the client's reading
 abbrev pub front_read : Readers → Client → Front → Client

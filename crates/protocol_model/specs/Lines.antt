@@ -1,5 +1,5 @@
 -- Lines as bytes: what is written of commands and replies, and how they are read (I++ DME Interface version 1; the texts of errors are this profile's).
-use Rattle.std.specs.Prelude.{◌≢◌, ℕ, List, [], ◌∷◌, Result, Ok, Err}
+use Rattle.std.specs.Prelude.{ℕ, List, [], ◌∷◌, Result, Ok, Err}
 use Rattle.fixed_um.specs.declared.lengths.Point.{Point}
 use Rattle.dme_line.specs.Points.{written_point, ReadsPoint}
 use Rattle.dme_line.specs.Written.{written_command}
@@ -9,11 +9,9 @@ use Rattle.dme_line.specs.Errors.{written_error}
 use Rattle.dme_line.specs.declared.tags.Tag.{Tag}
 use Rattle.dme_line.specs.declared.commands.Command.{Command}
 use Rattle.dme_line.specs.declared.reading.LineFault.{LineFault}
-use Rattle.dme_line.specs.declared.reading.LineFault.TheVariants as fault
 use Rattle.dme_line.specs.declared.responses.Mark.TheVariants as mark
 use Rattle.dme_line.specs.declared.responses.Response.{Response}
-use Rattle.dme_line.specs.declared.responses.ResponseFault.{ResponseFault}
-use Rattle.dme_line.specs.declared.responses.ResponseFault.TheVariants as refused
+use Rattle.dme_line.specs.declared.responses.NotResponse.{NotResponse}
 use Rattle.dme_line.specs.declared.points.NotPoint.{NotPoint}
 use Rattle.line_framing.specs.Content.{line_bytes}
 use Rattle.protocol_model.specs.Replies.{Reading, Reply}
@@ -51,15 +49,14 @@ reply_bytes rs = line_bytes (reply_texts rs)
 -- functions that read the lines of commands and of responses, and the texts of points
 pub record Readers : Type 0 where
   pub command : List ℕ → Result (Tag × Command) LineFault
-  pub response : List ℕ → Result Response ResponseFault
+  pub response : List ℕ → Result Response NotResponse
   pub point : List ℕ → Result Point NotPoint
 
--- they read as the interface says; want of memory is no reading
+-- they read as the interface says
 pub record AreReaders (r : Readers) : Type 0 where
   pub command : (line : List ℕ) → ReadsCommand line (r.command line)
-  pub command_read : (line : List ℕ) → r.command line ≢ Err fault.Memory
+  -- a line of no response is told to be none
   pub response : (line : List ℕ) → ReadsResponse line (r.response line)
-  pub response_read : (line : List ℕ) → r.response line ≢ Err refused.Memory
   pub point : (text : List ℕ) → ReadsPoint text (r.point text)
 
 -- what the server reads of a line

@@ -18,11 +18,12 @@ use Rattle.dme_line.specs.declared.commands.Command.TheVariants as command
 use Rattle.contact_ledger.specs.declared.acts.Act.{Act}
 use Rattle.contact_ledger.specs.declared.acts.Act.TheVariants as act
 use Rattle.protocol_model.specs.Replies.{Reading, Reply, tag_is}
-use Rattle.dme_line.specs.declared.reading.LineFault.{LineFault}
 use Rattle.dme_line.specs.declared.reading.LineFault.TheVariants as fault
 use Rattle.fixed_um.specs.Points.{point_opposite}
 use Rattle.protocol_model.specs.declared.machine.Job.{Job}
 use Rattle.protocol_model.specs.declared.machine.Outcome.{Outcome}
+use Rattle.protocol_model.specs.declared.lines.Misread.{Misread}
+use Rattle.protocol_model.specs.declared.lines.Misread.TheVariants as misread
 use Rattle.protocol_model.specs.declared.lines.Waiting.{Waiting}
 use Rattle.protocol_model.specs.declared.lines.Line.{Line}
 
@@ -73,12 +74,10 @@ new_server rack = record {
 }
 
 -- the name in an error text: that of the command, where it is known
-abbrev pub kind_in : Result Command LineFault → Option Kind
+abbrev pub kind_in : Result Command Misread → Option Kind
 kind_in (Ok c) = Some (kind_of c)
-kind_in (Err fault.NoTag) = None
-kind_in (Err (fault.UnknownCommand t)) = None
-kind_in (Err (fault.BadArguments t k)) = Some k
-kind_in (Err fault.Memory) = None
+kind_in (Err misread.UnknownCommand) = None
+kind_in (Err (misread.BadArguments k)) = Some k
 
 -- a command fails with a number: an error, and its end
 abbrev pub fails : Tag → ℕ → Option Kind → List Reply
@@ -94,7 +93,7 @@ abbrev pub in_error : Server → Server
 in_error s = record s { error = true; waiting = [] }
 
 -- a command joins what waits
-abbrev pub queued : Tag → Result Command LineFault → Server → Server
+abbrev pub queued : Tag → Result Command Misread → Server → Server
 queued t reading s = record s { waiting = s.waiting ++ record { tag = t; reading = reading } ∷ [] }
 
 -- an act is done on the present connection
@@ -128,29 +127,21 @@ waits_under t [] = false
 waits_under t (w ∷ ws) = tag_is w.tag t || waits_under t ws
 
 -- the command that aborts
-abbrev pub is_abort : Result Command LineFault → Bool
+abbrev pub is_abort : Result Command Misread → Bool
 is_abort (Ok command.AbortE) = true
 is_abort (Ok _) = false
 is_abort (Err refused) = false
 
 -- the command that ends the error state
-abbrev pub is_clear : Result Command LineFault → Bool
+abbrev pub is_clear : Result Command Misread → Bool
 is_clear (Ok command.ClearAllErrors) = true
 is_clear (Ok _) = false
 is_clear (Err refused) = false
 
--- a line that reads as no command
-abbrev pub is_fault : Result Command LineFault → Bool
-is_fault (Ok c) = false
-is_fault (Err refused) = true
-
--- the number of the error for a line that reads as no command
-abbrev pub fault_number : Result Command LineFault → ℕ
-fault_number (Ok c) = 0
-fault_number (Err fault.NoTag) = 9001
-fault_number (Err (fault.UnknownCommand t)) = 9003
-fault_number (Err (fault.BadArguments t k)) = 9004
-fault_number (Err fault.Memory) = 0
+-- the number of the error for what was read under a tag and is no command
+abbrev pub fault_number : Misread → ℕ
+fault_number misread.UnknownCommand = 9003
+fault_number (misread.BadArguments k) = 9004
 
 -- the running command, if any, stops with 9007
 abbrev pub running_fails : Option Line → List Reply
@@ -164,7 +155,7 @@ aborted s t =
     (Reply.Acks t ∷ (running_fails s.running ++ (all_fail 9007 s.waiting ++ Reply.Completes t ∷ [])))
 
 -- a standard command, or a faulty line on a standard tag: refused in the error state, which ClearAllErrors ends; refused where 64 wait; else queued
-abbrev pub stands : Server → Tag → Result Command LineFault → Answer
+abbrev pub stands : Server → Tag → Result Command Misread → Answer
 stands s t reading =
     if s.error && not (is_clear reading) then answers s (Reply.Acks t ∷ fails t 9008 (kind_in reading))
     else if s.error then answers (queued t reading (record s { error = false })) (Reply.Acks t ∷ [])
@@ -172,14 +163,14 @@ stands s t reading =
     else answers (queued t reading s) (Reply.Acks t ∷ [])
 
 -- a line under a tag that is not in use: an abort, a faulty line on an event tag, or a standard one
-abbrev pub fresh : Server → Tag → Result Command LineFault → Answer
-fresh s t reading =
-    if is_abort reading then aborted s t
-    else if is_event_tag t && is_fault reading then answers s (Reply.Acks t ∷ fails t (fault_number reading) (kind_in reading))
-    else stands s t reading
+abbrev pub fresh : Server → Tag → Result Command Misread → Answer
+fresh s t (Ok c) = if is_abort (Ok c) then aborted s t else stands s t (Ok c)
+fresh s t (Err why) =
+    if is_event_tag t then answers s (Reply.Acks t ∷ fails t (fault_number why) (kind_in (Err why)))
+    else stands s t (Err why)
 
 -- a line with a tag: refused where a command under it runs or waits
-abbrev pub tagged : Server → Tag → Result Command LineFault → Answer
+abbrev pub tagged : Server → Tag → Result Command Misread → Answer
 tagged s t reading =
     if runs_under t s.running || waits_under t s.waiting then answers s (Reply.Fails (Event 0) 9002 None ∷ [])
     else fresh s t reading
@@ -187,10 +178,8 @@ tagged s t reading =
 -- what is answered to a line that was read; a line without a tag is answered on the event tag number 0
 abbrev pub server_read : Server → Reading → Answer
 server_read s (Err fault.NoTag) = answers s (Reply.Fails (Event 0) 9001 None ∷ [])
-server_read s (Err (fault.UnknownCommand t)) = tagged s t (Err (fault.UnknownCommand t))
-server_read s (Err (fault.BadArguments t k)) = tagged s t (Err (fault.BadArguments t k))
--- want of memory is no reading
-server_read s (Err fault.Memory) = answers s []
+server_read s (Err (fault.UnknownCommand t)) = tagged s t (Err misread.UnknownCommand)
+server_read s (Err (fault.BadArguments t k)) = tagged s t (Err (misread.BadArguments k))
 server_read s (Ok line) = tagged s line.tag (Ok line.command)
 
 -- ---- the first waiting command has its turn
@@ -250,8 +239,8 @@ checks s c =
     ∷ (lacks_tool s.rack c, 9012) ∷ (has_no_tool s.tool c, 9011) ∷ (leaves_volume s.frame c, 9013) ∷ []
 
 -- the number with which what waits is refused at its turn, if it is
-abbrev pub refusal : Server → Result Command LineFault → Option ℕ
-refusal s (Err refused) = Some (fault_number (Err refused))
+abbrev pub refusal : Server → Result Command Misread → Option ℕ
+refusal s (Err why) = Some (fault_number why)
 refusal s (Ok c) = first_failing (checks s c)
 
 -- the frame that a coordinate system selects
@@ -279,7 +268,7 @@ carried_out s t (command.PtMeas p d) = starts_running s t (command.PtMeas p d)
 carried_out s t command.AbortE = answers s []
 
 -- what waits is carried out
-abbrev pub carried : Server → Tag → Result Command LineFault → Answer
+abbrev pub carried : Server → Tag → Result Command Misread → Answer
 carried s t (Ok c) = carried_out s t c
 carried s t (Err refused) = answers s []
 

@@ -36,7 +36,7 @@ pub mod undisturbed;
 
 pub use events::Event;
 pub use held::{Held, Stage};
-pub use lines::{Line, Waiting};
+pub use lines::{Line, Misread, Waiting};
 pub use machine::{Job, Outcome};
 pub use plan_laws::plans_measure_what_is_left;
 pub use plans::{Does, Planned, Start};

@@ -1,6 +1,6 @@
 // Lines as values.
 
-use dme_line::{Command, LineFault, Tag};
+use dme_line::{Command, Kind, Tag};
 
 /// A command under its tag (I++ DME Interface version 1).
 #[derive(Debug, Drop)]
@@ -9,9 +9,18 @@ pub struct Line {
     pub command: Command,
 }
 
-/// What waits at a server: what was read under a tag, a command or the fault of its line (this profile).
+/// Why what was read under a tag is no command (this profile).
+#[derive(Clone, Copy, Debug, PartialEq, Eq)]
+pub enum Misread {
+    /// The name is none that is known.
+    UnknownCommand,
+    /// The arguments of this kind of command don't read, or the tag is not of the command's kind.
+    BadArguments(Kind),
+}
+
+/// What waits at a server: what was read under a tag, a command or why it is none (this profile).
 #[derive(Debug, Drop)]
 pub struct Waiting {
     pub tag: Tag,
-    pub reading: Result<Command, LineFault>,
+    pub reading: Result<Command, Misread>,
 }

@@ -5,7 +5,6 @@ use Rattle.fixed_um.specs.declared.frames.Frame.{Frame}
 use Rattle.dme_line.specs.declared.tags.Tag.{Tag}
 use Rattle.dme_line.specs.declared.commands.Command.{Command}
 use Rattle.dme_line.specs.declared.commands.Command.TheVariants as command
-use Rattle.dme_line.specs.declared.reading.LineFault.{LineFault}
 use Rattle.contact_ledger.specs.declared.acts.Act.{Act}
 use Rattle.contact_ledger.specs.declared.acts.Act.TheVariants as act
 use Rattle.line_framing.specs.Next.{Front, next_of}
@@ -13,6 +12,7 @@ use Rattle.protocol_model.specs.Lines.{Readers, reading_of}
 use Rattle.protocol_model.specs.Server.{Server, Answer, frame_of, refusal, carried_out, carried, taken, turned_to, server_turned, finished, touched, machined}
 use Rattle.protocol_model.specs.Ends.{ServerEnd, front_served, serving_read, serving_turned, serving_machined}
 use Rattle.protocol_model.specs.declared.lines.Line.{Line}
+use Rattle.protocol_model.specs.declared.lines.Misread.{Misread}
 use Rattle.protocol_model.specs.declared.lines.Waiting.{Waiting}
 use Rattle.protocol_model.specs.declared.machine.Job.{Job}
 use Rattle.protocol_model.specs.declared.machine.Outcome.{Outcome}
@@ -56,7 +56,7 @@ taken_frames : (s : Server) (w : Waiting) (ws : List Waiting) (number : Option �
 taken_frames s w ws (Some number) = (None, refl)
 taken_frames s w ws None = go w.reading
   where
-    go : (reading : Result Command LineFault) → Frames s (carried (record s { waiting = ws }) w.tag reading)
+    go : (reading : Result Command Misread) → Frames s (carried (record s { waiting = ws }) w.tag reading)
     go (Ok c) = let f = carried_frames (record s { waiting = ws }) w.tag c in (f.0, f.1)
     go (Err refused) = (None, refl)
 

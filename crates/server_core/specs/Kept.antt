@@ -11,16 +11,14 @@ use Rattle.dme_line.specs.declared.reading.LineFault.TheVariants as fault
 use Rattle.contact_ledger.specs.Ledgers.{IsConnection}
 use Rattle.protocol_model.specs.Server.{Server, offset, job_run}
 use Rattle.protocol_model.specs.declared.lines.Line.{Line}
+use Rattle.protocol_model.specs.declared.lines.Misread.{Misread}
 use Rattle.protocol_model.specs.declared.lines.Waiting.{Waiting}
 use Rattle.protocol_model.specs.declared.machine.Job.{Job}
 
--- what was read under a tag: a command, the lengths of a transformation within the volume limit, or a fault of its name or its arguments
-abbrev pub IsReadingFit : Result Command LineFault → Type 0
+-- what was read under a tag: of a command the lengths of a transformation are within the volume limit
+abbrev pub IsReadingFit : Result Command Misread → Type 0
 IsReadingFit (Ok c) = HasVolumeLengths c
-IsReadingFit (Err fault.NoTag) = ⊥
-IsReadingFit (Err (fault.UnknownCommand t)) = Unit {0}
-IsReadingFit (Err (fault.BadArguments t k)) = Unit {0}
-IsReadingFit (Err fault.Memory) = ⊥
+IsReadingFit (Err why) = Unit {0}
 
 -- what was read of a line: its tag can be written
 abbrev pub IsLineFit : Result (Tag × Command) LineFault → Type 0
@@ -28,7 +26,6 @@ IsLineFit (Ok (tag, c)) = IsTag tag × HasVolumeLengths c
 IsLineFit (Err fault.NoTag) = Unit {0}
 IsLineFit (Err (fault.UnknownCommand t)) = IsTag t
 IsLineFit (Err (fault.BadArguments t k)) = IsTag t
-IsLineFit (Err fault.Memory) = Unit {0}
 
 -- what waits has a tag that can be written, and lengths within the volume limit
 pub record IsFit (w : Waiting) : Type 0 where

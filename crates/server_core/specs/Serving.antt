@@ -2,7 +2,7 @@
 use Rattle.std.specs.Prelude.{◌≡◌, ◌≢◌, ℕ, nat_lt, nat_le, Bool, not, ◌&&◌, is_none, Option, Some, None, true, false, List, [], ◌∷◌, Result, Ok, Err}
 use Rattle.dme_line.specs.declared.commands.Command.{Command}
 use Rattle.dme_line.specs.declared.commands.Command.TheVariants as command
-use Rattle.dme_line.specs.declared.reading.LineFault.{LineFault}
+use Rattle.protocol_model.specs.declared.lines.Misread.{Misread}
 use Rattle.protocol_model.specs.declared.lines.Waiting.{Waiting}
 use Rattle.line_framing.specs.Next.{next_of}
 use Rattle.line_framing.specs.Framing.{IsLineDue}
@@ -50,7 +50,7 @@ abbrev pub first_refusal : Server → Option ℕ
 first_refusal s = refusal_in s s.waiting
 
 -- the first waiting command, if one waits and was no faulty line
-abbrev pub ok_of : Result Command LineFault → Option Command
+abbrev pub ok_of : Result Command Misread → Option Command
 ok_of (Ok c) = Some c
 ok_of (Err refused) = None
 

@@ -4,6 +4,7 @@ ghost use Rattle.std.specs.Prelude.{◌≡◌, ◌≤◌, ◌+◌, ◌*◌, ◌+
 ghost use Rattle.std.specs.List.{AllByRecursion};
 ghost use Rattle.dme_line.specs.Tags.{IsTag};
 ghost use Rattle.dme_line.specs.Points.{IsOnWire};
+ghost use Rattle.dme_line.specs.Errors.{number_of};
 ghost use Rattle.protocol_model.specs.Replies.{Reply};
 ghost use Rattle.protocol_model.specs.Lines.{reply_bytes};
 ghost use Rattle.protocol_model.specs.Server.{fails, all_fail, kind_in};
@@ -11,10 +12,11 @@ ghost use Rattle.server_core.specs.Kept.{IsFit};
 
 use command_queue::Queue;
 use dme_line::{
-    Command, Kind, LineFault, Tag, write_complete_reserved, write_data_reserved,
+    Command, ErrorNumber, Kind, Tag, write_complete_reserved, write_data_reserved,
     write_error_reserved, write_received_reserved,
 };
 use fixed_um::Point;
+use protocol_model::Misread;
 
 /// The most bytes that one call of a server answers: 132 lines of at most 80 bytes, ends included. They are the answer to an abort while a
 /// command runs and 64 wait (this profile).
@@ -68,50 +70,46 @@ pub(crate) fn write_point(out: &mut Vec<u8>, tag: Tag, point: Point)
 }
 
 /// An error, with the command's name where it is known.
-pub(crate) fn write_error(out: &mut Vec<u8>, tag: Tag, code: u16, kind: Option<Kind>)
+pub(crate) fn write_error(out: &mut Vec<u8>, tag: Tag, error: ErrorNumber, kind: Option<Kind>)
     requires tag { IsTag tag }
-    requires low { 9001 ≤ code }
-    requires high { code ≤ 9015 }
     requires room { vec_len out.old + 80 ≤ vec_capacity out.old }
-    ensures text { out.new.items ≡ out.old.items ++ reply_bytes (Reply.Fails tag code kind ∷ []) }
+    ensures text { out.new.items ≡ out.old.items ++ reply_bytes (Reply.Fails tag (number_of error) kind ∷ []) }
     ensures len { vec_len out.new ≤ vec_len out.old + 80 }
     ensures capacity { vec_capacity out.old ≤ vec_capacity out.new }
 {
-    write_error_reserved(out, tag, code, kind);
+    write_error_reserved(out, tag, error, kind);
     write_end(out);
 }
 
 /// A command fails: an error, and its end.
-pub(crate) fn write_failure(out: &mut Vec<u8>, tag: Tag, code: u16, kind: Option<Kind>)
+pub(crate) fn write_failure(out: &mut Vec<u8>, tag: Tag, error: ErrorNumber, kind: Option<Kind>)
     requires tag { IsTag tag }
-    requires low { 9001 ≤ code }
-    requires high { code ≤ 9015 }
     requires room { vec_len out.old + 160 ≤ vec_capacity out.old }
-    ensures text { out.new.items ≡ out.old.items ++ reply_bytes (fails tag code kind) }
+    ensures text { out.new.items ≡ out.old.items ++ reply_bytes (fails tag (number_of error) kind) }
     ensures len { vec_len out.new ≤ vec_len out.old + 160 }
     ensures capacity { vec_capacity out.old ≤ vec_capacity out.new }
 {
-    write_error(out, tag, code, kind);
+    write_error(out, tag, error, kind);
     write_complete(out, tag);
 }
 
-/// The kind of a command whose line is faulty, where it is known.
-pub(crate) fn kind_of_fault(fault: &LineFault) -> Option<Kind>
-    ensures { result ≡ kind_in (Err fault.now) }
+/// The kind of a command that was misread, where it is known.
+pub(crate) fn kind_of_misread(why: Misread) -> Option<Kind>
+    ensures { result ≡ kind_in (Err why) }
 {
-    match fault {
-        LineFault::BadArguments(_, kind) => Some(*kind),
-        LineFault::NoTag | LineFault::UnknownCommand(_) | LineFault::Memory => None,
+    match why {
+        Misread::UnknownCommand => None,
+        Misread::BadArguments(kind) => Some(kind),
     }
 }
 
 /// The kind of what was read, where it is known.
-pub(crate) fn kind_in(reading: &Result<Command, LineFault>) -> Option<Kind>
+pub(crate) fn kind_in(reading: &Result<Command, Misread>) -> Option<Kind>
     ensures { result ≡ kind_in reading.now }
 {
     match reading {
         Ok(command) => Some(command.kind()),
-        Err(fault) => kind_of_fault(fault),
+        Err(why) => kind_of_misread(*why),
     }
 }
 
@@ -126,6 +124,11 @@ pub(crate) fn write_all_aborted(out: &mut Vec<u8>, waiting: &mut Queue)
     ensures capacity { vec_capacity out.old ≤ vec_capacity out.new }
 {
     while let Some(command) = waiting.take() {
-        write_failure(out, command.tag, 9007, kind_in(&command.reading));
+        write_failure(
+            out,
+            command.tag,
+            ErrorNumber::Aborted,
+            kind_in(&command.reading),
+        );
     }
 }

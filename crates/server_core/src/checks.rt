@@ -1,13 +1,14 @@
 // The checks of a command at its turn.
 
-ghost use Rattle.std.specs.Prelude.{◌≡◌, ◌≤◌, IfSome};
+ghost use Rattle.std.specs.Prelude.{◌≡◌, option_map};
+ghost use Rattle.dme_line.specs.Errors.{number_of};
 ghost use Rattle.protocol_model.specs.Server.{opens, wants_session, wants_home, lacks_tool, has_no_tool, leaves_volume, first_failing, checks, offset, refusal};
-ghost use Rattle.server_core.specs.Kept.{IsReadingFit};
 
 use crate::controller::{Controller, origin};
-use crate::reading::fault_number;
-use dme_line::{Command, LineFault};
+use crate::reading::error_of;
+use dme_line::{Command, ErrorNumber};
 use fixed_um::{Frame, Name, Point};
+use protocol_model::Misread;
 use tool_rack::Rack;
 
 /// Where a frame has its zero point on the machine.
@@ -74,36 +75,34 @@ fn leaves_volume(frame: Frame, command: &Command) -> bool
 }
 
 impl Controller {
-    /// The number of the first check that a command fails.
-    fn first_failing(&self, command: &Command) -> Option<u16>
-        ensures { result ≡ first_failing (checks self.now.server command.now) }
+    /// The error of the first check that a command fails.
+    fn first_failing(&self, command: &Command) -> Option<ErrorNumber>
+        ensures { option_map number_of result ≡ first_failing (checks self.now.server command.now) }
     {
         if wants_session(command) && !self.session {
-            Some(9005)
+            Some(ErrorNumber::NoSession)
         } else if opens_session(command) && self.session {
-            Some(9006)
+            Some(ErrorNumber::SessionOpen)
         } else if wants_home(command) && !self.homed {
-            Some(9010)
+            Some(ErrorNumber::NotHomed)
         } else if lacks_tool(self.setup.rack(), command) {
-            Some(9012)
+            Some(ErrorNumber::UnknownTool)
         } else if has_no_tool(&self.tool, command) {
-            Some(9011)
+            Some(ErrorNumber::NoTool)
         } else if leaves_volume(self.frame, command) {
-            Some(9013)
+            Some(ErrorNumber::OutOfVolume)
         } else {
             None
         }
     }
 
-    /// The number with which what was read is refused at its turn: that of its fault, or of the first check that fails.
-    pub(crate) fn refusal(&self, reading: &Result<Command, LineFault>) -> Option<u16>
-        requires { IsReadingFit reading.now }
-        ensures number { result ≡ refusal self.now.server reading.now }
-        ensures within { IfSome result (λ number. (9001 ≤ number) × (number ≤ 9015)) }
+    /// The error with which what was read is refused at its turn: why it is no command, or that of the first check that fails.
+    pub(crate) fn refusal(&self, reading: &Result<Command, Misread>) -> Option<ErrorNumber>
+        ensures { option_map number_of result ≡ refusal self.now.server reading.now }
     {
         match reading {
             Ok(command) => self.first_failing(command),
-            Err(fault) => Some(fault_number(fault)),
+            Err(why) => Some(error_of(*why)),
         }
     }
 }

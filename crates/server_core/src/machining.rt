@@ -2,6 +2,7 @@
 
 ghost use Rattle.std.specs.Prelude.{◌≡◌, ◌≢◌, ◌↔◌, IsTrue, IfErr, ◌≤◌, ◌+◌, ◌++◌, ◌∷◌, [], true, length, vec_len, vec_capacity, OnOk, OnErr, Some};
 ghost use Rattle.contact_ledger.specs.Ledgers.{IsConnection};
+ghost use Rattle.dme_line.specs.Errors.{number_of};
 ghost use Rattle.fixed_um.specs.Points.{IsInVolume};
 ghost use Rattle.protocol_model.specs.Lines.{reply_bytes};
 ghost use Rattle.protocol_model.specs.Server as server;
@@ -14,7 +15,7 @@ use crate::checks::offset;
 use crate::controller::{Controller, Running};
 use crate::faults::ServerFault;
 use contact_ledger::{Act, ServerLedger};
-use dme_line::Command;
+use dme_line::{Command, ErrorNumber};
 use fixed_um::Point;
 use protocol_model::{Line, Outcome};
 use std::alloc::AllocError;
@@ -71,15 +72,13 @@ impl Controller {
         Ok(())
     }
 
-    /// What runs has failed with a number: it and all that wait fail.
-    fn stop(&mut self, out: &mut Vec<u8>, number: u16)
-        requires low { 9001 ≤ number }
-        requires high { number ≤ 9015 }
+    /// What runs has failed with an error: it and all that wait fail.
+    fn stop(&mut self, out: &mut Vec<u8>, error: ErrorNumber)
         requires room { vec_len out.old + 10560 ≤ vec_capacity out.old }
         ensures controller { (line : OneLine) → self.old.server.running ≡ Some line
-            → self.new ≡ with_answered self.old (server.stopped self.old.server line number) }
+            → self.new ≡ with_answered self.old (server.stopped self.old.server line (number_of error)) }
         ensures text { (line : OneLine) → self.old.server.running ≡ Some line
-            → out.new.items ≡ out.old.items ++ reply_bytes (server.stopped self.old.server line number).said }
+            → out.new.items ≡ out.old.items ++ reply_bytes (server.stopped self.old.server line (number_of error)).said }
         ensures len { vec_len out.new ≤ vec_len out.old + 10560 }
     {
         let _at_most = self.waiting.len();
@@ -89,7 +88,7 @@ impl Controller {
         write_failure(
             out,
             running.line.tag,
-            number,
+            error,
             Some(running.line.command.kind()),
         );
         write_all_aborted(out, &mut self.waiting);
@@ -186,11 +185,11 @@ impl Controller {
             Outcome::Done => self.finish(out),
             Outcome::Touched(at) => self.touch(out, at),
             Outcome::Missed => {
-                self.stop(out, 9014);
+                self.stop(out, ErrorNumber::NoSurface);
                 Ok(())
             }
             Outcome::Fault => {
-                self.stop(out, 9015);
+                self.stop(out, ErrorNumber::MachineFault);
                 Ok(())
             }
         }

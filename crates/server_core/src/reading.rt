@@ -2,6 +2,7 @@
 
 ghost use Rattle.std.specs.Prelude.{◌≡◌, ◌≤◌, ◌+◌, ◌++◌, ◌||◌, true, option_map, ◌∷◌, [], length, vec_len, vec_capacity, Err, OnOk, OnErr};
 ghost use Rattle.dme_line.specs.Tags.{IsTag, is_event_tag};
+ghost use Rattle.dme_line.specs.Errors.{number_of};
 ghost use Rattle.protocol_model.specs.Lines.{Readers, AreReaders, reply_bytes, reading_of};
 ghost use Rattle.protocol_model.specs.Replies.{Reply};
 ghost use Rattle.protocol_model.specs.Server as server;
@@ -9,29 +10,27 @@ ghost use Rattle.server_core.specs.Serving.{with_answered};
 ghost use Rattle.server_core.specs.Kept.{IsReadingFit, IsRunningFit, IsLineFit};
 
 use crate::answers::{
-    kind_in, kind_of_fault, write_all_aborted, write_complete, write_error, write_failure,
+    kind_in, kind_of_misread, write_all_aborted, write_complete, write_error, write_failure,
     write_received,
 };
 use crate::controller::{Controller, Running};
-use dme_line::{Command, LineFault, Tag, read_command};
-use protocol_model::Waiting;
+use dme_line::{Command, ErrorNumber, LineFault, Tag, read_command};
+use protocol_model::{Misread, Waiting};
 use std::alloc::AllocError;
 
-fn is_clear(reading: &Result<Command, LineFault>) -> bool
+fn is_clear(reading: &Result<Command, Misread>) -> bool
     ensures { result ≡ server.is_clear reading.now }
 {
     matches!(reading, Ok(Command::ClearAllErrors))
 }
 
-/// The number of a line's fault.
-pub(crate) fn fault_number(fault: &LineFault) -> u16
-    ensures { result ≡ server.fault_number (Err fault.now) }
+/// The error for what was read under a tag and is no command.
+pub(crate) fn error_of(why: Misread) -> ErrorNumber
+    ensures { number_of result ≡ server.fault_number why }
 {
-    match fault {
-        LineFault::NoTag => 9001,
-        LineFault::UnknownCommand(_) => 9003,
-        LineFault::BadArguments(_, _) => 9004,
-        LineFault::Memory => 0,
+    match why {
+        Misread::UnknownCommand => ErrorNumber::UnknownCommand,
+        Misread::BadArguments(_) => ErrorNumber::BadArguments,
     }
 }
 
@@ -47,7 +46,7 @@ fn write_running_aborted(out: &mut Vec<u8>, running: &Option<Running>)
         write_failure(
             out,
             running.line.tag,
-            9007,
+            ErrorNumber::Aborted,
             Some(running.line.command.kind()),
         );
     }
@@ -85,7 +84,7 @@ impl Controller {
 
     /// A standard command, or a faulty line on a standard tag: refused in the error state, which `ClearAllErrors` ends; refused where 64
     /// wait; else it waits.
-    fn stand(&mut self, out: &mut Vec<u8>, tag: Tag, reading: Result<Command, LineFault>)
+    fn stand(&mut self, out: &mut Vec<u8>, tag: Tag, reading: Result<Command, Misread>)
         requires tag { IsTag tag }
         requires reading { IsReadingFit reading }
         requires on { self.old.server.on ≡ true }
@@ -97,31 +96,30 @@ impl Controller {
         let _at_most = self.waiting.len();
         write_received(out, tag);
         if self.error && !is_clear(&reading) {
-            write_failure(out, tag, 9008, kind_in(&reading));
+            write_failure(out, tag, ErrorNumber::ErrorState, kind_in(&reading));
             return;
         }
         self.error = false;
         if let Err(refused) = self.waiting.put(Waiting { tag, reading }) {
-            write_failure(out, tag, 9009, kind_in(&refused.reading));
+            write_failure(out, tag, ErrorNumber::QueueFull, kind_in(&refused.reading));
             write_all_aborted(out, &mut self.waiting);
             self.error = true;
         }
     }
 
     /// A faulty line on an event tag: the error state is not entered.
-    fn refuse_event(&self, out: &mut Vec<u8>, tag: Tag, fault: &LineFault)
+    fn refuse_event(&self, out: &mut Vec<u8>, tag: Tag, why: Misread)
         requires tag { IsTag tag }
-        requires fault { IsReadingFit (Err fault.now) }
         requires room { vec_len out.old + 10560 ≤ vec_capacity out.old }
-        ensures text { out.new.items ≡ out.old.items ++ reply_bytes (Reply.Acks tag ∷ server.fails tag (server.fault_number (Err fault.now)) (server.kind_in (Err fault.now))) }
+        ensures text { out.new.items ≡ out.old.items ++ reply_bytes (Reply.Acks tag ∷ server.fails tag (server.fault_number why) (server.kind_in (Err why))) }
         ensures len { vec_len out.new ≤ vec_len out.old + 10560 }
     {
         write_received(out, tag);
-        write_failure(out, tag, fault_number(fault), kind_of_fault(fault));
+        write_failure(out, tag, error_of(why), kind_of_misread(why));
     }
 
     /// A line under a tag that is not in use.
-    fn read_fresh(&mut self, out: &mut Vec<u8>, tag: Tag, reading: Result<Command, LineFault>)
+    fn read_fresh(&mut self, out: &mut Vec<u8>, tag: Tag, reading: Result<Command, Misread>)
         requires tag { IsTag tag }
         requires reading { IsReadingFit reading }
         requires on { self.old.server.on ≡ true }
@@ -132,13 +130,14 @@ impl Controller {
     {
         match (tag, reading) {
             (_, Ok(Command::AbortE)) => self.abort(out, tag),
-            (Tag::Event(_), Err(fault)) => self.refuse_event(out, tag, &fault),
-            (_, reading) => self.stand(out, tag, reading),
+            (_, Ok(command)) => self.stand(out, tag, Ok(command)),
+            (Tag::Event(_), Err(why)) => self.refuse_event(out, tag, why),
+            (Tag::Std(_), Err(why)) => self.stand(out, tag, Err(why)),
         }
     }
 
     /// A line with a tag: refused where a command under it runs or waits.
-    fn read_tagged(&mut self, out: &mut Vec<u8>, tag: Tag, reading: Result<Command, LineFault>)
+    fn read_tagged(&mut self, out: &mut Vec<u8>, tag: Tag, reading: Result<Command, Misread>)
         requires tag { IsTag tag }
         requires reading { IsReadingFit reading }
         requires on { self.old.server.on ≡ true }
@@ -148,13 +147,13 @@ impl Controller {
         ensures len { vec_len out.new ≤ vec_len out.old + 10560 }
     {
         if self.is_in_use(tag) {
-            write_error(out, Tag::Event(0), 9002, None);
+            write_error(out, Tag::Event(0), ErrorNumber::TagInUse, None);
         } else {
             self.read_fresh(out, tag, reading);
         }
     }
 
-    /// What was read of a line, want of memory apart.
+    /// What was read of a line.
     fn read(&mut self, out: &mut Vec<u8>, reading: Result<(Tag, Command), LineFault>)
         requires reading { IsLineFit reading }
         requires on { self.old.server.on ≡ true }
@@ -166,13 +165,12 @@ impl Controller {
         match reading {
             Ok((tag, command)) => self.read_tagged(out, tag, Ok(command)),
             Err(LineFault::UnknownCommand(tag)) => {
-                self.read_tagged(out, tag, Err(LineFault::UnknownCommand(tag)));
+                self.read_tagged(out, tag, Err(Misread::UnknownCommand));
             }
             Err(LineFault::BadArguments(tag, kind)) => {
-                self.read_tagged(out, tag, Err(LineFault::BadArguments(tag, kind)));
+                self.read_tagged(out, tag, Err(Misread::BadArguments(kind)));
             }
-            Err(LineFault::NoTag) => write_error(out, Tag::Event(0), 9001, None),
-            Err(LineFault::Memory) => {}
+            Err(LineFault::NoTag) => write_error(out, Tag::Event(0), ErrorNumber::NoTag, None),
         }
     }
 
@@ -189,10 +187,7 @@ impl Controller {
         ensures silent { OnErr result (out.new.items ≡ out.old.items) }
         ensures len { vec_len out.new ≤ vec_len out.old + 10560 }
     {
-        let reading = read_command(self.alloc, line);
-        if matches!(reading, Err(LineFault::Memory)) {
-            return Err(AllocError);
-        }
+        let reading = read_command(self.alloc, line)?;
         self.read(out, reading);
         Ok(())
     }

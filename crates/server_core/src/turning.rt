@@ -2,6 +2,7 @@
 
 ghost use Rattle.std.specs.Prelude.{◌≡◌, ◌≤◌, ◌+◌, ◌++◌, ◌∷◌, [], true, false, None, length, vec_len, vec_capacity, option_map, IfOk, OnOk, OnErr, Some, Ok};
 ghost use Rattle.dme_line.specs.Tags.{IsTag};
+ghost use Rattle.dme_line.specs.Errors.{number_of};
 ghost use Rattle.protocol_model.specs.Lines.{reply_bytes};
 ghost use Rattle.dme_line.specs.declared.commands.Command.TheVariants as command;
 ghost use Rattle.protocol_model.specs.Server as server;
@@ -12,7 +13,7 @@ use crate::checks::offset;
 use crate::controller::{Controller, Running};
 use crate::machining::record;
 use contact_ledger::Act;
-use dme_line::{Command, Csy, Tag};
+use dme_line::{Command, Csy, ErrorNumber, Tag};
 use fixed_um::{Frame, Point};
 use protocol_model::{Job, Line, Waiting};
 use std::alloc::{AllocError, Global};
@@ -48,11 +49,9 @@ fn job_of(alloc: Global, frame: Frame, command: &Command) -> Result<Option<Job>,
 }
 
 impl Controller {
-    /// The first waiting command is refused with a number, and all others that wait fail with 9007.
-    fn refuse(&mut self, out: &mut Vec<u8>, number: u16)
-        requires refused { first_refusal self.old.server ≡ Some number }
-        requires low { 9001 ≤ number }
-        requires high { number ≤ 9015 }
+    /// The first waiting command is refused with an error, and all others that wait fail with 9007.
+    fn refuse(&mut self, out: &mut Vec<u8>, error: ErrorNumber)
+        requires refused { first_refusal self.old.server ≡ Some (number_of error) }
         requires room { vec_len out.old + 10560 ≤ vec_capacity out.old }
         ensures controller { self.new ≡ with_answered self.old (server.server_turned self.old.server) }
         ensures text { out.new.items ≡ out.old.items ++ reply_bytes (server.server_turned self.old.server).said }
@@ -62,7 +61,7 @@ impl Controller {
         let Some(command) = self.waiting.take() else {
             return;
         };
-        write_failure(out, command.tag, number, kind_in(&command.reading));
+        write_failure(out, command.tag, error, kind_in(&command.reading));
         write_all_aborted(out, &mut self.waiting);
         self.error = true;
     }
@@ -200,8 +199,8 @@ impl Controller {
             return Ok(());
         };
         match self.refusal(&first.reading) {
-            Some(number) => {
-                self.refuse(out, number);
+            Some(error) => {
+                self.refuse(out, error);
                 Ok(())
             }
             None => self.carry_out(out),

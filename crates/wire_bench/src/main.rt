@@ -84,8 +84,8 @@ fn push_line(out: &mut Vec<u8>, side: Side, number: u64) -> Result<(), Stop> {
 
 fn read_line(alloc: Global, side: Side, line: &Line) -> Result<(), Stop> {
     let is_read = match side {
-        Side::Commands => read_command(alloc, line.as_slice()).is_ok(),
-        Side::Responses => read_response(alloc, line.as_slice()).is_ok(),
+        Side::Commands => read_command(alloc, line.as_slice())?.is_ok(),
+        Side::Responses => read_response(alloc, line.as_slice())?.is_ok(),
     };
     if is_read { Ok(()) } else { Err(Stop::Refused) }
 }

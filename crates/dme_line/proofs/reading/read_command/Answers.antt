@@ -3,8 +3,8 @@ use Rattle.dme_line.specs.CommandText.{Begins}
 use Rattle.dme_line.proofs.CommandLemmas.{says_here, wrong_sort}
 use Rattle.dme_line.proofs.reading.read_command.Goals as goal
 
-pub returns-then-is_event : goal.returns-then-is_event
-returns-then-is_event c =
+pub returns-then-is_event-clause-reads : goal.returns-then-is_event-clause-reads
+returns-then-is_event-clause-reads c =
     let begins : Begins c.args.line.now c.in-Some.tag c.cut_name.result.0.now c.cut_name.result.1.now = record { text = c.in-Some.text.now; tagged = c.in-Some.ensures; named = c.cut_name.ensures } in (
       c.cut_name.result.0.now,
       c.cut_name.result.1.now,
@@ -15,10 +15,10 @@ returns-then-is_event c =
           wrong_sort c.is_event.result c.is_event-2.result (c.is_event.ensures ∙ here.fits.sort ∙ sym c.is_event-2.ensures) c.if-is_event.true,
     )
 
-pub returns-in-Ok-None : goal.returns-in-Ok-None
-returns-in-Ok-None c =
+pub returns-in-None-clause-reads : goal.returns-in-None-clause-reads
+returns-in-None-clause-reads c =
     let begins : Begins c.args.line.now c.in-Some.tag c.cut_name.result.0.now c.cut_name.result.1.now = record { text = c.in-Some.text.now; tagged = c.in-Some.ensures; named = c.cut_name.ensures } in
-    let none = rw c.in-Ok-None.field-0-is at c.in-Ok-None.ensures.read in (
+    let none = rw c.in-None.is at c.in_ok-command.ensures.read in (
       c.cut_name.result.0.now,
       c.cut_name.result.1.now,
       begins,
