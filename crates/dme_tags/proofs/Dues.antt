@@ -15,7 +15,7 @@ use Rattle.protocol_model.specs.declared.held.Stage.{Stage}
 use Rattle.protocol_model.specs.declared.states.Cause.{Cause}
 use Rattle.protocol_model.specs.declared.states.Cause.TheVariants as cause
 use Rattle.dme_tags.specs.Answers.{cause_of, IsRefused}
-use Rattle.dme_tags.specs.Opened.{Opened, Answer, heard, heard_standard, heard_event, kind_under, IsNext}
+use Rattle.dme_tags.specs.Opened.{Opened, Answer, heard, heard_standard, heard_event, kind_under, is_next, IsNext}
 use Rattle.dme_tags.specs.Places.{ahead_of, all_failed}
 use Rattle.dme_tags.proofs.Refusals.{refused_standard, refused_event}
 use Rattle.dme_tags.specs.Standing.{standing_in, standing, AwaitsPoint, HasPoint}
@@ -76,10 +76,6 @@ refusal_is front (h ∷ hs) t m = go (refusal_is (front && is_failed h.stage) hs
     go deeper true = settled_refusal h hs (judged front h.kind h.stage m) ∙ ap (λ (b : Bool). refusal_of (judged b h.kind h.stage m)) (sym (and_true front))
     go deeper false = put_refusal h (heard_in (front && is_failed h.stage) hs t m)
         ∙ (deeper ∙ ap (λ (b : Bool). refusal_under (standing_in t hs) b m) (and_assoc front (is_failed h.stage) (all_failed (ahead_of t hs))))
-
-abbrev pub is_next : Tag → Opened → Bool
-is_next (Std n) o = not o.failed && all_failed (ahead_of (Std n) o.standard)
-is_next (Event n) o = all_failed (ahead_of (Event n) o.event)
 
 standard_refusal : (o : Opened) (r : Heard) → refusal_heard (heard_standard o r) ≡ refusal_in r
 standard_refusal o (Ok r) = refl

@@ -12,7 +12,7 @@ use Rattle.protocol_model.specs.declared.held.Stage.{Stage}
 use Rattle.protocol_model.specs.declared.states.Cause.{Cause}
 use Rattle.protocol_model.specs.declared.states.Cause.TheVariants as cause
 use Rattle.dme_tags.specs.Answers.{cause_of, effect_of, effect_heard, IsRefused}
-use Rattle.dme_tags.specs.Opened.{Opened, heard, kind_under}
+use Rattle.dme_tags.specs.Opened.{Opened, heard, kind_under, is_next}
 use Rattle.dme_tags.specs.Places.{ahead_of, all_failed}
 use Rattle.dme_tags.specs.Standing.{standing_in, standing, IsUnread, HasFailed, AwaitsPoint, CountsAs}
 use Rattle.dme_tags.specs.declared.faults.TagFault.{TagFault}
@@ -21,7 +21,7 @@ use Rattle.dme_tags.specs.declared.endings.Ended.{Ended}
 use Rattle.dme_tags.specs.declared.endings.Ended.TheVariants as ended
 use Rattle.dme_tags.proofs.Refusals.{refused_standard, refused_event}
 use Rattle.dme_tags.proofs.Effects.{standard_effect, event_effect}
-use Rattle.dme_tags.proofs.Dues.{Standing, OfTouch, Agrees, IsSaid, and_assoc, and_true, compose, err_exactly, fault_for, fits_err, is_next, named_by, next_all, next_iff, next_only, none_some, ok_exactly, refusal_of, refusal_under, touch_only, agrees_standard, agrees_event, unknown_exactly}
+use Rattle.dme_tags.proofs.Dues.{Standing, OfTouch, Agrees, IsSaid, and_assoc, and_true, compose, err_exactly, fault_for, fits_err, named_by, next_all, next_iff, next_only, none_some, ok_exactly, refusal_of, refusal_under, touch_only, agrees_standard, agrees_event, unknown_exactly}
 
 -- ---- the effect of a mark
 

@@ -6,3 +6,5 @@ pub mod Tables
 pub mod Effects
 pub mod Dues
 pub mod Ends
+pub mod Followed
+pub mod Passing

@@ -1,5 +1,5 @@
 -- The open commands of a client on both sorts of tags, and what each call does to them (this profile).
-use Rattle.std.specs.Prelude.{◌≡◌, ℕ, ◌≤◌, Bool, true, false, not, if◌then◌else◌, Option, Some, None, List, [], ◌∷◌, ◌++◌, Result, Ok, Err}
+use Rattle.std.specs.Prelude.{◌≡◌, ℕ, ◌<◌, ◌≤◌, ◌⊎◌, Bool, true, false, not, ◌&&◌, if◌then◌else◌, Option, Some, None, List, [], ◌∷◌, ◌++◌, Result, Ok, Err}
 use Rattle.dme_line.specs.Kinds.{is_event_kind, IsTagOf}
 use Rattle.dme_line.specs.declared.tags.Tag.{Tag}
 use Rattle.dme_line.specs.declared.tags.Tag.TheVariants.{Std, Event}
@@ -63,6 +63,15 @@ number_of (Event n) = n
 abbrev pub IsSpentFor : Kind → Opened → Type 0
 IsSpentFor kind o = (tag : Tag) → IsTagOf kind tag → number_of tag ≤ 9999 → is_held tag (held_beside tag o) ≡ true
 
+-- a number lies behind the one that was drawn last and before the next one, where 1 comes again behind 9999
+abbrev pub IsBetween : ℕ → ℕ → ℕ → Type 0
+IsBetween last n next = ((last < n) × (n < next)) ⊎ ((next ≤ last) × (((last < n) × (n ≤ 9999)) ⊎ ((1 ≤ n) × (n < next))))
+
+-- each number between the one that was drawn last and a tag's is held, so that none is passed over though it is free
+abbrev pub ArePassedOver : Tag → Opened → Type 0
+ArePassedOver (Std k) o = (n : ℕ) → IsBetween o.drawn n k → is_held (Std n) o.standard ≡ true
+ArePassedOver (Event k) o = (n : ℕ) → IsBetween o.event_drawn n k → is_held (Event n) o.event ≡ true
+
 -- ---- marks
 
 -- whether a standard command has failed since the plan began, behind one with this effect
@@ -94,3 +103,8 @@ heard o (Event n) m = heard_event o (heard_in true o.event (Event n) m)
 abbrev pub IsNext : Tag → Opened → Type 0
 IsNext (Std n) o = (o.failed ≡ false) × (all_failed (ahead_of (Std n) o.standard) ≡ true)
 IsNext (Event n) o = all_failed (ahead_of (Event n) o.event) ≡ true
+
+-- the same as a test
+abbrev pub is_next : Tag → Opened → Bool
+is_next (Std n) o = not o.failed && all_failed (ahead_of (Std n) o.standard)
+is_next (Event n) o = all_failed (ahead_of (Event n) o.event)

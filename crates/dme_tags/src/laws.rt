@@ -1,13 +1,15 @@
 // What the open commands have to do with the client of `protocol_model`. These functions do nothing: their contracts are the laws.
 
-ghost use Rattle.std.specs.Prelude.{◌≡◌, false, Some, None, Ok, Err};
+ghost use Rattle.std.specs.Prelude.{◌≡◌, false, List, Some, None, Ok, Err};
 ghost use Rattle.dme_line.specs.Kinds.{is_event_kind};
 ghost use Rattle.dme_line.specs.declared.tags.Tag.TheVariants.{Std, Event};
 ghost use Rattle.protocol_model.specs.Replies.{Mark};
-ghost use Rattle.protocol_model.specs.Open.{Effect};
+ghost use Rattle.protocol_model.specs.Open.{Effect, asks_data};
+ghost use Rattle.protocol_model.specs.Language.{marks_of, IsRepliesFront, AreAtFront};
 ghost use Rattle.protocol_model.specs.Client.{Client, heard_on, next_number};
 ghost use Rattle.protocol_model.specs.declared.states.Cause.{Cause};
-ghost use Rattle.dme_tags.specs.Opened.{Opened, heard, next_tag, number_of};
+ghost use Rattle.dme_tags.specs.Opened.{Opened, heard, next_tag, number_of, with_drawn, ArePassedOver};
+ghost use Rattle.dme_tags.specs.Calls.{Call, taken_under};
 ghost use Rattle.dme_tags.specs.Tables.{IsTableOf, table_behind};
 
 use dme_line::{Kind, Tag};
@@ -35,4 +37,22 @@ pub fn client_draws_the_same()
     ensures event { (o : Opened) (tag : Tag) → next_tag o Kind.AbortE ≡ Some tag
         → (next_number Event o.event o.event_drawn ≡ Some (number_of tag)) × (tag ≡ Event (number_of tag)) }
     ensures no_event { (o : Opened) → next_tag o Kind.AbortE ≡ None → next_number Event o.event o.event_drawn ≡ None }
+{}
+
+/// The marks that calls take in under a tag, from its draw up to its `%`, are the first marks of a reply to its command, whatever other
+/// calls are made in between and whatever marks are refused. Data, and the end of a command that has not failed, are taken in only while
+/// it is next.
+#[tactic(auto, using(crate::proofs::Followed::in_language, crate::proofs::Followed::at_front))]
+pub fn marks_of_a_command_are_its_replies()
+    ensures in_language { (o : Opened) (kind : Kind) (tag : Tag) (calls : List Call) → next_tag o kind ≡ Some tag
+        → IsRepliesFront (asks_data kind) (marks_of (taken_under tag (with_drawn o tag kind) calls)) }
+    ensures at_front { (o : Opened) (kind : Kind) (tag : Tag) (calls : List Call) → next_tag o kind ≡ Some tag
+        → AreAtFront false (taken_under tag (with_drawn o tag kind) calls) }
+{}
+
+/// No number is passed over though its tag is free: each one behind that of the tag drawn last and before that of the next one is held,
+/// where 1 comes again behind 9999.
+#[tactic(auto, using(crate::proofs::Passing::passed_over))]
+pub fn numbers_passed_over_are_held()
+    ensures { (o : Opened) (kind : Kind) (tag : Tag) → next_tag o kind ≡ Some tag → ArePassedOver tag o }
 {}

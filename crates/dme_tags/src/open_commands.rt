@@ -5,7 +5,7 @@ ghost use Rattle.dme_line.specs.Kinds.{IsTagOf};
 ghost use Rattle.protocol_model.specs.Replies.{Mark};
 ghost use Rattle.protocol_model.specs.Open.{Effect, count_open, is_held};
 ghost use Rattle.dme_tags.specs.Answers.{cause_of, effect_of, effect_heard, is_counted, IsRefused};
-ghost use Rattle.dme_tags.specs.Opened.{heard, held_beside, kind_under, next_tag, none_open, number_of, with_drawn, IsNext, IsSpentFor};
+ghost use Rattle.dme_tags.specs.Opened.{heard, held_beside, kind_under, next_tag, none_open, number_of, with_drawn, ArePassedOver, IsNext, IsSpentFor};
 ghost use Rattle.dme_tags.specs.Standing.{AwaitsPoint, CountsAs, HasFailed, HasPoint, IsUnread};
 
 use crate::drawing::{Sort, next_tag};
@@ -84,7 +84,8 @@ impl Open {
         ensures named { IfErr result (λ fault. fault ≡ TagFault.TagsSpent) }
         ensures tag { IfOk result (λ tag. IsTagOf kind tag × (number_of tag ≤ 9999)) }
         ensures fresh { IfOk result (λ tag. is_held tag (held_beside tag self.now) ≡ false) }
-        ensures all_held { OnErr result (IsSpentFor kind self.now) }
+        ensures all_held { IsErrOf result TagFault.TagsSpent ↔ IsSpentFor kind self.now }
+        ensures passed { IfOk result (λ tag. ArePassedOver tag self.now) }
     {
         match Sort::of(kind) {
             Sort::Standard => next_tag(&self.standard, Sort::Standard, self.drawn),
@@ -106,7 +107,8 @@ impl Open {
         ensures unchanged { OnErr result (self.new ≡ self.old) }
         ensures tag { IfOk result (λ tag. IsTagOf kind tag × (number_of tag ≤ 9999)) }
         ensures fresh { IfOk result (λ tag. is_held tag (held_beside tag self.old) ≡ false) }
-        ensures all_held { IsErrOf result TagFault.TagsSpent → IsSpentFor kind self.old }
+        ensures all_held { IsErrOf result TagFault.TagsSpent ↔ IsSpentFor kind self.old }
+        ensures passed { IfOk result (λ tag. ArePassedOver tag self.old) }
     {
         let tag = self.next_tag(kind)?;
         let held = Held {
