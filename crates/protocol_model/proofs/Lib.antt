@@ -17,6 +17,7 @@ pub mod FrontEvent
 pub mod WorkEvent
 pub mod ServerEvents
 pub mod Drawing
+pub mod NextNumber
 pub mod ClientEvents
 pub mod ClientWrites
 pub mod ClientResumes

@@ -10,6 +10,7 @@
 // - `replies`: the language of replies and the table of marks
 // - `plan_laws`: what a plan measures, and in which order
 // - `positions`: where a plan goes on in the steps of a program
+// - `tags`: the number of the tag that is drawn next
 // - `readers`: that lines can be read as the interface says
 // - `undisturbed`: what is written, done and counted in a run that nothing disturbs
 // - `rows`: worked rows, as examples that the definitions compute
@@ -29,6 +30,7 @@ pub mod readers;
 pub mod replies;
 pub mod rows;
 pub mod states;
+pub mod tags;
 pub mod theorem;
 pub mod turn_rows;
 pub mod typed;
@@ -44,6 +46,7 @@ pub use positions::plans_go_on_behind_the_last_touch;
 pub use readers::readers_exist;
 pub use replies::table_accepts_the_language;
 pub use states::{Cause, State};
+pub use tags::numbers_that_are_held_are_passed_over;
 pub use theorem::every_run;
 pub use typed::every_typed_run;
 pub use undisturbed::undisturbed_prefixes;

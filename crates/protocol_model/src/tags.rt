@@ -1,0 +1,32 @@
+// The number of the tag that is drawn next.
+
+ghost use Rattle.std.specs.Prelude.{◌≡◌, ◌<◌, ◌≤◌, ℕ, List, None, Some, false, true};
+ghost use Rattle.dme_line.specs.declared.tags.Tag.{Tag};
+ghost use Rattle.protocol_model.specs.Client.{next_number};
+ghost use Rattle.protocol_model.specs.Open.{is_held};
+ghost use Rattle.protocol_model.specs.declared.held.Held.{Held};
+
+/// Behind the number that was drawn last comes the first that is not held, where 1 follows 9,999; for standard and for event tags:
+///
+/// - `free`, `within`: its tag is not held, and it is one of 1 to 9,999;
+/// - `passed`: where it is greater than the one drawn last, each number between them is held;
+/// - `passed_up`, `passed_again`: where it is not, each number above the one drawn last is held, and each one below it;
+/// - `spent`: there is none only where all are held.
+pub fn numbers_that_are_held_are_passed_over()
+    ensures free { (sort : ℕ → Tag) (held : List Held) (drawn next : ℕ)
+        → next_number sort held drawn ≡ Some next → is_held (sort next) held ≡ false }
+    ensures within { (sort : ℕ → Tag) (held : List Held) (drawn next : ℕ)
+        → next_number sort held drawn ≡ Some next → (1 ≤ next) × (next ≤ 9999) }
+    ensures passed { (sort : ℕ → Tag) (held : List Held) (drawn next number : ℕ)
+        → next_number sort held drawn ≡ Some next → drawn < next
+        → drawn < number → number < next → is_held (sort number) held ≡ true }
+    ensures passed_up { (sort : ℕ → Tag) (held : List Held) (drawn next number : ℕ)
+        → next_number sort held drawn ≡ Some next → next ≤ drawn
+        → drawn < number → number ≤ 9999 → is_held (sort number) held ≡ true }
+    ensures passed_again { (sort : ℕ → Tag) (held : List Held) (drawn next number : ℕ)
+        → next_number sort held drawn ≡ Some next → next ≤ drawn
+        → 1 ≤ number → number < next → is_held (sort number) held ≡ true }
+    ensures spent { (sort : ℕ → Tag) (held : List Held) (drawn number : ℕ)
+        → next_number sort held drawn ≡ None
+        → 1 ≤ number → number ≤ 9999 → is_held (sort number) held ≡ true }
+{}
