@@ -1,5 +1,5 @@
 -- What printing a plan leaves, from any reader to any writer that tell their bytes.
-use Rattle.std.specs.Prelude.{◌≡◌, ◌⊎◌, ℕ, List, [], Bool, true, Option, Some, None, Ok, Err, IfSome}
+use Rattle.std.specs.Prelude.{◌≡◌, ◌⊎◌, ℕ, List, [], Bool, true, Option, Some, Ok, Err, IfSome}
 use Rattle.std.specs.Io.KnownBytes.{Appends}
 use Rattle.byte_ports.specs.Transfers.{AppendsFront, GaveTimes}
 use Rattle.byte_ports.specs.declared.transfers.PullFault.{PullFault}

@@ -1,14 +1,13 @@
 -- What checking a program under a setup leaves, from any readers to any writer that tell their bytes.
-use Rattle.std.specs.Prelude.{◌≡◌, ◌⊎◌, ◌<◌, ◌*◌, length, ℕ, List, [], Bool, true, false, Option, Some, None, Result, Ok, Err, IfSome, IsErrOf}
+use Rattle.std.specs.Prelude.{◌≡◌, ℕ, List, [], Option, Some, None, Ok, Err, IfSome}
 use Rattle.fixed_um.specs.declared.lengths.Point.{Point}
 use Rattle.tool_rack.specs.Setups.{SetupValue, setup_of}
 use Rattle.tool_rack.specs.declared.faults.SetupFault.{SetupFault}
 use Rattle.tool_rack.specs.declared.faults.SetupFault.TheVariants as setup
-use Rattle.dme_program.specs.declared.check.CheckFault.{CheckFault}
 use Rattle.dme_program.specs.declared.check.CheckFault.TheVariants as check
 use Rattle.dme_program.specs.declared.orders.OrderFault.{OrderFault}
 use Rattle.dme_program.specs.declared.orders.OrderFault.TheVariants as fault
-use Rattle.dme_program.specs.Checked.{BlamesProgram, UnlessWrite, IsUnread}
+use Rattle.dme_program.specs.Checked.{BlamesProgram, UnlessWrite}
 
 -- the frames are those of the setup of a text
 pub record AreFramesOf (text : List ℕ) (frames : List (List ℕ × Point)) : Type 0 where

@@ -44,3 +44,50 @@ fn read_setup<S: Source>(alloc: Global, source: &mut S) -> Result<Setup, OrderFa
         Err(refused) => Err(OrderFault::Setup(refused)),
     }
 }
+
+/// Reads the setup, where one is named, then a DMIS program, each to the end of its input, and writes the command lines of the
+/// program's plan, as `check_plan` does. The program may recall the frames of the setup, and none without one.
+///
+/// The setup is read and refused before the program is read at all.
+pub fn check_under_setup<S: Source, R: Source, W: Sink>(
+    alloc: Global,
+    setup: &mut Option<S>,
+    program: &mut R,
+    sink: &mut W,
+) -> Result<(), OrderFault>
+    // The program is accepted under the setup's frames, and just its plan was written.
+    ensures ok { OnOk result (Under (option_map S.left setup.old) (λ frames. IfSome (R.left program.old)
+        (λ input. Prints frames input (W.taken sink.old) (W.taken sink.new)))) }
+    ensures works { OnOk result ((R.has_failed program.new ≡ false) × (W.has_failed sink.new ≡ false)) }
+
+    // A setup is blamed only where one is named, for its first refusal, and then the program is not read.
+    ensures setup_refused { IfErr result (BlamesSetup (option_map S.left setup.old) (option_map S.left setup.new)) }
+    ensures setup_first { IfErr result (OnSetup (program.new ≡ program.old)) }
+    ensures setup_unread { OfNamed (λ old new. (S.has_failed old ≡ false) × (S.has_failed new ≡ true))
+        setup.old setup.new → IsErrOf result OrderFault.SetupRead }
+    ensures setup_read { IsErrOf result OrderFault.SetupRead
+        → OfNamed (IsUnread S.left S.has_failed) setup.old setup.new }
+
+    // A program is blamed only for its first refusal under the setup's frames.
+    ensures refused { IfErr result (BlamesUnder (option_map S.left setup.old) (R.left program.old) (R.left program.new)) }
+    ensures unread { R.has_failed program.old ≡ false → R.has_failed program.new ≡ true
+        → IsErrOf result (OrderFault.Check CheckFault.Read) }
+    ensures read { IsErrOf result (OrderFault.Check CheckFault.Read)
+        → IsUnread R.left R.has_failed program.old program.new }
+
+    // A sink is blamed where it has failed, and only there; but for that nothing was written.
+    ensures unwritten { W.has_failed sink.old ≡ false → W.has_failed sink.new ≡ true
+        → IsErrOf result (OrderFault.Check CheckFault.Write) }
+    ensures write { IsErrOf result (OrderFault.Check CheckFault.Write) → W.has_failed sink.new ≡ true }
+    ensures front { IsErrOf result (OrderFault.Check CheckFault.Write) → Under (option_map S.left setup.old)
+        (λ frames. IfSome (R.left program.old) (λ input. PrintsFront frames input (W.taken sink.old) (W.taken sink.new))) }
+    ensures silent { IfErr result (UnlessUnwritten (sink.new ≡ sink.old)) }
+{
+    match setup {
+        Some(source) => {
+            let setup = read_setup(alloc, source)?;
+            check_plan(alloc, setup.frames(), program, sink).map_err(OrderFault::Check)
+        }
+        None => check_plan(alloc, &Frames::new(alloc), program, sink).map_err(OrderFault::Check),
+    }
+}
