@@ -1,7 +1,9 @@
 -- What printing a plan leaves, from any reader to any writer that tell their bytes.
-use Rattle.std.specs.Prelude.{◌≡◌, ℕ, List, [], Option, Some, Ok, Err, IfSome}
+use Rattle.std.specs.Prelude.{◌≡◌, ◌⊎◌, ℕ, List, [], Bool, true, Option, Some, Ok, Err, IfSome}
 use Rattle.std.specs.Io.KnownBytes.{Appends}
-use Rattle.byte_ports.specs.Transfers.{AppendsFront}
+use Rattle.byte_ports.specs.Transfers.{AppendsFront, GaveTimes}
+use Rattle.byte_ports.specs.declared.transfers.PullFault.{PullFault}
+use Rattle.byte_ports.specs.declared.transfers.PullFault.TheVariants as pull
 use Rattle.fixed_um.specs.declared.lengths.Point.{Point}
 use Rattle.dmis_program.specs.Meaning.{Meaning, program_of}
 use Rattle.dmis_program.specs.declared.faults.Refusal.{Refusal}
@@ -9,6 +11,16 @@ use Rattle.dmis_program.specs.declared.faults.ProgramFault.TheVariants as Progra
 use Rattle.dme_program.specs.declared.check.CheckFault.{CheckFault}
 use Rattle.dme_program.specs.declared.check.CheckFault.TheVariants as fault
 use Rattle.dme_program.specs.Plan.{plan_text}
+
+-- the source has failed, or a million pulls each gave bytes
+abbrev pub IsUnread : {S : Type 0} → (S → Option (List ℕ)) → (S → Bool) → S → S → Type 0
+IsUnread left has_failed old new = (has_failed new ≡ true) ⊎ GaveTimes left has_failed 1000000 old new
+
+-- what a source is called whose end was not reached
+abbrev pub told_as : PullFault → CheckFault
+told_as pull.Failed = fault.Read
+told_as pull.TooMany = fault.Read
+told_as pull.Memory = fault.Memory
 
 -- the input is an accepted program, and the text of its plan was written behind what was there, and nothing else
 pub record Prints (frames : List (List ℕ × Point)) (input : List ℕ) (old new : Option (List ℕ)) : Type 0 where

@@ -4,3 +4,4 @@ pub mod Checked
 pub mod Printed
 pub mod Ordered
 pub mod CommandLine
+pub mod UnderSetup

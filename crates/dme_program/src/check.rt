@@ -1,9 +1,8 @@
 // The function behind `dme check`.
 
-ghost use Rattle.std.specs.Prelude.{◌≡◌, ◌⊎◌, [], true, OnOk, IfOk, IfErr, IfSome, IsErrOf};
-ghost use Rattle.byte_ports.specs.Transfers.{GaveTimes};
+ghost use Rattle.std.specs.Prelude.{◌≡◌, ◌⊎◌, ◌<◌, ◌≤◌, ◌*◌, length, Some, [], true, false, OnOk, IfOk, IfErr, IfSome, IsErrOf};
 ghost use Rattle.dmis_program.specs.Meaning.{program_of};
-ghost use Rattle.dme_program.specs.Checked.{Prints, PrintsFront, BlamesProgram, UnlessWrite, IsNotWrite, HasText};
+ghost use Rattle.dme_program.specs.Checked.{IsUnread, told_as, Prints, PrintsFront, BlamesProgram, UnlessWrite, IsNotWrite, HasText};
 
 use crate::plan::plan_text;
 use byte_ports::{Failed, PullFault, Sink, Source, pull_all, push_all};
@@ -23,20 +22,28 @@ pub enum CheckFault {
     Memory,
 }
 
+/// What a source is called whose end was not reached.
+pub(crate) fn input_fault(fault: PullFault) -> CheckFault
+    ensures { result ≡ told_as fault }
+{
+    match fault {
+        PullFault::Failed | PullFault::TooMany => CheckFault::Read,
+        PullFault::Memory => CheckFault::Memory,
+    }
+}
+
 /// Pulls to the end of the input.
-fn read_input<R: Source>(alloc: Global, source: &mut R) -> Result<Vec<u8>, CheckFault>
+pub(crate) fn read_input<R: Source>(alloc: Global, source: &mut R) -> Result<Vec<u8>, CheckFault>
     ensures all { IfOk result (λ input. IfSome (R.left source.old) (λ bytes. input.items ≡ bytes)) }
     ensures end { OnOk result (IfSome (R.left source.old) (λ _. R.left source.new ≡ Some [])) }
-    ensures read { IsErrOf result CheckFault.Read → (R.has_failed source.new ≡ true)
-        ⊎ GaveTimes R.left R.has_failed 1000000 source.old source.new }
-    ensures others { IfErr result (λ fault. (fault ≡ CheckFault.Read) ⊎ (fault ≡ CheckFault.Memory)) }
+    ensures short { OnOk result (IfSome (R.left source.old) (λ bytes. length bytes ≤ 999999 * 65536)) }
+    ensures works { OnOk result (R.has_failed source.new ≡ false) }
+    ensures read { IsErrOf result CheckFault.Read → IsUnread R.left R.has_failed source.old source.new }
+    ensures unread { R.has_failed source.old ≡ false → R.has_failed source.new ≡ true
+        → IsErrOf result CheckFault.Read }
+    ensures told { IfErr result (λ fault. (fault ≡ CheckFault.Read) ⊎ (fault ≡ CheckFault.Memory)) }
 {
-    match pull_all(alloc, source, 1_000_000) {
-        Ok(input) => Ok(input),
-        Err(PullFault::Memory) => Err(CheckFault::Memory),
-        Err(PullFault::Failed) => Err(CheckFault::Read),
-        Err(PullFault::TooMany) => Err(CheckFault::Read),
-    }
+    pull_all(alloc, source, 1_000_000).map_err(input_fault)
 }
 
 /// The program that the input is.
@@ -61,9 +68,15 @@ fn checked_text<R: Source>(
     source: &mut R,
 ) -> Result<Vec<u8>, CheckFault>
     ensures text { IfOk result (λ text. IfSome (R.left source.old) (HasText frames.now text.items)) }
+    ensures some { IfOk result (λ text. 0 < length text.items) }
     ensures refused { IfErr result (BlamesProgram frames.now (R.left source.old) (R.left source.new)) }
-    ensures read { IsErrOf result CheckFault.Read → (R.has_failed source.new ≡ true)
-        ⊎ GaveTimes R.left R.has_failed 1000000 source.old source.new }
+    ensures read { IsErrOf result CheckFault.Read → IsUnread R.left R.has_failed source.old source.new }
+    ensures short { OnOk result (IfSome (R.left source.old) (λ input. length input ≤ 999999 * 65536)) }
+    ensures works { OnOk result (R.has_failed source.new ≡ false) }
+    ensures unread { R.has_failed source.old ≡ false → R.has_failed source.new ≡ true
+        → IsErrOf result CheckFault.Read }
+    ensures long { IfSome (R.left source.old) (λ input. 999999 * 65536 < length input
+        → IsErrOf result CheckFault.Read ⊎ IsErrOf result CheckFault.Memory) }
     ensures others { IfErr result IsNotWrite }
 {
     let input = read_input(alloc, source)?;
@@ -77,7 +90,8 @@ fn checked_text<R: Source>(
 /// Reads a DMIS program to the end of its input, in at most a million pulls of at most 65,536 bytes, and writes the command lines
 /// of its plan on a new connection, each ended by LF, the i-th with tag `((i - 1) mod 9,999) + 1`.
 ///
-/// It writes only once the whole text stands: nothing is written on a refused program, a read that failed or want of memory.
+/// It writes only once the whole text stands: nothing is written on a refused program, a read that failed or want of memory. A port
+/// that fails is told, and no port is blamed otherwise, but for a source that has not ended after a million pulls.
 pub fn check_plan<R: Source, W: Sink>(
     alloc: Global,
     frames: &Frames,
@@ -87,13 +101,21 @@ pub fn check_plan<R: Source, W: Sink>(
     // The program is accepted, and just its plan was written.
     ensures ok { OnOk result (IfSome (R.left source.old) (λ input.
         Prints frames.now input (W.taken sink.old) (W.taken sink.new))) }
+    ensures works { OnOk result ((R.has_failed source.new ≡ false) × (W.has_failed sink.new ≡ false)) }
 
     // A program is blamed only for the first refusal of the whole input.
     ensures refused { IfErr result (BlamesProgram frames.now (R.left source.old) (R.left source.new)) }
 
-    // Ports are blamed only where they have failed, the source also after a million pulls that each gave bytes.
-    ensures read { IsErrOf result CheckFault.Read → (R.has_failed source.new ≡ true)
-        ⊎ GaveTimes R.left R.has_failed 1000000 source.old source.new }
+    // A source is blamed where it has failed, or has not ended after a million pulls, and only there.
+    ensures unread { R.has_failed source.old ≡ false → R.has_failed source.new ≡ true
+        → IsErrOf result CheckFault.Read }
+    ensures long { IfSome (R.left source.old) (λ input. 999999 * 65536 < length input
+        → IsErrOf result CheckFault.Read ⊎ IsErrOf result CheckFault.Memory) }
+    ensures read { IsErrOf result CheckFault.Read → IsUnread R.left R.has_failed source.old source.new }
+
+    // A sink is blamed where it has failed, and only there; it has taken a front of the text, short of all.
+    ensures unwritten { W.has_failed sink.old ≡ false → W.has_failed sink.new ≡ true
+        → IsErrOf result CheckFault.Write }
     ensures write { IsErrOf result CheckFault.Write → W.has_failed sink.new ≡ true }
     ensures front { IsErrOf result CheckFault.Write → IfSome (R.left source.old) (λ input.
         PrintsFront frames.now input (W.taken sink.old) (W.taken sink.new)) }

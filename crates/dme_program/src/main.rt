@@ -9,6 +9,7 @@
 
 mod check;
 mod faults;
+mod orders;
 mod plan;
 mod running;
 mod words;

@@ -1,6 +1,6 @@
 // The plan of a program on a new connection, as text.
 
-ghost use Rattle.std.specs.Prelude.{◌≡◌, ◌≤◌, ◌++◌, All, false, OnOk, IfOk};
+ghost use Rattle.std.specs.Prelude.{◌≡◌, ◌<◌, ◌≤◌, length, ◌++◌, All, false, OnOk, IfOk};
 ghost use Rattle.dme_line.specs.Kinds.{kind_of, is_event_kind};
 ghost use Rattle.dme_line.specs.Written.{HasVolumeLengths};
 ghost use Rattle.resume_plan.specs.Sendable.{IsSendable};
@@ -55,8 +55,10 @@ fn lines_text(alloc: Global, commands: &[Planned]) -> Result<Vec<u8>, AllocError
 }
 
 /// The text of the plan of a program on a new connection, with no feature completed. Only want of memory is an `Err`.
+#[tactic(auto, using(crate::proofs::PlanLemmas::plan_has_text))]
 pub fn plan_text(alloc: Global, program: &Program) -> Result<Vec<u8>, AllocError>
-    ensures { IfOk result (λ text. text.items ≡ plan_text program.now) }
+    ensures text { IfOk result (λ text. text.items ≡ plan_text program.now) }
+    ensures some { IfOk result (λ text. 0 < length text.items) }
 {
     let commands = plan(alloc, program, 0, Start::NewConnection)?;
     lines_text(alloc, commands.as_slice())
