@@ -1,9 +1,12 @@
 // The server with the bytes of its connection.
 
-ghost use Rattle.std.specs.Prelude.{◌≡◌, ◌≢◌, ◌↔◌, ◌⊎◌, if◌then◌else◌, ◌≤◌, ◌+◌, ◌&&◌, not, true, false, None, Some, Ok, Err, drop, length, is_none, IsTrue, IsOk, IsErr, IfOk, IfErr, OnOk, OnErr, IfSome, MatchOption};
+ghost use Rattle.std.specs.Prelude.{◌≡◌, ◌≢◌, ◌↔◌, ◌⊎◌, if◌then◌else◌, ◌≤◌, ◌+◌, ◌&&◌, not, true, false, None, [], Some, Ok, Err, drop, length, is_none, IsTrue, IsOk, IsErr, IfOk, IfErr, OnOk, OnErr, IfSome, MatchOption};
 ghost use Rattle.std.specs.Result.{IsErrOf};
 ghost use Rattle.line_framing.specs.Next.{next_of};
-ghost use Rattle.line_framing.specs.Framing.{IsLineDue};
+ghost use Rattle.line_framing.specs.Framing.{IsLineDue, IsSound};
+ghost use Rattle.protocol_model.specs.declared.lines.Line.{Line as OneLine};
+ghost use Rattle.contact_ledger.specs.Ledgers.{IsConnection};
+ghost use Rattle.server_core.specs.Steady.{IsOff, IsRunnable, AreStandard};
 ghost use Rattle.contact_ledger.specs.Ledgers.{AreOnConnections};
 ghost use Rattle.protocol_model.specs.Lines.{Readers, AreReaders};
 ghost use Rattle.protocol_model.specs.Server.{may_end, running_job};
@@ -45,10 +48,16 @@ impl Model for Server {
       setup = s.controller.setup;
       end = record { server = s.controller.server; input = s.input; out = s.out.items };
     } };
+
+    ghost use Rattle.server_core.specs.Steady.{IsServing};
+
+    ghost invariant = { λ s.
+        IsServing (record { server = s.controller.server; input = s.input; out = s.out.items }) };
 }
 
 impl Server {
     /// A server that was never on a connection: not homed, without a tool, with an empty ledger. Only want of memory is an `Err`.
+    #[tactic(auto, using(crate::proofs::Servings::new_holds))]
     pub fn new(alloc: Global, setup: Setup) -> Result<Server, AllocError>
         ensures { IfOk result (λ server. server ≡ new_serving setup) }
     {
@@ -62,6 +71,7 @@ impl Server {
 
     /// Comes to the connection of this number. `NotNow` while it is on one, and where the number is not above each earlier one or is above
     /// 4,000,000,000. It takes no memory.
+    #[tactic(auto, using(crate::proofs::Servings::accepted_holds))]
     pub fn accept(&mut self, number: u64) -> Result<(), ServerFault>
         ensures can { IsOk result ↔ (may_accept number self.old.end.server ≡ true) }
         ensures ok { OnOk result (self.new ≡ with_end self.old (serving_accepted number self.old.end)) }
@@ -78,6 +88,7 @@ impl Server {
 
     /// Takes bytes of the connection, however they were cut. `NotNow` on no connection, `Framing` behind a framing fault, in this order;
     /// `Memory` only where neither is due.
+    #[tactic(auto, using(crate::proofs::Servings::fed_holds))]
     pub fn feed(&mut self, piece: &[u8]) -> Result<(), ServerFault>
         ensures can { OnOk result (may_feed self.old.end ≡ true) }
         ensures ok { OnOk result (self.new ≡ with_end self.old (serving_fed piece.now self.old.end)) }
@@ -99,6 +110,7 @@ impl Server {
 
     /// Reads the first whole line and answers it: true where one stood at the front, false where nothing whole does. `NotNow` on no
     /// connection; `Framing` where what stands at the front is no line, from then on until the connection is left; `Memory` for a line alone.
+    #[tactic(auto, using(crate::proofs::Servings::fault_holds))]
     pub fn read_one(&mut self) -> Result<bool, ServerFault>
         ensures ok { OnOk result ((readers : Readers) → AreReaders readers
             → self.new ≡ with_end self.old (serving_read readers self.old.end)) }
@@ -206,6 +218,7 @@ impl Server {
 
     /// Gives the connection up: what runs stops uncompleted, and nothing is answered. Homing, tool, ledger and the last number stay. On no
     /// connection there is nothing to give up. It takes no memory.
+    #[tactic(auto, using(crate::proofs::Servings::left_holds))]
     pub fn leave(&mut self)
         ensures { self.new ≡ with_end self.old (serving_left self.old.end) }
     {
@@ -216,6 +229,7 @@ impl Server {
 
     /// Begins again, as after the machine was switched off and on: as `leave`, and homing and tool are given up too. The ledger and the last
     /// number stay. It takes no memory.
+    #[tactic(auto, using(crate::proofs::Servings::restarted_holds))]
     pub fn restart(&mut self)
         ensures { self.new ≡ with_end self.old (serving_restarted self.old.end) }
     {
@@ -232,6 +246,7 @@ impl Server {
     }
 
     /// The first bytes of `out` were sent. The caller owes that there are so many. It takes no memory.
+    #[tactic(auto, using(crate::proofs::Servings::taken_holds))]
     pub fn sent(&mut self, count: usize)
         requires { count ≤ length self.old.end.out }
         ensures { self.new ≡ with_end self.old (serving_taken count self.old.end) }
@@ -255,7 +270,7 @@ impl Server {
         self.controller.ledger()
     }
 
-    /// The state.
+    /// The state. Its clauses also say what holds at any time, whatever came before.
     pub fn view(&self) -> View<'_>
         ensures connection { result.connection ≡ (if self.now.end.server.on then Some self.now.end.server.last else None) }
         ensures session { result.session ≡ self.now.end.server.session }
@@ -264,6 +279,17 @@ impl Server {
         ensures frame { result.frame ≡ self.now.end.server.frame }
         ensures stored { result.stored ≡ self.now.end.server.stored }
         ensures error { result.error ≡ self.now.end.server.error }
+
+        // What holds at any time.
+        ensures numbered { self.now.end.server.on ≡ true → IsConnection self.now.end.server.last }
+        ensures last { self.now.end.server.last ≤ 4000000000 }
+        ensures off { self.now.end.server.on ≡ false → IsOff self.now.end }
+        ensures quiet { self.now.end.server.error ≡ true → self.now.end.server.waiting ≡ [] }
+        ensures few { length self.now.end.server.waiting ≤ 64 }
+        ensures standard { AreStandard self.now.end.server.waiting }
+        ensures running { (line : OneLine) → self.now.end.server.running ≡ Some line
+            → IsRunnable self.now.end.server line }
+        ensures kept { IsSound self.now.end.input }
     {
         self.controller.view()
     }

@@ -1,0 +1,144 @@
+-- What waits has standard tags, where lines are read as the interface says.
+use Rattle.std.proofs.Common.{◌≡◌, ℕ, nat_le, Bool, true, false, not, ◌&&◌, ◌||◌, List, [], ◌∷◌, ◌++◌, length, refl, sym, ◌∙◌, Option, Some, None, Result, Ok, Err}
+use Rattle.std.proofs.lemmas.Bool.{false≢true}
+use Rattle.fixed_um.specs.declared.lengths.Point.{Point}
+use Rattle.dme_line.specs.Tags.{is_event_tag}
+use Rattle.dme_line.specs.Kinds.{kind_of, is_event_kind}
+use Rattle.dme_line.specs.CommandText.{ReadsCommand}
+use Rattle.dme_line.specs.declared.tags.Tag.{Tag}
+use Rattle.dme_line.specs.declared.commands.Command.{Command}
+use Rattle.dme_line.specs.declared.commands.Command.TheVariants as command
+use Rattle.dme_line.specs.declared.reading.LineFault.{LineFault}
+use Rattle.dme_line.specs.declared.reading.LineFault.TheVariants as fault
+use Rattle.dme_line.proofs.ReadWritable.{read_is_writable}
+use Rattle.line_framing.specs.Next.{Front, next_of}
+use Rattle.protocol_model.specs.Lines.{Readers, AreReaders, reading_of}
+use Rattle.protocol_model.specs.Server.{Server, Answer, runs_under, waits_under, is_abort, is_clear, is_fault, stands, tagged, server_read, refusal, carried_out, carried, taken, turned_to, server_turned, finished, touched, machined, server_machined}
+use Rattle.protocol_model.specs.Ends.{ServerEnd, front_served, serving_read}
+use Rattle.protocol_model.specs.declared.lines.Line.{Line}
+use Rattle.protocol_model.specs.declared.lines.Waiting.{Waiting}
+use Rattle.protocol_model.specs.declared.machine.Outcome.{Outcome}
+use Rattle.server_core.specs.Steady.{HasStandardTag, AreStandard}
+use Rattle.server_core.proofs.Steadies.{branch}
+
+standard_join : (ws : List Waiting) (w : Waiting) → AreStandard ws → HasStandardTag w → AreStandard (ws ++ w ∷ [])
+standard_join [] w h one = (one, tt)
+standard_join (v ∷ ws) w h one = (h.0, standard_join ws w h.1 one)
+
+abbrev Waits : Answer → Type 0
+Waits a = AreStandard a.server.waiting
+
+stands_standard : (s : Server) (t : Tag) (reading : Result Command LineFault) → is_event_tag t ≡ false → AreStandard s.waiting → Waits (stands s t reading)
+stands_standard s t reading one h =
+    branch Waits (s.error && not (is_clear reading)) _ _ (λ refused. h)
+    (λ go. branch Waits s.error _ _ (λ error. standard_join s.waiting _ h one)
+    (λ calm. branch Waits (nat_le 64 (length s.waiting)) _ _ (λ full. tt) (λ room. standard_join s.waiting _ h one)))
+
+tagged_standard : (s : Server) (t : Tag) (reading : Result Command LineFault)
+    → (is_abort reading ≡ false → (is_event_tag t && is_fault reading) ≡ false → is_event_tag t ≡ false) → AreStandard s.waiting → Waits (tagged s t reading)
+tagged_standard s t reading one h =
+    branch Waits (runs_under t s.running || waits_under t s.waiting) _ _ (λ used. h)
+    (λ free. branch Waits (is_abort reading) _ _ (λ aborts. tt)
+    (λ other. branch Waits (is_event_tag t && is_fault reading) _ _ (λ faulty. h) (λ standard. stands_standard s t reading (one other standard) h)))
+
+faulty_line : (b : Bool) → (b && true) ≡ false → b ≡ false
+faulty_line true e = absurd (false≢true (sym e))
+faulty_line false e = refl
+
+no_event : (c : Command) → is_abort (Ok c) ≡ false → is_event_kind (kind_of c) ≡ false
+no_event command.StartSession e = refl
+no_event command.EndSession e = refl
+no_event command.ClearAllErrors e = refl
+no_event command.Home e = refl
+no_event command.OnPtMeasReport e = refl
+no_event (command.GoTo p) e = refl
+no_event (command.PtMeas p d) e = refl
+no_event (command.ChangeTool n) e = refl
+no_event (command.SetCsyTransformation p) e = refl
+no_event (command.SetCoordSystem system) e = refl
+no_event command.AbortE e = absurd (false≢true (sym e))
+
+reading_standard : (s : Server) (line : List ℕ) (reading : Result (Tag × Command) LineFault) → ReadsCommand line reading → AreStandard s.waiting
+    → Waits (server_read s (reading_of reading))
+reading_standard s line (Ok (t, c)) reads h =
+    tagged_standard s t (Ok c) (λ other standard. (read_is_writable line t c reads).tagged.sort ∙ no_event c other) h
+reading_standard s line (Err fault.NoTag) reads h = h
+reading_standard s line (Err (fault.UnknownCommand t)) reads h =
+    tagged_standard s t (Err (fault.UnknownCommand t)) (λ other standard. faulty_line (is_event_tag t) standard) h
+reading_standard s line (Err (fault.BadArguments t k)) reads h =
+    tagged_standard s t (Err (fault.BadArguments t k)) (λ other standard. faulty_line (is_event_tag t) standard) h
+reading_standard s line (Err fault.Memory) reads h = h
+
+pub front_standard : (readers : Readers) (e : ServerEnd) (front : Front) → AreReaders readers → AreStandard e.server.waiting
+    → AreStandard (front_served readers e front).server.waiting
+front_standard readers e (Ok None) are h = h
+front_standard readers e (Ok (Some (line, rest))) are h = reading_standard e.server line (readers.command line) (are.command line) h
+front_standard readers e (Err why) are h = h
+
+pub read_standard : (readers : Readers) (e : ServerEnd) → AreReaders readers → AreStandard e.server.waiting → AreStandard (serving_read readers e).server.waiting
+read_standard readers e are h = front_standard readers e (next_of e.input.rest) are h
+
+carried_standard : (s : Server) (t : Tag) (c : Command) → AreStandard s.waiting → Waits (carried_out s t c)
+carried_standard s t command.StartSession h = h
+carried_standard s t command.EndSession h = h
+carried_standard s t command.ClearAllErrors h = h
+carried_standard s t command.Home h = h
+carried_standard s t command.OnPtMeasReport h = h
+carried_standard s t (command.GoTo p) h = h
+carried_standard s t (command.PtMeas p d) h = h
+carried_standard s t (command.ChangeTool n) h = h
+carried_standard s t (command.SetCsyTransformation p) h = h
+carried_standard s t (command.SetCoordSystem system) h = h
+carried_standard s t command.AbortE h = h
+
+taken_standard : (s : Server) (w : Waiting) (ws : List Waiting) (number : Option ℕ) → AreStandard ws → Waits (taken s w ws number)
+taken_standard s w ws (Some number) h = tt
+taken_standard s w ws None h = go w.reading
+  where
+    go : (reading : Result Command LineFault) → Waits (carried (record s { waiting = ws }) w.tag reading)
+    go (Ok c) = carried_standard (record s { waiting = ws }) w.tag c h
+    go (Err refused) = h
+
+pub turned_standard : (s : Server) → AreStandard s.waiting → AreStandard (server_turned s).server.waiting
+turned_standard s h = go s.waiting h
+  where
+    go : (ws : List Waiting) → AreStandard ws → Waits (turned_to s ws)
+    go [] rest = h
+    go (w ∷ ws) rest = taken_standard s w ws (refusal s w.reading) rest.1
+
+finished_standard : (s : Server) (t : Tag) (c : Command) → AreStandard s.waiting → Waits (finished s t c)
+finished_standard s t command.StartSession h = h
+finished_standard s t command.EndSession h = h
+finished_standard s t command.ClearAllErrors h = h
+finished_standard s t command.Home h = h
+finished_standard s t command.OnPtMeasReport h = h
+finished_standard s t (command.GoTo p) h = h
+finished_standard s t (command.PtMeas p d) h = h
+finished_standard s t (command.ChangeTool n) h = h
+finished_standard s t (command.SetCsyTransformation p) h = h
+finished_standard s t (command.SetCoordSystem system) h = h
+finished_standard s t command.AbortE h = h
+
+touched_standard : (s : Server) (t : Tag) (c : Command) (at : Point) (tool : Option (List ℕ)) → AreStandard s.waiting → Waits (touched s t c at tool)
+touched_standard s t command.StartSession at tool h = h
+touched_standard s t command.EndSession at tool h = h
+touched_standard s t command.ClearAllErrors at tool h = h
+touched_standard s t command.Home at tool h = h
+touched_standard s t command.OnPtMeasReport at tool h = h
+touched_standard s t (command.GoTo p) at tool h = h
+touched_standard s t (command.PtMeas p d) at (Some n) h = h
+touched_standard s t (command.PtMeas p d) at None h = h
+touched_standard s t (command.ChangeTool n) at tool h = h
+touched_standard s t (command.SetCsyTransformation p) at tool h = h
+touched_standard s t (command.SetCoordSystem system) at tool h = h
+touched_standard s t command.AbortE at tool h = h
+
+machined_by_standard : (s : Server) (ended : Outcome) (running : Option Line) → AreStandard s.waiting → Waits (machined s ended running)
+machined_by_standard s ended None h = h
+machined_by_standard s Outcome.Done (Some line) h = finished_standard s line.tag line.command h
+machined_by_standard s (Outcome.Touched at) (Some line) h = touched_standard s line.tag line.command at s.tool h
+machined_by_standard s Outcome.Missed (Some line) h = tt
+machined_by_standard s Outcome.Fault (Some line) h = tt
+
+pub machined_standard : (s : Server) (ended : Outcome) → AreStandard s.waiting → AreStandard (server_machined s ended).server.waiting
+machined_standard s ended h = machined_by_standard s ended s.running h
