@@ -11,8 +11,7 @@ use Rattle.dme_line.specs.declared.commands.Command.{Command}
 use Rattle.dme_line.specs.declared.responses.Mark.{Mark as Marked}
 use Rattle.dme_line.specs.declared.responses.Mark.TheVariants as mark
 use Rattle.dme_line.specs.declared.responses.Response.{Response}
-use Rattle.dme_line.specs.declared.responses.ResponseFault.{ResponseFault}
-use Rattle.dme_line.specs.declared.responses.ResponseFault.TheVariants as refused
+use Rattle.dme_line.specs.declared.responses.NotResponse.{NotResponse}
 use Rattle.line_framing.specs.Next.{Front, next_of}
 use Rattle.line_framing.specs.Framing.{Framing, no_bytes, fed_behind, left_by}
 use Rattle.line_framing.specs.declared.faults.FramingFault.{FramingFault}
@@ -153,10 +152,9 @@ response_live readers c t (mark.Given text) reads h =
 response_live readers c t mark.Done reads h = reply_live c t Mark.Done reads h
 response_live readers c t (mark.Error text) reads h = reply_live c t Mark.Error reads h
 
-line_live : (readers : Readers) (c : Client) (r : Result Response ResponseFault) → Reads c → IsLive c → IsLive (line_read readers c r)
+line_live : (readers : Readers) (c : Client) (r : Result Response NotResponse) → Reads c → IsLive c → IsLive (line_read readers c r)
 line_live readers c (Ok r) reads h = response_live readers c r.tag r.mark reads h
-line_live readers c (Err refused.NotResponse) reads h = faulted_live c Cause.NotResponse h
-line_live readers c (Err refused.Memory) reads h = h
+line_live readers c (Err refused) reads h = faulted_live c Cause.NotResponse h
 
 front_live : (readers : Readers) (c : Client) (f : Front) → Reads c → IsLive c → IsLive (front_read readers c f)
 front_live readers c (Ok None) reads h = h

@@ -32,5 +32,5 @@ abbrev pub written_direction : Direction → List ℕ → List ℕ
 written_direction d between = written_component d.i ++ (between ++ (written_component d.j ++ (between ++ written_component d.k)))
 
 -- a point as it is printed: its lengths along x, y and z, with a space between each two
-abbrev pub written_point : Point → List ℕ
-written_point p = written p.x ++ (codes " " ++ (written p.y ++ (codes " " ++ written p.z)))
+abbrev pub printed_point : Point → List ℕ
+printed_point p = written p.x ++ (codes " " ++ (written p.y ++ (codes " " ++ written p.z)))

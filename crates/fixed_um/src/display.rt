@@ -1,7 +1,7 @@
 // Values as they are printed: in millimetres with three decimals, directions with six.
 
 ghost use Rattle.std.specs.Prelude.{◌≡◌, ◌∷◌, ◌++◌, [], ◌%◌, ◌+◌, ◌<◌, Some, decimal, codes, unsigned_abs};
-ghost use Rattle.fixed_um.specs.Written.{last_digit, minus_sign, three_digits, written, written_component, written_direction, written_point};
+ghost use Rattle.fixed_um.specs.Written.{last_digit, minus_sign, three_digits, written, written_component, written_direction, printed_point};
 
 use crate::directions::Dir;
 use crate::lengths::{Point, Um};
@@ -32,7 +32,7 @@ impl fmt::Display for Um {
 }
 
 impl fmt::Display for Point {
-    ghost output = { λ p. Some (written_point p) };
+    ghost output = { λ p. Some (printed_point p) };
 
     fn fmt<W: fmt::Write>(&self, f: &mut fmt::Formatter<W>) -> fmt::Result {
         let x = self.x;

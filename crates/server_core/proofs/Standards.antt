@@ -9,6 +9,8 @@ use Rattle.dme_line.specs.declared.tags.Tag.{Tag}
 use Rattle.dme_line.specs.declared.commands.Command.{Command}
 use Rattle.dme_line.specs.declared.commands.Command.TheVariants as command
 use Rattle.dme_line.specs.declared.reading.LineFault.{LineFault}
+use Rattle.protocol_model.specs.declared.lines.Misread.{Misread}
+use Rattle.protocol_model.specs.declared.lines.Misread.TheVariants as misread
 use Rattle.dme_line.specs.declared.reading.LineFault.TheVariants as fault
 use Rattle.dme_line.proofs.ReadWritable.{read_is_writable}
 use Rattle.line_framing.specs.Next.{Front, next_of}
@@ -28,13 +30,13 @@ standard_join (v ∷ ws) w h one = (h.0, standard_join ws w h.1 one)
 abbrev Waits : Answer → Type 0
 Waits a = AreStandard a.server.waiting
 
-stands_standard : (s : Server) (t : Tag) (reading : Result Command LineFault) → is_event_tag t ≡ false → AreStandard s.waiting → Waits (stands s t reading)
+stands_standard : (s : Server) (t : Tag) (reading : Result Command Misread) → is_event_tag t ≡ false → AreStandard s.waiting → Waits (stands s t reading)
 stands_standard s t reading one h =
     branch Waits (s.error && not (is_clear reading)) _ _ (λ refused. h)
     (λ go. branch Waits s.error _ _ (λ error. standard_join s.waiting _ h one)
     (λ calm. branch Waits (nat_le 64 (length s.waiting)) _ _ (λ full. tt) (λ room. standard_join s.waiting _ h one)))
 
-tagged_standard : (s : Server) (t : Tag) (reading : Result Command LineFault)
+tagged_standard : (s : Server) (t : Tag) (reading : Result Command Misread)
     → (is_abort reading ≡ false → (is_event_tag t && is_fault reading) ≡ false → is_event_tag t ≡ false) → AreStandard s.waiting → Waits (tagged s t reading)
 tagged_standard s t reading one h =
     branch Waits (runs_under t s.running || waits_under t s.waiting) _ _ (λ used. h)
@@ -64,10 +66,9 @@ reading_standard s line (Ok (t, c)) reads h =
     tagged_standard s t (Ok c) (λ other standard. (read_is_writable line t c reads).tagged.sort ∙ no_event c other) h
 reading_standard s line (Err fault.NoTag) reads h = h
 reading_standard s line (Err (fault.UnknownCommand t)) reads h =
-    tagged_standard s t (Err (fault.UnknownCommand t)) (λ other standard. faulty_line (is_event_tag t) standard) h
+    tagged_standard s t (Err misread.UnknownCommand) (λ other standard. faulty_line (is_event_tag t) standard) h
 reading_standard s line (Err (fault.BadArguments t k)) reads h =
-    tagged_standard s t (Err (fault.BadArguments t k)) (λ other standard. faulty_line (is_event_tag t) standard) h
-reading_standard s line (Err fault.Memory) reads h = h
+    tagged_standard s t (Err (misread.BadArguments k)) (λ other standard. faulty_line (is_event_tag t) standard) h
 
 pub front_standard : (readers : Readers) (e : ServerEnd) (front : Front) → AreReaders readers → AreStandard e.server.waiting
     → AreStandard (front_served readers e front).server.waiting
@@ -95,7 +96,7 @@ taken_standard : (s : Server) (w : Waiting) (ws : List Waiting) (number : Option
 taken_standard s w ws (Some number) h = tt
 taken_standard s w ws None h = go w.reading
   where
-    go : (reading : Result Command LineFault) → Waits (carried (record s { waiting = ws }) w.tag reading)
+    go : (reading : Result Command Misread) → Waits (carried (record s { waiting = ws }) w.tag reading)
     go (Ok c) = carried_standard (record s { waiting = ws }) w.tag c h
     go (Err refused) = h
 

@@ -7,7 +7,8 @@ use Rattle.dme_line.specs.Tags.{is_event_tag}
 use Rattle.dme_line.specs.declared.tags.Tag.{Tag}
 use Rattle.dme_line.specs.declared.commands.Command.{Command}
 use Rattle.dme_line.specs.declared.commands.Command.TheVariants as command
-use Rattle.dme_line.specs.declared.reading.LineFault.{LineFault}
+use Rattle.protocol_model.specs.declared.lines.Misread.{Misread}
+use Rattle.protocol_model.specs.declared.lines.Misread.TheVariants as misread
 use Rattle.dme_line.specs.declared.reading.LineFault.TheVariants as fault
 use Rattle.contact_ledger.specs.Ledgers.{IsConnection}
 use Rattle.contact_ledger.specs.declared.acts.Act.{Act}
@@ -60,7 +61,7 @@ nothing_runs (Some line) e = absurd (false≢true e)
 
 -- ---- a server without its bytes
 
-stands_orderly : (s : Server) (t : Tag) (reading : Result Command LineFault) → IsOrderly s → IsOrderly (stands s t reading).server
+stands_orderly : (s : Server) (t : Tag) (reading : Result Command Misread) → IsOrderly s → IsOrderly (stands s t reading).server
 stands_orderly s t reading h =
     branch (λ (a : Answer). IsOrderly a.server) (s.error && not (is_clear reading)) _ _ (λ refused. h)
     (λ go. branch (λ (a : Answer). IsOrderly a.server) s.error _ _
@@ -82,7 +83,7 @@ stands_orderly s t reading h =
     room_for : (n m : ℕ) → (64 ≤ n → ⊥) → m ≡ n + 1 → m ≤ 64
     room_for n m less is = omega arith
 
-tagged_orderly : (s : Server) (t : Tag) (reading : Result Command LineFault) → IsOrderly s → IsOrderly (tagged s t reading).server
+tagged_orderly : (s : Server) (t : Tag) (reading : Result Command Misread) → IsOrderly s → IsOrderly (tagged s t reading).server
 tagged_orderly s t reading h =
     branch (λ (a : Answer). IsOrderly a.server) (runs_under t s.running || waits_under t s.waiting) _ _ (λ used. h)
     (λ free. branch (λ (a : Answer). IsOrderly a.server) (is_abort reading) _ _
@@ -92,9 +93,8 @@ tagged_orderly s t reading h =
 pub read_orderly : (s : Server) (reading : Reading) → IsOrderly s → IsOrderly (server_read s reading).server
 read_orderly s (Ok line) h = tagged_orderly s line.tag (Ok line.command) h
 read_orderly s (Err fault.NoTag) h = h
-read_orderly s (Err (fault.UnknownCommand t)) h = tagged_orderly s t (Err (fault.UnknownCommand t)) h
-read_orderly s (Err (fault.BadArguments t k)) h = tagged_orderly s t (Err (fault.BadArguments t k)) h
-read_orderly s (Err fault.Memory) h = h
+read_orderly s (Err (fault.UnknownCommand t)) h = tagged_orderly s t (Err misread.UnknownCommand) h
+read_orderly s (Err (fault.BadArguments t k)) h = tagged_orderly s t (Err (misread.BadArguments k)) h
 
 -- a server on which nothing runs
 still : (s : Server) → s.running ≡ None → (s.error ≡ true → s.waiting ≡ []) → length s.waiting ≤ 64 → IsOrderly s
@@ -133,7 +133,7 @@ taken_orderly s w ws None is idle waits h = go w.reading is
     quiet : s.error ≡ true → ws ≡ []
     quiet error = absurd (not_empty w ws (sym waits ∙ h.quiet error))
 
-    go : (reading : Result Command LineFault) → refusal s reading ≡ None → IsOrderly (carried (record s { waiting = ws }) w.tag reading).server
+    go : (reading : Result Command Misread) → refusal s reading ≡ None → IsOrderly (carried (record s { waiting = ws }) w.tag reading).server
     go (Ok c) none = carried_orderly (record s { waiting = ws }) w.tag c idle quiet few none
     go (Err refused) none = still _ idle quiet few
 
