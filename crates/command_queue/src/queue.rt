@@ -42,7 +42,8 @@ fn is_any_under(commands: &[Waiting], tag: Tag) -> bool
 impl Queue {
     /// An empty queue, which takes the memory of all its places now. Only want of memory is an `Err`.
     pub fn new(alloc: Global) -> Result<Queue, AllocError>
-        ensures { IfOk result (λ queue. queue ≡ []) }
+        ensures none { IfOk result (λ queue. queue ≡ []) }
+        ensures places { PLACES ≡ 64 }
     {
         let commands = Vec::with_capacity(alloc, PLACES)?;
         Ok(Queue { commands })
