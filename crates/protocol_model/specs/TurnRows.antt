@@ -1,4 +1,5 @@
--- Worked rows of a command's turn and of a client's end: servers of which one thing after another is ready (this profile).
+-- Worked rows of a command's turn and of a client's end: servers of which one thing after another
+-- is ready (this profile).
 -- No theorem cites these definitions.
 use Rattle.std.specs.Prelude.{ℕ, true, Some, List, [], ◌∷◌, ◌++◌, codes, pos}
 use Rattle.fixed_um.specs.declared.lengths.Point.{Point}
