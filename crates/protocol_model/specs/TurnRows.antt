@@ -12,7 +12,6 @@ use Rattle.protocol_model.specs.Client.{Client}
 use Rattle.protocol_model.specs.Server.{Server, new_server, server_accepted}
 use Rattle.protocol_model.specs.Rows.{at, tool, failed, Call, called, read_under}
 use Rattle.protocol_model.specs.declared.held.Stage.{Stage}
-use Rattle.protocol_model.specs.declared.held.Held.{Held}
 
 -- a server on its first connection, with the tools P1 and P2: no session, not homed, no tool
 abbrev pub no_session : Server
