@@ -1,5 +1,5 @@
 -- A plan goes on behind the last touch of the last completed feature: the laws of its position.
-use Rattle.std.proofs.Common.{◌≡◌, ℕ, zero, suc, ◌<◌, ◌≤◌, Bool, true, false, cond, List, [], ◌∷◌, ◌++◌, codes, take, drop, length, refl, sym, ◌∙◌, ap, arith, Option, Some, None, Ok}
+use Rattle.std.proofs.Common.{◌≡◌, ℕ, zero, suc, ◌<◌, ◌≤◌, Bool, true, false, cond, List, [], ◌∷◌, ◌++◌, take, drop, length, refl, sym, ◌∙◌, ap, arith, Option, Some, None}
 use Rattle.std.proofs.lemmas.Bool.{false≢true}
 use Rattle.std.proofs.lemmas.List.{append_cancel_right, take-append-drop}
 use Rattle.std.proofs.lemmas.Grind.{flat_map-append}
@@ -8,7 +8,7 @@ use Rattle.fixed_um.specs.declared.frames.Frame.{Frame}
 use Rattle.fixed_um.specs.declared.frames.Frame.TheVariants.{Machine, Part}
 use Rattle.dme_line.specs.declared.commands.Command.{Command}
 use Rattle.dme_line.specs.declared.commands.Command.TheVariants as command
-use Rattle.dmis_program.specs.Meaning.{Meaning as Program, meaning_of, program_of, features_of, block_touches}
+use Rattle.dmis_program.specs.Meaning.{Meaning as Program, features_of, block_touches}
 use Rattle.dmis_program.specs.Programs.{IsProgram, feature_touches}
 use Rattle.dmis_program.specs.Programs.{touches_of as step_touches}
 use Rattle.dmis_program.specs.declared.features.Touch.{Touch}
@@ -17,7 +17,7 @@ use Rattle.dmis_program.specs.declared.steps.Step.{Step}
 use Rattle.dmis_program.specs.declared.steps.Step.TheVariants as step
 use Rattle.protocol_model.specs.Plan.{tool_behind, frame_behind, is_empty, behind, up_to, planned, framing, tooling, stepping, measuring, plan}
 use Rattle.protocol_model.specs.PlanReading.{touches_of, commands_of, opening, step_commands}
-use Rattle.protocol_model.specs.Positions.{EndInTouch, tool_commands, frame_commands, commands_from, moved_between}
+use Rattle.protocol_model.specs.Positions.{EndInTouch, tool_commands, frame_commands, commands_from}
 use Rattle.protocol_model.proofs.Blocks.{AreBlocks, IsPlain, program_is_plain}
 use Rattle.protocol_model.proofs.Marks.{left_of, left_with}
 use Rattle.protocol_model.proofs.PlanLaws.{plan_touches_left, commands_more, steps_commands}

@@ -1,4 +1,5 @@
--- Where a plan goes on in the steps of a program: behind the last touch of its last completed feature (this profile).
+-- Where a plan goes on in the steps of a program: behind the last touch of its last completed
+-- feature (this profile).
 use Rattle.std.specs.Prelude.{◌≡◌, ℕ, pos, Option, Some, None, List, [], ◌∷◌, ◌++◌, codes}
 use Rattle.std.specs.List.{flat_map}
 use Rattle.fixed_um.specs.declared.frames.Frame.{Frame}
@@ -31,8 +32,9 @@ abbrev pub frame_commands : Frame → List Command
 frame_commands frame.Machine = command.SetCoordSystem MachineCsy ∷ []
 frame_commands (frame.Part offset) = step_commands (step.Recall offset)
 
--- the commands of a plan where these steps are passed and those are left: the opening, what is selected behind the steps that are
--- passed, the commands of those that are left, in order, and the end of the session
+-- the commands of a plan where these steps are passed and those are left: the opening, what is
+-- selected behind the steps that are passed, the commands of those that are left, in order, and the
+-- end of the session
 abbrev pub commands_from : Start → List Step → List Step → List Command
 commands_from start passed left =
     opening start
@@ -40,17 +42,19 @@ commands_from start passed left =
     ++ (frame_commands (frame_behind frame.Machine passed)
     ++ (flat_map step_commands left ++ command.EndSession ∷ [])))
 
--- a program with a move and another tool between the last touch of its first feature and the end of that block, and a move between
--- the blocks
+-- a program with a move and another tool between the last touch of its first feature and the end of
+-- that block, and a move between the blocks
 abbrev pub moved_between : Program
 moved_between = meaning_with (
     step.Tool (codes "P1")
     ∷ step.Begin (codes "A")
-    ∷ step.Touch (touch_with (codes "P1") frame.Machine (at (pos 1000) (pos 2000) (pos 3000)) from_above)
+    ∷ step.Touch (touch_with (codes "P1") frame.Machine
+    (at (pos 1000) (pos 2000) (pos 3000)) from_above)
     ∷ step.Goto (at (pos 1000) (pos 2000) (pos 10000))
     ∷ step.Tool (codes "P2") ∷ step.End
     ∷ step.Goto (at (pos 4000) (pos 5000) (pos 10000))
     ∷ step.Begin (codes "B")
-    ∷ step.Touch (touch_with (codes "P2") frame.Machine (at (pos 4000) (pos 5000) (pos 6000)) from_above)
+    ∷ step.Touch (touch_with (codes "P2") frame.Machine
+    (at (pos 4000) (pos 5000) (pos 6000)) from_above)
     ∷ step.End
     ∷ [])

@@ -1,4 +1,5 @@
--- Worked rows of a command's turn and of a client's end: servers of which one thing after another is ready (this profile).
+-- Worked rows of a command's turn and of a client's end: servers of which one thing after another
+-- is ready (this profile).
 -- No theorem cites these definitions.
 use Rattle.std.specs.Prelude.{ℕ, true, Some, List, [], ◌∷◌, ◌++◌, codes, pos}
 use Rattle.fixed_um.specs.declared.lengths.Point.{Point}
@@ -11,7 +12,6 @@ use Rattle.protocol_model.specs.Client.{Client}
 use Rattle.protocol_model.specs.Server.{Server, new_server, server_accepted}
 use Rattle.protocol_model.specs.Rows.{at, tool, failed, Call, called, read_under}
 use Rattle.protocol_model.specs.declared.held.Stage.{Stage}
-use Rattle.protocol_model.specs.declared.held.Held.{Held}
 
 -- a server on its first connection, with the tools P1 and P2: no session, not homed, no tool
 abbrev pub no_session : Server

@@ -1,6 +1,7 @@
 // Where a plan goes on in the steps of a program.
 
-ghost use Rattle.std.specs.Prelude.{◌≡◌, ◌<◌, ◌≤◌, ◌++◌, ◌∷◌, [], ℕ, List, Ok, codes, length, pos, take};
+ghost use Rattle.std.specs.Prelude.{◌≡◌, ◌<◌, ◌≤◌, ◌++◌, ◌∷◌, [], ℕ, List, Ok};
+ghost use Rattle.std.specs.Prelude.{codes, length, pos, take};
 ghost use Rattle.dme_line.specs.declared.commands.Csy.TheVariants.{MachineCsy};
 ghost use Rattle.dme_line.specs.declared.commands.Command.TheVariants as command;
 ghost use Rattle.dmis_program.specs.Meaning.{Meaning, program_of};
@@ -11,14 +12,17 @@ ghost use Rattle.protocol_model.specs.PlanReading.{commands_of};
 ghost use Rattle.protocol_model.specs.Positions.{EndInTouch, commands_from, moved_between};
 ghost use Rattle.protocol_model.specs.Rows.{at, from_above};
 ghost use Rattle.protocol_model.specs.declared.plans.Start.{Start};
-ghost use Rattle.protocol_model.specs.declared.plans.Start.TheVariants.{NewConnection, SameConnection};
+ghost use Rattle.protocol_model.specs.declared.plans.Start.TheVariants.{NewConnection};
+ghost use Rattle.protocol_model.specs.declared.plans.Start.TheVariants.{SameConnection};
 
-/// A plan goes on behind the last touch of the last completed feature, and leaves out no step behind it:
+/// A plan goes on behind the last touch of the last completed feature, and leaves out no step that
+/// stands there:
 ///
 /// - `parts`: the steps up to there and those behind are all steps, none of them lost and none twice;
 /// - `front`: the touches up to there are those of the completed features, in order;
 /// - `ends`: where a feature is completed, the last step up to there is a touch;
-/// - `commands`: the plan is its opening, what is selected there, the commands of each step behind, and the end of the session.
+/// - `commands`: the plan is its opening, what is selected there, the commands of each step behind,
+///   and the end of the session.
 #[tactic(auto, using(crate::proofs::Splitting::all_steps, crate::proofs::Splitting::front_touches, crate::proofs::Splitting::front_ends, crate::proofs::Splitting::plan_commands))]
 pub fn plans_go_on_behind_the_last_touch()
     ensures parts { (completed : ℕ) (steps : List Step)
@@ -33,7 +37,8 @@ pub fn plans_go_on_behind_the_last_touch()
         ≡ commands_from start (up_to completed program.steps) (behind completed program.steps) }
 {}
 
-/// A program with a move and another tool between a touch and the end of its block, and a move between the blocks.
+/// A program with a move and another tool between a touch and the end of its block, and a move
+/// between the blocks.
 pub fn position_rows()
     ensures text { program_of []
         (codes "DMISMN/'BETWEEN',05.2\nSNSLCT/S(P1)\nMEAS/POINT,F(A),1\nPTMEAS/CART,1,2,3,0,0,1\nGOTO/1,2,10\nSNSLCT/S(P2)\nENDMES\nGOTO/4,5,10\nMEAS/POINT,F(B),1\nPTMEAS/CART,4,5,6,0,0,1\nENDMES\nENDFIL")
@@ -44,14 +49,16 @@ pub fn position_rows()
         ∷ command.PtMeas (at (pos 1000) (pos 2000) (pos 3000)) from_above
         ∷ command.GoTo (at (pos 1000) (pos 2000) (pos 10000)) ∷ command.ChangeTool (codes "P2")
         ∷ command.GoTo (at (pos 4000) (pos 5000) (pos 10000))
-        ∷ command.PtMeas (at (pos 4000) (pos 5000) (pos 6000)) from_above ∷ command.EndSession ∷ [] }
-    // Behind the first feature: both moves are made, and the tool is the one selected at the touch, then the other.
+        ∷ command.PtMeas (at (pos 4000) (pos 5000) (pos 6000)) from_above
+        ∷ command.EndSession ∷ [] }
+    // Behind the first feature both moves are made; the tool is that of the touch, then the other.
     ensures behind_the_first { commands_of (plan moved_between 1 SameConnection)
         ≡ command.ClearAllErrors ∷ command.Home ∷ command.OnPtMeasReport
         ∷ command.ChangeTool (codes "P1") ∷ command.SetCoordSystem MachineCsy
         ∷ command.GoTo (at (pos 1000) (pos 2000) (pos 10000)) ∷ command.ChangeTool (codes "P2")
         ∷ command.GoTo (at (pos 4000) (pos 5000) (pos 10000))
-        ∷ command.PtMeas (at (pos 4000) (pos 5000) (pos 6000)) from_above ∷ command.EndSession ∷ [] }
+        ∷ command.PtMeas (at (pos 4000) (pos 5000) (pos 6000)) from_above
+        ∷ command.EndSession ∷ [] }
     ensures behind_both { commands_of (plan moved_between 2 SameConnection)
         ≡ command.ClearAllErrors ∷ command.Home ∷ command.OnPtMeasReport
         ∷ command.ChangeTool (codes "P2") ∷ command.SetCoordSystem MachineCsy

@@ -6,11 +6,13 @@ ghost use Rattle.protocol_model.specs.Client.{next_number};
 ghost use Rattle.protocol_model.specs.Open.{is_held};
 ghost use Rattle.protocol_model.specs.declared.held.Held.{Held};
 
-/// Behind the number that was drawn last comes the first that is not held, where 1 follows 9,999; for standard and for event tags:
+/// Behind the number that was drawn last comes the first that is not held, where 1 follows 9,999;
+/// for standard and for event tags:
 ///
 /// - `free`, `within`: its tag is not held, and it is one of 1 to 9,999;
 /// - `passed`: where it is greater than the one drawn last, each number between them is held;
-/// - `passed_up`, `passed_again`: where it is not, each number above the one drawn last is held, and each one below it;
+/// - `passed_up`, `passed_again`: where it is not, each number above the one drawn last is held,
+///   and so is each one below it;
 /// - `spent`: there is none only where all are held.
 pub fn numbers_that_are_held_are_passed_over()
     ensures free { (sort : ℕ → Tag) (held : List Held) (drawn next : ℕ)

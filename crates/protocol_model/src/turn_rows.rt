@@ -9,7 +9,7 @@ ghost use Rattle.protocol_model.specs.declared.held.Stage.TheVariants as stage;
 ghost use Rattle.protocol_model.specs.declared.machine.Outcome.TheVariants.{Missed};
 ghost use Rattle.protocol_model.specs.declared.states.State.TheVariants as State;
 ghost use Rattle.protocol_model.specs.Replies.{Mark, Reply};
-ghost use Rattle.protocol_model.specs.Client.{client_read};
+ghost use Rattle.protocol_model.specs.Client.{client_read, last_state};
 ghost use Rattle.protocol_model.specs.Typed.{Event, can, after};
 ghost use Rattle.protocol_model.specs.Rows.{
   at,
@@ -43,17 +43,19 @@ ghost use Rattle.protocol_model.specs.TurnRows.{
   with_abort,
 };
 
-/// Commands that more than one check refuses are refused by the first: no session, a session that is
-/// open, not homed, an unknown tool, no tool, out of the volume.
+/// Commands that more than one check refuses are refused by the first: no session, a session that
+/// is open, not homed, an unknown tool, no tool, out of the volume.
 pub fn check_rows()
     // Without a session, whatever else is missing.
     ensures no_session_touch { asked (command.PtMeas outside None) no_session
         ≡ refused_with 9005 kind.PtMeas }
-    ensures no_session_move { asked (command.GoTo outside) no_session ≡ refused_with 9005 kind.GoTo }
+    ensures no_session_move { asked (command.GoTo outside) no_session
+        ≡ refused_with 9005 kind.GoTo }
     ensures no_session_tool { asked (command.ChangeTool (codes "P9")) no_session
         ≡ refused_with 9005 kind.ChangeTool }
     ensures no_session_home { asked command.Home no_session ≡ refused_with 9005 kind.Home }
-    ensures no_session_end { asked command.EndSession no_session ≡ refused_with 9005 kind.EndSession }
+    ensures no_session_end { asked command.EndSession no_session
+        ≡ refused_with 9005 kind.EndSession }
     ensures no_session_report { asked command.OnPtMeasReport no_session
         ≡ refused_with 9005 kind.OnPtMeasReport }
     ensures cleared_without_a_session { asked command.ClearAllErrors no_session
@@ -74,7 +76,8 @@ pub fn check_rows()
     ensures no_tool_touch { asked (command.PtMeas outside None) no_tool
         ≡ refused_with 9011 kind.PtMeas }
     ensures no_tool_move { asked (command.GoTo outside) no_tool ≡ refused_with 9013 kind.GoTo }
-    ensures ready_touch { asked (command.PtMeas outside None) ready ≡ refused_with 9013 kind.PtMeas }
+    ensures ready_touch { asked (command.PtMeas outside None) ready
+        ≡ refused_with 9013 kind.PtMeas }
     // The target is in the volume, and its place on the machine in the selected frame is not.
     ensures frame_outside { asked (command.GoTo (at (pos 999900001) (pos 0) (pos 0)))
         (record ready { frame = frame.Part part }) ≡ refused_with 9013 kind.GoTo }
@@ -87,7 +90,7 @@ pub fn check_rows()
 
 /// When a client is done, what it leaves, and what it cannot begin again with.
 pub fn done_rows()
-    // The end of the session is counted while an abort is open: the client is done with the abort's end.
+    // The end of the session is counted while an abort is open: the client is done with its end.
     ensures counted_while_aborting { (play one_point 1 (at_its_turn 8 ++ abort ∷ server_reads
         ∷ client_reads ∷ client_reads ∷ [])).world.client.table.tally.todo ≡ [] }
     ensures still_aborting { (play one_point 1 (at_its_turn 8 ++ abort ∷ server_reads
@@ -99,16 +102,21 @@ pub fn done_rows()
         ≡ report State.Done 5
         (feature (codes "A") (at (pos 10002) (pos 20000) (pos 25000) ∷ []) ∷ [])
         (contact 0 1 (at (pos 10002) (pos 20000) (pos 25000)) ∷ []) }
-    // The last command ends: with an event command open the client is not done, with a failed one it is.
+    // The last command ends: the client is not done while an event command is open.
     ensures last_command_ends { (client_read
-        (play one_point 1 (at_its_turn 8 ++ client_reads ∷ [])).world.client (Std 9) Mark.Done).state
-        ≡ State.Done }
+        (play one_point 1 (at_its_turn 8 ++ client_reads ∷ [])).world.client
+        (Std 9) Mark.Done).state ≡ State.Done }
     ensures event_command_is_open { (client_read (with_abort stage.Received
-        (play one_point 1 (at_its_turn 8 ++ client_reads ∷ [])).world.client) (Std 9) Mark.Done).state
-        ≡ State.Running }
+        (play one_point 1 (at_its_turn 8 ++ client_reads ∷ [])).world.client)
+        (Std 9) Mark.Done).state ≡ State.Running }
     ensures event_command_has_failed { (client_read (with_abort stage.Failed
-        (play one_point 1 (at_its_turn 8 ++ client_reads ∷ [])).world.client) (Std 9) Mark.Done).state
-        ≡ State.Done }
+        (play one_point 1 (at_its_turn 8 ++ client_reads ∷ [])).world.client)
+        (Std 9) Mark.Done).state ≡ State.Done }
+    // Where all is counted an abort goes on to its end; a failed client is done, or halted.
+    ensures aborting_stays { last_state State.Aborting true 0 ≡ State.Aborting }
+    ensures failing_is_done { last_state State.Failing true 0 ≡ State.Done }
+    ensures failing_halts { last_state State.Failing false 0 ≡ State.Halted }
+    ensures failing_waits { last_state State.Failing false 1 ≡ State.Failing }
     // What has been measured whole stays so when the connection is left.
     ensures done_and_left { reported one_point 1 (opened ++ quiet_to_the_end ∷ client_leaves ∷ [])
         ≡ report State.Done 5

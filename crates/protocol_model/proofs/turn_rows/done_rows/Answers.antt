@@ -22,6 +22,18 @@ returns-clause-event_command_is_open c = refl
 pub returns-clause-event_command_has_failed : goal.returns-clause-event_command_has_failed
 returns-clause-event_command_has_failed c = refl
 
+pub returns-clause-aborting_stays : goal.returns-clause-aborting_stays
+returns-clause-aborting_stays c = refl
+
+pub returns-clause-failing_is_done : goal.returns-clause-failing_is_done
+returns-clause-failing_is_done c = refl
+
+pub returns-clause-failing_halts : goal.returns-clause-failing_halts
+returns-clause-failing_halts c = refl
+
+pub returns-clause-failing_waits : goal.returns-clause-failing_waits
+returns-clause-failing_waits c = refl
+
 pub returns-clause-done_and_left : goal.returns-clause-done_and_left
 returns-clause-done_and_left c = refl
 
