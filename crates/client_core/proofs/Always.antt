@@ -51,15 +51,15 @@ pub record IsSteady (c : Client) : Type 0 where
 -- ---- what is read
 
 -- a client that reads is on a connection, and is not Faulted
-record Reads (c : Client) : Type 0 where
-  on : c.on ≡ true
-  awake : is_faulted c.state ≡ false
+pub record Reads (c : Client) : Type 0 where
+  pub on : c.on ≡ true
+  pub awake : is_faulted c.state ≡ false
 
 not_true : (b : Bool) → not b ≡ true → b ≡ false
 not_true true e = absurd (false≢true e)
 not_true false e = refl
 
-reads_by : (c : Client) → may_read c ≡ true → Reads c
+pub reads_by : (c : Client) → may_read c ≡ true → Reads c
 reads_by c e = let two = both c.on _ e in record { on = two.0; awake = not_true (is_faulted c.state) two.1 }
 
 faulted_steady : (c : Client) (cause : Cause) → c.on ≡ true → IsSteady c → IsSteady (faulted cause c)

@@ -6,6 +6,7 @@ use Rattle.dmis_program.specs.Meaning.{Meaning}
 use Rattle.dmis_program.specs.Programs.{IsProgram}
 use Rattle.line_framing.specs.Framing.{Framing, no_bytes, fed, after_next}
 use Rattle.line_framing.specs.Next.{next_of}
+use Rattle.line_framing.specs.declared.faults.FramingFault.{FramingFault}
 use Rattle.protocol_model.specs.Lines.{Readers, AreReaders, command_bytes}
 use Rattle.protocol_model.specs.Open.{count_open}
 use Rattle.protocol_model.specs.Client.{Client, new_client, due, may_abort, may_resume, client_connected, client_sent, client_aborted, client_resumed, client_left, client_restarted}
@@ -14,7 +15,7 @@ use Rattle.protocol_model.proofs.ReadersExist.{some_are_readers}
 use Rattle.client_core.specs.Calls.{Call, Connected, Send, Feed, ReadOne, Abort, Resume, Leave, Restart, Sent, possible, done_by, behind_call, behind_calls}
 use Rattle.client_core.specs.Clients.{are_ours, is_faulted, may_connect, may_read}
 use Rattle.client_core.specs.Always.{IsReached, FitsState, IsQuiet}
-use Rattle.client_core.proofs.Always.{IsSteady, IsSound, sound}
+use Rattle.client_core.proofs.Always.{IsSteady, IsSound, sound, Reads, reads_by}
 use Rattle.client_core.proofs.Fits.{both}
 use Rattle.client_core.proofs.Runs.{behind_holds, Holds}
 use Rattle.client_core.specs.Calls.{client_behind, plans_begun}
@@ -156,6 +157,10 @@ off_is_quiet e h = IsSound.quiet (sound e h)
 
 pub no_fault_unmet : (e : ClientEnd) → IsReached e → is_faulted e.client.state ≡ false → e.input.fault ≡ None
 no_fault_unmet e h = IsSound.unmet (sound e h)
+
+-- where it reads, no fault was met in its bytes
+pub never_met : (client : Client) (input : Framing) (out : List ℕ) (fault : FramingFault) → IsReached (end_of client input out) → may_read client ≡ true → input.fault ≡ Some fault → ⊥
+never_met client input out fault h may met = let none = no_fault_unmet (end_of client input out) h (Reads.awake (reads_by client may)) in let is : None ≡ Some fault = sym none ∙ met in absurd (cc)
 
 holds : (e : ClientEnd) → (h : IsReached e) → Holds h.program e.client (plans_begun h.readers h.calls h.program h.kept h.window)
 holds e h = subst (λ (c : Client). Holds h.program c (plans_begun h.readers h.calls h.program h.kept h.window)) (sym (ap (λ (x : ClientEnd). x.client) h.reached))

@@ -535,6 +535,13 @@ pub behind_holds : (readers : Readers) (p : Meaning) (kept : List Feature) (wind
 behind_holds readers p kept window calls program ours =
     calls_hold readers p (first_plan kept) calls (new_client_end p kept window) (new_holds p kept window program ours)
 
+-- a client keeps its program
+pub program_stays : (readers : Readers) (p : Meaning) (kept : List Feature) (window : ℕ) (calls : List Call) → IsProgram p → are_ours p.features kept ≡ true
+    → (client_behind readers calls p kept window).program ≡ p
+program_stays readers p kept window calls program ours =
+    let h : Holds p (client_behind readers calls p kept window) (plans_begun readers calls p kept window) = behind_holds readers p kept window calls program ours in
+    h.same
+
 -- the features that a client holds are the first of its program
 pub features_are_ours : (readers : Readers) (p : Meaning) (kept : List Feature) (window : ℕ) (calls : List Call) → IsProgram p → are_ours p.features kept ≡ true
     → are_ours p.features (client_behind readers calls p kept window).table.tally.features ≡ true

@@ -53,12 +53,14 @@ impl Model for Client {
 
 /// The cause that a framing fault is for a client.
 fn cause_of(fault: FramingFault) -> Cause
+    requires { fault ≢ FramingFault.Memory }
     ensures long { fault ≡ FramingFault.LineTooLong → result ≡ Cause.LineTooLong }
     ensures bad { fault ≡ FramingFault.BadByte → result ≡ Cause.BadByte }
 {
     match fault {
         FramingFault::LineTooLong => Cause::LineTooLong,
-        FramingFault::BadByte | FramingFault::Memory => Cause::BadByte,
+        FramingFault::BadByte => Cause::BadByte,
+        FramingFault::Memory => unreachable!(),
     }
 }
 
@@ -81,7 +83,7 @@ impl Client {
         ensures window { IfErr result (λ refused. (refused.0 ≡ NewFault.BadWindow)
             ↔ ((nat_le 1 window && nat_le window 16) ≡ false)) }
         ensures ours { IfErr result (λ refused. (refused.0 ≡ NewFault.NotOurs)
-            ↔ ((nat_le 1 window && (nat_le window 16 && not (are_ours program.features features))) ≡ true)) }
+            ↔ (((nat_le 1 window && nat_le window 16) && not (are_ours program.features features)) ≡ true)) }
         ensures given_back { IfErr result (λ refused. (refused.1 ≡ program) × (refused.2 ≡ features)) }
     {
         if window < 1 || window > 16 {
@@ -165,7 +167,9 @@ impl Client {
         }
         match self.input.feed(piece) {
             Ok(()) => Ok(()),
-            Err(_) => Err(ClientFault::Memory),
+            Err(FramingFault::Memory) => Err(ClientFault::Memory),
+            Err(FramingFault::LineTooLong) => unreachable!(),
+            Err(FramingFault::BadByte) => unreachable!(),
         }
     }
 

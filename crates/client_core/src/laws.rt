@@ -12,6 +12,7 @@ ghost use Rattle.client_core.specs.Clients.{are_ours};
 
 /// Behind every list of calls of a client, from any program and any features of it that are kept, whatever bytes are fed:
 ///
+/// - `program`: it keeps the program;
 /// - `features`: the features that it holds are the first of the program, by their labels and their counts of points;
 /// - `counted`: each plan was begun behind the features that were held when it was. The acts that are counted on the connection are
 ///   those for which the counted front of the present plan stands, behind those of the plans that were begun before it: a contact with
@@ -21,15 +22,18 @@ ghost use Rattle.client_core.specs.Clients.{are_ours};
 ///
 /// A call that is not possible changes nothing. What reads lines and points may be any functions.
 pub fn whatever_the_peer_sends()
-    ensures features { (readers : Readers) (program : Meaning) (kept : List OneFeature) (window : ℕ) (calls : List Call)
-        → IsProgram program → are_ours program.features kept ≡ true
+    ensures program { (readers : Readers) (program : Meaning) (kept : List OneFeature) (window : ℕ)
+        (calls : List Call) → IsProgram program → are_ours program.features kept ≡ true
+        → (client_behind readers calls program kept window).program ≡ program }
+    ensures features { (readers : Readers) (program : Meaning) (kept : List OneFeature) (window : ℕ)
+        (calls : List Call) → IsProgram program → are_ours program.features kept ≡ true
         → are_ours program.features (client_behind readers calls program kept window).table.tally.features ≡ true }
-    ensures counted { (readers : Readers) (program : Meaning) (kept : List OneFeature) (window : ℕ) (calls : List Call)
-        → IsProgram program → are_ours program.features kept ≡ true
+    ensures counted { (readers : Readers) (program : Meaning) (kept : List OneFeature) (window : ℕ)
+        (calls : List Call) → IsProgram program → are_ours program.features kept ≡ true
         → AreCounted program (plans_begun readers calls program kept window)
         (client_behind readers calls program kept window).table.tally }
-    ensures next { (readers : Readers) (program : Meaning) (kept : List OneFeature) (window : ℕ) (calls : List Call)
-        → IsProgram program → are_ours program.features kept ≡ true
+    ensures next { (readers : Readers) (program : Meaning) (kept : List OneFeature) (window : ℕ)
+        (calls : List Call) → IsProgram program → are_ours program.features kept ≡ true
         → (client_behind readers calls program kept window).on ≡ true
         → (number : ℕ) (mark : Mark) (kind : Kind)
         → counted_by (client_behind readers calls program kept window) number mark ≡ Some kind

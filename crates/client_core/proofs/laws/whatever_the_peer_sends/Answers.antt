@@ -1,5 +1,8 @@
-use Rattle.client_core.proofs.Runs.{features_are_ours, counted_are_planned, counted_is_next}
+use Rattle.client_core.proofs.Runs.{program_stays, features_are_ours, counted_are_planned, counted_is_next}
 use Rattle.client_core.proofs.laws.whatever_the_peer_sends.Goals as goal
+
+pub returns-clause-program : goal.returns-clause-program
+returns-clause-program c = program_stays
 
 pub returns-clause-features : goal.returns-clause-features
 returns-clause-features c = features_are_ours
