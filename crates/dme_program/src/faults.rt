@@ -1,11 +1,13 @@
 // What is printed on standard error, and the status that goes with it.
 
-ghost use Rattle.std.specs.Prelude.{◌≡◌};
+ghost use Rattle.std.specs.Prelude.{◌≡◌, true, is_some, string_bytes};
 ghost use Rattle.std.specs.Option.{option_map};
-ghost use Rattle.dme_program.specs.Printed.{refusal_code, setup_code, status_of};
+ghost use Rattle.dme_program.specs.Printed.{refusal_code, setup_code, status_of, IsShown};
 
+use crate::check::CheckFault;
+use crate::orders::OrderFault;
 use clap::Error as WordsError;
-use dmis_program::Refusal;
+use dmis_program::{ProgramFault, Refusal};
 use fixed_um::NumeralFault;
 use thiserror::Error;
 use tool_rack::SetupFault;
@@ -25,9 +27,9 @@ pub enum Fault {
     /// A file that cannot be opened or read; `-` is standard input.
     #[error("dme: cannot read {0}\n")]
     CannotRead(String),
-    /// A file that cannot be written; `-` is standard output.
-    #[error("dme: cannot write {0}\n")]
-    CannotWrite(String),
+    /// Standard output, which cannot be written.
+    #[error("dme: cannot write -\n")]
+    CannotWriteOutput,
     /// Want of memory.
     #[error("dme: out of memory\n")]
     Memory,
@@ -41,7 +43,7 @@ impl Fault {
         match self {
             Fault::Words(_) => 2,
             Fault::Program { .. } | Fault::Setup { .. } => 1,
-            Fault::CannotRead(_) | Fault::CannotWrite(_) => 1,
+            Fault::CannotRead(_) | Fault::CannotWriteOutput => 1,
             Fault::Memory => 4,
         }
     }
@@ -82,5 +84,31 @@ pub fn setup_refusal(fault: SetupFault) -> Option<(&'static str, u64)>
         SetupFault::Twice(line) => Some(("S2 Twice", line)),
         SetupFault::BadNumeral(line) => Some(("S3 BadNumeral", line)),
         SetupFault::Memory => None,
+    }
+}
+
+/// What is shown for the fault of an order, with the names of its files. The caller owes a setup's name where its source failed.
+pub fn shown_fault(fault: OrderFault, setup: Option<String>, program: String) -> Fault
+    requires { fault ≡ OrderFault.SetupRead → is_some setup ≡ true }
+    ensures { IsShown fault (option_map string_bytes setup) (string_bytes program) result }
+{
+    match fault {
+        OrderFault::Setup(cause) => match setup_refusal(cause) {
+            Some((refusal, line)) => Fault::Setup { refusal, line },
+            None => Fault::Memory,
+        },
+        OrderFault::SetupRead => match setup {
+            Some(file) => Fault::CannotRead(file),
+            None => unreachable!(),
+        },
+        OrderFault::Check(CheckFault::Program(ProgramFault::Refused(refusal, line))) => {
+            let refusal = refusal_text(refusal);
+            Fault::Program { refusal, line }
+        }
+        OrderFault::Check(CheckFault::Read) => Fault::CannotRead(program),
+        OrderFault::Check(CheckFault::Write) => Fault::CannotWriteOutput,
+        OrderFault::Check(CheckFault::Program(ProgramFault::Memory) | CheckFault::Memory) => {
+            Fault::Memory
+        }
     }
 }

@@ -9,6 +9,7 @@
 
 mod check;
 mod faults;
+mod files;
 mod orders;
 mod plan;
 mod running;

@@ -1,0 +1,85 @@
+// The files of an order as sources.
+
+ghost use Rattle.std.specs.Prelude.{◌≡◌, ◌≤◌, length, None, IfOk};
+
+use byte_ports::{Failed, Source};
+use std::io::Read;
+use std::rt::Files;
+use std::{fs, io};
+
+/// Where the bytes of a file come from.
+#[derive(Drop)]
+enum Place<F, I> {
+    /// The file of the source's name, which is not open yet.
+    Closed,
+    /// A file that is open.
+    Open(F),
+    /// Standard input.
+    Input(I),
+    /// Standard input that an earlier file of the order was read from: nothing is left.
+    Taken,
+}
+
+/// A file of an order, by its name, or standard input. It is opened at its first pull, so that files are refused in the order in
+/// which they are read. It does not tell its bytes.
+#[derive(Drop)]
+pub struct NamedSource<'a, R: Files + Input> {
+    rt: &'a R,
+    name: &'a str,
+    place: Place<R::File, R::Reader>,
+    has_failed: bool,
+}
+
+impl<'a, R: Files + Input> NamedSource<'a, R> {
+    /// The file of this name; `-` is standard input, or nothing where an earlier file was read from it.
+    pub fn new(rt: &'a R, name: &'a str, input_is_taken: bool) -> Self {
+        let place = match (name, input_is_taken) {
+            ("-", true) => Place::Taken,
+            ("-", false) => Place::Input(rt.reader()),
+            _ => Place::Closed,
+        };
+        NamedSource {
+            rt,
+            name,
+            place,
+            has_failed: false,
+        }
+    }
+
+    /// One read, which opens the file where it is closed.
+    fn read(&mut self, buf: &mut [u8]) -> io::Result<usize>
+        ensures within { IfOk result (λ n. n ≤ length buf.new) }
+        ensures same { self.new.has_failed ≡ self.old.has_failed }
+    {
+        match &mut self.place {
+            Place::Open(file) => file.read(buf),
+            Place::Input(input) => input.read(buf),
+            Place::Taken => Ok(0),
+            Place::Closed => {
+                let mut file = fs::open(self.rt, self.name)?;
+                let count = file.read(buf)?;
+                self.place = Place::Open(file);
+                Ok(count)
+            }
+        }
+    }
+}
+
+impl<'a, R: Files + Input> Source for NamedSource<'a, R> {
+    ghost left = { λ _. None };
+
+    ghost has_failed = { λ s. s.has_failed };
+
+    fn pull(&mut self, buf: &mut [u8]) -> Result<usize, Failed> {
+        if self.has_failed {
+            return Err(Failed);
+        }
+        match self.read(buf) {
+            Ok(count) => Ok(count),
+            Err(_) => {
+                self.has_failed = true;
+                Err(Failed)
+            }
+        }
+    }
+}
