@@ -61,9 +61,11 @@ impl World {
     /// `BadWindow` hands both back; `Memory`.
     pub fn new(alloc: Global, program: Program, setup: Setup, window: u8) -> Result<World, NewFault>
         // The world that is made, and when none is.
-        ensures ok { IfOk result (λ world. world ≡ record { setup = setup; world = start program setup.tools window }) }
+        ensures ok { IfOk result (λ world. world
+            ≡ record { setup = setup; world = start program setup.tools window }) }
         ensures window { IsOk result → is_window window ≡ true }
-        ensures bad_window { IsErrAnd result (λ fault. HandsBack program setup fault) ↔ (is_window window ≡ false) }
+        ensures bad_window { IsErrAnd result (λ fault. HandsBack program setup fault)
+            ↔ (is_window window ≡ false) }
         ensures memory { IsErrAnd result (λ fault. IsWant fault) → is_window window ≡ true }
 
         // What holds before any event.
@@ -95,8 +97,8 @@ impl World {
         ensures memory { IsErrOf result WorldFault.Memory → can event self.old.world ≡ true }
         ensures ok { OnOk result ((readers : Readers) → AreReaders readers
             → self.new ≡ with_world self.old (happens readers event self.old.world)) }
-        ensures unread { reads event ≡ false
-            → OnOk result ((readers : Readers) → self.new ≡ with_world self.old (happens readers event self.old.world)) }
+        ensures unread { reads event ≡ false → OnOk result ((readers : Readers)
+            → self.new ≡ with_world self.old (happens readers event self.old.world)) }
         ensures err { OnErr result (self.new ≡ self.old) }
     {
         match event {
@@ -135,13 +137,14 @@ impl World {
         // What it does; only what reads a line speaks of readers.
         ensures ok { OnOk result ((readers : Readers) → AreReaders readers
             → self.new ≡ with_world self.old (happens readers event self.old.world)) }
-        ensures unread { reads event ≡ false
-            → OnOk result ((readers : Readers) → self.new ≡ with_world self.old (happens readers event self.old.world)) }
+        ensures unread { reads event ≡ false → OnOk result ((readers : Readers)
+            → self.new ≡ with_world self.old (happens readers event self.old.world)) }
         ensures err { OnErr result (self.new ≡ self.old) }
 
         // What no event changes.
         ensures setup { self.new.setup ≡ self.old.setup }
-        ensures program { self.new.world.client.client.program ≡ self.old.world.client.client.program }
+        ensures program { self.new.world.client.client.program
+            ≡ self.old.world.client.client.program }
         ensures window { self.new.world.client.client.window ≡ self.old.world.client.client.window }
 
         // What holds after any events.
@@ -164,23 +167,27 @@ impl World {
     pub fn run(&mut self, events: &[Event]) -> RunCount
         // What became of each event.
         ensures run { (readers : Readers) → AreReaders readers
-            → HasRun readers self.old.world events.now self.new.world result.done result.not_now result.memory }
+            → HasRun readers self.old.world events.now self.new.world
+            result.done result.not_now result.memory }
         ensures all { result.done + result.not_now + result.memory ≡ length events.now }
         ensures runs { result.memory ≡ 0 → (readers : Readers) → AreReaders readers
             → self.new.world ≡ run_of readers events.now self.old.world }
 
         // What no event changes.
         ensures setup { self.new.setup ≡ self.old.setup }
-        ensures program { self.new.world.client.client.program ≡ self.old.world.client.client.program }
+        ensures program { self.new.world.client.client.program
+            ≡ self.old.world.client.client.program }
         ensures window { self.new.world.client.client.window ≡ self.old.world.client.client.window }
 
         // What comes of events of which none disturbs, from a new world.
         ensures lines { IsNew self.old.world → AreUndisturbed events.now
             → AreFirstLines self.new.world.written (first_plan self.old.world) }
         ensures acts { IsNew self.old.world → AreUndisturbed events.now
-            → AreFirstActs (acts_in self.new.world.server.server.ledger) (acts_planned (first_plan self.old.world)) }
+            → AreFirstActs (acts_in self.new.world.server.server.ledger)
+            (acts_planned (first_plan self.old.world)) }
         ensures counted { IsNew self.old.world → AreUndisturbed events.now
-            → AreFirstOf self.new.world.client.client.table.tally.counted (acts_in self.new.world.server.server.ledger) }
+            → AreFirstOf self.new.world.client.client.table.tally.counted
+            (acts_in self.new.world.server.server.ledger) }
 
         // What holds after any events.
         ensures sound { IsSound self.new.world }
@@ -205,7 +212,8 @@ impl World {
 
     /// The job of what runs on the machine, its points in machine axes.
     pub fn running(&self) -> Option<&Job>
-        ensures { MatchOption result (running_job self.now.world.server.server ≡ None) (λ job. running_job self.now.world.server.server ≡ Some job.now) }
+        ensures { MatchOption result (running_job self.now.world.server.server ≡ None)
+            (λ job. running_job self.now.world.server.server ≡ Some job.now) }
     {
         self.server.running()
     }
