@@ -34,7 +34,7 @@ turned_no_contact s =
 
 -- ---- which ends of what runs make one
 
-not_longer : (ms : List Made) (m : Made) → ms ≡ ms ++ m ∷ [] → ⊥
+pub not_longer : (ms : List Made) (m : Made) → ms ≡ ms ++ m ∷ [] → ⊥
 not_longer ms m e =
     let longer : length ms ≡ length (ms ++ m ∷ []) = ap length e in
     let sum : length (ms ++ m ∷ []) ≡ length ms + 1 = length-append ms (m ∷ []) in

@@ -14,11 +14,9 @@ use Rattle.protocol_model.specs.Ends.{ServerEnd, front_served, serving_read, ser
 use Rattle.protocol_model.specs.declared.lines.Line.{Line}
 use Rattle.protocol_model.specs.declared.lines.Misread.{Misread}
 use Rattle.protocol_model.specs.declared.lines.Waiting.{Waiting}
-use Rattle.protocol_model.specs.declared.machine.Job.{Job}
 use Rattle.protocol_model.specs.declared.machine.Outcome.{Outcome}
 use Rattle.protocol_model.proofs.Moves.{read_moves}
 use Rattle.server_core.specs.Acting.{with_act, IsOneMore}
-use Rattle.server_core.specs.Kept.{IsKept}
 
 -- ---- a line that is read appends nothing
 
@@ -69,10 +67,6 @@ turned_frames s = turned_to_frames s s.waiting
 
 pub turned_one_more : (e : ServerEnd) → IsOneMore e.server.last e.server.ledger (serving_turned e).server.ledger
 turned_one_more e = let f = turned_frames e.server in record { act = framed f.0; whole = f.1 }
-
--- in the error state nothing waits, so a turn appends nothing
-pub error_keeps : (e : ServerEnd) (job : Option Job) → IsKept e.server job → e.server.error ≡ true → (serving_turned e).server.ledger ≡ e.server.ledger
-error_keeps e job kept error = ap (λ (ws : List Waiting). (turned_to e.server ws).server.ledger) (kept.quiet error)
 
 -- ---- the end of what runs appends its act, or nothing
 

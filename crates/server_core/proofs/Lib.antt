@@ -5,3 +5,5 @@ pub mod Contacts
 pub mod Steadies
 pub mod Standards
 pub mod Servings
+pub mod Deeds
+pub mod Reached

@@ -187,7 +187,7 @@ not_off : (on : Bool) → (on ≡ false → ⊥) → on ≡ true
 not_off true never = refl
 not_off false never = absurd (never refl)
 
-empty_waits : (ws : List Waiting) → not (is_empty ws) ≡ true → ws ≡ [] → ⊥
+pub empty_waits : (ws : List Waiting) → not (is_empty ws) ≡ true → ws ≡ [] → ⊥
 empty_waits ws some none = false≢true (sym (ap (λ (l : List Waiting). not (is_empty l)) none) ∙ some)
 
 none_ends : (running : Option Line) (ended : Outcome) → may_end running ended ≡ true → running ≡ None → ⊥

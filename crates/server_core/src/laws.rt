@@ -1,13 +1,16 @@
 // What follows from the definitions for the ledger of a server. Each function has laws for its contract and does nothing.
 
-ghost use Rattle.std.specs.Prelude.{◌≡◌, ℕ, List, Option, [], ◌∷◌, ◌++◌, None, true};
-ghost use Rattle.protocol_model.specs.Lines.{Readers};
+ghost use Rattle.std.specs.Prelude.{◌≡◌, ℕ, List, [], ◌∷◌, ◌++◌, None, Some, Err, is_some, true, false};
+ghost use Rattle.protocol_model.specs.Lines.{Readers, AreReaders};
 ghost use Rattle.protocol_model.specs.Claims.{Made, contacts};
 ghost use Rattle.protocol_model.specs.Ends.{ServerEnd, serving_accepted, serving_fed, serving_read, serving_turned, serving_machined, serving_left, serving_restarted, serving_taken};
-ghost use Rattle.protocol_model.specs.declared.machine.Job.{Job as OneJob};
 ghost use Rattle.protocol_model.specs.declared.machine.Outcome.{Outcome as OneOutcome};
 ghost use Rattle.server_core.specs.Acting.{IsOneMore, IsCommanded};
-ghost use Rattle.server_core.specs.Kept.{IsKept};
+ghost use Rattle.line_framing.specs.Next.{next_of};
+ghost use Rattle.line_framing.specs.declared.faults.FramingFault.{FramingFault as OneFault};
+ghost use Rattle.protocol_model.specs.declared.lines.Line.{Line as OneLine};
+ghost use Rattle.server_core.specs.Steady.{IsSteady, IsServing};
+ghost use Rattle.server_core.specs.Calls.{Call, reached, behind_call, gives_up, completes_act, deed_of, IsDone, IsContactOf, RanBefore, IsEndOfEarlier};
 
 use crate::answers::ANSWER_MAX;
 
@@ -27,15 +30,12 @@ pub fn ledger_only_grows()
 {}
 
 /// A contact is made only when the machine touched for a running touch, and is as that command asked; its line with the point and the end of
-/// the touch are answered in the same call. No turn makes a contact, and the other calls make no act at all. In the error state no turn makes
-/// an act, and where nothing runs the machine makes none (this profile).
-#[tactic(auto, using(crate::proofs::Contacts::machined_as_commanded, crate::proofs::Contacts::turned_no_contact, crate::proofs::Ledgers::error_keeps, crate::proofs::Ledgers::idle_keeps))]
+/// the touch are answered in the same call. No turn makes a contact, and where nothing runs the machine makes no act (this profile).
+#[tactic(auto, using(crate::proofs::Contacts::machined_as_commanded, crate::proofs::Contacts::turned_no_contact, crate::proofs::Ledgers::idle_keeps))]
 pub fn contacts_are_as_commanded()
     ensures made { (ended : OneOutcome) (e : ServerEnd) (made : Made)
         → contacts (serving_machined ended e).server.ledger ≡ contacts e.server.ledger ++ made ∷ [] → IsCommanded e ended made }
     ensures turned { (e : ServerEnd) → contacts (serving_turned e).server.ledger ≡ contacts e.server.ledger }
-    ensures error { (e : ServerEnd) (job : Option OneJob) → IsKept e.server job → e.server.error ≡ true
-        → (serving_turned e).server.ledger ≡ e.server.ledger }
     ensures idle { (ended : OneOutcome) (e : ServerEnd) → e.server.running ≡ None
         → (serving_machined ended e).server.ledger ≡ e.server.ledger }
 {}
@@ -43,4 +43,54 @@ pub fn contacts_are_as_commanded()
 /// What one call answers has at most 10,560 bytes: 132 lines of at most 80 bytes, ends included (this profile).
 pub fn one_call_answers_at_most()
     ensures { ANSWER_MAX ≡ 10560 }
+{}
+
+/// One act, exactly at its completing call. For every list of calls from a new server, whatever bytes are fed and whatever functions read the
+/// lines, and for each further call (a call that is not possible changes nothing):
+///
+/// - `acts`: a call that completes an act appends just this act, on the present connection, and answers the lines of its command and its
+///   completion, nothing else; for a touch the data line stands before it. Behind it nothing runs. No other call changes the ledger;
+/// - `due`: the calls that complete an act are those at which the machine is done or has touched and what runs can end so, and the turn of a
+///   choice of frame that is not refused. So a touch that runs has a tool;
+/// - `contacts`: each contact is made by a call of the machine, as the running command asked;
+/// - `error`: in the error state an act is only the end of a command that ran already when the state was entered, by a line that was read
+///   while 64 commands waited, and that has run since. No turn makes one there;
+/// - `ran`: whatever runs in the error state is such a command (this profile).
+#[tactic(auto, using(crate::proofs::Reached::one_act, crate::proofs::Reached::act_is_due, crate::proofs::Reached::contact_is_commanded, crate::proofs::Reached::act_in_error, crate::proofs::Reached::ran_before))]
+pub fn one_act_at_its_completing_call()
+    ensures acts { (readers : Readers) (tools : List (List ℕ)) (calls : List Call) (call : Call)
+        → IsDone (deed_of call (reached readers tools calls)) (reached readers tools calls)
+        (behind_call readers call (reached readers tools calls)) }
+    ensures due { (readers : Readers) (tools : List (List ℕ)) (calls : List Call) (call : Call)
+        → is_some (deed_of call (reached readers tools calls)) ≡ completes_act call (reached readers tools calls) }
+    ensures contacts { (readers : Readers) (tools : List (List ℕ)) (calls : List Call) (call : Call) (made : Made)
+        → contacts (behind_call readers call (reached readers tools calls)).server.ledger
+        ≡ contacts (reached readers tools calls).server.ledger ++ made ∷ []
+        → IsContactOf (reached readers tools calls) call made }
+    ensures error { (readers : Readers) (tools : List (List ℕ)) (calls : List Call) (call : Call)
+        → (reached readers tools calls).server.error ≡ true → completes_act call (reached readers tools calls) ≡ true
+        → IsEndOfEarlier readers tools calls call }
+    ensures ran { (readers : Readers) (tools : List (List ℕ)) (calls : List Call) (line : OneLine)
+        → (reached readers tools calls).server.error ≡ true → (reached readers tools calls).server.running ≡ Some line
+        → RanBefore readers tools calls line }
+{}
+
+/// What `view` says to hold at any time holds behind every list of calls from a new server: `steady` whatever functions read the lines, and
+/// `standard`, where they read as the interface says, that all that waits has standard tags.
+#[tactic(auto, using(crate::proofs::Reached::reached_steady, crate::proofs::Reached::reached_serving))]
+pub fn what_holds_behind_every_list_of_calls()
+    ensures steady { (readers : Readers) (tools : List (List ℕ)) (calls : List Call) → IsSteady (reached readers tools calls) }
+    ensures standard { (readers : Readers) (tools : List (List ℕ)) (calls : List Call)
+        → AreReaders readers → IsServing (reached readers tools calls) }
+{}
+
+/// A framing fault that a server has met is kept by each call but `leave` and `restart`, and stands at the front of the bytes: so each later
+/// `feed` and `read_one` answers it, until the connection is given up (this profile).
+#[tactic(auto, using(crate::proofs::Reached::kept_fault_stands, crate::proofs::Reached::fault_is_kept))]
+pub fn framing_fault_is_kept()
+    ensures stands { (readers : Readers) (tools : List (List ℕ)) (calls : List Call) (why : OneFault)
+        → (reached readers tools calls).input.fault ≡ Some why → next_of (reached readers tools calls).input.rest ≡ Err why }
+    ensures kept { (readers : Readers) (tools : List (List ℕ)) (calls : List Call) (call : Call) (why : OneFault)
+        → (reached readers tools calls).input.fault ≡ Some why → gives_up call ≡ false
+        → (behind_call readers call (reached readers tools calls)).input ≡ (reached readers tools calls).input }
 {}

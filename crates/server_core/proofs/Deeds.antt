@@ -1,0 +1,286 @@
+-- Which act each call of a server completes.
+use Rattle.std.proofs.Common.{◌≡◌, ℕ, Bool, true, false, cond, not, ◌&&◌, is_none, is_some, List, [], ◌∷◌, ◌++◌, refl, sym, ◌∙◌, ap, subst, append-nil, Option, Some, None, Result, Ok, Err}
+use Rattle.std.proofs.lemmas.Bool.{false≢true, and_parts}
+use Rattle.std.specs.List.{AllByRecursion}
+use Rattle.fixed_um.specs.Points.{point_sum}
+use Rattle.fixed_um.specs.Shapes.{Direction}
+use Rattle.fixed_um.specs.declared.lengths.Point.{Point}
+use Rattle.fixed_um.specs.declared.frames.Frame.{Frame}
+use Rattle.dme_line.specs.declared.tags.Tag.{Tag}
+use Rattle.dme_line.specs.declared.commands.Command.{Command}
+use Rattle.dme_line.specs.declared.commands.Command.TheVariants as command
+use Rattle.dme_line.specs.declared.reading.LineFault.{LineFault}
+use Rattle.protocol_model.specs.Replies.{Reply}
+use Rattle.protocol_model.specs.Lines.{Readers, reply_bytes}
+use Rattle.protocol_model.specs.Claims.{Made, contacts}
+use Rattle.protocol_model.specs.Server.{Server, Answer, offset, in_volume, first_failing, checks, refusal, carried_out, carried, taken, turned_to, server_turned, finished, touched, machined, server_machined, may_end}
+use Rattle.protocol_model.specs.Ends.{ServerEnd, with_answer, serving_accepted, serving_fed, serving_turned, serving_machined, serving_left, serving_restarted, serving_taken}
+use Rattle.protocol_model.specs.declared.lines.Line.{Line}
+use Rattle.protocol_model.specs.declared.lines.Waiting.{Waiting}
+use Rattle.protocol_model.specs.declared.machine.Outcome.{Outcome}
+use Rattle.server_core.specs.Serving.{may_turn, ok_of, command_in, refusal_in}
+use Rattle.server_core.specs.Acting.{IsCommanded}
+use Rattle.server_core.specs.Steady.{IsSteady}
+use Rattle.server_core.specs.Calls.{Call, Accept, Feed, ReadOne, Turn, Machine, Leave, Restart, Sent, possible, done_by, behind_call, selects_frame, completes_act, Deed, done_deed, touch_deed, end_deed, frame_deed, turn_deed, deed_of, IsDone, IsContactOf}
+use Rattle.server_core.proofs.Ledgers.{read_keeps}
+use Rattle.server_core.proofs.Contacts.{not_longer, turned_no_contact, machined_as_commanded}
+use Rattle.server_core.proofs.Steadies.{nothing_runs}
+
+pub chosen : (P : ServerEnd → Type 0) (b : Bool) (x y : ServerEnd) → (b ≡ true → P x) → (b ≡ false → P y) → P (cond b x y)
+chosen P true x y p q = p refl
+chosen P false x y p q = q refl
+
+-- ---- one act or none
+
+-- a deed is done by an answer
+record IsAnswered (deed : Deed) (s : Server) (a : Answer) : Type 0 where
+  ledger : a.server.ledger ≡ s.ledger ++ (s.last, deed.act) ∷ []
+  said : a.said ≡ deed.lines ++ Reply.Completes deed.tag ∷ []
+  idle : a.server.running ≡ None
+
+abbrev DoneBy : Option Deed → Server → Answer → Type 0
+DoneBy None s a = a.server.ledger ≡ s.ledger
+DoneBy (Some deed) s a = IsAnswered deed s a
+
+with_bytes : (deed : Option Deed) (e : ServerEnd) (a : Answer) → DoneBy deed e.server a → IsDone deed e (with_answer e e.input a)
+with_bytes None e a h = h
+with_bytes (Some deed) e a h = record { ledger = h.ledger; said = ap (λ (said : List Reply). e.out ++ reply_bytes said) h.said; idle = h.idle }
+
+carried_done : (s : Server) (ws : List Waiting) (t : Tag) (c : Command) → s.running ≡ None → DoneBy (frame_deed s t (Some c)) s (carried_out (record s { waiting = ws }) t c)
+carried_done s ws t command.StartSession idle = refl
+carried_done s ws t command.EndSession idle = refl
+carried_done s ws t command.ClearAllErrors idle = refl
+carried_done s ws t command.Home idle = refl
+carried_done s ws t command.OnPtMeasReport idle = refl
+carried_done s ws t (command.GoTo p) idle = refl
+carried_done s ws t (command.PtMeas p d) idle = refl
+carried_done s ws t (command.ChangeTool n) idle = refl
+carried_done s ws t (command.SetCsyTransformation p) idle = refl
+carried_done s ws t (command.SetCoordSystem system) idle = record { ledger = refl; said = refl; idle = idle }
+carried_done s ws t command.AbortE idle = refl
+
+taken_done : (s : Server) (w : Waiting) (ws : List Waiting) (number : Option ℕ) → s.running ≡ None
+    → DoneBy (cond (is_none number) (frame_deed s w.tag (ok_of w.reading)) None) s (taken s w ws number)
+taken_done s w ws (Some number) idle = refl
+taken_done s w ws None idle = go w.reading
+  where
+    go : (reading : Result Command LineFault) → DoneBy (frame_deed s w.tag (ok_of reading)) s (carried (record s { waiting = ws }) w.tag reading)
+    go (Ok c) = carried_done s ws w.tag c idle
+    go (Err refused) = refl
+
+turned_done : (s : Server) (ws : List Waiting) → s.running ≡ None → DoneBy (turn_deed s ws) s (turned_to s ws)
+turned_done s [] idle = refl
+turned_done s (w ∷ ws) idle = taken_done s w ws (refusal s w.reading) idle
+
+turn_done : (e : ServerEnd) (may : Bool) → may_turn e.server ≡ may → IsDone (cond may (turn_deed e.server e.server.waiting) None) e (cond may (serving_turned e) e)
+turn_done e true is =
+    with_bytes (turn_deed e.server e.server.waiting) e (server_turned e.server)
+    (turned_done e.server e.server.waiting (nothing_runs e.server.running ((and_parts _ _ is).0)))
+turn_done e false is = refl
+
+finished_done : (s : Server) (t : Tag) (c : Command) → DoneBy (done_deed s t c) s (finished s t c)
+finished_done s t command.StartSession = refl
+finished_done s t command.EndSession = refl
+finished_done s t command.ClearAllErrors = refl
+finished_done s t command.Home = record { ledger = refl; said = refl; idle = refl }
+finished_done s t command.OnPtMeasReport = refl
+finished_done s t (command.GoTo p) = record { ledger = refl; said = refl; idle = refl }
+finished_done s t (command.PtMeas p d) = refl
+finished_done s t (command.ChangeTool n) = record { ledger = refl; said = refl; idle = refl }
+finished_done s t (command.SetCsyTransformation p) = refl
+finished_done s t (command.SetCoordSystem system) = refl
+finished_done s t command.AbortE = refl
+
+touched_done : (s : Server) (t : Tag) (c : Command) (at : Point) (tool : Option (List ℕ)) → DoneBy (touch_deed s t c at tool) s (touched s t c at tool)
+touched_done s t command.StartSession at tool = refl
+touched_done s t command.EndSession at tool = refl
+touched_done s t command.ClearAllErrors at tool = refl
+touched_done s t command.Home at tool = refl
+touched_done s t command.OnPtMeasReport at tool = refl
+touched_done s t (command.GoTo p) at tool = refl
+touched_done s t (command.PtMeas p d) at (Some n) = record { ledger = refl; said = refl; idle = refl }
+touched_done s t (command.PtMeas p d) at None = refl
+touched_done s t (command.ChangeTool n) at tool = refl
+touched_done s t (command.SetCsyTransformation p) at tool = refl
+touched_done s t (command.SetCoordSystem system) at tool = refl
+touched_done s t command.AbortE at tool = refl
+
+machined_done : (s : Server) (ended : Outcome) (running : Option Line) → DoneBy (end_deed s ended running) s (machined s ended running)
+machined_done s Outcome.Done None = refl
+machined_done s (Outcome.Touched at) None = refl
+machined_done s Outcome.Missed None = refl
+machined_done s Outcome.Fault None = refl
+machined_done s Outcome.Done (Some line) = finished_done s line.tag line.command
+machined_done s (Outcome.Touched at) (Some line) = touched_done s line.tag line.command at s.tool
+machined_done s Outcome.Missed (Some line) = refl
+machined_done s Outcome.Fault (Some line) = refl
+
+machine_done : (e : ServerEnd) (ended : Outcome) (may : Bool)
+    → IsDone (cond may (end_deed e.server ended e.server.running) None) e (cond may (serving_machined ended e) e)
+machine_done e ended true =
+    with_bytes (end_deed e.server ended e.server.running) e (server_machined e.server ended) (machined_done e.server ended e.server.running)
+machine_done e ended false = refl
+
+pub call_done : (readers : Readers) (call : Call) (e : ServerEnd) → IsDone (deed_of call e) e (behind_call readers call e)
+call_done readers (Accept n) e = chosen (λ (f : ServerEnd). f.server.ledger ≡ e.server.ledger) (possible (Accept n) e) _ _ (λ b. refl) (λ b. refl)
+call_done readers (Feed bytes) e = chosen (λ (f : ServerEnd). f.server.ledger ≡ e.server.ledger) (possible (Feed bytes) e) _ _ (λ b. refl) (λ b. refl)
+call_done readers ReadOne e = chosen (λ (f : ServerEnd). f.server.ledger ≡ e.server.ledger) (possible ReadOne e) _ _ (λ b. read_keeps readers e) (λ b. refl)
+call_done readers Turn e = turn_done e (may_turn e.server) refl
+call_done readers (Machine ended) e = machine_done e ended (may_end e.server.running ended)
+call_done readers Leave e = refl
+call_done readers Restart e = refl
+call_done readers (Sent count) e = chosen (λ (f : ServerEnd). f.server.ledger ≡ e.server.ledger) (possible (Sent count) e) _ _ (λ b. refl) (λ b. refl)
+
+-- ---- which calls
+
+some_none : (n : ℕ) → Some n ≡ None → ⊥
+some_none n e = cc
+
+-- no check fails
+all_pass : (tests : List (Bool × ℕ)) → first_failing tests ≡ None → AllByRecursion (λ (test : Bool × ℕ). test.0 ≡ false) tests
+all_pass [] e = tt
+all_pass ((true, n) ∷ tests) e = absurd (some_none n e)
+all_pass ((false, n) ∷ tests) e = (refl, all_pass tests e)
+
+-- a command that passes the checks: a touch has its tool, and its target is in the volume
+record Passes (s : Server) (p : Point) (d : Option Direction) : Type 0 where
+  tool : is_none s.tool ≡ false
+  target : not (in_volume (point_sum p (offset s.frame))) ≡ false
+
+touch_passes : (s : Server) (p : Point) (d : Option Direction) → first_failing (checks s (command.PtMeas p d)) ≡ None → Passes s p d
+touch_passes s p d e =
+    let passed : AllByRecursion (λ (test : Bool × ℕ). test.0 ≡ false) (checks s (command.PtMeas p d)) = all_pass (checks s (command.PtMeas p d)) e in
+    record { tool = passed.1.1.1.1.0; target = passed.1.1.1.1.1.0 }
+
+not_false : (b : Bool) → not b ≡ false → b ≡ true
+not_false true e = refl
+not_false false e = absurd (false≢true (sym e))
+
+framed_due : (s : Server) (t : Tag) (c : Option Command) → is_some (frame_deed s t c) ≡ selects_frame c
+framed_due s t None = refl
+framed_due s t (Some command.StartSession) = refl
+framed_due s t (Some command.EndSession) = refl
+framed_due s t (Some command.ClearAllErrors) = refl
+framed_due s t (Some command.Home) = refl
+framed_due s t (Some command.OnPtMeasReport) = refl
+framed_due s t (Some (command.GoTo p)) = refl
+framed_due s t (Some (command.PtMeas p d)) = refl
+framed_due s t (Some (command.ChangeTool n)) = refl
+framed_due s t (Some (command.SetCsyTransformation p)) = refl
+framed_due s t (Some (command.SetCoordSystem system)) = refl
+framed_due s t (Some command.AbortE) = refl
+
+taken_due : (s : Server) (t : Tag) (c : Option Command) (number : Option ℕ)
+    → is_some (cond (is_none number) (frame_deed s t c) None) ≡ (is_none number && selects_frame c)
+taken_due s t c (Some number) = refl
+taken_due s t c None = framed_due s t c
+
+waiting_due : (s : Server) (ws : List Waiting) → is_some (turn_deed s ws) ≡ (is_none (refusal_in s ws) && selects_frame (command_in ws))
+waiting_due s [] = refl
+waiting_due s (w ∷ ws) = taken_due s w.tag (ok_of w.reading) (refusal s w.reading)
+
+turn_due : (s : Server) (may : Bool) → is_some (cond may (turn_deed s s.waiting) None) ≡ (may && (is_none (refusal_in s s.waiting) && selects_frame (command_in s.waiting)))
+turn_due s true = waiting_due s s.waiting
+turn_due s false = refl
+
+done_due : (s : Server) (running : Option Line)
+    → is_some (cond (may_end running Outcome.Done) (end_deed s Outcome.Done running) None) ≡ may_end running Outcome.Done
+done_due s None = refl
+done_due s (Some line) = go line.command
+  where
+    go : (c : Command) → is_some (cond (may_end (Some (record { tag = line.tag; command = c })) Outcome.Done) (done_deed s line.tag c) None)
+        ≡ may_end (Some (record { tag = line.tag; command = c })) Outcome.Done
+    go command.StartSession = refl
+    go command.EndSession = refl
+    go command.ClearAllErrors = refl
+    go command.Home = refl
+    go command.OnPtMeasReport = refl
+    go (command.GoTo p) = refl
+    go (command.PtMeas p d) = refl
+    go (command.ChangeTool n) = refl
+    go (command.SetCsyTransformation p) = refl
+    go (command.SetCoordSystem system) = refl
+    go command.AbortE = refl
+
+touched_due : (s : Server) (t : Tag) (p : Point) (d : Option Direction) (at : Point) (may : Bool) (tool : Option (List ℕ)) → is_none tool ≡ false
+    → is_some (cond may (touch_deed s t (command.PtMeas p d) at tool) None) ≡ may
+touched_due s t p d at true (Some tool) has = refl
+touched_due s t p d at false tool has = refl
+touched_due s t p d at true None has = absurd (false≢true (sym has))
+
+touch_due : (s : Server) (at : Point) (running : Option Line) → ((line : Line) → running ≡ Some line → first_failing (checks s line.command) ≡ None)
+    → is_some (cond (may_end running (Outcome.Touched at)) (end_deed s (Outcome.Touched at) running) None) ≡ may_end running (Outcome.Touched at)
+touch_due s at None passed = refl
+touch_due s at (Some line) passed = go line.command (passed line refl)
+  where
+    go : (c : Command) → first_failing (checks s c) ≡ None
+        → is_some (cond (may_end (Some (record { tag = line.tag; command = c })) (Outcome.Touched at)) (touch_deed s line.tag c at s.tool) None)
+        ≡ may_end (Some (record { tag = line.tag; command = c })) (Outcome.Touched at)
+    go command.StartSession e = refl
+    go command.EndSession e = refl
+    go command.ClearAllErrors e = refl
+    go command.Home e = refl
+    go command.OnPtMeasReport e = refl
+    go (command.GoTo p) e = refl
+    go (command.PtMeas p d) e = touched_due s line.tag p d at (in_volume at) s.tool (touch_passes s p d e).tool
+    go (command.ChangeTool n) e = refl
+    go (command.SetCsyTransformation p) e = refl
+    go (command.SetCoordSystem system) e = refl
+    go command.AbortE e = refl
+
+never_due : (may : Bool) (deed : Option Deed) → deed ≡ None → is_some (cond may deed None) ≡ false
+never_due true deed none = ap is_some none
+never_due false deed none = refl
+
+pub act_due : (call : Call) (e : ServerEnd) → IsSteady e → is_some (deed_of call e) ≡ completes_act call e
+act_due (Accept n) e h = refl
+act_due (Feed bytes) e h = refl
+act_due ReadOne e h = refl
+act_due Turn e h = turn_due e.server (may_turn e.server)
+act_due (Machine Outcome.Done) e h = done_due e.server e.server.running
+act_due (Machine (Outcome.Touched at)) e h = touch_due e.server at e.server.running (λ line runs. (h.orderly.running line runs).1)
+act_due (Machine Outcome.Missed) e h = never_due (may_end e.server.running Outcome.Missed) _ refl
+act_due (Machine Outcome.Fault) e h = never_due (may_end e.server.running Outcome.Fault) _ refl
+act_due Leave e h = refl
+act_due Restart e h = refl
+act_due (Sent count) e h = refl
+
+-- ---- contacts
+
+same_contacts : (e f : ServerEnd) (made : Made) → contacts f.server.ledger ≡ contacts e.server.ledger
+    → contacts f.server.ledger ≡ contacts e.server.ledger ++ made ∷ [] → ⊥
+same_contacts e f made same longer = not_longer (contacts e.server.ledger) made (sym same ∙ longer)
+
+no_contact : (e f : ServerEnd) (call : Call) (made : Made) → contacts f.server.ledger ≡ contacts e.server.ledger
+    → contacts f.server.ledger ≡ contacts e.server.ledger ++ made ∷ [] → IsContactOf e call made
+no_contact e f call made same longer = absurd (same_contacts e f made same longer)
+
+target_in_volume : (e : ServerEnd) (ended : Outcome) (made : Made) → IsSteady e → IsCommanded e ended made → in_volume (point_sum made.target (offset made.frame)) ≡ true
+target_in_volume e ended made h commanded =
+    subst (λ (frame : Frame). in_volume (point_sum made.target (offset frame)) ≡ true) (sym commanded.frame)
+    (not_false _ (touch_passes e.server made.target made.dir (h.orderly.running _ commanded.ran).1).target)
+
+pub contact_of_call : (readers : Readers) (call : Call) (e : ServerEnd) (made : Made) → IsSteady e
+    → contacts (behind_call readers call e).server.ledger ≡ contacts e.server.ledger ++ made ∷ [] → IsContactOf e call made
+contact_of_call readers (Accept n) e made h =
+    chosen (λ (f : ServerEnd). contacts f.server.ledger ≡ contacts e.server.ledger ++ made ∷ [] → IsContactOf e (Accept n) made) (possible (Accept n) e) (serving_accepted n e) e
+    (λ b. no_contact e (serving_accepted n e) (Accept n) made refl) (λ b. no_contact e e (Accept n) made refl)
+contact_of_call readers (Feed bytes) e made h =
+    chosen (λ (f : ServerEnd). contacts f.server.ledger ≡ contacts e.server.ledger ++ made ∷ [] → IsContactOf e (Feed bytes) made) (possible (Feed bytes) e) (serving_fed bytes e) e
+    (λ b. no_contact e (serving_fed bytes e) (Feed bytes) made refl) (λ b. no_contact e e (Feed bytes) made refl)
+contact_of_call readers ReadOne e made h =
+    chosen (λ (f : ServerEnd). contacts f.server.ledger ≡ contacts e.server.ledger ++ made ∷ [] → IsContactOf e ReadOne made) (possible ReadOne e) (done_by readers ReadOne e) e
+    (λ b. no_contact e (done_by readers ReadOne e) ReadOne made (ap contacts (read_keeps readers e))) (λ b. no_contact e e ReadOne made refl)
+contact_of_call readers Turn e made h =
+    chosen (λ (f : ServerEnd). contacts f.server.ledger ≡ contacts e.server.ledger ++ made ∷ [] → IsContactOf e Turn made) (possible Turn e) (serving_turned e) e
+    (λ b. no_contact e (serving_turned e) Turn made (turned_no_contact e.server)) (λ b. no_contact e e Turn made refl)
+contact_of_call readers (Machine ended) e made h =
+    chosen (λ (f : ServerEnd). contacts f.server.ledger ≡ contacts e.server.ledger ++ made ∷ [] → IsContactOf e (Machine ended) made) (possible (Machine ended) e) (serving_machined ended e) e
+    (λ b longer. let commanded : IsCommanded e ended made = machined_as_commanded ended e made longer in
+    record { ended = ended; is_end = refl; commanded = commanded; target = target_in_volume e ended made h commanded })
+    (λ b. no_contact e e (Machine ended) made refl)
+contact_of_call readers Leave e made h = no_contact e (serving_left e) Leave made refl
+contact_of_call readers Restart e made h = no_contact e (serving_restarted e) Restart made refl
+contact_of_call readers (Sent count) e made h =
+    chosen (λ (f : ServerEnd). contacts f.server.ledger ≡ contacts e.server.ledger ++ made ∷ [] → IsContactOf e (Sent count) made) (possible (Sent count) e) (serving_taken count e) e
+    (λ b. no_contact e (serving_taken count e) (Sent count) made refl) (λ b. no_contact e e (Sent count) made refl)

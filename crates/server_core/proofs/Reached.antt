@@ -1,0 +1,381 @@
+-- What holds of a server behind every list of calls from a new one.
+use Rattle.std.proofs.Common.{◌≡◌, ℕ, ◌≤◌, nat_le, Bool, true, false, cond, not, ◌&&◌, ◌||◌, is_some, List, [], ◌∷◌, ◌++◌, length, refl, sym, ◌∙◌, ap, subst, arith, append_assoc, append-nil, ◌⊎◌, inl, inr, Option, Some, None, Result, Ok, Err}
+use Rattle.std.proofs.lemmas.Bool.{false≢true, and_parts, leb-true}
+use Rattle.fixed_um.specs.declared.lengths.Point.{Point}
+use Rattle.dme_line.specs.Tags.{is_event_tag}
+use Rattle.dme_line.specs.declared.tags.Tag.{Tag}
+use Rattle.dme_line.specs.declared.commands.Command.{Command}
+use Rattle.dme_line.specs.declared.commands.Command.TheVariants as command
+use Rattle.dme_line.specs.declared.reading.LineFault.{LineFault}
+use Rattle.dme_line.specs.declared.reading.LineFault.TheVariants as fault
+use Rattle.line_framing.specs.Next.{Front, next_of}
+use Rattle.line_framing.specs.Framing.{fed_behind}
+use Rattle.line_framing.specs.declared.faults.FramingFault.{FramingFault}
+use Rattle.protocol_model.specs.Replies.{Reading}
+use Rattle.protocol_model.specs.Lines.{Readers, AreReaders, reading_of}
+use Rattle.protocol_model.specs.Server.{Server, Answer, in_error, queued, runs_under, waits_under, is_abort, is_clear, is_fault, stands, tagged, server_read, refusal, carried_out, carried, taken, turned_to, server_turned, finished, touched, machined, server_machined, may_end}
+use Rattle.protocol_model.specs.Ends.{ServerEnd, new_server_end, front_served, serving_accepted, serving_fed, serving_read, serving_turned, serving_machined, serving_left, serving_restarted, serving_taken}
+use Rattle.protocol_model.specs.declared.lines.Line.{Line}
+use Rattle.protocol_model.specs.declared.lines.Waiting.{Waiting}
+use Rattle.protocol_model.specs.declared.machine.Outcome.{Outcome}
+use Rattle.server_core.specs.Serving.{may_turn}
+use Rattle.server_core.specs.Steady.{IsSteady, IsServing, AreStandard}
+use Rattle.server_core.specs.Calls.{Call, Accept, Feed, ReadOne, Turn, Machine, Leave, Restart, Sent, possible, done_by, behind_call, behind_calls, reached, gives_up, completes_act, deed_of, IsDone, IsContactOf, RunsInError, StaysInError, IsFull, RanBefore, IsEndOfEarlier}
+use Rattle.server_core.proofs.Steadies.{branch, none_some, not_empty, nothing_runs, empty_waits, accepted_steady, fed_steady, read_steady, turned_steady, machined_steady, left_steady, restarted_steady, taken_steady, new_steady}
+use Rattle.server_core.proofs.Standards.{read_standard, turned_standard, machined_standard}
+use Rattle.server_core.proofs.Deeds.{chosen, call_done, act_due, contact_of_call}
+use Rattle.protocol_model.specs.Claims.{Made, contacts}
+use Rattle.protocol_model.specs.Plan.{is_empty}
+
+-- ---- what holds at any time
+
+call_steady : (readers : Readers) (call : Call) (e : ServerEnd) → IsSteady e → IsSteady (behind_call readers call e)
+call_steady readers (Accept n) e h = chosen IsSteady (possible (Accept n) e) _ _ (λ may. accepted_steady n e may h) (λ may. h)
+call_steady readers (Feed bytes) e h = chosen IsSteady (possible (Feed bytes) e) _ _ (λ may. fed_steady bytes e may h) (λ may. h)
+call_steady readers ReadOne e h = chosen IsSteady (possible ReadOne e) _ _ (λ may. read_steady readers e may h) (λ may. h)
+call_steady readers Turn e h = chosen IsSteady (possible Turn e) _ _ (λ may. turned_steady e may h) (λ may. h)
+call_steady readers (Machine ended) e h = chosen IsSteady (possible (Machine ended) e) _ _ (λ may. machined_steady ended e may h) (λ may. h)
+call_steady readers Leave e h = left_steady e h
+call_steady readers Restart e h = restarted_steady e h
+call_steady readers (Sent count) e h = chosen IsSteady (possible (Sent count) e) _ _ (λ may. taken_steady count e h) (λ may. h)
+
+abbrev Standard : ServerEnd → Type 0
+Standard e = AreStandard e.server.waiting
+
+call_standard : (readers : Readers) (call : Call) (e : ServerEnd) → AreReaders readers → Standard e → Standard (behind_call readers call e)
+call_standard readers (Accept n) e are h = chosen Standard (possible (Accept n) e) (serving_accepted n e) e (λ may. h) (λ may. h)
+call_standard readers (Feed bytes) e are h = chosen Standard (possible (Feed bytes) e) (serving_fed bytes e) e (λ may. h) (λ may. h)
+call_standard readers ReadOne e are h = chosen Standard (possible ReadOne e) (serving_read readers e) e (λ may. read_standard readers e are h) (λ may. h)
+call_standard readers Turn e are h = chosen Standard (possible Turn e) (serving_turned e) e (λ may. turned_standard e.server h) (λ may. h)
+call_standard readers (Machine ended) e are h =
+    chosen Standard (possible (Machine ended) e) (serving_machined ended e) e (λ may. machined_standard e.server ended h) (λ may. h)
+call_standard readers Leave e are h = tt
+call_standard readers Restart e are h = tt
+call_standard readers (Sent count) e are h = chosen Standard (possible (Sent count) e) (serving_taken count e) e (λ may. h) (λ may. h)
+
+calls_steady : (readers : Readers) (calls : List Call) (e : ServerEnd) → IsSteady e → IsSteady (behind_calls readers calls e)
+calls_steady readers [] e h = h
+calls_steady readers (call ∷ calls) e h = calls_steady readers calls (behind_call readers call e) (call_steady readers call e h)
+
+calls_standard : (readers : Readers) (calls : List Call) (e : ServerEnd) → AreReaders readers → Standard e → Standard (behind_calls readers calls e)
+calls_standard readers [] e are h = h
+calls_standard readers (call ∷ calls) e are h = calls_standard readers calls (behind_call readers call e) are (call_standard readers call e are h)
+
+pub reached_steady : (readers : Readers) (tools : List (List ℕ)) (calls : List Call) → IsSteady (reached readers tools calls)
+reached_steady readers tools calls = calls_steady readers calls (new_server_end tools) (new_steady tools)
+
+pub reached_serving : (readers : Readers) (tools : List (List ℕ)) (calls : List Call) → AreReaders readers → IsServing (reached readers tools calls)
+reached_serving readers tools calls are =
+    record { steady = reached_steady readers tools calls; standard = calls_standard readers calls (new_server_end tools) are tt }
+
+-- ---- one act
+
+pub one_act : (readers : Readers) (tools : List (List ℕ)) (calls : List Call) (call : Call)
+    → IsDone (deed_of call (reached readers tools calls)) (reached readers tools calls) (behind_call readers call (reached readers tools calls))
+one_act readers tools calls call = call_done readers call (reached readers tools calls)
+
+pub act_is_due : (readers : Readers) (tools : List (List ℕ)) (calls : List Call) (call : Call)
+    → is_some (deed_of call (reached readers tools calls)) ≡ completes_act call (reached readers tools calls)
+act_is_due readers tools calls call = act_due call (reached readers tools calls) (reached_steady readers tools calls)
+
+pub contact_is_commanded : (readers : Readers) (tools : List (List ℕ)) (calls : List Call) (call : Call) (made : Made)
+    → contacts (behind_call readers call (reached readers tools calls)).server.ledger ≡ contacts (reached readers tools calls).server.ledger ++ made ∷ []
+    → IsContactOf (reached readers tools calls) call made
+contact_is_commanded readers tools calls call made longer =
+    contact_of_call readers call (reached readers tools calls) made (reached_steady readers tools calls) longer
+
+-- ---- what runs in the error state
+
+-- it ran in the error state before, or the state was entered by reading a line while 64 waited
+abbrev Before : Line → Server → Type 0
+Before line s = ((s.error ≡ true) × (s.running ≡ Some line)) ⊎ ((s.error ≡ false) × (s.running ≡ Some line) × (length s.waiting ≡ 64))
+
+abbrev Came : Line → Server → Answer → Type 0
+Came line s a = a.server.error ≡ true → a.server.running ≡ Some line → Before line s
+
+abbrev Ran : Line → Server → Type 0
+Ran line s = (s.error ≡ true) × (s.running ≡ Some line)
+
+abbrev Stayed : Line → Server → Answer → Type 0
+Stayed line s a = a.server.error ≡ true → a.server.running ≡ Some line → Ran line s
+
+still_ran : (line : Line) (s : Server) → s.error ≡ true → s.running ≡ Some line → Ran line s
+still_ran line s error runs = (error, runs)
+
+as_before : (line : Line) (s : Server) → s.error ≡ true → s.running ≡ Some line → Before line s
+as_before line s error runs = inl (error, runs)
+
+just_full : (n : ℕ) → n ≤ 64 → nat_le 64 n ≡ true → n ≡ 64
+just_full n few full = let most : 64 ≤ n = leb-true 64 n full in omega arith
+
+stands_came : (line : Line) (s : Server) (t : Tag) (reading : Result Command LineFault) → length s.waiting ≤ 64 → Came line s (stands s t reading)
+stands_came line s t reading few =
+    branch (Came line s) (s.error && not (is_clear reading)) _ _ (λ refused. as_before line s)
+    (λ go. branch (Came line s) s.error _ _ (λ error cleared runs. absurd (false≢true cleared))
+    (λ calm. branch (Came line s) (nat_le 64 (length s.waiting)) _ _
+    (λ full entered runs. inr (calm, runs, just_full (length s.waiting) few full)) (λ room. as_before line s)))
+
+tagged_came : (line : Line) (s : Server) (t : Tag) (reading : Result Command LineFault) → length s.waiting ≤ 64 → Came line s (tagged s t reading)
+tagged_came line s t reading few =
+    branch (Came line s) (runs_under t s.running || waits_under t s.waiting) _ _ (λ used. as_before line s)
+    (λ free. branch (Came line s) (is_abort reading) _ _ (λ aborts error runs. absurd (none_some None line refl runs))
+    (λ other. branch (Came line s) (is_event_tag t && is_fault reading) _ _ (λ faulty. as_before line s) (λ standard. stands_came line s t reading few)))
+
+read_came : (line : Line) (s : Server) (reading : Reading) → length s.waiting ≤ 64 → Came line s (server_read s reading)
+read_came line s (Ok l) few = tagged_came line s l.tag (Ok l.command) few
+read_came line s (Err fault.NoTag) few = as_before line s
+read_came line s (Err (fault.UnknownCommand t)) few = tagged_came line s t (Err (fault.UnknownCommand t)) few
+read_came line s (Err (fault.BadArguments t k)) few = tagged_came line s t (Err (fault.BadArguments t k)) few
+read_came line s (Err fault.Memory) few = as_before line s
+
+front_came : (readers : Readers) (line : Line) (e : ServerEnd) (front : Front) → length e.server.waiting ≤ 64
+    → (front_served readers e front).server.error ≡ true → (front_served readers e front).server.running ≡ Some line → Before line e.server
+front_came readers line e (Ok None) few = as_before line e.server
+front_came readers line e (Ok (Some (text, rest))) few = read_came line e.server (reading_of (readers.command text)) few
+front_came readers line e (Err why) few = as_before line e.server
+
+carried_error : (s : Server) (t : Tag) (c : Command) → (carried_out s t c).server.error ≡ s.error
+carried_error s t command.StartSession = refl
+carried_error s t command.EndSession = refl
+carried_error s t command.ClearAllErrors = refl
+carried_error s t command.Home = refl
+carried_error s t command.OnPtMeasReport = refl
+carried_error s t (command.GoTo p) = refl
+carried_error s t (command.PtMeas p d) = refl
+carried_error s t (command.ChangeTool n) = refl
+carried_error s t (command.SetCsyTransformation p) = refl
+carried_error s t (command.SetCoordSystem system) = refl
+carried_error s t command.AbortE = refl
+
+taken_came : (line : Line) (s : Server) (w : Waiting) (ws : List Waiting) (number : Option ℕ) → s.running ≡ None → (s.error ≡ true → ⊥) → Stayed line s (taken s w ws number)
+taken_came line s w ws (Some number) idle calm = λ error runs. absurd (none_some s.running line idle runs)
+taken_came line s w ws None idle calm = go w.reading
+  where
+    go : (reading : Result Command LineFault) → Stayed line s (carried (record s { waiting = ws }) w.tag reading)
+    go (Ok c) = λ error runs. absurd (calm (sym (carried_error (record s { waiting = ws }) w.tag c) ∙ error))
+    go (Err refused) = λ error runs. absurd (calm error)
+
+turned_came : (line : Line) (s : Server) → s.running ≡ None → (s.error ≡ true → s.waiting ≡ []) → Stayed line s (server_turned s)
+turned_came line s idle quiet = go s.waiting refl
+  where
+    go : (ws : List Waiting) → s.waiting ≡ ws → Stayed line s (turned_to s ws)
+    go [] is = still_ran line s
+    go (w ∷ ws) is = taken_came line s w ws (refusal s w.reading) idle (λ error. not_empty w ws (sym is ∙ quiet error))
+
+finished_came : (line : Line) (s : Server) (t : Tag) (c : Command) → Stayed line s (finished s t c)
+finished_came line s t command.StartSession = still_ran line s
+finished_came line s t command.EndSession = still_ran line s
+finished_came line s t command.ClearAllErrors = still_ran line s
+finished_came line s t command.Home = λ error runs. absurd (none_some None line refl runs)
+finished_came line s t command.OnPtMeasReport = still_ran line s
+finished_came line s t (command.GoTo p) = λ error runs. absurd (none_some None line refl runs)
+finished_came line s t (command.PtMeas p d) = still_ran line s
+finished_came line s t (command.ChangeTool n) = λ error runs. absurd (none_some None line refl runs)
+finished_came line s t (command.SetCsyTransformation p) = still_ran line s
+finished_came line s t (command.SetCoordSystem system) = still_ran line s
+finished_came line s t command.AbortE = still_ran line s
+
+touched_came : (line : Line) (s : Server) (t : Tag) (c : Command) (at : Point) (tool : Option (List ℕ)) → Stayed line s (touched s t c at tool)
+touched_came line s t command.StartSession at tool = still_ran line s
+touched_came line s t command.EndSession at tool = still_ran line s
+touched_came line s t command.ClearAllErrors at tool = still_ran line s
+touched_came line s t command.Home at tool = still_ran line s
+touched_came line s t command.OnPtMeasReport at tool = still_ran line s
+touched_came line s t (command.GoTo p) at tool = still_ran line s
+touched_came line s t (command.PtMeas p d) at (Some n) = λ error runs. absurd (none_some None line refl runs)
+touched_came line s t (command.PtMeas p d) at None = still_ran line s
+touched_came line s t (command.ChangeTool n) at tool = still_ran line s
+touched_came line s t (command.SetCsyTransformation p) at tool = still_ran line s
+touched_came line s t (command.SetCoordSystem system) at tool = still_ran line s
+touched_came line s t command.AbortE at tool = still_ran line s
+
+machined_came : (line : Line) (s : Server) (ended : Outcome) (running : Option Line) → Stayed line s (machined s ended running)
+machined_came line s ended None = still_ran line s
+machined_came line s Outcome.Done (Some l) = finished_came line s l.tag l.command
+machined_came line s (Outcome.Touched at) (Some l) = touched_came line s l.tag l.command at s.tool
+machined_came line s Outcome.Missed (Some l) = λ error runs. absurd (none_some None line refl runs)
+machined_came line s Outcome.Fault (Some l) = λ error runs. absurd (none_some None line refl runs)
+
+-- the same of a call: reading a line alone enters the error state while a command runs
+abbrev BeforeCall : Call → Line → ServerEnd → Type 0
+BeforeCall call line e = RunsInError line e ⊎ ((call ≡ ReadOne) × IsFull line e)
+
+abbrev CameBy : Call → Line → ServerEnd → ServerEnd → Type 0
+CameBy call line e f = f.server.error ≡ true → f.server.running ≡ Some line → BeforeCall call line e
+
+same_by : (call : Call) (line : Line) (e : ServerEnd) → e.server.error ≡ true → e.server.running ≡ Some line → BeforeCall call line e
+same_by call line e error runs = inl (record { error = error; runs = runs })
+
+by_reading : (line : Line) (e : ServerEnd) → Before line e.server → BeforeCall ReadOne line e
+by_reading line e (inl h) = inl (record { error = h.0; runs = h.1 })
+by_reading line e (inr h) = inr (refl, record { calm = h.0; runs = h.1; full = h.2 })
+
+by_other : (call : Call) (line : Line) (e : ServerEnd) → Ran line e.server → BeforeCall call line e
+by_other call line e h = inl (record { error = h.0; runs = h.1 })
+
+came_by : (readers : Readers) (call : Call) (line : Line) (e : ServerEnd) → IsSteady e → CameBy call line e (behind_call readers call e)
+came_by readers (Accept n) line e h =
+    chosen (CameBy (Accept n) line e) (possible (Accept n) e) (serving_accepted n e) e (λ may. same_by (Accept n) line e) (λ may. same_by (Accept n) line e)
+came_by readers (Feed bytes) line e h =
+    chosen (CameBy (Feed bytes) line e) (possible (Feed bytes) e) (serving_fed bytes e) e (λ may. same_by (Feed bytes) line e) (λ may. same_by (Feed bytes) line e)
+came_by readers ReadOne line e h =
+    chosen (CameBy ReadOne line e) (possible ReadOne e) (serving_read readers e) e
+    (λ may error runs. by_reading line e (front_came readers line e (next_of e.input.rest) h.orderly.few error runs)) (λ may. same_by ReadOne line e)
+came_by readers Turn line e h =
+    chosen (CameBy Turn line e) (possible Turn e) (serving_turned e) e
+    (λ may error runs. by_other Turn line e
+    (turned_came line e.server (nothing_runs e.server.running ((and_parts _ _ may).0)) h.orderly.quiet error runs)) (λ may. same_by Turn line e)
+came_by readers (Machine ended) line e h =
+    chosen (CameBy (Machine ended) line e) (possible (Machine ended) e) (serving_machined ended e) e
+    (λ may error runs. by_other (Machine ended) line e (machined_came line e.server ended e.server.running error runs)) (λ may. same_by (Machine ended) line e)
+came_by readers Leave line e h = λ error runs. absurd (none_some None line refl runs)
+came_by readers Restart line e h = λ error runs. absurd (none_some None line refl runs)
+came_by readers (Sent count) line e h =
+    chosen (CameBy (Sent count) line e) (possible (Sent count) e) (serving_taken count e) e (λ may. same_by (Sent count) line e) (λ may. same_by (Sent count) line e)
+
+-- ---- over lists of calls
+
+calls_more : (readers : Readers) (calls more : List Call) (e : ServerEnd)
+    → behind_calls readers (calls ++ more) e ≡ behind_calls readers more (behind_calls readers calls e)
+calls_more readers [] more e = refl
+calls_more readers (call ∷ calls) more e = calls_more readers calls more (behind_call readers call e)
+
+stays_more : (readers : Readers) (line : Line) (call : Call) (calls : List Call) (e : ServerEnd) → StaysInError readers line calls e
+    → RunsInError line (behind_call readers call (behind_calls readers calls e)) → StaysInError readers line (calls ++ call ∷ []) e
+stays_more readers line call [] e h last = (h, last)
+stays_more readers line call (c ∷ calls) e h last = (h.0, stays_more readers line call calls (behind_call readers c e) h.1 last)
+
+abbrev RanAll : Readers → List (List ℕ) → List Call → Type 0
+RanAll readers tools calls =
+    (line : Line) → (reached readers tools calls).server.error ≡ true → (reached readers tools calls).server.running ≡ Some line → RanBefore readers tools calls line
+
+-- one call more
+goes_on : (readers : Readers) (tools : List (List ℕ)) (calls : List Call) (call : Call) (line : Line)
+    → RunsInError line (behind_call readers call (reached readers tools calls)) → RanBefore readers tools calls line → RanBefore readers tools (calls ++ call ∷ []) line
+goes_on readers tools calls call line last h =
+    let here : reached readers tools calls ≡ behind_calls readers h.since (behind_call readers ReadOne (reached readers tools h.before)) =
+    ap (reached readers tools) h.parts ∙ calls_more readers h.before (ReadOne ∷ h.since) (new_server_end tools) in
+    record {
+      before = h.before;
+      since = h.since ++ call ∷ [];
+      parts = ap (λ (l : List Call). l ++ call ∷ []) h.parts ∙ append_assoc h.before (ReadOne ∷ h.since) (call ∷ []);
+      full = h.full;
+      stays = stays_more readers line call h.since (behind_call readers ReadOne (reached readers tools h.before)) h.stays
+          (subst (λ (e : ServerEnd). RunsInError line (behind_call readers call e)) here last);
+    }
+
+enters : (readers : Readers) (tools : List (List ℕ)) (calls : List Call) (call : Call) (line : Line)
+    → RunsInError line (behind_call readers call (reached readers tools calls)) → call ≡ ReadOne → IsFull line (reached readers tools calls)
+    → RanBefore readers tools (calls ++ call ∷ []) line
+enters readers tools calls call line last is full = record {
+  before = calls;
+  since = [];
+  parts = ap (λ (c : Call). calls ++ c ∷ []) is;
+  full = full;
+  stays = subst (λ (c : Call). RunsInError line (behind_call readers c (reached readers tools calls))) is last;
+}
+
+next_ran : (readers : Readers) (tools : List (List ℕ)) (calls : List Call) (call : Call) (line : Line) → RanAll readers tools calls
+    → RunsInError line (behind_call readers call (reached readers tools calls)) → BeforeCall call line (reached readers tools calls)
+    → RanBefore readers tools (calls ++ call ∷ []) line
+next_ran readers tools calls call line all last (inl h) = goes_on readers tools calls call line last (all line h.error h.runs)
+next_ran readers tools calls call line all last (inr h) = enters readers tools calls call line last h.0 h.1
+
+more_ran : (readers : Readers) (tools : List (List ℕ)) (calls : List Call) (call : Call) → RanAll readers tools calls → RanAll readers tools (calls ++ call ∷ [])
+more_ran readers tools calls call all line error runs =
+    let here : reached readers tools (calls ++ call ∷ []) ≡ behind_call readers call (reached readers tools calls) =
+    calls_more readers calls (call ∷ []) (new_server_end tools) in
+    let last : RunsInError line (behind_call readers call (reached readers tools calls)) =
+    subst (RunsInError line) here (record { error = error; runs = runs }) in
+    next_ran readers tools calls call line all last
+    (came_by readers call line (reached readers tools calls) (reached_steady readers tools calls) last.error last.runs)
+
+all_ran : (readers : Readers) (tools : List (List ℕ)) (calls more : List Call) → RanAll readers tools calls → RanAll readers tools (calls ++ more)
+all_ran readers tools calls [] h = subst (RanAll readers tools) (sym (append-nil calls)) h
+all_ran readers tools calls (call ∷ more) h =
+    subst (RanAll readers tools) (append_assoc calls (call ∷ []) more) (all_ran readers tools (calls ++ call ∷ []) more (more_ran readers tools calls call h))
+
+new_ran : (readers : Readers) (tools : List (List ℕ)) → RanAll readers tools []
+new_ran readers tools line error runs = absurd (false≢true error)
+
+pub ran_before : (readers : Readers) (tools : List (List ℕ)) (calls : List Call) (line : Line) → (reached readers tools calls).server.error ≡ true
+    → (reached readers tools calls).server.running ≡ Some line → RanBefore readers tools calls line
+ran_before readers tools calls = all_ran readers tools [] calls (new_ran readers tools)
+
+-- ---- acts in the error state
+
+end_of_earlier : (readers : Readers) (tools : List (List ℕ)) (calls : List Call) (ended : Outcome) (running : Option Line)
+    → (reached readers tools calls).server.running ≡ running → (reached readers tools calls).server.error ≡ true → may_end running ended ≡ true
+    → IsEndOfEarlier readers tools calls (Machine ended)
+end_of_earlier readers tools calls ended None is error may = absurd (false≢true may)
+end_of_earlier readers tools calls ended (Some line) is error may =
+    record { ended = ended; is_end = refl; line = line; runs = is; ran = ran_before readers tools calls line error is }
+
+pub act_in_error : (readers : Readers) (tools : List (List ℕ)) (calls : List Call) (call : Call) → (reached readers tools calls).server.error ≡ true
+    → completes_act call (reached readers tools calls) ≡ true → IsEndOfEarlier readers tools calls call
+act_in_error readers tools calls (Accept n) error completes = absurd (false≢true completes)
+act_in_error readers tools calls (Feed bytes) error completes = absurd (false≢true completes)
+act_in_error readers tools calls ReadOne error completes = absurd (false≢true completes)
+act_in_error readers tools calls Turn error completes =
+    absurd (empty_waits (reached readers tools calls).server.waiting ((and_parts _ _ ((and_parts _ _ completes).0)).1) ((reached_steady readers tools calls).orderly.quiet error))
+act_in_error readers tools calls (Machine Outcome.Done) error completes =
+    end_of_earlier readers tools calls Outcome.Done (reached readers tools calls).server.running refl error completes
+act_in_error readers tools calls (Machine (Outcome.Touched at)) error completes =
+    end_of_earlier readers tools calls (Outcome.Touched at) (reached readers tools calls).server.running refl error completes
+act_in_error readers tools calls (Machine Outcome.Missed) error completes = absurd (false≢true completes)
+act_in_error readers tools calls (Machine Outcome.Fault) error completes = absurd (false≢true completes)
+act_in_error readers tools calls Leave error completes = absurd (false≢true completes)
+act_in_error readers tools calls Restart error completes = absurd (false≢true completes)
+act_in_error readers tools calls (Sent count) error completes = absurd (false≢true completes)
+
+-- ---- a framing fault
+
+read_again : (readers : Readers) (e : ServerEnd) (why : FramingFault) (front : Front) → next_of e.input.rest ≡ front → front ≡ Err why → e.input.fault ≡ Some why
+    → (front_served readers e front).input ≡ e.input
+read_again readers e why (Ok None) is fault kept = refl
+read_again readers e why (Ok (Some found)) is fault kept = absurd (not_fault fault)
+  where
+    not_fault : ◌≡◌ {A = Front} (Ok (Some found)) (Err why) → ⊥
+    not_fault e = cc
+read_again readers e why (Err other) is fault kept =
+    ap (λ (f : Option FramingFault). record (e.input) { fault = f }) (ap Some (one_reason fault) ∙ sym kept)
+  where
+    one_reason : ◌≡◌ {A = Front} (Err other) (Err why) → other ≡ why
+    one_reason e = cc
+
+fed_again : (fault : Option FramingFault) (why : FramingFault) (rest piece : List ℕ) → fault ≡ Some why
+    → fed_behind fault rest piece ≡ record { rest = rest; fault = fault }
+fed_again (Some other) why rest piece kept = refl
+fed_again None why rest piece kept = absurd (none_is kept)
+  where
+    none_is : ◌≡◌ {A = Option FramingFault} None (Some why) → ⊥
+    none_is e = cc
+
+call_keeps_fault : (readers : Readers) (call : Call) (e : ServerEnd) (why : FramingFault) → next_of e.input.rest ≡ Err why → e.input.fault ≡ Some why
+    → gives_up call ≡ false → (behind_call readers call e).input ≡ e.input
+call_keeps_fault readers (Accept n) e why front kept stays =
+    chosen (λ (f : ServerEnd). f.input ≡ e.input) (possible (Accept n) e) (serving_accepted n e) e (λ may. refl) (λ may. refl)
+call_keeps_fault readers (Feed bytes) e why front kept stays =
+    chosen (λ (f : ServerEnd). f.input ≡ e.input) (possible (Feed bytes) e) (serving_fed bytes e) e
+    (λ may. fed_again e.input.fault why e.input.rest bytes kept) (λ may. refl)
+call_keeps_fault readers ReadOne e why front kept stays =
+    chosen (λ (f : ServerEnd). f.input ≡ e.input) (possible ReadOne e) (serving_read readers e) e
+    (λ may. read_again readers e why (next_of e.input.rest) refl front kept) (λ may. refl)
+call_keeps_fault readers Turn e why front kept stays =
+    chosen (λ (f : ServerEnd). f.input ≡ e.input) (possible Turn e) (serving_turned e) e (λ may. refl) (λ may. refl)
+call_keeps_fault readers (Machine ended) e why front kept stays =
+    chosen (λ (f : ServerEnd). f.input ≡ e.input) (possible (Machine ended) e) (serving_machined ended e) e (λ may. refl) (λ may. refl)
+call_keeps_fault readers Leave e why front kept stays = absurd (false≢true (sym stays))
+call_keeps_fault readers Restart e why front kept stays = absurd (false≢true (sym stays))
+call_keeps_fault readers (Sent count) e why front kept stays =
+    chosen (λ (f : ServerEnd). f.input ≡ e.input) (possible (Sent count) e) (serving_taken count e) e (λ may. refl) (λ may. refl)
+
+pub kept_fault_stands : (readers : Readers) (tools : List (List ℕ)) (calls : List Call) (why : FramingFault)
+    → (reached readers tools calls).input.fault ≡ Some why → next_of (reached readers tools calls).input.rest ≡ Err why
+kept_fault_stands readers tools calls why kept = (reached_steady readers tools calls).sound.kept why kept
+
+pub fault_is_kept : (readers : Readers) (tools : List (List ℕ)) (calls : List Call) (call : Call) (why : FramingFault)
+    → (reached readers tools calls).input.fault ≡ Some why → gives_up call ≡ false
+    → (behind_call readers call (reached readers tools calls)).input ≡ (reached readers tools calls).input
+fault_is_kept readers tools calls call why kept stays =
+    call_keeps_fault readers call (reached readers tools calls) why (kept_fault_stands readers tools calls why kept) kept stays
