@@ -308,7 +308,6 @@ front_holds readers p c (Ok None) on h = h
 front_holds readers p c (Ok (Some (line, rest))) on h = line_holds readers p c (readers.response line) on h
 front_holds readers p c (Err framing.LineTooLong) on h = faulted_holds p c Cause.LineTooLong on h
 front_holds readers p c (Err framing.BadByte) on h = faulted_holds p c Cause.BadByte on h
-front_holds readers p c (Err framing.Memory) on h = h
 
 -- ---- what is written
 

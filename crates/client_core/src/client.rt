@@ -54,7 +54,7 @@ fn cause_of(fault: FramingFault) -> Cause
 {
     match fault {
         FramingFault::LineTooLong => Cause::LineTooLong,
-        FramingFault::BadByte | FramingFault::Memory => Cause::BadByte,
+        FramingFault::BadByte => Cause::BadByte,
     }
 }
 
