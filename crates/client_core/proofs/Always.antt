@@ -16,7 +16,6 @@ use Rattle.line_framing.specs.Next.{Front, next_of}
 use Rattle.line_framing.specs.Framing.{Framing, no_bytes, fed_behind, left_by}
 use Rattle.line_framing.specs.declared.faults.FramingFault.{FramingFault}
 use Rattle.line_framing.specs.declared.faults.FramingFault.TheVariants as framing
-use Rattle.line_framing.proofs.FirstLine.{never_memory}
 use Rattle.contact_ledger.specs.declared.features.Feature.{Feature}
 use Rattle.dmis_program.specs.Meaning.{Meaning}
 use Rattle.dmis_program.specs.declared.features.Wanted.{Wanted}
@@ -161,7 +160,6 @@ front_live readers c (Ok None) reads h = h
 front_live readers c (Ok (Some (line, rest))) reads h = line_live readers c (readers.response line) reads h
 front_live readers c (Err framing.LineTooLong) reads h = faulted_live c Cause.LineTooLong h
 front_live readers c (Err framing.BadByte) reads h = faulted_live c Cause.BadByte h
-front_live readers c (Err framing.Memory) reads h = h
 
 -- ---- what is written
 
@@ -295,7 +293,6 @@ read_unmet readers e (Ok None) is none awake = none
 read_unmet readers e (Ok (Some (line, rest))) is none awake = none
 read_unmet readers e (Err framing.LineTooLong) is none awake = absurd (false≢true (sym awake))
 read_unmet readers e (Err framing.BadByte) is none awake = absurd (false≢true (sym awake))
-read_unmet readers e (Err framing.Memory) is none awake = absurd (never_memory e.input.rest is)
 
 drop_none : (k : ℕ) (none : List ℕ) → none ≡ [] → drop k none ≡ []
 drop_none zero none e = e

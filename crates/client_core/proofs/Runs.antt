@@ -336,7 +336,6 @@ front_holds readers p plans c (Ok None) on h = h
 front_holds readers p plans c (Ok (Some (line, rest))) on h = line_holds readers p plans c (readers.response line) on h
 front_holds readers p plans c (Err framing.LineTooLong) on h = faulted_holds p plans c Cause.LineTooLong on h
 front_holds readers p plans c (Err framing.BadByte) on h = faulted_holds p plans c Cause.BadByte on h
-front_holds readers p plans c (Err framing.Memory) on h = h
 
 -- ---- what is written
 

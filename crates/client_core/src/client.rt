@@ -20,7 +20,7 @@ use crate::sending::LINE_MAX;
 use contact_ledger::{Act, Feature, FeatureLedger};
 use dme_line::Command;
 use dmis_program::Program;
-use line_framing::{FramingFault, Lines};
+use line_framing::{FramingFault, Lines, LinesFault};
 use protocol_model::{Cause, State};
 use std::alloc::{AllocError, Global};
 use std::marker::Model;
@@ -53,14 +53,12 @@ impl Model for Client {
 
 /// The cause that a framing fault is for a client.
 fn cause_of(fault: FramingFault) -> Cause
-    requires { fault ≢ FramingFault.Memory }
     ensures long { fault ≡ FramingFault.LineTooLong → result ≡ Cause.LineTooLong }
     ensures bad { fault ≡ FramingFault.BadByte → result ≡ Cause.BadByte }
 {
     match fault {
         FramingFault::LineTooLong => Cause::LineTooLong,
         FramingFault::BadByte => Cause::BadByte,
-        FramingFault::Memory => unreachable!(),
     }
 }
 
@@ -167,9 +165,8 @@ impl Client {
         }
         match self.input.feed(piece) {
             Ok(()) => Ok(()),
-            Err(FramingFault::Memory) => Err(ClientFault::Memory),
-            Err(FramingFault::LineTooLong) => unreachable!(),
-            Err(FramingFault::BadByte) => unreachable!(),
+            Err(LinesFault::Memory) => Err(ClientFault::Memory),
+            Err(LinesFault::Framing(_)) => unreachable!(),
         }
     }
 

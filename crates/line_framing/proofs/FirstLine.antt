@@ -5,7 +5,7 @@ use Rattle.std.proofs.lemmas.List.Folds.{length-prefix_len}
 use Rattle.line_framing.specs.Content.{is_content, IsLine}
 use Rattle.line_framing.specs.Next.{Front, BeginsWith, Next, IsFound, content_len, content_of, behind_content, ending, verdict, next_of}
 use Rattle.line_framing.specs.declared.faults.FramingFault.{FramingFault}
-use Rattle.line_framing.specs.declared.faults.FramingFault.TheVariants.{LineTooLong, BadByte, Memory}
+use Rattle.line_framing.specs.declared.faults.FramingFault.TheVariants.{LineTooLong, BadByte}
 use Rattle.line_framing.proofs.Cuts.{begins, one_cut, cut_stays, prefix_len-le-append}
 
 -- any cut of bytes says what stands at their front
@@ -138,24 +138,3 @@ stays_by bytes more f (x ∷ a) false ea e h =
 
 pub fault_stays : (bytes more : List ℕ) (f : FramingFault) → next_of bytes ≡ Err f → next_of (bytes ++ more) ≡ Err f
 fault_stays bytes more f h = stays_by bytes more f (behind_content bytes) _ refl refl h
-
--- want of memory stands at no front
-never_by : (c m : List ℕ) (b : Bool) → cond {A = Front} b (Ok (Some (c, m))) (Err BadByte) ≡ Err Memory → ⊥
-never_by c m true h = cc
-never_by c m false h = cc
-
-never_one : (c : List ℕ) (b : Bool) → cond {A = Front} b (Ok None) (Err BadByte) ≡ Err Memory → ⊥
-never_one c true h = cc
-never_one c false h = cc
-
-ending_never : (c a : List ℕ) → ending c a ≡ Err Memory → ⊥
-ending_never c [] h = cc
-ending_never c (x ∷ []) h = never_one c (eqb x 13) h
-ending_never c (x ∷ y ∷ m) h = never_by c m (eqb x 13 && eqb y 10) h
-
-verdict_never : (c a : List ℕ) (b : Bool) → cond {A = Front} b (Err LineTooLong) (ending c a) ≡ Err Memory → ⊥
-verdict_never c a true h = cc
-verdict_never c a false h = ending_never c a h
-
-pub never_memory : (bytes : List ℕ) → next_of bytes ≡ Err Memory → ⊥
-never_memory bytes h = verdict_never (content_of bytes) (behind_content bytes) _ h

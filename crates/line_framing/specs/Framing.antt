@@ -2,6 +2,8 @@
 use Rattle.std.specs.Prelude.{◌≡◌, ℕ, List, [], ◌++◌, Option, Some, None, Ok, Err, IsOkAnd, IsSome}
 use Rattle.line_framing.specs.Next.{Front, next_of}
 use Rattle.line_framing.specs.declared.faults.FramingFault.{FramingFault}
+use Rattle.line_framing.specs.declared.faults.LinesFault.{LinesFault}
+use Rattle.line_framing.specs.declared.faults.LinesFault.TheVariants as lines_fault
 
 -- the bytes that were fed and not handed out, and the fault that was met in them
 pub record Framing : Type 0 where
@@ -38,3 +40,18 @@ after_next f = left_by (next_of f.rest) f
 -- a whole line stands at the front
 abbrev pub IsLineDue : Front → Type 0
 IsLineDue front = IsOkAnd front IsSome
+
+-- why a piece is not taken: a fault was met before, or memory is wanting for the piece
+abbrev pub IsFeedRefused : Framing → LinesFault → Type 0
+IsFeedRefused f (lines_fault.Framing fault) = f.fault ≡ Some fault
+IsFeedRefused f lines_fault.Memory = f.fault ≡ None
+
+-- why no line is handed out of a front: it is a fault, or memory is wanting for a whole line
+abbrev pub IsLineRefused : Front → LinesFault → Type 0
+IsLineRefused front (lines_fault.Framing fault) = front ≡ Err fault
+IsLineRefused front lines_fault.Memory = IsLineDue front
+
+-- the buffer behind a line that was not handed out: a fault is kept, and want of memory changes nothing
+abbrev pub IsRefusedLeft : Framing → Framing → LinesFault → Type 0
+IsRefusedLeft old new (lines_fault.Framing fault) = new ≡ after_next old
+IsRefusedLeft old new lines_fault.Memory = new ≡ old

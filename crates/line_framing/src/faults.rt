@@ -1,10 +1,17 @@
-/// Why a framing buffer answers no line.
+/// Why no line stands at the front of a framing buffer.
 #[derive(Clone, Copy, Debug, PartialEq, Eq)]
 pub enum FramingFault {
     /// More than 65,536 bytes stand before the next CR or LF, or before the end of what was fed (this profile).
     LineTooLong,
     /// LF stands without CR before it, or CR with a byte other than LF behind it (this profile).
     BadByte,
+}
+
+/// Why a framing buffer takes no bytes, or hands out no line.
+#[derive(Clone, Copy, Debug, PartialEq, Eq)]
+pub enum LinesFault {
+    /// What stands at the front is no line. The fault is kept.
+    Framing(FramingFault),
     /// Memory was wanting. It is never kept: the buffer is as before, and the call may be made again.
     Memory,
 }

@@ -1,13 +1,12 @@
-ghost use Rattle.std.specs.Prelude.{◌≡◌, ◌≢◌, ◌↔◌, IsTrue, ◌+◌, ◌≤◌, length, take, drop, vec_len, MatchOption, IfOk, IfErr, OnOk, OnErr, IfSome, IfNone};
-ghost use Rattle.std.specs.Result.{IsErrOf};
+ghost use Rattle.std.specs.Prelude.{◌≡◌, ◌↔◌, IsTrue, ◌+◌, ◌≤◌, length, take, drop, vec_len, MatchOption, IfOk, IfErr, OnOk, OnErr, IfSome, IfNone};
 ghost use Rattle.line_framing.specs.Content.{IsLine};
 ghost use Rattle.line_framing.specs.Next.{next_of};
-ghost use Rattle.line_framing.specs.Framing.{IsSound, IsLineDue, no_bytes, fed, after_next};
+ghost use Rattle.line_framing.specs.Framing.{IsSound, IsLineDue, no_bytes, fed, after_next, IsFeedRefused, IsLineRefused, IsRefusedLeft};
 
-use crate::faults::FramingFault;
+use crate::faults::{FramingFault, LinesFault};
 use crate::owned::Line;
 use crate::search::{content_end, has_line};
-use std::alloc::Global;
+use std::alloc::{AllocError, Global};
 use std::marker::Model;
 
 /// Bytes on their way to lines. Contracts see the bytes that were fed and not handed out (`rest`), and the
@@ -72,8 +71,7 @@ impl Lines {
         rest
     }
 
-    /// The fault that `first_line` or `next_line` has met, if any. It is what stands at the front of the rest,
-    /// and never want of memory.
+    /// The fault that `first_line` or `next_line` has met, if any. It is what stands at the front of the rest.
     pub fn fault(&self) -> Option<FramingFault>
         ensures fault { result ≡ self.now.fault }
         ensures sound { IsSound self.now }
@@ -103,37 +101,36 @@ impl Lines {
         }
     }
 
-    /// Appends to the rest.
+    /// Appends to the rest. Only want of memory is an `Err`.
     #[tactic(auto, using(crate::proofs::Buffers::longer_content))]
-    fn append(&mut self, piece: &[u8]) -> Result<(), FramingFault>
+    fn append(&mut self, piece: &[u8]) -> Result<(), AllocError>
         requires { self.old.fault ≡ None }
         ensures ok { OnOk result (self.new ≡ fed self.old piece.now) }
         ensures err { OnErr result (self.new ≡ self.old) }
-        ensures memory { IfErr result (λ fault. fault ≡ FramingFault.Memory) }
     {
-        if self.bytes.extend_from_slice(piece).is_err() {
-            return Err(FramingFault::Memory);
-        }
-        Ok(())
+        self.bytes.extend_from_slice(piece)
     }
 
     /// Appends a piece, however the stream is cut, to the rest. A bad byte in it is met by `next_line`.
     ///
     /// It answers the fault that was met, if any; `Memory` where room was wanting. After each the buffer is as
     /// before.
-    pub fn feed(&mut self, piece: &[u8]) -> Result<(), FramingFault>
-        ensures kept { IfSome self.old.fault (λ fault. result ≡ Err fault) }
+    pub fn feed(&mut self, piece: &[u8]) -> Result<(), LinesFault>
+        ensures kept { IfSome self.old.fault (λ fault. result ≡ Err (LinesFault.Framing fault)) }
         ensures ok { OnOk result (self.new ≡ fed self.old piece.now) }
         ensures clean { OnOk result (self.old.fault ≡ None) }
         ensures err { OnErr result (self.new ≡ self.old) }
-        ensures cause { IfErr result (λ fault. fault ≢ FramingFault.Memory → self.old.fault ≡ Some fault) }
+        ensures cause { IfErr result (λ why. IsFeedRefused self.old why) }
         ensures sound { IsSound self.new }
     {
         match self.fault {
-            Some(fault) => Err(fault),
+            Some(fault) => Err(LinesFault::Framing(fault)),
             None => {
                 self.compact();
-                self.append(piece)
+                match self.append(piece) {
+                    Ok(()) => Ok(()),
+                    Err(AllocError) => Err(LinesFault::Memory),
+                }
             }
         }
     }
@@ -150,7 +147,6 @@ impl Lines {
         ensures line { IfOk result (λ found. IfSome found (λ n. IsLine (take n self.old.rest))) }
         ensures fault { IfErr result (λ fault. next_of self.old.rest ≡ Err fault) }
         ensures kept { IfSome self.old.fault (λ fault. result ≡ Err fault) }
-        ensures never_memory { IfErr result (λ fault. fault ≢ FramingFault.Memory) }
 
         // Nothing is taken, and the fault is kept from now on.
         ensures ok { OnOk result (self.new ≡ self.old) }
@@ -199,33 +195,32 @@ impl Lines {
     ///
     /// It answers `LineTooLong` or `BadByte` where that stands at the front, and keeps it. `Memory` comes where
     /// there was no room for the line; the buffer is then as before.
-    pub fn next_line(&mut self) -> Result<Option<Line>, FramingFault>
-        // The answer is what stands at the front of the rest, and from a fault on the same fault.
+    pub fn next_line(&mut self) -> Result<Option<Line>, LinesFault>
+        // The answer is what stands at the front of the rest, and from a fault on the same fault. Memory is wanted
+        // for a whole line alone.
         ensures line { IfOk result (λ found. IfSome found
             (λ line. next_of self.old.rest ≡ Ok (Some (line, self.new.rest)))) }
         ensures nothing { IfOk result (λ found. IfNone found (next_of self.old.rest ≡ Ok None)) }
-        ensures fault { IfErr result (λ fault. fault ≢ FramingFault.Memory → next_of self.old.rest ≡ Err fault) }
-        ensures kept { IfSome self.old.fault (λ fault. result ≡ Err fault) }
+        ensures refused { IfErr result (λ why. IsLineRefused (next_of self.old.rest) why) }
+        ensures kept { IfSome self.old.fault (λ fault. result ≡ Err (LinesFault.Framing fault)) }
 
-        // The line and its end are gone, or the fault is kept from now on.
+        // The line and its end are gone, or the fault is kept from now on, or nothing has changed.
         ensures stays { IfSome self.old.fault (λ _. self.new ≡ self.old) }
         ensures ok { OnOk result (self.new ≡ after_next self.old) }
-        ensures err { IfErr result (λ fault. fault ≢ FramingFault.Memory → self.new ≡ after_next self.old) }
+        ensures err { IfErr result (λ why. IsRefusedLeft self.old self.new why) }
         ensures sound { IsSound self.new }
-
-        // Memory is wanted for a whole line alone, and then nothing has changed.
-        ensures memory { IsErrOf result FramingFault.Memory → IsLineDue (next_of self.old.rest) }
-        ensures unchanged { IsErrOf result FramingFault.Memory → self.new ≡ self.old }
     {
-        let Some(length) = self.first_line()? else {
-            return Ok(None);
+        let length = match self.first_line() {
+            Ok(Some(length)) => length,
+            Ok(None) => return Ok(None),
+            Err(fault) => return Err(LinesFault::Framing(fault)),
         };
         match Line::copied(self.alloc, &self.rest()[..length]) {
             Ok(line) => {
                 self.drop_line(length);
                 Ok(Some(line))
             }
-            Err(_) => Err(FramingFault::Memory),
+            Err(AllocError) => Err(LinesFault::Memory),
         }
     }
 }

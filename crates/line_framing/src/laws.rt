@@ -1,5 +1,5 @@
 // What follows from the definitions alone. Each function has a law for its contract and does nothing.
-ghost use Rattle.std.specs.Prelude.{◌≡◌, ◌≢◌, ℕ, List, [], ◌∷◌, ◌++◌, Option, Result};
+ghost use Rattle.std.specs.Prelude.{◌≡◌, ℕ, List, [], ◌∷◌, ◌++◌, Option, Result};
 ghost use Rattle.line_framing.specs.Content.{IsLine, AreLines, line_bytes};
 ghost use Rattle.line_framing.specs.Next.{Front, Next, IsFound, next_of};
 ghost use Rattle.line_framing.specs.Framing.{no_bytes};
@@ -7,12 +7,11 @@ ghost use Rattle.line_framing.specs.Stream.{IsStream, IsRead, AreSame, TakesFirs
 ghost use Rattle.line_framing.specs.Calls.{Call, after_calls, handed_out, bytes_fed, IsAccounted, NoLineLeft};
 ghost use Rattle.line_framing.specs.declared.faults.FramingFault.{FramingFault};
 
-/// One thing stands at the front of a list of bytes, and it is what `next_of` says. It is never want of memory.
+/// One thing stands at the front of a list of bytes, and it is what `next_of` says.
 #[tactic(auto, using(crate::proofs::FirstLine::next_holds))]
 pub fn one_front()
     ensures some { (bytes : List ℕ) → Next bytes (next_of bytes) }
     ensures one { (bytes : List ℕ) (r s : Front) → Next bytes r → Next bytes s → r ≡ s }
-    ensures never_memory { (bytes : List ℕ) → next_of bytes ≢ Err FramingFault.Memory }
 {}
 
 /// A line with CR LF behind it is the first line, whatever follows, and what follows stays.

@@ -6,7 +6,7 @@
 //
 // - `framing`: `Lines`, the buffer
 // - `owned`: `Line`, a line without its end
-// - `faults`: why bytes are refused
+// - `faults`: why bytes are refused, and what may stand at their front in place of a line
 // - `search`: where a line ends, and what stands there
 // - `laws`: what follows from the definitions alone, as the pieces do not matter
 #![tactic(auto)]
@@ -17,7 +17,7 @@ pub mod laws;
 pub mod owned;
 mod search;
 
-pub use faults::FramingFault;
+pub use faults::{FramingFault, LinesFault};
 pub use framing::Lines;
 pub use owned::Line;
 

@@ -52,19 +52,19 @@ const CASES: &[Case] = &[
 ];
 
 /// Feeds a piece and asks for a line.
-fn fed(lines: &mut Lines, piece: &[u8]) -> Result<Option<Line>, FramingFault> {
+fn fed(lines: &mut Lines, piece: &[u8]) -> Result<Option<Line>, LinesFault> {
     lines.feed(piece)?;
     lines.next_line()
 }
 
-fn is_line(answer: &Result<Option<Line>, FramingFault>, bytes: &[u8]) -> bool {
+fn is_line(answer: &Result<Option<Line>, LinesFault>, bytes: &[u8]) -> bool {
     match answer {
         Ok(Some(line)) => line.as_slice() == bytes,
         _ => false,
     }
 }
 
-fn is_nothing(answer: &Result<Option<Line>, FramingFault>) -> bool {
+fn is_nothing(answer: &Result<Option<Line>, LinesFault>) -> bool {
     matches!(answer, Ok(None))
 }
 
@@ -92,7 +92,7 @@ fn lines_come_with_their_last_byte(rt: HostRuntime) {
 }
 
 /// Asks for lines until there is none: their count, and the fault that was met.
-fn drain(lines: &mut Lines) -> (usize, Option<FramingFault>) {
+fn drain(lines: &mut Lines) -> (usize, Option<LinesFault>) {
     for count in 0..64 {
         match lines.next_line() {
             Ok(Some(_)) => {}
@@ -104,7 +104,7 @@ fn drain(lines: &mut Lines) -> (usize, Option<FramingFault>) {
 }
 
 /// Feeds the pieces in turn and drains the buffer behind each: the count of lines, and the last fault.
-fn run(lines: &mut Lines, pieces: &[&[u8]]) -> (usize, Option<FramingFault>) {
+fn run(lines: &mut Lines, pieces: &[&[u8]]) -> (usize, Option<LinesFault>) {
     let mut all = 0usize;
     let mut met = None;
     for piece in pieces {
@@ -122,18 +122,18 @@ fn run(lines: &mut Lines, pieces: &[&[u8]]) -> (usize, Option<FramingFault>) {
 fn faults_are_met_behind_the_lines_and_stay(rt: HostRuntime) {
     let mut lines = Lines::new(rt.alloc());
     for (row, case) in CASES.iter().enumerate() {
+        let refused = match case.fault {
+            Some(fault) => Some(LinesFault::Framing(fault)),
+            None => None,
+        };
         assert_eq!(rt;
             run(&mut lines, case.pieces),
-            (case.lines, case.fault),
+            (case.lines, refused),
             "row {row}"
         );
         if case.fault.is_some() {
-            assert_eq!(rt;
-                run(&mut lines, &[b"\r\nA\r\n"]),
-                (0, case.fault),
-                "row {row}"
-            );
-            assert_eq!(rt; drain(&mut lines), (0, case.fault), "row {row}");
+            assert_eq!(rt; run(&mut lines, &[b"\r\nA\r\n"]), (0, refused), "row {row}");
+            assert_eq!(rt; drain(&mut lines), (0, refused), "row {row}");
         }
         assert_eq!(rt;
             (lines.rest().len(), lines.fault()),
@@ -159,7 +159,7 @@ fn the_longest_line_has_65536_bytes(rt: HostRuntime) -> Result<(), Fail> {
     assert!(rt; is_nothing(&fed(&mut lines, longest.as_slice())));
     assert_eq!(rt;
         run(&mut lines, &[b"A\n"]),
-        (0, Some(FramingFault::LineTooLong))
+        (0, Some(LinesFault::Framing(FramingFault::LineTooLong)))
     );
     assert_eq!(rt; lines.rest().len(), 65_538);
     Ok(())

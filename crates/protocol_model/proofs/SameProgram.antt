@@ -74,7 +74,6 @@ front_same readers c (Ok None) = refl
 front_same readers c (Ok (Some (line, rest))) = line_same readers c (readers.response line)
 front_same readers c (Err framing.LineTooLong) = refl
 front_same readers c (Err framing.BadByte) = refl
-front_same readers c (Err framing.Memory) = refl
 
 happens_same : (readers : Readers) (e : Event) (b : World) → Same b.client.client (happens readers e b).client.client
 happens_same readers Connect b = refl

@@ -124,7 +124,6 @@ front_on readers steps c written (Ok None) asked h = h
 front_on readers steps c written (Ok (Some (line, rest))) asked h = line_on readers steps c written (readers.response line) asked h
 front_on readers steps c written (Err framing.LineTooLong) asked h = stays_faulted steps c written Cause.LineTooLong h
 front_on readers steps c written (Err framing.BadByte) asked h = stays_faulted steps c written Cause.BadByte h
-front_on readers steps c written (Err framing.Memory) asked h = h
 
 -- ---- a command is sent
 

@@ -97,7 +97,6 @@ front_read readers c (Ok None) = c
 front_read readers c (Ok (Some (line, rest))) = line_read readers c (readers.response line)
 front_read readers c (Err framing.LineTooLong) = faulted Cause.LineTooLong c
 front_read readers c (Err framing.BadByte) = faulted Cause.BadByte c
-front_read readers c (Err framing.Memory) = c
 
 -- what stands at the front is read
 abbrev pub end_read : Readers → ClientEnd → ClientEnd

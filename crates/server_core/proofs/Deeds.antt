@@ -9,7 +9,7 @@ use Rattle.fixed_um.specs.declared.frames.Frame.{Frame}
 use Rattle.dme_line.specs.declared.tags.Tag.{Tag}
 use Rattle.dme_line.specs.declared.commands.Command.{Command}
 use Rattle.dme_line.specs.declared.commands.Command.TheVariants as command
-use Rattle.dme_line.specs.declared.reading.LineFault.{LineFault}
+use Rattle.protocol_model.specs.declared.lines.Misread.{Misread}
 use Rattle.protocol_model.specs.Replies.{Reply}
 use Rattle.protocol_model.specs.Lines.{Readers, reply_bytes}
 use Rattle.protocol_model.specs.Claims.{Made, contacts}
@@ -64,7 +64,7 @@ taken_done : (s : Server) (w : Waiting) (ws : List Waiting) (number : Option ℕ
 taken_done s w ws (Some number) idle = refl
 taken_done s w ws None idle = go w.reading
   where
-    go : (reading : Result Command LineFault) → DoneBy (frame_deed s w.tag (ok_of reading)) s (carried (record s { waiting = ws }) w.tag reading)
+    go : (reading : Result Command Misread) → DoneBy (frame_deed s w.tag (ok_of reading)) s (carried (record s { waiting = ws }) w.tag reading)
     go (Ok c) = carried_done s ws w.tag c idle
     go (Err refused) = refl
 

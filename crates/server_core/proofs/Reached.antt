@@ -6,14 +6,15 @@ use Rattle.dme_line.specs.Tags.{is_event_tag}
 use Rattle.dme_line.specs.declared.tags.Tag.{Tag}
 use Rattle.dme_line.specs.declared.commands.Command.{Command}
 use Rattle.dme_line.specs.declared.commands.Command.TheVariants as command
-use Rattle.dme_line.specs.declared.reading.LineFault.{LineFault}
+use Rattle.protocol_model.specs.declared.lines.Misread.{Misread}
+use Rattle.protocol_model.specs.declared.lines.Misread.TheVariants as misread
 use Rattle.dme_line.specs.declared.reading.LineFault.TheVariants as fault
 use Rattle.line_framing.specs.Next.{Front, next_of}
 use Rattle.line_framing.specs.Framing.{fed_behind}
 use Rattle.line_framing.specs.declared.faults.FramingFault.{FramingFault}
 use Rattle.protocol_model.specs.Replies.{Reading}
 use Rattle.protocol_model.specs.Lines.{Readers, AreReaders, reading_of}
-use Rattle.protocol_model.specs.Server.{Server, Answer, in_error, queued, runs_under, waits_under, is_abort, is_clear, is_fault, stands, tagged, server_read, refusal, carried_out, carried, taken, turned_to, server_turned, finished, touched, machined, server_machined, may_end}
+use Rattle.protocol_model.specs.Server.{Server, Answer, in_error, queued, runs_under, waits_under, is_abort, is_clear, stands, fresh, tagged, server_read, refusal, carried_out, carried, taken, turned_to, server_turned, finished, touched, machined, server_machined, may_end}
 use Rattle.protocol_model.specs.Ends.{ServerEnd, new_server_end, front_served, serving_accepted, serving_fed, serving_read, serving_turned, serving_machined, serving_left, serving_restarted, serving_taken}
 use Rattle.protocol_model.specs.declared.lines.Line.{Line}
 use Rattle.protocol_model.specs.declared.lines.Waiting.{Waiting}
@@ -108,25 +109,28 @@ as_before line s error runs = inl (error, runs)
 just_full : (n : ℕ) → n ≤ 64 → nat_le 64 n ≡ true → n ≡ 64
 just_full n few full = let most : 64 ≤ n = leb-true 64 n full in omega arith
 
-stands_came : (line : Line) (s : Server) (t : Tag) (reading : Result Command LineFault) → length s.waiting ≤ 64 → Came line s (stands s t reading)
+stands_came : (line : Line) (s : Server) (t : Tag) (reading : Result Command Misread) → length s.waiting ≤ 64 → Came line s (stands s t reading)
 stands_came line s t reading few =
     branch (Came line s) (s.error && not (is_clear reading)) _ _ (λ refused. as_before line s)
     (λ go. branch (Came line s) s.error _ _ (λ error cleared runs. absurd (false≢true cleared))
     (λ calm. branch (Came line s) (nat_le 64 (length s.waiting)) _ _
     (λ full entered runs. inr (calm, runs, just_full (length s.waiting) few full)) (λ room. as_before line s)))
 
-tagged_came : (line : Line) (s : Server) (t : Tag) (reading : Result Command LineFault) → length s.waiting ≤ 64 → Came line s (tagged s t reading)
+fresh_came : (line : Line) (s : Server) (t : Tag) (reading : Result Command Misread) → length s.waiting ≤ 64 → Came line s (fresh s t reading)
+fresh_came line s t (Ok c) few =
+    branch (Came line s) (is_abort (Ok c)) _ _ (λ aborts error runs. absurd (none_some None line refl runs)) (λ other. stands_came line s t (Ok c) few)
+fresh_came line s t (Err why) few =
+    branch (Came line s) (is_event_tag t) _ _ (λ event. as_before line s) (λ standard. stands_came line s t (Err why) few)
+
+tagged_came : (line : Line) (s : Server) (t : Tag) (reading : Result Command Misread) → length s.waiting ≤ 64 → Came line s (tagged s t reading)
 tagged_came line s t reading few =
-    branch (Came line s) (runs_under t s.running || waits_under t s.waiting) _ _ (λ used. as_before line s)
-    (λ free. branch (Came line s) (is_abort reading) _ _ (λ aborts error runs. absurd (none_some None line refl runs))
-    (λ other. branch (Came line s) (is_event_tag t && is_fault reading) _ _ (λ faulty. as_before line s) (λ standard. stands_came line s t reading few)))
+    branch (Came line s) (runs_under t s.running || waits_under t s.waiting) _ _ (λ used. as_before line s) (λ free. fresh_came line s t reading few)
 
 read_came : (line : Line) (s : Server) (reading : Reading) → length s.waiting ≤ 64 → Came line s (server_read s reading)
 read_came line s (Ok l) few = tagged_came line s l.tag (Ok l.command) few
 read_came line s (Err fault.NoTag) few = as_before line s
-read_came line s (Err (fault.UnknownCommand t)) few = tagged_came line s t (Err (fault.UnknownCommand t)) few
-read_came line s (Err (fault.BadArguments t k)) few = tagged_came line s t (Err (fault.BadArguments t k)) few
-read_came line s (Err fault.Memory) few = as_before line s
+read_came line s (Err (fault.UnknownCommand t)) few = tagged_came line s t (Err misread.UnknownCommand) few
+read_came line s (Err (fault.BadArguments t k)) few = tagged_came line s t (Err (misread.BadArguments k)) few
 
 front_came : (readers : Readers) (line : Line) (e : ServerEnd) (front : Front) → length e.server.waiting ≤ 64
     → (front_served readers e front).server.error ≡ true → (front_served readers e front).server.running ≡ Some line → Before line e.server
@@ -151,7 +155,7 @@ taken_came : (line : Line) (s : Server) (w : Waiting) (ws : List Waiting) (numbe
 taken_came line s w ws (Some number) idle calm = λ error runs. absurd (none_some s.running line idle runs)
 taken_came line s w ws None idle calm = go w.reading
   where
-    go : (reading : Result Command LineFault) → Stayed line s (carried (record s { waiting = ws }) w.tag reading)
+    go : (reading : Result Command Misread) → Stayed line s (carried (record s { waiting = ws }) w.tag reading)
     go (Ok c) = λ error runs. absurd (calm (sym (carried_error (record s { waiting = ws }) w.tag c) ∙ error))
     go (Err refused) = λ error runs. absurd (calm error)
 

@@ -15,7 +15,7 @@ use Rattle.dme_line.specs.declared.reading.LineFault.TheVariants as fault
 use Rattle.dme_line.proofs.ReadWritable.{read_is_writable}
 use Rattle.line_framing.specs.Next.{Front, next_of}
 use Rattle.protocol_model.specs.Lines.{Readers, AreReaders, reading_of}
-use Rattle.protocol_model.specs.Server.{Server, Answer, runs_under, waits_under, is_abort, is_clear, is_fault, stands, tagged, server_read, refusal, carried_out, carried, taken, turned_to, server_turned, finished, touched, machined, server_machined}
+use Rattle.protocol_model.specs.Server.{Server, Answer, runs_under, waits_under, is_abort, is_clear, stands, fresh, tagged, server_read, refusal, carried_out, carried, taken, turned_to, server_turned, finished, touched, machined, server_machined}
 use Rattle.protocol_model.specs.Ends.{ServerEnd, front_served, serving_read}
 use Rattle.protocol_model.specs.declared.lines.Line.{Line}
 use Rattle.protocol_model.specs.declared.lines.Waiting.{Waiting}
@@ -36,16 +36,18 @@ stands_standard s t reading one h =
     (λ go. branch Waits s.error _ _ (λ error. standard_join s.waiting _ h one)
     (λ calm. branch Waits (nat_le 64 (length s.waiting)) _ _ (λ full. tt) (λ room. standard_join s.waiting _ h one)))
 
-tagged_standard : (s : Server) (t : Tag) (reading : Result Command Misread)
-    → (is_abort reading ≡ false → (is_event_tag t && is_fault reading) ≡ false → is_event_tag t ≡ false) → AreStandard s.waiting → Waits (tagged s t reading)
-tagged_standard s t reading one h =
-    branch Waits (runs_under t s.running || waits_under t s.waiting) _ _ (λ used. h)
-    (λ free. branch Waits (is_abort reading) _ _ (λ aborts. tt)
-    (λ other. branch Waits (is_event_tag t && is_fault reading) _ _ (λ faulty. h) (λ standard. stands_standard s t reading (one other standard) h)))
+-- a command other than the abort is under a standard tag
+abbrev IsSorted : Tag → Result Command Misread → Type 0
+IsSorted t (Ok c) = is_abort (Ok c) ≡ false → is_event_tag t ≡ false
+IsSorted t (Err why) = Unit {0}
 
-faulty_line : (b : Bool) → (b && true) ≡ false → b ≡ false
-faulty_line true e = absurd (false≢true (sym e))
-faulty_line false e = refl
+fresh_standard : (s : Server) (t : Tag) (reading : Result Command Misread) → IsSorted t reading → AreStandard s.waiting → Waits (fresh s t reading)
+fresh_standard s t (Ok c) sorted h = branch Waits (is_abort (Ok c)) _ _ (λ aborts. tt) (λ other. stands_standard s t (Ok c) (sorted other) h)
+fresh_standard s t (Err why) sorted h = branch Waits (is_event_tag t) _ _ (λ event. h) (λ standard. stands_standard s t (Err why) standard h)
+
+tagged_standard : (s : Server) (t : Tag) (reading : Result Command Misread) → IsSorted t reading → AreStandard s.waiting → Waits (tagged s t reading)
+tagged_standard s t reading sorted h =
+    branch Waits (runs_under t s.running || waits_under t s.waiting) _ _ (λ used. h) (λ free. fresh_standard s t reading sorted h)
 
 no_event : (c : Command) → is_abort (Ok c) ≡ false → is_event_kind (kind_of c) ≡ false
 no_event command.StartSession e = refl
@@ -63,12 +65,12 @@ no_event command.AbortE e = absurd (false≢true (sym e))
 reading_standard : (s : Server) (line : List ℕ) (reading : Result (Tag × Command) LineFault) → ReadsCommand line reading → AreStandard s.waiting
     → Waits (server_read s (reading_of reading))
 reading_standard s line (Ok (t, c)) reads h =
-    tagged_standard s t (Ok c) (λ other standard. (read_is_writable line t c reads).tagged.sort ∙ no_event c other) h
+    tagged_standard s t (Ok c) (λ other. (read_is_writable line t c reads).tagged.sort ∙ no_event c other) h
 reading_standard s line (Err fault.NoTag) reads h = h
 reading_standard s line (Err (fault.UnknownCommand t)) reads h =
-    tagged_standard s t (Err misread.UnknownCommand) (λ other standard. faulty_line (is_event_tag t) standard) h
+    tagged_standard s t (Err misread.UnknownCommand) tt h
 reading_standard s line (Err (fault.BadArguments t k)) reads h =
-    tagged_standard s t (Err (misread.BadArguments k)) (λ other standard. faulty_line (is_event_tag t) standard) h
+    tagged_standard s t (Err (misread.BadArguments k)) tt h
 
 pub front_standard : (readers : Readers) (e : ServerEnd) (front : Front) → AreReaders readers → AreStandard e.server.waiting
     → AreStandard (front_served readers e front).server.waiting

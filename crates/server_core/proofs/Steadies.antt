@@ -18,7 +18,7 @@ use Rattle.line_framing.specs.Framing.{IsSound, no_bytes, fed_behind}
 use Rattle.line_framing.specs.declared.faults.FramingFault.{FramingFault}
 use Rattle.protocol_model.specs.Replies.{Reading}
 use Rattle.protocol_model.specs.Lines.{Readers, reading_of}
-use Rattle.protocol_model.specs.Server.{Server, Answer, runs_under, waits_under, is_abort, is_clear, is_fault, stands, tagged, server_read, refusal, first_failing, checks, carried_out, carried, taken, turned_to, server_turned, finished, touched, machined, server_machined, may_end}
+use Rattle.protocol_model.specs.Server.{Server, Answer, runs_under, waits_under, is_abort, is_clear, stands, fresh, tagged, server_read, refusal, first_failing, checks, carried_out, carried, taken, turned_to, server_turned, finished, touched, machined, server_machined, may_end}
 use Rattle.protocol_model.specs.Ends.{ServerEnd, front_served, serving_accepted, serving_fed, serving_read, serving_turned, serving_machined, serving_left, serving_restarted, serving_taken, new_server_end}
 use Rattle.protocol_model.specs.declared.lines.Line.{Line}
 use Rattle.protocol_model.specs.declared.lines.Waiting.{Waiting}
@@ -83,12 +83,18 @@ stands_orderly s t reading h =
     room_for : (n m : ℕ) → (64 ≤ n → ⊥) → m ≡ n + 1 → m ≤ 64
     room_for n m less is = omega arith
 
+fresh_orderly : (s : Server) (t : Tag) (reading : Result Command Misread) → IsOrderly s → IsOrderly (fresh s t reading).server
+fresh_orderly s t (Ok c) h =
+    branch (λ (a : Answer). IsOrderly a.server) (is_abort (Ok c)) _ _
+    (λ aborts. record { quiet = λ e. refl; few = omega arith; running = λ line e. absurd (none_some None line refl e) })
+    (λ other. stands_orderly s t (Ok c) h)
+fresh_orderly s t (Err why) h =
+    branch (λ (a : Answer). IsOrderly a.server) (is_event_tag t) _ _ (λ event. h) (λ standard. stands_orderly s t (Err why) h)
+
 tagged_orderly : (s : Server) (t : Tag) (reading : Result Command Misread) → IsOrderly s → IsOrderly (tagged s t reading).server
 tagged_orderly s t reading h =
     branch (λ (a : Answer). IsOrderly a.server) (runs_under t s.running || waits_under t s.waiting) _ _ (λ used. h)
-    (λ free. branch (λ (a : Answer). IsOrderly a.server) (is_abort reading) _ _
-    (λ aborts. record { quiet = λ e. refl; few = omega arith; running = λ line e. absurd (none_some None line refl e) })
-    (λ other. branch (λ (a : Answer). IsOrderly a.server) (is_event_tag t && is_fault reading) _ _ (λ faulty. h) (λ standard. stands_orderly s t reading h)))
+    (λ free. fresh_orderly s t reading h)
 
 pub read_orderly : (s : Server) (reading : Reading) → IsOrderly s → IsOrderly (server_read s reading).server
 read_orderly s (Ok line) h = tagged_orderly s line.tag (Ok line.command) h

@@ -19,7 +19,7 @@ use crate::controller::Controller;
 use crate::faults::ServerFault;
 use crate::view::View;
 use contact_ledger::ServerLedger;
-use line_framing::{FramingFault, Lines};
+use line_framing::{Lines, LinesFault};
 use protocol_model::{Job, Outcome};
 use std::alloc::{AllocError, Global};
 use std::marker::Model;
@@ -103,8 +103,8 @@ impl Server {
         }
         match self.input.feed(piece) {
             Ok(()) => Ok(()),
-            Err(FramingFault::Memory) => Err(ServerFault::Memory),
-            Err(fault) => Err(ServerFault::Framing(fault)),
+            Err(LinesFault::Memory) => Err(ServerFault::Memory),
+            Err(LinesFault::Framing(fault)) => Err(ServerFault::Framing(fault)),
         }
     }
 
