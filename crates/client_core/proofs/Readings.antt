@@ -1,5 +1,5 @@
 -- All that read as the interface says read a line, and a point, in one way.
-use Rattle.std.proofs.Common.{◌≡◌, ℕ, List, Result, Err}
+use Rattle.std.proofs.Common.{◌≡◌, ℕ, List, Result}
 use Rattle.fixed_um.specs.declared.lengths.Point.{Point}
 use Rattle.dme_line.specs.Points.{ReadsPoint}
 use Rattle.dme_line.specs.Responses.{ReadsResponse}
