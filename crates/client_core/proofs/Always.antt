@@ -1,5 +1,5 @@
 -- What holds of a client at any time: its state and connection, its cause, its window and numbers, and what it holds on no connection.
-use Rattle.std.proofs.Common.{◌≡◌, ℕ, zero, suc, ◌+◌, ◌≤◌, ◌<◌, ◌==◌, Bool, true, false, cond, ◌&&◌, not, is_some, nat_lt, nat_le, if◌then◌else◌, List, [], ◌∷◌, ◌++◌, length, drop, refl, sym, ◌∙◌, ap, subst, arith, Option, Some, None, Result, Ok, Err, eqb, le_refl}
+use Rattle.std.proofs.Common.{◌≡◌, ℕ, zero, suc, ◌≤◌, ◌<◌, ◌==◌, Bool, true, false, cond, not, is_some, nat_lt, List, [], ◌∷◌, ◌++◌, drop, refl, sym, ◌∙◌, ap, subst, arith, Option, Some, None, Result, Ok, Err, le_refl}
 use Rattle.std.proofs.lemmas.Bool.{false≢true, ltb-true, leb-true}
 use Rattle.fixed_um.specs.declared.lengths.Point.{Point}
 use Rattle.dme_line.specs.Kinds.{kind_of}
@@ -7,13 +7,12 @@ use Rattle.dme_line.specs.declared.tags.Tag.{Tag}
 use Rattle.dme_line.specs.declared.tags.Tag.TheVariants as tag
 use Rattle.dme_line.specs.declared.points.NotPoint.{NotPoint}
 use Rattle.dme_line.specs.declared.commands.Kind.{Kind}
-use Rattle.dme_line.specs.declared.commands.Command.{Command}
 use Rattle.dme_line.specs.declared.responses.Mark.{Mark as Marked}
 use Rattle.dme_line.specs.declared.responses.Mark.TheVariants as mark
 use Rattle.dme_line.specs.declared.responses.Response.{Response}
 use Rattle.dme_line.specs.declared.responses.NotResponse.{NotResponse}
 use Rattle.line_framing.specs.Next.{Front, next_of}
-use Rattle.line_framing.specs.Framing.{Framing, no_bytes, fed_behind, left_by}
+use Rattle.line_framing.specs.Framing.{fed_behind, left_by}
 use Rattle.line_framing.specs.declared.faults.FramingFault.{FramingFault}
 use Rattle.line_framing.specs.declared.faults.FramingFault.TheVariants as framing
 use Rattle.contact_ledger.specs.declared.features.Feature.{Feature}
@@ -21,14 +20,14 @@ use Rattle.dmis_program.specs.Meaning.{Meaning}
 use Rattle.dmis_program.specs.declared.features.Wanted.{Wanted}
 use Rattle.protocol_model.specs.Replies.{Mark, tag_is}
 use Rattle.protocol_model.specs.Lines.{Readers}
-use Rattle.protocol_model.specs.Open.{Effect, heard_in, asks_data, is_failed, count_open}
-use Rattle.protocol_model.specs.Client.{Client, Table, heard, heard_on, faulted, new_client, client_connected, may_go, first_due, due, held_now, sends_next, next_number, sends_abort, may_abort, first_state, last_state, state_behind, is_running, is_whole, ends_abort, client_hears, client_read, may_resume, client_resumed, client_left, left_state, client_restarted}
-use Rattle.protocol_model.specs.Ends.{ClientEnd, new_client_end, held_under, given_point, given_under, response_read, line_read, front_read, end_read}
+use Rattle.protocol_model.specs.Open.{asks_data, is_failed, count_open}
+use Rattle.protocol_model.specs.Client.{Client, Table, heard, heard_on, faulted, new_client, client_connected, may_go, first_due, due, held_now, sends_next, next_number, sends_abort, may_abort, first_state, last_state, state_behind, is_running, is_whole, ends_abort, client_hears, client_read, client_resumed, client_left, left_state, client_restarted}
+use Rattle.protocol_model.specs.Ends.{ClientEnd, new_client_end, held_under, given_point, given_under, response_read, line_read, front_read}
 use Rattle.protocol_model.specs.declared.held.Held.{Held}
 use Rattle.protocol_model.specs.declared.plans.Planned.{Planned}
 use Rattle.protocol_model.specs.declared.states.State.{State}
 use Rattle.protocol_model.specs.declared.states.Cause.{Cause}
-use Rattle.protocol_model.proofs.Basics.{if_false, if_true}
+use Rattle.protocol_model.proofs.Basics.{if_false}
 use Rattle.protocol_model.proofs.Counts.{count_keeps}
 use Rattle.protocol_model.proofs.Replying.{fine, step_cases}
 use Rattle.client_core.specs.Calls.{Call, Connected, Send, Feed, ReadOne, Abort, Resume, Leave, Restart, Sent, possible, done_by, behind_call, behind_calls}
@@ -36,7 +35,7 @@ use Rattle.client_core.specs.Clients.{is_faulted, may_connect, may_read}
 use Rattle.client_core.specs.Clients as clients
 use Rattle.client_core.specs.Always.{IsReached, FitsState, IsQuiet}
 use Rattle.client_core.proofs.Fits.{both}
-use Rattle.client_core.proofs.Runs.{running_by, due_running, on_unless_off, resumed_state}
+use Rattle.client_core.proofs.Runs.{due_running, resumed_state}
 
 -- of the client without its bytes
 pub record IsSteady (c : Client) : Type 0 where

@@ -1,12 +1,12 @@
 -- What a reply does to the open commands that have not failed.
-use Rattle.std.proofs.Common.{◌≡◌, Bool, true, false, cond, ◌&&◌, ℕ, suc, List, [], ◌∷◌, ◌++◌, refl, sym, ◌∙◌, ap, subst, Option, Some, None}
+use Rattle.std.proofs.Common.{◌≡◌, Bool, true, false, cond, ◌&&◌, ℕ, suc, List, [], ◌∷◌, ◌++◌, refl, sym, ◌∙◌, ap, subst, Option, None}
 use Rattle.std.proofs.Math.Bool.{and-true}
 use Rattle.std.proofs.lemmas.Bool.{false≢true}
 use Rattle.fixed_um.specs.declared.lengths.Point.{Point}
 use Rattle.dme_line.specs.declared.tags.Tag.{Tag}
 use Rattle.dme_line.specs.declared.commands.Kind.{Kind}
 use Rattle.protocol_model.specs.Replies.{Mark}
-use Rattle.protocol_model.specs.Open.{Effect, Becomes, Breaks, Closes, Counts, judged, heard_in, is_failed, asks_data, count_open}
+use Rattle.protocol_model.specs.Open.{Effect, Becomes, Closes, Counts, judged, heard_in, is_failed, asks_data, count_open}
 use Rattle.protocol_model.specs.declared.held.Stage.{Stage}
 use Rattle.protocol_model.specs.declared.held.Held.{Held}
 use Rattle.protocol_model.proofs.Walks.{two, staged, heard_cases}

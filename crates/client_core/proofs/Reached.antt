@@ -1,6 +1,6 @@
 -- What a client's calls lead to.
-use Rattle.std.proofs.Common.{◌≡◌, ℕ, ◌≤◌, Bool, true, false, cond, ◌&&◌, is_some, nat_le, Option, Some, None, Result, Ok, Err, List, [], ◌∷◌, ◌++◌, length, drop, refl, sym, ◌∙◌, ap, subst}
-use Rattle.std.proofs.lemmas.Bool.{false≢true, leb-true, le-leb}
+use Rattle.std.proofs.Common.{◌≡◌, ℕ, ◌≤◌, Bool, true, false, cond, is_some, Some, None, Ok, List, [], ◌∷◌, ◌++◌, length, drop, refl, sym, ◌∙◌, ap, subst}
+use Rattle.std.proofs.lemmas.Bool.{false≢true, le-leb}
 use Rattle.contact_ledger.specs.declared.features.Feature.{Feature}
 use Rattle.dmis_program.specs.Meaning.{Meaning}
 use Rattle.dmis_program.specs.Programs.{IsProgram}
@@ -16,9 +16,8 @@ use Rattle.client_core.specs.Calls.{Call, Connected, Send, Feed, ReadOne, Abort,
 use Rattle.client_core.specs.Clients.{are_ours, is_faulted, may_connect, may_read}
 use Rattle.client_core.specs.Always.{IsReached, FitsState, IsQuiet}
 use Rattle.client_core.proofs.Always.{IsSteady, IsSound, sound, Reads, reads_by}
-use Rattle.client_core.proofs.Fits.{both}
 use Rattle.client_core.proofs.Runs.{behind_holds, Holds}
-use Rattle.client_core.specs.Calls.{client_behind, plans_begun}
+use Rattle.client_core.specs.Calls.{plans_begun}
 
 -- ---- one call more
 

@@ -1,5 +1,5 @@
 -- What a client holds and counts behind every list of calls.
-use Rattle.std.proofs.Common.{◌≡◌, ℕ, suc, ◌+◌, ◌≤◌, ◌==◌, Bool, true, false, cond, ◌&&◌, ◌||◌, not, is_some, if◌then◌else◌, List, [], ◌∷◌, ◌++◌, length, take, drop, refl, sym, ◌∙◌, ap, subst, arith, append_assoc, append-nil, length-append, Option, Some, None, Result, Ok, Err, eqb, eqb-true, le_refl}
+use Rattle.std.proofs.Common.{◌≡◌, ℕ, suc, ◌+◌, ◌≤◌, Bool, true, false, cond, ◌||◌, not, is_some, if◌then◌else◌, List, [], ◌∷◌, ◌++◌, length, take, refl, sym, ◌∙◌, ap, subst, arith, append_assoc, append-nil, length-append, Option, Some, None, Result, Ok, Err, eqb, eqb-true, le_refl}
 use Rattle.std.proofs.Math.Seq.{take-append_seam}
 use Rattle.std.proofs.lemmas.Bool.{false≢true}
 use Rattle.fixed_um.specs.declared.lengths.Point.{Point}
@@ -25,7 +25,7 @@ use Rattle.protocol_model.specs.Open.{Effect, Heard as Heardings, heard_in, asks
 use Rattle.protocol_model.specs.Client.{Client, Table, Tally, act_of, measured, counted_next, begins_session, tallied, heard, heard_on, faulted, new_client, client_connected, is_running, first_due, due, held_now, sends_next, next_number, sends_abort, may_abort, first_state, last_state, state_behind, is_whole, ends_abort, client_hears, client_read, may_resume, client_resumed, client_left, left_state, client_restarted}
 use Rattle.protocol_model.specs.Ends.{ClientEnd, new_client_end, held_under, given_point, given_under, response_read, line_read, front_read}
 use Rattle.protocol_model.specs.Plan.{plan}
-use Rattle.protocol_model.specs.PlanReading.{end_of, ends_of, feature_ends}
+use Rattle.protocol_model.specs.PlanReading.{end_of, ends_of}
 use Rattle.protocol_model.specs.Undisturbed.{act_in, acts_planned, AreActs}
 use Rattle.protocol_model.specs.declared.states.State.{State}
 use Rattle.protocol_model.specs.declared.states.Cause.{Cause}
@@ -38,13 +38,12 @@ use Rattle.protocol_model.proofs.Blocks.{program_is_plain}
 use Rattle.protocol_model.proofs.Marks.{plan_fits}
 use Rattle.protocol_model.proofs.PlanLaws.{plan_ends_left}
 use Rattle.protocol_model.proofs.Fitting.{unknown}
-use Rattle.protocol_model.proofs.Walks.{two}
 use Rattle.protocol_model.proofs.Counts.{count_keeps}
-use Rattle.protocol_model.proofs.Replying.{fine, tabled, step_cases}
+use Rattle.protocol_model.proofs.Replying.{fine, step_cases}
 use Rattle.protocol_model.proofs.Touching.{Keeps, measured_keeps}
 use Rattle.protocol_model.proofs.Following.{is_touch, AreAsked, IsAsked, fits_asked, asked_at, acts_join, act_stands, planned_more, kinds_of}
 use Rattle.client_core.specs.Calls.{Call, Connected, Send, Feed, ReadOne, Abort, Resume, Leave, Restart, Sent, possible, done_by, behind_call, behind_calls, Begun, start_behind, acts_of_fronts, Plans, first_plan, plans_by, plans_behind, client_behind, plans_begun, is_last, features_ended, AreCounted, next_kind, kind_counted, counted_by}
-use Rattle.client_core.specs.Clients.{are_ours, may_connect, may_read}
+use Rattle.client_core.specs.Clients.{are_ours, may_read}
 use Rattle.client_core.proofs.Fits.{Fits, both, fits_ours, plan_fits_features, joined_more, point_fits, last_fits, fewer_are_ours}
 use Rattle.client_core.proofs.Fronts.{live_kinds, Fronted, fronted, none_live, live_more}
 

@@ -1,15 +1,14 @@
 -- What holds of a client at any time, whatever its peer sends (this profile).
-use Rattle.std.specs.Prelude.{◌≡◌, ℕ, ◌≤◌, Bool, true, false, is_some, List, [], None}
+use Rattle.std.specs.Prelude.{◌≡◌, ℕ, ◌≤◌, Bool, true, false, List, []}
 use Rattle.contact_ledger.specs.declared.features.Feature.{Feature}
 use Rattle.dmis_program.specs.Meaning.{Meaning}
 use Rattle.dmis_program.specs.Programs.{IsProgram}
 use Rattle.line_framing.specs.Framing.{no_bytes}
 use Rattle.protocol_model.specs.Lines.{Readers, AreReaders}
-use Rattle.protocol_model.specs.Open.{count_open}
 use Rattle.protocol_model.specs.Ends.{ClientEnd, new_client_end}
 use Rattle.protocol_model.specs.declared.states.State.{State}
 use Rattle.client_core.specs.Calls.{Call, behind_calls}
-use Rattle.client_core.specs.Clients.{are_ours, is_faulted}
+use Rattle.client_core.specs.Clients.{are_ours}
 
 -- a list of calls leads to it from a client that was never on a connection, with a program, the features of it that were kept, and a window from 1 to 16
 pub record IsReached (e : ClientEnd) : Type 0 where

@@ -77,12 +77,15 @@ impl Client {
     ) -> Result<Client, (NewFault, Program, FeatureLedger)>
         ensures ok { IfOk result (λ client. client ≡ new_client_end program features window) }
         ensures can { IsOk result
-            ↔ ((nat_le 1 window && (nat_le window 16 && are_ours program.features features)) ≡ true) }
+            ↔ ((nat_le 1 window && (nat_le window 16
+            && are_ours program.features features)) ≡ true) }
         ensures window { IfErr result (λ refused. (refused.0 ≡ NewFault.BadWindow)
             ↔ ((nat_le 1 window && nat_le window 16) ≡ false)) }
         ensures ours { IfErr result (λ refused. (refused.0 ≡ NewFault.NotOurs)
-            ↔ (((nat_le 1 window && nat_le window 16) && not (are_ours program.features features)) ≡ true)) }
-        ensures given_back { IfErr result (λ refused. (refused.1 ≡ program) × (refused.2 ≡ features)) }
+            ↔ (((nat_le 1 window && nat_le window 16)
+            && not (are_ours program.features features)) ≡ true)) }
+        ensures given_back { IfErr result (λ refused.
+            (refused.1 ≡ program) × (refused.2 ≡ features)) }
     {
         if window < 1 || window > 16 {
             return Err((NewFault::BadWindow, program, features));
@@ -103,7 +106,8 @@ impl Client {
     pub fn connected(&mut self, number: u64) -> Result<(), ClientFault>
         ensures ok { OnOk result (self.new ≡ end_connected number self.old) }
         ensures can { OnOk result (may_connect number self.old.client ≡ true) }
-        ensures refused { IfErr result (λ fault. IsRefused (may_connect number self.old.client) self.old fault) }
+        ensures refused { IfErr result (λ fault.
+            IsRefused (may_connect number self.old.client) self.old fault) }
         ensures err { OnErr result (self.new ≡ self.old) }
     {
         if !self.executor.may_connect(number) {
@@ -120,7 +124,8 @@ impl Client {
     /// The command that is to be sent next, if one is due: while Running, where fewer than `window` standard commands are open, and
     /// `ClearAllErrors()` only where none is. Takes no memory.
     pub fn due(&self) -> Option<&Command>
-        ensures { MatchOption result (due self.now.client ≡ None) (λ command. command_of (due self.now.client) ≡ Some command.now) }
+        ensures { MatchOption result (due self.now.client ≡ None)
+            (λ command. command_of (due self.now.client) ≡ Some command.now) }
     {
         self.executor.due()
     }
@@ -133,7 +138,8 @@ impl Client {
         ensures sent { OnOk result (is_faulted self.new.client.state ≡ false) }
         ensures can { OnOk result (is_some (due self.old.client) ≡ true) }
         ensures refused { IfErr result (λ fault.
-            IsSendRefused (is_some (due self.old.client)) self.old self.new (end_sent self.old) fault) }
+            IsSendRefused (is_some (due self.old.client)) self.old self.new
+            (end_sent self.old) fault) }
         ensures memory { IsErrOf result ClientFault.Memory → is_some (due self.old.client) ≡ true }
         ensures bounded { length self.new.out ≤ length self.old.out + 202 }
     {
@@ -157,7 +163,8 @@ impl Client {
     pub fn feed(&mut self, piece: &[u8]) -> Result<(), ClientFault>
         ensures ok { OnOk result (self.new ≡ end_fed piece.now self.old) }
         ensures can { OnOk result (may_read self.old.client ≡ true) }
-        ensures refused { IfErr result (λ fault. IsRefused (may_read self.old.client) self.old fault) }
+        ensures refused { IfErr result (λ fault.
+            IsRefused (may_read self.old.client) self.old fault) }
         ensures err { OnErr result (self.new ≡ self.old) }
     {
         if !self.executor.may_read() {
@@ -174,13 +181,14 @@ impl Client {
     /// call on that meets a line that is no response, bytes that are no lines, or a mark that has no place.
     #[tactic(auto, using(crate::proofs::Reached::read_reached, crate::proofs::Reached::line_reached, crate::proofs::Reached::same_reached))]
     pub fn read_one(&mut self) -> Result<bool, ClientFault>
-        ensures ok { OnOk result ((readers : Readers) → AreReaders readers → self.new ≡ end_read readers self.old) }
+        ensures ok { OnOk result ((readers : Readers) → AreReaders readers
+            → self.new ≡ end_read readers self.old) }
         ensures fine { OnOk result (is_faulted self.new.client.state ≡ false) }
         ensures read { IfOk result (λ read. IsTrue read ↔ IsLineDue (next_of self.old.input.rest)) }
         ensures can { OnOk result (may_read self.old.client ≡ true) }
         ensures refused { IfErr result (λ fault. IsReadRefused self.old self.new fault) }
-        ensures met { IfErr result (λ fault. fault ≢ ClientFault.Memory → may_read self.old.client ≡ true
-            → (readers : Readers) → AreReaders readers → self.new ≡ end_read readers self.old) }
+        ensures met { IfErr result (λ fault. fault ≢ ClientFault.Memory
+            → may_read self.old.client ≡ true → (readers : Readers) → AreReaders readers → self.new ≡ end_read readers self.old) }
         ensures before { may_read self.old.client ≡ false → self.new ≡ self.old }
         ensures memory { IsErrOf result ClientFault.Memory → may_read self.old.client ≡ true }
         ensures line { IsErrOf result ClientFault.Memory → IsLineDue (next_of self.old.input.rest) }
@@ -225,7 +233,8 @@ impl Client {
         ensures sent { OnOk result (is_faulted self.new.client.state ≡ false) }
         ensures can { OnOk result (may_abort self.old.client.state ≡ true) }
         ensures refused { IfErr result (λ fault.
-            IsSendRefused (may_abort self.old.client.state) self.old self.new (end_aborted self.old) fault) }
+            IsSendRefused (may_abort self.old.client.state) self.old self.new
+            (end_aborted self.old) fault) }
         ensures memory { IsErrOf result ClientFault.Memory → may_abort self.old.client.state ≡ true }
         ensures bounded { length self.new.out ≤ length self.old.out + 202 }
     {
@@ -250,7 +259,8 @@ impl Client {
     pub fn resume(&mut self) -> Result<(), ClientFault>
         ensures ok { OnOk result (self.new ≡ end_resumed self.old) }
         ensures can { OnOk result (may_resume self.old.client self.old.client.state ≡ true) }
-        ensures refused { IfErr result (λ fault. IsRefused (may_resume self.old.client self.old.client.state) self.old fault) }
+        ensures refused { IfErr result (λ fault.
+            IsRefused (may_resume self.old.client self.old.client.state) self.old fault) }
         ensures err { OnErr result (self.new ≡ self.old) }
     {
         if !self.executor.may_resume() {
@@ -327,7 +337,8 @@ impl Client {
         ensures window_few { self.now.client.window ≤ 16 }
         ensures open { count_open self.now.client.table.standard ≤ self.now.client.window }
         ensures last { self.now.client.last ≤ 4000000000 }
-        ensures ours { are_ours self.now.client.program.features self.now.client.table.tally.features ≡ true }
+        ensures ours { are_ours self.now.client.program.features
+            self.now.client.table.tally.features ≡ true }
         ensures quiet { self.now.client.on ≡ false → IsQuiet self.now }
         ensures unmet { is_faulted self.now.client.state ≡ false → self.now.input.fault ≡ None }
     {
