@@ -2,7 +2,8 @@
 
 ghost use Rattle.std.specs.Prelude.{◌≡◌, true, is_some, string_bytes};
 ghost use Rattle.std.specs.Option.{option_map};
-ghost use Rattle.dme_program.specs.Printed.{refusal_code, setup_code, status_of, IsShown};
+ghost use Rattle.dmis_program.specs.Messages.{refusal_text};
+ghost use Rattle.dme_program.specs.Printed.{setup_code, status_of, IsShown};
 
 use crate::check::CheckFault;
 use crate::orders::OrderFault;
@@ -51,7 +52,7 @@ impl Fault {
 
 /// The code and the name of a refusal.
 pub fn refusal_text(refusal: Refusal) -> &'static str
-    ensures { result.now ≡ refusal_code refusal }
+    ensures { result.now ≡ refusal_text refusal }
 {
     match refusal {
         Refusal::NotDmis => "P1 NotDmis",
