@@ -27,9 +27,9 @@ use Rattle.protocol_model.specs.declared.held.Held.{Held}
 use Rattle.protocol_model.specs.declared.plans.Planned.{Planned}
 use Rattle.protocol_model.specs.declared.states.State.{State}
 use Rattle.protocol_model.specs.declared.states.Cause.{Cause}
-use Rattle.protocol_model.proofs.Basics.{if_false}
-use Rattle.protocol_model.proofs.Counts.{count_keeps}
-use Rattle.protocol_model.proofs.Replying.{fine, step_cases}
+use Rattle.protocol_model.proofs.table.Basics.{if_false}
+use Rattle.protocol_model.proofs.table.Counts.{count_keeps}
+use Rattle.protocol_model.proofs.table.Replying.{fine, step_cases}
 use Rattle.client_core.specs.Calls.{Call, Connected, Send, Feed, ReadOne, Abort, Resume, Leave, Restart, Sent, possible, done_by, behind_call, behind_calls}
 use Rattle.client_core.specs.Clients.{is_faulted, may_connect, may_read}
 use Rattle.client_core.specs.Clients as clients
@@ -135,7 +135,7 @@ either_live true c d h g = h
 either_live false c d h g = g
 
 point_live : (c : Client) (t : Tag) (r : Result Point NotPoint) → Reads c → IsLive c → IsLive (given_point c t r)
-point_live c t (Ok q) reads h = reply_live c t (Mark.Data q) reads h
+point_live c t (Ok q) reads h = reply_live c t (Mark.Given q) reads h
 point_live c t (Err why) reads h = faulted_live c Cause.NotResponse h
 
 under_live : (readers : Readers) (c : Client) (t : Tag) (text : List ℕ) (kind : Option Kind) → Reads c → IsLive c → IsLive (given_under readers c t text kind)

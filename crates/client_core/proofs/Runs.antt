@@ -33,15 +33,15 @@ use Rattle.protocol_model.specs.declared.held.Held.{Held}
 use Rattle.protocol_model.specs.declared.plans.Planned.{Planned}
 use Rattle.protocol_model.specs.declared.plans.Does.{Does}
 use Rattle.protocol_model.specs.declared.plans.Start.{Start}
-use Rattle.protocol_model.proofs.Basics.{if_false}
-use Rattle.protocol_model.proofs.Blocks.{program_is_plain}
-use Rattle.protocol_model.proofs.Marks.{plan_fits}
-use Rattle.protocol_model.proofs.PlanLaws.{plan_ends_left}
-use Rattle.protocol_model.proofs.Fitting.{unknown}
-use Rattle.protocol_model.proofs.Counts.{count_keeps}
-use Rattle.protocol_model.proofs.Replying.{fine, step_cases}
-use Rattle.protocol_model.proofs.Touching.{Keeps, measured_keeps}
-use Rattle.protocol_model.proofs.Following.{is_touch, AreAsked, IsAsked, fits_asked, asked_at, acts_join, act_stands, planned_more, kinds_of}
+use Rattle.protocol_model.proofs.table.Basics.{if_false}
+use Rattle.protocol_model.proofs.plan.Blocks.{program_is_plain}
+use Rattle.protocol_model.proofs.plan.Marks.{plan_fits}
+use Rattle.protocol_model.proofs.plan.PlanLaws.{plan_ends_left}
+use Rattle.protocol_model.proofs.plan.Fitting.{unknown}
+use Rattle.protocol_model.proofs.table.Counts.{count_keeps}
+use Rattle.protocol_model.proofs.table.Replying.{fine, step_cases}
+use Rattle.protocol_model.proofs.invariant.Touching.{Keeps, measured_keeps}
+use Rattle.protocol_model.proofs.undisturbed.Following.{is_touch, AreAsked, IsAsked, fits_asked, asked_at, acts_join, act_stands, planned_more, kinds_of}
 use Rattle.client_core.specs.Calls.{Call, Connected, Send, Feed, ReadOne, Abort, Resume, Leave, Restart, Sent, possible, done_by, behind_call, behind_calls, Begun, start_behind, acts_of_fronts, Plans, first_plan, plans_by, plans_behind, client_behind, plans_begun, is_last, features_ended, AreCounted, next_kind, kind_counted, counted_by}
 use Rattle.client_core.specs.Clients.{are_ours, may_read}
 use Rattle.client_core.proofs.Fits.{Fits, both, fits_ours, plan_fits_features, joined_more, point_fits, last_fits, fewer_are_ours}
@@ -311,7 +311,7 @@ either_holds p plans true c d h g = h
 either_holds p plans false c d h g = g
 
 point_holds : (p : Meaning) (plans : Plans) (c : Client) (t : Tag) (r : Result Point NotPoint) → c.on ≡ true → Holds p c plans → Holds p (given_point c t r) plans
-point_holds p plans c t (Ok q) on h = reply_holds p plans c t (Mark.Data q) on h
+point_holds p plans c t (Ok q) on h = reply_holds p plans c t (Mark.Given q) on h
 point_holds p plans c t (Err why) on h = faulted_holds p plans c Cause.NotResponse on h
 
 under_holds : (readers : Readers) (p : Meaning) (plans : Plans) (c : Client) (t : Tag) (text : List ℕ) (kind : Option Kind) → c.on ≡ true → Holds p c plans → Holds p (given_under readers c t text kind) plans

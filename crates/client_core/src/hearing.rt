@@ -63,7 +63,7 @@ impl Executor {
 
     /// The point of a touch is read under a tag.
     pub(crate) fn hear_point(&mut self, tag: Tag, point: Point)
-        ensures { self.new ≡ client_read self.old tag (Mark.Data point) }
+        ensures { self.new ≡ client_read self.old tag (Mark.Given point) }
     {
         if is_unasked(tag) {
             return;

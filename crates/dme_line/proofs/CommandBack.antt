@@ -17,7 +17,7 @@ use Rattle.dme_line.specs.Tokens.{Token, Open, Close, Comma, Word, begins_word, 
 use Rattle.dme_line.specs.Kinds.{kind_of, kind_name}
 use Rattle.dme_line.specs.Points.{written_point, IsOnWire}
 use Rattle.dme_line.specs.Arguments.{Single, Triple, IsPlace, Says}
-use Rattle.dme_line.specs.Written.{written_approach, written_transformation, written_arguments, written_command, IsApproach, HasArguments, IsWritable}
+use Rattle.dme_line.specs.Written.{written_ijk, written_transformation, written_arguments, written_command, IsIjk, HasArguments, IsWritable}
 use Rattle.dme_line.specs.CommandText.{ReadsCommand, is_name_part}
 use Rattle.dme_line.specs.declared.tags.Tag.{Tag}
 use Rattle.dme_line.specs.declared.commands.Csy.{Csy}
@@ -50,14 +50,14 @@ point-tokens p tail h =
     rw (x, y, z) refl
 
 -- a direction behind a point, and the closing parenthesis
-abbrev approach_before : Direction → List ℕ
-approach_before d = 44 ∷ 32 ∷ 73 ∷ 74 ∷ 75 ∷ 40 ∷ (written_component d.i ++ (44 ∷ 32 ∷ (written_component d.j ++ (44 ∷ 32 ∷ (written_component d.k ++ (41 ∷ 41 ∷ []))))))
+abbrev ijk_before : Direction → List ℕ
+ijk_before d = 44 ∷ 32 ∷ 73 ∷ 74 ∷ 75 ∷ 40 ∷ (written_component d.i ++ (44 ∷ 32 ∷ (written_component d.j ++ (44 ∷ 32 ∷ (written_component d.k ++ (41 ∷ 41 ∷ []))))))
 
-approach-append : (d : Direction) → written_approach (Some d) ++ codes ")" ≡ approach_before d
-approach-append d = simp append_assoc
+ijk-append : (d : Direction) → written_ijk (Some d) ++ codes ")" ≡ ijk_before d
+ijk-append d = simp append_assoc
 
-approach-tokens : (d : Direction) → IsDirection d → tokens (approach_before d) ≡ Comma ∷ Word (codes "IJK") ∷ Open ∷ Word (written_component d.i) ∷ Comma ∷ Word (written_component d.j) ∷ Comma ∷ Word (written_component d.k) ∷ Close ∷ Close ∷ []
-approach-tokens d h =
+ijk-tokens : (d : Direction) → IsDirection d → tokens (ijk_before d) ≡ Comma ∷ Word (codes "IJK") ∷ Open ∷ Word (written_component d.i) ∷ Comma ∷ Word (written_component d.j) ∷ Comma ∷ Word (written_component d.k) ∷ Close ∷ Close ∷ []
+ijk-tokens d h =
     let k = word_before 15 (written_component d.k) (41 ∷ 41 ∷ []) (component-word d.k h.k_within) refl in
     let j = word_before 15 (written_component d.j) (44 ∷ 32 ∷ (written_component d.k ++ (41 ∷ 41 ∷ []))) (component-word d.j h.j_within) refl in
     let i = word_before 15 (written_component d.i) (44 ∷ 32 ∷ (written_component d.j ++ (44 ∷ 32 ∷ (written_component d.k ++ (41 ∷ 41 ∷ []))))) (component-word d.i h.i_within) refl in
@@ -107,27 +107,27 @@ move_back p h = record {
   arguments = Single (codes "X") (written p.x) ∷ Single (codes "Y") (written p.y) ∷ Single (codes "Z") (written p.z) ∷ [];
   spelled = move-tokens p h;
   target = record { x = record { numeral = written p.x; found = refl; reads = reads_back p.x h.x }; y = record { numeral = written p.y; found = refl; reads = reads_back p.y h.y }; z = record { numeral = written p.z; found = refl; reads = reads_back p.z h.z } };
-  approach = refl;
+  ijk = refl;
 }
 
 touch-tokens : (p : Point) (d : Direction) → IsOnWire p → IsDirection d → written_tokens (PtMeas p (Some d)) ≡ Open ∷ Word (codes "X") ∷ Open ∷ Word (written p.x) ∷ Close ∷ Comma ∷ Word (codes "Y") ∷ Open ∷ Word (written p.y) ∷ Close ∷ Comma ∷ Word (codes "Z") ∷ Open ∷ Word (written p.z) ∷ Close ∷ Comma ∷ Word (codes "IJK") ∷ Open ∷ Word (written_component d.i) ∷ Comma ∷ Word (written_component d.j) ∷ Comma ∷ Word (written_component d.k) ∷ Close ∷ Close ∷ []
 touch-tokens p d h g =
-    let whole : (written_point p ++ written_approach (Some d)) ++ codes ")" ≡ point_before p (approach_before d) = append_assoc (written_point p) (written_approach (Some d)) (codes ")") ∙ ap (λ (t : List ℕ). written_point p ++ t) (approach-append d) ∙ point-append p (approach_before d) in
-    ap (λ (t : List ℕ). tokens (40 ∷ t)) whole ∙ ap (λ (ts : List Token). Open ∷ ts) (point-tokens p (approach_before d) h ∙ rw (approach-tokens d g) refl)
+    let whole : (written_point p ++ written_ijk (Some d)) ++ codes ")" ≡ point_before p (ijk_before d) = append_assoc (written_point p) (written_ijk (Some d)) (codes ")") ∙ ap (λ (t : List ℕ). written_point p ++ t) (ijk-append d) ∙ point-append p (ijk_before d) in
+    ap (λ (t : List ℕ). tokens (40 ∷ t)) whole ∙ ap (λ (ts : List Token). Open ∷ ts) (point-tokens p (ijk_before d) h ∙ rw (ijk-tokens d g) refl)
 
 touch_back : (p : Point) (d : Direction) → IsOnWire p → IsDirection d → IsPlace (written_tokens (PtMeas p (Some d))) p (Some d)
 touch_back p d h g = record {
   arguments = Single (codes "X") (written p.x) ∷ Single (codes "Y") (written p.y) ∷ Single (codes "Z") (written p.z) ∷ Triple (codes "IJK") (written_component d.i) (written_component d.j) (written_component d.k) ∷ [];
   spelled = touch-tokens p d h g;
   target = record { x = record { numeral = written p.x; found = refl; reads = reads_back p.x h.x }; y = record { numeral = written p.y; found = refl; reads = reads_back p.y h.y }; z = record { numeral = written p.z; found = refl; reads = reads_back p.z h.z } };
-  approach = (refl, record { words = (written_component d.i, written_component d.j, written_component d.k); found = refl; reads = direction_reads_back d g });
+  ijk = (refl, record { words = (written_component d.i, written_component d.j, written_component d.k); found = refl; reads = direction_reads_back d g });
 }
 
 -- a touch without a direction is written as a move
 plain_touch : (p : Point) → written_tokens (PtMeas p None) ≡ written_tokens (GoTo p)
 plain_touch p = ap (λ (t : List ℕ). tokens (40 ∷ (t ++ codes ")"))) (append-nil (written_point p))
 
-place_back : (p : Point) (d : Option Direction) → IsOnWire p → IsApproach d → IsPlace (written_tokens (PtMeas p d)) p d
+place_back : (p : Point) (d : Option Direction) → IsOnWire p → IsIjk d → IsPlace (written_tokens (PtMeas p d)) p d
 place_back p None h g = subst (λ (ts : List Token). IsPlace ts p None) (sym (plain_touch p)) (move_back p h)
 place_back p (Some d) h g = touch_back p d h g
 

@@ -7,7 +7,7 @@ use Rattle.dme_line.specs.Words.{IsWireText, quoted}
 use Rattle.dme_line.specs.Tags.{written_tag}
 use Rattle.dme_line.specs.Kinds.{kind_of, kind_name, csy_name}
 use Rattle.dme_line.specs.Points.{written_point, IsOnWire}
-use Rattle.dme_line.specs.Written.{written_approach, written_transformation, written_arguments, written_command, IsApproach, HasArguments, IsWritable}
+use Rattle.dme_line.specs.Written.{written_ijk, written_transformation, written_arguments, written_command, IsIjk, HasArguments, IsWritable}
 use Rattle.dme_line.specs.declared.tags.Tag.{Tag}
 use Rattle.dme_line.specs.declared.commands.Csy.{Csy}
 use Rattle.dme_line.specs.declared.commands.Csy.TheVariants.{MachineCsy, PartCsy}
@@ -47,9 +47,9 @@ direction-wire d h =
     let j_all = wire_append 2 32 34 (codes ", ") (written_component d.j ++ (codes ", " ++ written_component d.k)) comma j_text (omega arith) in
     wire_append 15 34 49 (written_component d.i) (codes ", " ++ (written_component d.j ++ (codes ", " ++ written_component d.k))) i j_all (omega arith)
 
-approach-wire : (d : Option Direction) → IsApproach d → IsWireText 56 (written_approach d)
-approach-wire None h = record { free = refl; short = omega arith }
-approach-wire (Some d) h =
+ijk-wire : (d : Option Direction) → IsIjk d → IsWireText 56 (written_ijk d)
+ijk-wire None h = record { free = refl; short = omega arith }
+ijk-wire (Some d) h =
     let whole = wire_append 49 1 50 (written_direction d (codes ", ")) (codes ")") (direction-wire d h) (record { free = refl; short = omega arith }) (omega arith) in
     wire_append 6 50 56 (codes ", IJK(") (written_direction d (codes ", ") ++ codes ")") (record { free = refl; short = omega arith }) whole (omega arith)
 
@@ -77,7 +77,7 @@ arguments-wire ClearAllErrors h = record { free = refl; short = omega arith }
 arguments-wire Home h = record { free = refl; short = omega arith }
 arguments-wire OnPtMeasReport h = record { free = refl; short = omega arith }
 arguments-wire (GoTo p) h = wire_weaker 49 105 (written_point p) (omega arith) (point-wire p h)
-arguments-wire (PtMeas p d) h = wire_append 49 56 105 (written_point p) (written_approach d) (point-wire p h.0) (approach-wire d h.1) (omega arith)
+arguments-wire (PtMeas p d) h = wire_append 49 56 105 (written_point p) (written_ijk d) (point-wire p h.0) (ijk-wire d h.1) (omega arith)
 arguments-wire (ChangeTool n) h = wire_weaker 66 105 (quoted n) (omega arith) (name-word n h).wire
 arguments-wire (SetCsyTransformation p) h = wire_weaker 58 105 (written_transformation p) (omega arith) (transformation-wire p (volume_on_wire p h))
 arguments-wire (SetCoordSystem s) h = system-wire s

@@ -62,7 +62,7 @@ one_saying kind.OnPtMeasReport ts c d f g = f.1 ∙ sym g.1
 one_saying kind.GoTo ts c d f g = f.2 ∙ ap (λ (p : Point). GoTo p) (one_place ts f.0 g.0 None None f.1 g.1).target ∙ sym g.2
 one_saying kind.PtMeas ts c d f g =
     let same = one_place ts f.0 g.0 f.1 g.1 f.2 g.2 in
-    f.3 ∙ (λ n. PtMeas (same.target n) (same.approach n)) ∙ sym g.3
+    f.3 ∙ (λ n. PtMeas (same.target n) (same.ijk n)) ∙ sym g.3
 one_saying kind.ChangeTool ts c d f g = f.2 ∙ ap (λ (n : List ℕ). ChangeTool n) (one_tool ts f.0 g.0 f.1 g.1) ∙ sym g.2
 one_saying kind.SetCsyTransformation ts c d f g = f.2 ∙ ap (λ (p : Point). SetCsyTransformation p) (one_transformation ts f.0 g.0 f.1 g.1) ∙ sym g.2
 one_saying kind.SetCoordSystem ts c d f g = f.2 ∙ ap (λ (s : Csy). SetCoordSystem s) (one_system ts f.0 g.0 f.1 g.1) ∙ sym g.2

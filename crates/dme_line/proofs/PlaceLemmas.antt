@@ -7,7 +7,7 @@ use Rattle.fixed_um.specs.Shapes.{Direction}
 use Rattle.fixed_um.specs.declared.lengths.Point.{Point}
 use Rattle.fixed_um.specs.declared.numerals.NumeralFault.{NumeralFault}
 use Rattle.fixed_um.proofs.ReadLemmas.{one_reading}
-use Rattle.dme_line.specs.Arguments.{Argument, single_named, triple_named, IsAxis, IsAlong, IsTarget, HasApproach, IsPlace, list_tokens, enclosed}
+use Rattle.dme_line.specs.Arguments.{Argument, single_named, triple_named, IsAxis, IsAlong, IsTarget, HasIjk, IsPlace, list_tokens, enclosed}
 use Rattle.dme_line.proofs.ArgumentLemmas.{same_arguments}
 use Rattle.dme_line.specs.Tokens.{Token}
 
@@ -75,32 +75,32 @@ one_target args p q f g = same_point p q (one_axis (codes "X") args p.x q.x f.x 
 pub place_target : (ts : List Token) (args : List Argument) (p : Point) (d : Option Direction) → ts ≡ enclosed (list_tokens args) → IsPlace ts p d → IsTarget args p
 place_target ts args p d e h = subst (λ (x : List Argument). IsTarget x p) (same_arguments h.arguments args (sym h.spelled ∙ e)) h.target
 
-pub place_approach : (ts : List Token) (args : List Argument) (p : Point) (d : Option Direction) → ts ≡ enclosed (list_tokens args) → IsPlace ts p d → HasApproach args d
-place_approach ts args p d e h = subst (λ (x : List Argument). HasApproach x d) (same_arguments h.arguments args (sym h.spelled ∙ e)) h.approach
+pub place_ijk : (ts : List Token) (args : List Argument) (p : Point) (d : Option Direction) → ts ≡ enclosed (list_tokens args) → IsPlace ts p d → HasIjk args d
+place_ijk ts args p d e h = subst (λ (x : List Argument). HasIjk x d) (same_arguments h.arguments args (sym h.spelled ∙ e)) h.ijk
 
 pub no_target : (ts : List Token) (args : List Argument) → ts ≡ enclosed (list_tokens args) → ((p : Point) → IsTarget args p → ⊥) → (p : Point) (d : Option Direction) → IsPlace ts p d → ⊥
 no_target ts args e none p d h = none p (place_target ts args p d e h)
 
 pub no_along : (ts : List Token) (args : List Argument) → ts ≡ enclosed (list_tokens args) → length args ≡ 4 → ((d : Direction) → IsAlong args d → ⊥) → (p : Point) (d : Option Direction) → IsPlace ts p d → ⊥
-no_along ts args e long none p None h = absurd (omega (arith, long, place_approach ts args p None e h))
-no_along ts args e long none p (Some d) h = none d (place_approach ts args p (Some d) e h).1
+no_along ts args e long none p None h = absurd (omega (arith, long, place_ijk ts args p None e h))
+no_along ts args e long none p (Some d) h = none d (place_ijk ts args p (Some d) e h).1
 
 -- a place has one direction or none
-same_approach : (args : List Argument) (d e : Option Direction) → HasApproach args d → HasApproach args e → d ≡ e
-same_approach args None None f g = refl
-same_approach args None (Some e) f g = absurd (omega (arith, f, g.0))
-same_approach args (Some d) None f g = absurd (omega (arith, f.0, g))
-same_approach args (Some d) (Some e) f g = ap (λ (x : Direction). Some x) (one_along args d e f.1 g.1)
+same_ijk : (args : List Argument) (d e : Option Direction) → HasIjk args d → HasIjk args e → d ≡ e
+same_ijk args None None f g = refl
+same_ijk args None (Some e) f g = absurd (omega (arith, f, g.0))
+same_ijk args (Some d) None f g = absurd (omega (arith, f.0, g))
+same_ijk args (Some d) (Some e) f g = ap (λ (x : Direction). Some x) (one_along args d e f.1 g.1)
 
 -- tokens say one place
 pub record SamePlace (p q : Point) (d e : Option Direction) : Type 0 where
   pub target : p ≡ q
-  pub approach : d ≡ e
+  pub ijk : d ≡ e
 
 pub one_place : (ts : List Token) (p q : Point) (d e : Option Direction) → IsPlace ts p d → IsPlace ts q e → SamePlace p q d e
 one_place ts p q d e f g =
-    record { target = one_target g.arguments p q (place_target ts g.arguments p d g.spelled f) g.target; approach = same_approach g.arguments d e (place_approach ts g.arguments p d g.spelled f) g.approach }
+    record { target = one_target g.arguments p q (place_target ts g.arguments p d g.spelled f) g.target; ijk = same_ijk g.arguments d e (place_ijk ts g.arguments p d g.spelled f) g.ijk }
 
 -- a place with a direction is no place without one
 pub no_move : (ts : List Token) (p : Point) (d : Option Direction) → IsPlace ts p d → (d ≡ None → ⊥) → (q : Point) → IsPlace ts q None → ⊥
-no_move ts p d f some q g = some (one_place ts p q d None f g).approach
+no_move ts p d f some q g = some (one_place ts p q d None f g).ijk

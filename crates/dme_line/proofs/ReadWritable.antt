@@ -8,8 +8,8 @@ use Rattle.fixed_um.proofs.NameLemmas.{name-from_folded}
 use Rattle.dme_line.specs.Tokens.{Token, tokens}
 use Rattle.dme_line.specs.Kinds.{kind_of, IsTagOf}
 use Rattle.dme_line.specs.Points.{IsOnWire}
-use Rattle.dme_line.specs.Arguments.{Argument, IsTarget, HasApproach, IsToolWord, IsTransformation, Says}
-use Rattle.dme_line.specs.Written.{IsApproach, HasArguments, IsWritable}
+use Rattle.dme_line.specs.Arguments.{Argument, IsTarget, HasIjk, IsToolWord, IsTransformation, Says}
+use Rattle.dme_line.specs.Written.{IsIjk, HasArguments, IsWritable}
 use Rattle.dme_line.specs.CommandText.{IsCommandText}
 use Rattle.dme_line.specs.declared.tags.Tag.{Tag}
 use Rattle.dme_line.specs.declared.commands.Kind.{Kind}
@@ -24,9 +24,9 @@ record IsSaid (k : Kind) (c : Command) : Type 0 where
 target_on_wire : (args : List Argument) (p : Point) → IsTarget args p → IsOnWire p
 target_on_wire args p h = record { x = h.x.reads.1; y = h.y.reads.1; z = h.z.reads.1 }
 
-approach_is : (args : List Argument) (d : Option Direction) → HasApproach args d → IsApproach d
-approach_is args None h = tt
-approach_is args (Some d) h = h.1.reads.3
+ijk_is : (args : List Argument) (d : Option Direction) → HasIjk args d → IsIjk d
+ijk_is args None h = tt
+ijk_is args (Some d) h = h.1.reads.3
 
 tool_name : (word name : List ℕ) → IsToolWord word name → IsName name
 tool_name word name h = subst (λ (n : List ℕ). IsName n) (sym h.is_folded) (name-from_folded h.bare h.named)
@@ -41,7 +41,7 @@ said kind.ClearAllErrors ts c h = subst (λ (d : Command). IsSaid kind.ClearAllE
 said kind.Home ts c h = subst (λ (d : Command). IsSaid kind.Home d) (sym h.1) (record { same = refl; arguments = tt })
 said kind.OnPtMeasReport ts c h = subst (λ (d : Command). IsSaid kind.OnPtMeasReport d) (sym h.1) (record { same = refl; arguments = tt })
 said kind.GoTo ts c h = subst (λ (d : Command). IsSaid kind.GoTo d) (sym h.2) (record { same = refl; arguments = target_on_wire h.1.arguments h.0 h.1.target })
-said kind.PtMeas ts c h = subst (λ (d : Command). IsSaid kind.PtMeas d) (sym h.3) (record { same = refl; arguments = (target_on_wire h.2.arguments h.0 h.2.target, approach_is h.2.arguments h.1 h.2.approach) })
+said kind.PtMeas ts c h = subst (λ (d : Command). IsSaid kind.PtMeas d) (sym h.3) (record { same = refl; arguments = (target_on_wire h.2.arguments h.0 h.2.target, ijk_is h.2.arguments h.1 h.2.ijk) })
 said kind.ChangeTool ts c h = subst (λ (d : Command). IsSaid kind.ChangeTool d) (sym h.2) (record { same = refl; arguments = tool_name h.1.word h.0 h.1.reads })
 said kind.SetCsyTransformation ts c h = subst (λ (d : Command). IsSaid kind.SetCsyTransformation d) (sym h.2) (record { same = refl; arguments = transformation_in_volume ts h.0 h.1 })
 said kind.SetCoordSystem ts c h = subst (λ (d : Command). IsSaid kind.SetCoordSystem d) (sym h.2) (record { same = refl; arguments = tt })

@@ -66,9 +66,9 @@ pub record IsAlong (arguments : List Argument) (d : Direction) : Type 0 where
   pub reads : ReadsDirection words.0 words.1 words.2 (Ok (Some d))
 
 -- beside the axes nothing, or a direction
-abbrev pub HasApproach : List Argument → Option Direction → Type 0
-HasApproach arguments None = length arguments ≡ 3
-HasApproach arguments (Some d) = (length arguments ≡ 4) × IsAlong arguments d
+abbrev pub HasIjk : List Argument → Option Direction → Type 0
+HasIjk arguments None = length arguments ≡ 3
+HasIjk arguments (Some d) = (length arguments ≡ 4) × IsAlong arguments d
 
 -- the three axes
 pub record IsTarget (arguments : List Argument) (p : Point) : Type 0 where
@@ -81,7 +81,7 @@ pub record IsPlace (ts : List Token) (p : Point) (d : Option Direction) : Type 0
   pub arguments : List Argument
   pub spelled : ts ≡ enclosed (list_tokens arguments)
   pub target : IsTarget arguments p
-  pub approach : HasApproach arguments d
+  pub ijk : HasIjk arguments d
 
 -- X(), Y(), Z() in this order
 pub record IsReport (ts : List Token) : Type 0 where

@@ -14,9 +14,9 @@ use Rattle.dme_line.specs.Words.{quoted}
 use Rattle.dme_line.specs.Points.{written_point, IsOnWire}
 
 -- the direction of a touch, where one is given
-abbrev pub written_approach : Option Direction → List ℕ
-written_approach None = []
-written_approach (Some d) = codes ", IJK(" ++ (written_direction d (codes ", ") ++ codes ")")
+abbrev pub written_ijk : Option Direction → List ℕ
+written_ijk None = []
+written_ijk (Some d) = codes ", IJK(" ++ (written_direction d (codes ", ") ++ codes ")")
 
 -- the machine's zero point in part coordinates, with no rotation
 abbrev pub written_transformation : Point → List ℕ
@@ -30,7 +30,7 @@ written_arguments ClearAllErrors = []
 written_arguments Home = []
 written_arguments OnPtMeasReport = codes "X(), Y(), Z()"
 written_arguments (GoTo p) = written_point p
-written_arguments (PtMeas p d) = written_point p ++ written_approach d
+written_arguments (PtMeas p d) = written_point p ++ written_ijk d
 written_arguments (ChangeTool n) = quoted n
 written_arguments (SetCsyTransformation p) = written_transformation p
 written_arguments (SetCoordSystem s) = csy_name s
@@ -46,14 +46,14 @@ HasVolumeLengths (SetCsyTransformation p) = IsInVolume p
 HasVolumeLengths _ = Unit {0}
 
 -- a direction, where one is given
-abbrev pub IsApproach : Option Direction → Type 0
-IsApproach None = Unit {0}
-IsApproach (Some d) = IsDirection d
+abbrev pub IsIjk : Option Direction → Type 0
+IsIjk None = Unit {0}
+IsIjk (Some d) = IsDirection d
 
 -- arguments that can be written: coordinates within the wire limit, lengths of a transformation within the volume limit, directions, names
 abbrev pub HasArguments : Command → Type 0
 HasArguments (GoTo p) = IsOnWire p
-HasArguments (PtMeas p d) = IsOnWire p × IsApproach d
+HasArguments (PtMeas p d) = IsOnWire p × IsIjk d
 HasArguments (ChangeTool n) = IsName n
 HasArguments (SetCsyTransformation p) = IsInVolume p
 HasArguments _ = Unit {0}

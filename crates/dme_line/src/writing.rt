@@ -2,7 +2,7 @@
 
 ghost use Rattle.std.specs.Prelude.{◌≡◌, ◌≤◌, ◌+◌, ◌++◌, ◌∷◌, [], length, vec_len, vec_capacity, OnOk, OnErr};
 ghost use Rattle.dme_line.specs.Kinds.{kind_of, IsTagOf};
-ghost use Rattle.dme_line.specs.Written.{written_approach, written_transformation, written_arguments, written_command, HasVolumeLengths, HasArguments, IsApproach, IsWritable};
+ghost use Rattle.dme_line.specs.Written.{written_ijk, written_transformation, written_arguments, written_command, HasVolumeLengths, HasArguments, IsIjk, IsWritable};
 
 use crate::appending::{append_quoted_reserved, append_reserved};
 use crate::commands::Command;
@@ -15,12 +15,12 @@ use std::alloc::AllocError;
 /// The most bytes that a written command line has.
 pub const COMMAND_MAX: usize = 200;
 
-fn write_approach_reserved(out: &mut Vec<u8>, direction: Option<Dir>)
+fn write_ijk_reserved(out: &mut Vec<u8>, direction: Option<Dir>)
     requires { vec_len out.old + 56 ≤ vec_capacity out.old }
-    ensures text { out.new.items ≡ out.old.items ++ written_approach direction }
+    ensures text { out.new.items ≡ out.old.items ++ written_ijk direction }
     ensures len { vec_len out.new ≤ vec_len out.old + 56 }
     ensures capacity { vec_capacity out.old ≤ vec_capacity out.new }
-    ensures approach { IsApproach direction }
+    ensures ijk { IsIjk direction }
 {
     if let Some(direction) = direction {
         append_reserved(out, b", IJK(");
@@ -57,7 +57,7 @@ fn write_arguments_reserved(out: &mut Vec<u8>, command: &Command)
         Command::GoTo(target) => write_point_reserved(out, *target),
         Command::PtMeas(target, direction) => {
             write_point_reserved(out, *target);
-            write_approach_reserved(out, *direction);
+            write_ijk_reserved(out, *direction);
         }
         Command::ChangeTool(tool) => append_quoted_reserved(out, tool.as_bytes()),
         Command::SetCsyTransformation(lengths) => write_transformation_reserved(out, *lengths),

@@ -8,7 +8,7 @@ use Rattle.dme_line.specs.declared.tags.Tag.TheVariants.{Std, Event}
 use Rattle.dme_line.specs.declared.commands.Kind.{Kind}
 use Rattle.dme_line.specs.declared.commands.Kind.TheVariants as kind
 use Rattle.protocol_model.specs.Replies.{Mark, tag_is}
-use Rattle.protocol_model.specs.Open.{Verdict, Becomes, Breaks, Closes, Counts, Refused, Effect, Heard, asks_data, is_failed, heard_in, judged, judged_ack, judged_data, judged_done, judged_error, put_before, settled}
+use Rattle.protocol_model.specs.Open.{Verdict, Becomes, Breaks, Closes, Counts, Refused, Effect, Heard, asks_data, is_failed, heard_in, judged, judged_ack, judged_given, judged_done, judged_error, put_before, settled}
 use Rattle.protocol_model.specs.Ends.{held_kind}
 use Rattle.protocol_model.specs.declared.held.Held.{Held}
 use Rattle.protocol_model.specs.declared.held.Stage.{Stage}
@@ -140,14 +140,14 @@ touch_only kind.SetCoordSystem e = absurd (false≢true e)
 touch_only kind.AbortE e = absurd (false≢true e)
 
 -- what a touch at the front, and what any other command is told of a point
-data_none : (d : Bool) (s : Stage) (p : Point) → refusal_of (judged_data d s p) ≡ None → (d ≡ true) × (s ≡ Stage.Received)
+data_none : (d : Bool) (s : Stage) (p : Point) → refusal_of (judged_given d s p) ≡ None → (d ≡ true) × (s ≡ Stage.Received)
 data_none true Stage.Sent p e = absurd (cc)
 data_none true Stage.Received p e = (refl, refl)
 data_none true (Stage.Given q) p e = absurd (cc)
 data_none true Stage.Failed p e = absurd (cc)
 data_none false s p e = absurd (cc)
 
-data_second : (d : Bool) (s : Stage) (p : Point) → refusal_of (judged_data d s p) ≡ Some cause.SecondData → (d ≡ true) × ((q : Point) × (s ≡ Stage.Given q))
+data_second : (d : Bool) (s : Stage) (p : Point) → refusal_of (judged_given d s p) ≡ Some cause.SecondData → (d ≡ true) × ((q : Point) × (s ≡ Stage.Given q))
 data_second true Stage.Sent p e = absurd (cc)
 data_second true Stage.Received p e = absurd (cc)
 data_second true (Stage.Given q) p e = (refl, (q, refl))
@@ -250,9 +250,9 @@ unknown_judged front k s Mark.Ack e = go s e
     go Stage.Received e = cc
     go (Stage.Given q) e = cc
     go Stage.Failed e = cc
-unknown_judged front k s (Mark.Data p) e = go (front && asks_data k) s e
+unknown_judged front k s (Mark.Given p) e = go (front && asks_data k) s e
   where
-    go : (b : Bool) (s : Stage) → refusal_of (judged_data b s p) ≡ Some cause.UnknownTag → ⊥
+    go : (b : Bool) (s : Stage) → refusal_of (judged_given b s p) ≡ Some cause.UnknownTag → ⊥
     go true Stage.Sent e = cc
     go true Stage.Received e = cc
     go true (Stage.Given q) e = cc
@@ -290,40 +290,40 @@ unknown_kind o t m = compose (unknown_due (standing t o) (is_next t o) m)
     (λ e. kind_under_is t o ∙ ap kind_part e, λ e. nothing_stands (standing t o) (sym (kind_under_is t o) ∙ e))
 
 -- points
-awaits_due : (s : Standing) (b : Bool) (p : Point) → (refusal_under s b (Mark.Data p) ≡ None) ↔ ((s ≡ OfTouch Stage.Received) × (b ≡ true))
+awaits_due : (s : Standing) (b : Bool) (p : Point) → (refusal_under s b (Mark.Given p) ≡ None) ↔ ((s ≡ OfTouch Stage.Received) × (b ≡ true))
 awaits_due None b p = (λ e. absurd (cc), λ e. absurd (go e.0))
   where
     go : ◌≡◌ {A = Standing} None (OfTouch Stage.Received) → ⊥
     go e = cc
 awaits_due (Some (k, s)) b p = (only, all)
   where
-    only : refusal_of (judged_data (b && asks_data k) s p) ≡ None → (◌≡◌ {A = Standing} (Some (k, s)) (OfTouch Stage.Received)) × (b ≡ true)
+    only : refusal_of (judged_given (b && asks_data k) s p) ≡ None → (◌≡◌ {A = Standing} (Some (k, s)) (OfTouch Stage.Received)) × (b ≡ true)
     only e = let both = data_none (b && asks_data k) s p e in let parts = and_parts b (asks_data k) both.0 in
         (ap (λ (x : Stage). Some (k, x)) both.1 ∙ ap (λ (x : Kind). Some (x, Stage.Received)) (touch_only k parts.1), parts.0)
 
-    all : (◌≡◌ {A = Standing} (Some (k, s)) (OfTouch Stage.Received)) × (b ≡ true) → refusal_of (judged_data (b && asks_data k) s p) ≡ None
-    all e = ap (λ (x : Standing). refusal_under x b (Mark.Data p)) e.0 ∙ ap (λ (x : Bool). refusal_under (OfTouch Stage.Received) x (Mark.Data p)) e.1
+    all : (◌≡◌ {A = Standing} (Some (k, s)) (OfTouch Stage.Received)) × (b ≡ true) → refusal_of (judged_given (b && asks_data k) s p) ≡ None
+    all e = ap (λ (x : Standing). refusal_under x b (Mark.Given p)) e.0 ∙ ap (λ (x : Bool). refusal_under (OfTouch Stage.Received) x (Mark.Given p)) e.1
 
-second_due : (s : Standing) (b : Bool) (p : Point) → (refusal_under s b (Mark.Data p) ≡ Some cause.SecondData) ↔ (((q : Point) × (s ≡ OfTouch (Stage.Given q))) × (b ≡ true))
+second_due : (s : Standing) (b : Bool) (p : Point) → (refusal_under s b (Mark.Given p) ≡ Some cause.SecondData) ↔ (((q : Point) × (s ≡ OfTouch (Stage.Given q))) × (b ≡ true))
 second_due None b p = (λ e. absurd (cc), λ e. absurd (go e.0.0 e.0.1))
   where
     go : (q : Point) → ◌≡◌ {A = Standing} None (OfTouch (Stage.Given q)) → ⊥
     go q e = cc
 second_due (Some (k, s)) b p = (only, all)
   where
-    only : refusal_of (judged_data (b && asks_data k) s p) ≡ Some cause.SecondData → ((q : Point) × (◌≡◌ {A = Standing} (Some (k, s)) (OfTouch (Stage.Given q)))) × (b ≡ true)
+    only : refusal_of (judged_given (b && asks_data k) s p) ≡ Some cause.SecondData → ((q : Point) × (◌≡◌ {A = Standing} (Some (k, s)) (OfTouch (Stage.Given q)))) × (b ≡ true)
     only e = let both = data_second (b && asks_data k) s p e in let parts = and_parts b (asks_data k) both.0 in
         ((both.1.0, ap (λ (x : Stage). Some (k, x)) both.1.1 ∙ ap (λ (x : Kind). Some (x, Stage.Given both.1.0)) (touch_only k parts.1)), parts.0)
 
-    all : ((q : Point) × (◌≡◌ {A = Standing} (Some (k, s)) (OfTouch (Stage.Given q)))) × (b ≡ true) → refusal_of (judged_data (b && asks_data k) s p) ≡ Some cause.SecondData
-    all e = ap (λ (x : Standing). refusal_under x b (Mark.Data p)) e.0.1 ∙ ap (λ (x : Bool). refusal_under (OfTouch (Stage.Given e.0.0)) x (Mark.Data p)) e.1
+    all : ((q : Point) × (◌≡◌ {A = Standing} (Some (k, s)) (OfTouch (Stage.Given q)))) × (b ≡ true) → refusal_of (judged_given (b && asks_data k) s p) ≡ Some cause.SecondData
+    all e = ap (λ (x : Standing). refusal_under x b (Mark.Given p)) e.0.1 ∙ ap (λ (x : Bool). refusal_under (OfTouch (Stage.Given e.0.0)) x (Mark.Given p)) e.1
 
-data_named : (s : Standing) (b : Bool) (p : Point) (why : Cause) → refusal_under s b (Mark.Data p) ≡ Some why
+data_named : (s : Standing) (b : Bool) (p : Point) (why : Cause) → refusal_under s b (Mark.Given p) ≡ Some why
     → (fault_for (Some why) ≡ fault.UnknownTag) ⊎ (fault_for (Some why) ≡ fault.OutOfOrder) ⊎ (fault_for (Some why) ≡ fault.SecondData)
 data_named None b p why e = inl (ap fault_for (sym e))
 data_named (Some (k, s)) b p why e = go (b && asks_data k) s e
   where
-    go : (d : Bool) (s : Stage) → refusal_of (judged_data d s p) ≡ Some why
+    go : (d : Bool) (s : Stage) → refusal_of (judged_given d s p) ≡ Some why
         → (fault_for (Some why) ≡ fault.UnknownTag) ⊎ (fault_for (Some why) ≡ fault.OutOfOrder) ⊎ (fault_for (Some why) ≡ fault.SecondData)
     go true Stage.Sent e = inr (inl (ap fault_for (sym e)))
     go true Stage.Received e = absurd (cc)
@@ -339,14 +339,14 @@ Agrees o t m r = Fits r (refusal_under (standing t o) (is_next t o) m)
 pub unknown_exactly : {T : Type 0} (o : Opened) (t : Tag) (m : Mark) (r : Result T TagFault) → Agrees o t m r → IsErrOf r fault.UnknownTag ↔ (kind_under t o ≡ None)
 unknown_exactly o t m r h = compose (err_exactly r _ cause.UnknownTag fault.UnknownTag refl h) (unknown_kind o t m)
 
-pub point_exactly : {T : Type 0} (o : Opened) (t : Tag) (p : Point) (r : Result T TagFault) → Agrees o t (Mark.Data p) r → IsOk r ↔ AwaitsPoint t o
+pub point_exactly : {T : Type 0} (o : Opened) (t : Tag) (p : Point) (r : Result T TagFault) → Agrees o t (Mark.Given p) r → IsOk r ↔ AwaitsPoint t o
 point_exactly o t p r h = compose (ok_exactly r _ h) (compose (awaits_due (standing t o) (is_next t o) p) (next_iff t o (standing t o ≡ OfTouch Stage.Received)))
 
-pub second_exactly : {T : Type 0} (o : Opened) (t : Tag) (p : Point) (r : Result T TagFault) → Agrees o t (Mark.Data p) r → IsErrOf r fault.SecondData ↔ HasPoint t o
+pub second_exactly : {T : Type 0} (o : Opened) (t : Tag) (p : Point) (r : Result T TagFault) → Agrees o t (Mark.Given p) r → IsErrOf r fault.SecondData ↔ HasPoint t o
 second_exactly o t p r h = compose (err_exactly r _ cause.SecondData fault.SecondData refl h)
     (compose (second_due (standing t o) (is_next t o) p) (next_iff t o ((q : Point) × (standing t o ≡ OfTouch (Stage.Given q)))))
 
-pub point_named : {T : Type 0} (o : Opened) (t : Tag) (p : Point) (r : Result T TagFault) → Agrees o t (Mark.Data p) r
+pub point_named : {T : Type 0} (o : Opened) (t : Tag) (p : Point) (r : Result T TagFault) → Agrees o t (Mark.Given p) r
     → IfErr r (λ f. (f ≡ fault.UnknownTag) ⊎ (f ≡ fault.OutOfOrder) ⊎ (f ≡ fault.SecondData))
 point_named o t p r h = named_by r _ (λ f. (f ≡ fault.UnknownTag) ⊎ (f ≡ fault.OutOfOrder) ⊎ (f ≡ fault.SecondData)) h (data_named (standing t o) (is_next t o) p)
 

@@ -7,15 +7,15 @@ use Rattle.dme_line.specs.declared.tags.Tag.{Tag}
 use Rattle.dme_line.specs.declared.tags.Tag.TheVariants.{Std, Event}
 use Rattle.dme_line.specs.declared.commands.Kind.{Kind}
 use Rattle.protocol_model.specs.Replies.{Mark, tag_is}
-use Rattle.protocol_model.specs.Open.{Verdict, Becomes, Breaks, Closes, Counts, Refused, Effect, Heard, asks_data, heard_in, is_failed, is_held, judged, judged_ack, judged_data, judged_done, judged_error}
+use Rattle.protocol_model.specs.Open.{Verdict, Becomes, Breaks, Closes, Counts, Refused, Effect, Heard, asks_data, heard_in, is_failed, is_held, judged, judged_ack, judged_given, judged_done, judged_error}
 use Rattle.protocol_model.specs.Client.{held_now, next_number}
 use Rattle.protocol_model.specs.Language.{Placed, marks_of, IsRepliesFront, AreAtFront, Goes, Accepts}
 use Rattle.protocol_model.specs.declared.held.Held.{Held}
 use Rattle.protocol_model.specs.declared.held.Stage.{Stage}
-use Rattle.protocol_model.proofs.Basics.{if_true, if_false, tag_is-refl, tag_is-true}
-use Rattle.protocol_model.proofs.Drawing.{drawn}
-use Rattle.protocol_model.proofs.Speaking.{accepts_only}
-use Rattle.protocol_model.proofs.Walks.{heard_cases, staged, two}
+use Rattle.protocol_model.proofs.table.Basics.{if_true, if_false, tag_is-refl, tag_is-true}
+use Rattle.protocol_model.proofs.table.Drawing.{drawn}
+use Rattle.protocol_model.proofs.table.Speaking.{accepts_only}
+use Rattle.protocol_model.proofs.table.Walks.{heard_cases, staged, two}
 use Rattle.dme_tags.specs.Calls.{Call, Draw, Received, Data, Failed, Complete, BeginPlan, behind_answer, behind_draw, answered, placed, taken_under, until_end}
 use Rattle.dme_tags.specs.Opened.{Opened, Answer, heard, heard_standard, heard_event, failed_behind, is_next, next_tag, tagged, with_drawn}
 use Rattle.dme_tags.specs.Places.{ahead_of, all_failed}
@@ -196,7 +196,7 @@ further_ack Stage.Received = tt
 further_ack (Stage.Given p) = tt
 further_ack Stage.Failed = tt
 
-further_data : (b : Bool) (s : Stage) (p : Point) → Goes_further (judged_data b s p)
+further_data : (b : Bool) (s : Stage) (p : Point) → Goes_further (judged_given b s p)
 further_data true Stage.Sent p = tt
 further_data true Stage.Received p = tt
 further_data true (Stage.Given q) p = tt
@@ -227,7 +227,7 @@ goes_to_end k st (Refused why) stays = stays
 accepted : (k : Kind) (st : Standing) (s : Stage) (front : Bool) (m : Mark) (later : List Placed) → ((r : Stage) → st ≡ Some (k, r) → Accepts k r later)
     → Stays (judged front k s m) k st → Accepts k s ((front, m) ∷ until_end m later)
 accepted k st s front Mark.Ack later ih stays = goes_further k st later (judged_ack s) ih (further_ack s) stays
-accepted k st s front (Mark.Data p) later ih stays = goes_further k st later (judged_data (front && asks_data k) s p) ih (further_data (front && asks_data k) s p) stays
+accepted k st s front (Mark.Given p) later ih stays = goes_further k st later (judged_given (front && asks_data k) s p) ih (further_data (front && asks_data k) s p) stays
 accepted k st s front Mark.Error later ih stays = goes_further k st later (judged_error s) ih (further_error s) stays
 accepted k st s front Mark.Done later ih stays = goes_to_end k st (judged_done front (asks_data k) s) stays
 
@@ -257,7 +257,7 @@ follows : (k : Kind) (s : Stage) (t : Tag) (o : Opened) (calls : List Call) → 
 follows k s t o [] e = tt
 follows k s t o (Draw kind ∷ calls) e = follows k s t (behind_draw o kind (next_tag o kind)) calls (drawn_keeps o t kind (k, s) (next_tag o kind) e)
 follows k s t o (Received u ∷ calls) e = marked k s t u Mark.Ack o (λ p. taken_under t p calls) (λ r p f. follows k r t p calls f) e
-follows k s t o (Data u point ∷ calls) e = marked k s t u (Mark.Data point) o (λ p. taken_under t p calls) (λ r p f. follows k r t p calls f) e
+follows k s t o (Data u point ∷ calls) e = marked k s t u (Mark.Given point) o (λ p. taken_under t p calls) (λ r p f. follows k r t p calls f) e
 follows k s t o (Failed u ∷ calls) e = marked k s t u Mark.Error o (λ p. taken_under t p calls) (λ r p f. follows k r t p calls f) e
 follows k s t o (Complete u ∷ calls) e = marked k s t u Mark.Done o (λ p. taken_under t p calls) (λ r p f. follows k r t p calls f) e
 follows k s t o (BeginPlan ∷ calls) e = follows k s t (record o { failed = false }) calls (plan_keeps o t ∙ e)

@@ -9,7 +9,7 @@ use Rattle.dme_line.specs.declared.commands.Kind.{Kind}
 use Rattle.protocol_model.specs.Open.{is_held}
 use Rattle.protocol_model.specs.Client.{first_free, next_number, or_else}
 use Rattle.protocol_model.specs.declared.held.Held.{Held}
-use Rattle.protocol_model.proofs.Drawing.{IsFound, found, none_free}
+use Rattle.protocol_model.proofs.table.Drawing.{IsFound, found, none_free}
 use Rattle.dme_tags.specs.Opened.{Opened, tagged, next_tag, IsBetween, ArePassedOver, IsSpentFor}
 use Rattle.dme_tags.specs.declared.faults.TagFault.{TagFault}
 use Rattle.dme_tags.specs.declared.faults.TagFault.TheVariants as fault

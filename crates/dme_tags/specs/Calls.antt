@@ -30,7 +30,7 @@ behind_answer o (Err cause) = o
 abbrev pub behind_call : Opened → Call → Opened
 behind_call o (Draw kind) = behind_draw o kind (next_tag o kind)
 behind_call o (Received t) = behind_answer o (heard o t Mark.Ack)
-behind_call o (Data t point) = behind_answer o (heard o t (Mark.Data point))
+behind_call o (Data t point) = behind_answer o (heard o t (Mark.Given point))
 behind_call o (Failed t) = behind_answer o (heard o t Mark.Error)
 behind_call o (Complete t) = behind_answer o (heard o t Mark.Done)
 behind_call o BeginPlan = record o { failed = false }
@@ -43,7 +43,7 @@ behind_calls o (call ∷ calls) = behind_calls (behind_call o call) calls
 -- the marks behind one that was taken in: `%` is the last
 abbrev pub until_end : Mark → List Placed → List Placed
 until_end Mark.Ack later = later
-until_end (Mark.Data point) later = later
+until_end (Mark.Given point) later = later
 until_end Mark.Error later = later
 until_end Mark.Done later = []
 
@@ -60,7 +60,7 @@ placed t o u m later = if tag_is u t then answered (is_next t o) m (heard o u m)
 abbrev pub placed_by : Tag → Opened → Call → List Placed → List Placed
 placed_by t o (Draw kind) later = later
 placed_by t o (Received u) later = placed t o u Mark.Ack later
-placed_by t o (Data u point) later = placed t o u (Mark.Data point) later
+placed_by t o (Data u point) later = placed t o u (Mark.Given point) later
 placed_by t o (Failed u) later = placed t o u Mark.Error later
 placed_by t o (Complete u) later = placed t o u Mark.Done later
 placed_by t o BeginPlan later = later

@@ -58,9 +58,9 @@ fn acknowledged(held: Held) -> Result<Held, TagFault>
 /// What a command becomes under whose tag a point is read.
 fn given(held: Held, front: bool, point: Point) -> Result<Held, TagFault>
     ensures ok { IfOk result (λ h. (hs : List Held)
-        → settled held hs (judged front held.kind held.stage (Mark.Data point)) ≡ Ok (h ∷ hs, Effect.Quiet)) }
+        → settled held hs (judged front held.kind held.stage (Mark.Given point)) ≡ Ok (h ∷ hs, Effect.Quiet)) }
     ensures refused { IfErr result (λ fault. (hs : List Held)
-        → IsRefused (settled held hs (judged front held.kind held.stage (Mark.Data point))) (cause_of fault)) }
+        → IsRefused (settled held hs (judged front held.kind held.stage (Mark.Given point))) (cause_of fault)) }
 {
     if !front || !asks_data(held.kind) {
         return Err(TagFault::OutOfOrder);
@@ -147,9 +147,9 @@ pub(crate) fn give(
     tag: Tag,
     point: Point,
 ) -> Result<(), TagFault>
-    ensures ok { OnOk result (heard_in front commands.old.items tag (Mark.Data point) ≡ Ok (commands.new.items, Effect.Quiet)) }
+    ensures ok { OnOk result (heard_in front commands.old.items tag (Mark.Given point) ≡ Ok (commands.new.items, Effect.Quiet)) }
     ensures refused { IfErr result (λ fault.
-        IsRefused (heard_in front commands.old.items tag (Mark.Data point)) (cause_of fault)) }
+        IsRefused (heard_in front commands.old.items tag (Mark.Given point)) (cause_of fault)) }
     ensures err { OnErr result (commands.new.items ≡ commands.old.items) }
 {
     let (index, held) = find(commands, tag)?;

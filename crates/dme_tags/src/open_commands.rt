@@ -166,8 +166,8 @@ impl Open {
         ensures second { IsErrOf result TagFault.SecondData ↔ HasPoint tag self.old }
         ensures named { IfErr result (λ fault. (fault ≡ TagFault.UnknownTag) ⊎ (fault ≡ TagFault.OutOfOrder)
             ⊎ (fault ≡ TagFault.SecondData)) }
-        ensures ok { OnOk result (heard self.old tag (Mark.Data point) ≡ Ok (self.new, Effect.Quiet)) }
-        ensures refused { IfErr result (λ fault. IsRefused (heard self.old tag (Mark.Data point)) (cause_of fault)) }
+        ensures ok { OnOk result (heard self.old tag (Mark.Given point) ≡ Ok (self.new, Effect.Quiet)) }
+        ensures refused { IfErr result (λ fault. IsRefused (heard self.old tag (Mark.Given point)) (cause_of fault)) }
         ensures unchanged { OnErr result (self.new ≡ self.old) }
     {
         match tag {

@@ -11,7 +11,7 @@ use Rattle.fixed_um.specs.Shapes.{Direction, IsDirection}
 use Rattle.fixed_um.specs.declared.numerals.NumeralFault.{NumeralFault}
 use Rattle.fixed_um.proofs.ComputedLemmas.{value_of-is}
 use Rattle.dmis_program.specs.Outcomes.{numeral_refused}
-use Rattle.dmis_program.specs.Positions.{length_of, component_of, approach_of, is_zero_direction}
+use Rattle.dmis_program.specs.Positions.{length_of, component_of, direction_of, is_zero_direction}
 use Rattle.dmis_program.specs.declared.faults.Refusal.{Refusal}
 use Rattle.dmis_program.specs.declared.faults.Refusal.TheVariants.{BadNumeral, ZeroVector}
 
@@ -24,10 +24,10 @@ unfolding component_of
 component_of-is text r h = ap (numeral_refused {A = ℤ}) (value_of-is 6 component_limit text r h)
 
 -- a direction as it is read: none is the zero vector
-abbrev pub approached : Result (Option Direction) NumeralFault → Result Direction Refusal
-approached (Ok (Some d)) = Ok d
-approached (Ok None) = Err ZeroVector
-approached (Err fault) = Err (BadNumeral fault)
+abbrev pub read_direction : Result (Option Direction) NumeralFault → Result Direction Refusal
+read_direction (Ok (Some d)) = Ok d
+read_direction (Ok None) = Err ZeroVector
+read_direction (Err fault) = Err (BadNumeral fault)
 
 is_false : (b : Bool) → (b ≡ true → ⊥) → b ≡ false
 is_false true h = absurd (h refl)
@@ -41,10 +41,10 @@ not_zero_is d h =
     let q = and_parts (int_eq d.j (pos 0)) (int_eq d.k (pos 0)) p.1 in
     h.not_zero ((Decides-int_eq d.i (pos 0)).0 p.0) ((Decides-int_eq d.j (pos 0)).0 q.0) ((Decides-int_eq d.k (pos 0)).0 q.1))
 
-pub approach_of-is : (i j k : List ℕ) (r : Result (Option Direction) NumeralFault) → ReadsDirection i j k r → approach_of i j k ≡ approached r
-unfolding approach_of
-approach_of-is i j k (Ok (Some d)) h = rw (component_of-is i (Ok d.i) h.0, component_of-is j (Ok d.j) h.1, component_of-is k (Ok d.k) h.2, not_zero_is d h.3) refl
-approach_of-is i j k (Ok None) h = rw (component_of-is i (Ok (pos 0)) h.0, component_of-is j (Ok (pos 0)) h.1, component_of-is k (Ok (pos 0)) h.2) refl
-approach_of-is i j k (Err e) (inl h) = rw (component_of-is i (Err e) h) refl
-approach_of-is i j k (Err e) (inr (inl h)) = rw (component_of-is i (Ok h.0) h.1, component_of-is j (Err e) h.2) refl
-approach_of-is i j k (Err e) (inr (inr h)) = rw (component_of-is i (Ok h.0) h.2, component_of-is j (Ok h.1) h.3, component_of-is k (Err e) h.4) refl
+pub direction_of-is : (i j k : List ℕ) (r : Result (Option Direction) NumeralFault) → ReadsDirection i j k r → direction_of i j k ≡ read_direction r
+unfolding direction_of
+direction_of-is i j k (Ok (Some d)) h = rw (component_of-is i (Ok d.i) h.0, component_of-is j (Ok d.j) h.1, component_of-is k (Ok d.k) h.2, not_zero_is d h.3) refl
+direction_of-is i j k (Ok None) h = rw (component_of-is i (Ok (pos 0)) h.0, component_of-is j (Ok (pos 0)) h.1, component_of-is k (Ok (pos 0)) h.2) refl
+direction_of-is i j k (Err e) (inl h) = rw (component_of-is i (Err e) h) refl
+direction_of-is i j k (Err e) (inr (inl h)) = rw (component_of-is i (Ok h.0) h.1, component_of-is j (Err e) h.2) refl
+direction_of-is i j k (Err e) (inr (inr h)) = rw (component_of-is i (Ok h.0) h.2, component_of-is j (Ok h.1) h.3, component_of-is k (Err e) h.4) refl

@@ -18,7 +18,7 @@ use Rattle.fixed_um.proofs.ComputedLemmas.{value_of-reads}
 use Rattle.fixed_um.specs.declared.numerals.NumeralFault.{NumeralFault}
 use Rattle.dmis_text.specs.declared.elements.Statement.{Statement}
 use Rattle.dmis_program.specs.Outcomes.{◌>>=◌, numeral_refused}
-use Rattle.dmis_program.specs.Positions.{length_of, component_of, position_of, approach_of, is_zero_direction}
+use Rattle.dmis_program.specs.Positions.{length_of, component_of, position_of, direction_of, is_zero_direction}
 use Rattle.dmis_program.specs.Parameters.{is_letters, begins, before_close, name_of, name_within, count_of, within_count, without_cart}
 use Rattle.dmis_program.specs.Sayings.{goes, begun, begins_block, touches_at, touches, without_parameters, selected, selects, recalled, recalls_frame, recalls, units, mode, said_by, is_badly_formed, said_of}
 use Rattle.dmis_program.specs.Sound.{SaidBy}
@@ -63,9 +63,9 @@ some_component d h p q r =
     let zero : is_zero_direction d ≡ true = and_from _ _ ((Decides-int_eq d.i (pos 0)).1 p) (and_from _ _ ((Decides-int_eq d.j (pos 0)).1 q) ((Decides-int_eq d.k (pos 0)).1 r)) in
     absurd cc
 
-approach_is : (i j k : List ℕ) → IfOk (approach_of i j k) IsDirection
-unfolding approach_of
-approach_is i j k =
+direction_is : (i j k : List ℕ) → IfOk (direction_of i j k) IsDirection
+unfolding direction_of
+direction_is i j k =
     bind_if (λ a. unsigned_abs a ≤ component_limit) IsDirection (component_of i) _ (component_within i) (λ a p.
     bind_if (λ b. unsigned_abs b ≤ component_limit) IsDirection (component_of j) _ (component_within j) (λ b q.
     bind_if (λ c. unsigned_abs c ≤ component_limit) IsDirection (component_of k) _ (component_within k) (λ c r.
@@ -123,7 +123,7 @@ touches_at_if : (params : List (List ℕ)) → IfOk (touches_at params) (SaidBy 
 touches_at_if (x ∷ (y ∷ (z ∷ []))) = bind_if IsInVolume (SaidBy word.Ptmeas) (position_of x y z) _ (position_within x y z) (λ p h. (refl, h, tt))
 touches_at_if (x ∷ (y ∷ (z ∷ (i ∷ (j ∷ (k ∷ [])))))) =
     bind_if IsInVolume (SaidBy word.Ptmeas) (position_of x y z) _ (position_within x y z) (λ p h.
-    bind_if IsDirection (SaidBy word.Ptmeas) (approach_of i j k) _ (approach_is i j k) (λ d g. (refl, h, g)))
+    bind_if IsDirection (SaidBy word.Ptmeas) (direction_of i j k) _ (direction_is i j k) (λ d g. (refl, h, g)))
 touches_at_if _ = tt
 
 when_cart : (b : Bool) (rest : List (List ℕ)) → IfOk (cond b (touches_at rest) (Err BadArguments)) (SaidBy word.Ptmeas)

@@ -155,7 +155,7 @@ touch_blocks None b touches t more e h = absurd cc
 touch_blocks (Some d) b touches t more e h = rw (length-append touches (t ∷ [])) at h
 
 sound_touch : (c : Carried) (tool : List ℕ) (b : Block) (target : Point) (direction : Option Direction) → c.number < 10000 → IsSound c → c.tool ≡ Some tool → c.open_block ≡ Some b → IsInVolume target → IfSome direction IsDirection → IsSound (touched_with (counted c) (Some tool) target direction)
-sound_touch c tool b target direction few h selected block within approach =
+sound_touch c tool b target direction few h selected block within directed =
     let t = touch_with tool c.frame target direction in
     advance c (touched_with (counted c) (Some tool) target direction) (Touch t) few h record {
       steps = refl;
@@ -163,7 +163,7 @@ sound_touch c tool b target direction few h selected block within approach =
       features = λ more. ap (λ (ws : List Wanted). c.done ++ ws) (touch_features c.open_block b c.touches t more block);
       blocks = λ more k. touch_blocks c.open_block b c.touches t more block k;
       selections = λ more k. (selected, refl, k);
-      step_is = record { target = within; direction = approach; tool = rw selected at h.tool; frame = h.frame };
+      step_is = record { target = within; direction = directed; tool = rw selected at h.tool; frame = h.frame };
       tool = h.tool;
       frame = h.frame;
       wanted = h.wanted;

@@ -1,4 +1,4 @@
--- Positions and directions of approach in a statement's parameters.
+-- Positions and directions in a statement's parameters.
 use Rattle.std.specs.Prelude.{ℕ, Bool, ◌&&◌, List, ℤ, pos, Result, Ok, Err, if◌then◌else◌}
 use Rattle.std.specs.Ordering.{int_eq}
 use Rattle.fixed_um.specs.Limits.{volume_limit, component_limit}
@@ -31,9 +31,9 @@ is_zero_direction d = int_eq d.i (pos 0) && (int_eq d.j (pos 0) && int_eq d.k (p
 abbrev pub not_zero : Direction → Result Direction Refusal
 not_zero d = if is_zero_direction d then Err ZeroVector else Ok d
 
--- the direction of approach that three numerals write
-unfoldable pub approach_of : List ℕ → List ℕ → List ℕ → Result Direction Refusal
-approach_of i j k = do
+-- the direction that three numerals write
+unfoldable pub direction_of : List ℕ → List ℕ → List ℕ → Result Direction Refusal
+direction_of i j k = do
   a ← component_of i
   b ← component_of j
   c ← component_of k

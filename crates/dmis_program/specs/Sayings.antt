@@ -5,7 +5,7 @@ use Rattle.std.specs.Str.{bytes_eq}
 use Rattle.dmis_text.specs.Statements.{has_open_text}
 use Rattle.dmis_text.specs.declared.elements.Statement.{Statement}
 use Rattle.dmis_program.specs.Outcomes.{◌>>=◌}
-use Rattle.dmis_program.specs.Positions.{position_of, approach_of}
+use Rattle.dmis_program.specs.Positions.{position_of, direction_of}
 use Rattle.dmis_program.specs.Parameters.{is_letters, begins, name_within, count_of, without_cart}
 use Rattle.dmis_program.specs.declared.faults.Refusal.{Refusal}
 use Rattle.dmis_program.specs.declared.faults.Refusal.TheVariants.{BadArguments, NotMillimetres, NoProgMode}
@@ -31,7 +31,7 @@ begins_block _ = Err BadArguments
 -- `x,y,z` and `x,y,z,i,j,k`: a touch at a target, from a direction
 abbrev pub touches_at : List (List ℕ) → Result Said Refusal
 touches_at (x ∷ (y ∷ (z ∷ []))) = position_of x y z >>= λ target. Ok (Touches target None)
-touches_at (x ∷ (y ∷ (z ∷ (i ∷ (j ∷ (k ∷ [])))))) = position_of x y z >>= λ target. (approach_of i j k >>= λ direction. Ok (Touches target (Some direction)))
+touches_at (x ∷ (y ∷ (z ∷ (i ∷ (j ∷ (k ∷ [])))))) = position_of x y z >>= λ target. (direction_of i j k >>= λ direction. Ok (Touches target (Some direction)))
 touches_at _ = Err BadArguments
 
 -- the same behind `PTMEAS/CART`

@@ -1,5 +1,5 @@
 ghost use Rattle.std.specs.Prelude.{◌≡◌, ◌∷◌, []};
-ghost use Rattle.dmis_program.specs.Positions.{length_of, position_of, approach_of};
+ghost use Rattle.dmis_program.specs.Positions.{length_of, position_of, direction_of};
 
 use crate::faults::Refusal;
 use fixed_um::{Dir, Point, Um, read_dir, read_um};
@@ -25,9 +25,9 @@ pub(crate) fn position(x: &[u8], y: &[u8], z: &[u8]) -> Result<Point, Refusal>
     Ok(Point { x, y, z })
 }
 
-/// The direction of approach that three numerals write.
-pub(crate) fn approach(i: &[u8], j: &[u8], k: &[u8]) -> Result<Dir, Refusal>
-    ensures { result ≡ approach_of i.now j.now k.now }
+/// The direction that three numerals write.
+pub(crate) fn direction(i: &[u8], j: &[u8], k: &[u8]) -> Result<Dir, Refusal>
+    ensures { result ≡ direction_of i.now j.now k.now }
 {
     match read_dir(i, j, k) {
         Ok(Some(direction)) => Ok(direction),

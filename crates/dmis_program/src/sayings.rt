@@ -5,7 +5,7 @@ ghost use Rattle.dmis_program.specs.Sayings.{goes, begins_block, touches_at, tou
 use crate::faults::{Refusal, StatementFault};
 use crate::keywords::{Keyword, is_text};
 use crate::parameters::{begins, count_of, has_word, is_letters, name_within, without_cart};
-use crate::positions::{approach, position};
+use crate::positions::{direction, position};
 use dmis_text::{Statement, Text};
 use fixed_um::{Dir, Name, Point};
 use std::alloc::Global;
@@ -66,7 +66,7 @@ fn touches_at(params: &[Text]) -> Result<Said, Refusal>
         }
         [x, y, z, i, j, k] => {
             let target = position(x.as_slice(), y.as_slice(), z.as_slice())?;
-            let direction = approach(i.as_slice(), j.as_slice(), k.as_slice())?;
+            let direction = direction(i.as_slice(), j.as_slice(), k.as_slice())?;
             Ok(Said::Touches(target, Some(direction)))
         }
         _ => Err(Refusal::BadArguments),

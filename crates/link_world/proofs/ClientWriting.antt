@@ -6,10 +6,10 @@ use Rattle.protocol_model.specs.World.{World, Link, link_of, with_link, client_l
 use Rattle.protocol_model.specs.Typed.{World as Lined}
 use Rattle.protocol_model.specs.declared.events.Event.TheVariants as event
 use Rattle.protocol_model.specs.declared.states.State.{State}
-use Rattle.protocol_model.proofs.Holding.{Inv, IsOff, IsLive, IsAtRest}
-use Rattle.protocol_model.proofs.ClientWrites.{IsDue, due_is}
-use Rattle.protocol_model.proofs.ClientResumes.{never_off}
-use Rattle.protocol_model.proofs.Carrying.{lined, IsCarried}
+use Rattle.protocol_model.proofs.invariant.Holding.{Inv, IsOff, IsLive, IsAtRest}
+use Rattle.protocol_model.proofs.events.ClientWrites.{IsDue, due_is}
+use Rattle.protocol_model.proofs.events.ClientResumes.{never_off}
+use Rattle.protocol_model.proofs.whole_run.Carrying.{lined, IsCarried}
 use Rattle.client_core.specs.Clients.{is_faulted}
 use Rattle.server_core.specs.Serving.{Serving}
 use Rattle.link_world.specs.declared.connection.Connection.{Connection}

@@ -12,13 +12,13 @@ use Rattle.protocol_model.specs.Ends.{ClientEnd, new_client_end}
 use Rattle.protocol_model.specs.World.{World, start, can, happens, after, run_of, server_link}
 use Rattle.protocol_model.specs.declared.events.Event.{Event}
 use Rattle.protocol_model.specs.declared.states.State.{State}
-use Rattle.protocol_model.proofs.Carrying.{lined, IsCarried}
-use Rattle.protocol_model.proofs.ClientEvents.{served_now, told_now, never_faulted}
-use Rattle.protocol_model.proofs.Served.{served_sound}
-use Rattle.protocol_model.proofs.Wires.{IsWhole}
-use Rattle.protocol_model.proofs.Writable.{command_lines}
-use Rattle.protocol_model.proofs.ReadersExist.{some_are_readers}
-use Rattle.protocol_model.proofs.WholeRun.{run_carried, start_carried}
+use Rattle.protocol_model.proofs.whole_run.Carrying.{lined, IsCarried}
+use Rattle.protocol_model.proofs.events.ClientEvents.{served_now, told_now, never_faulted}
+use Rattle.protocol_model.proofs.invariant.Served.{served_sound}
+use Rattle.protocol_model.proofs.whole_run.Wires.{IsWhole}
+use Rattle.protocol_model.proofs.lines.Writable.{command_lines}
+use Rattle.protocol_model.proofs.lines.ReadersExist.{some_are_readers}
+use Rattle.protocol_model.proofs.whole_run.WholeRun.{run_carried, start_carried}
 use Rattle.server_core.specs.Serving.{Serving, new_serving}
 use Rattle.link_world.specs.declared.connection.Connection.{Connection}
 use Rattle.link_world.specs.Claims.{IsSound, IsTold, DoNotDisagree}
@@ -136,7 +136,7 @@ server_reads_lines client server cs written h on why is =
 
 pub never_faulted_behind : (readers : Readers) → AreReaders readers → (l : Linked) (e : Event) → IsReached l → can e l.world ≡ true → (happens readers e l.world).client.client.state ≢ State.Faulted
 never_faulted_behind readers are l e h may =
-    let c : IsCarried (happens readers e l.world) = Rattle.protocol_model.proofs.WholeRun.happens_carried readers are e l.world (carried l h) may in
+    let c : IsCarried (happens readers e l.world) = Rattle.protocol_model.proofs.whole_run.WholeRun.happens_carried readers are e l.world (carried l h) may in
     never_faulted (lined (happens readers e l.world) c.up c.down) c.inv
 
 -- ---- before any event

@@ -6,9 +6,9 @@ use Rattle.protocol_model.specs.Ends.{ClientEnd, ServerEnd, serving_accepted, se
 use Rattle.protocol_model.specs.World.{World, no_link, start, can, happens, after, run_of}
 use Rattle.protocol_model.specs.declared.events.Event.{Event}
 use Rattle.protocol_model.specs.declared.events.Event.TheVariants as event
-use Rattle.protocol_model.proofs.Links.{link_long}
-use Rattle.protocol_model.proofs.Carrying.{IsCarried}
-use Rattle.protocol_model.proofs.WholeRun.{happens_carried, start_carried}
+use Rattle.protocol_model.proofs.whole_run.Links.{link_long}
+use Rattle.protocol_model.proofs.whole_run.Carrying.{IsCarried}
+use Rattle.protocol_model.proofs.whole_run.WholeRun.{happens_carried, start_carried}
 use Rattle.server_core.specs.Serving.{Serving, with_end, may_accept}
 use Rattle.link_world.specs.declared.connection.Connection.{Connection}
 use Rattle.link_world.specs.Links.{Linked, links_of, seen, with_world, IsReached}

@@ -261,7 +261,7 @@ is_whole b = is_empty b.tally.todo && (count_open b.event == 0)
 abbrev pub ends_abort : Option Tag → Tag → Mark → Bool
 ends_abort None t m = false
 ends_abort (Some a) t Mark.Ack = false
-ends_abort (Some a) t (Mark.Data p) = false
+ends_abort (Some a) t (Mark.Given p) = false
 ends_abort (Some a) t Mark.Done = tag_is a t
 ends_abort (Some a) t Mark.Error = tag_is a t
 

@@ -67,7 +67,7 @@ held_under (Event n) c = held_kind (Event n) c.table.event
 
 -- a data text under a held tag: it is read as a point where the command asks for one
 abbrev pub given_point : Client → Tag → Result Point NotPoint → Client
-given_point c t (Ok p) = client_read c t (Mark.Data p)
+given_point c t (Ok p) = client_read c t (Mark.Given p)
 given_point c t (Err why) = faulted Cause.NotResponse c
 
 -- a data text for a command of this kind: it has a place for a touch alone

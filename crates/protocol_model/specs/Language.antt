@@ -18,14 +18,14 @@ marks_of ((front, m) ∷ ms) = m ∷ marks_of ms
 -- the marks of a counted command: received and complete, with the data in between where it is asked for
 abbrev pub IsCounted : Bool → List Mark → Type 0
 IsCounted false ms = ms ≡ Mark.Ack ∷ Mark.Done ∷ []
-IsCounted true ms = (p : Point) × (ms ≡ Mark.Ack ∷ Mark.Data p ∷ Mark.Done ∷ [])
+IsCounted true ms = (p : Point) × (ms ≡ Mark.Ack ∷ Mark.Given p ∷ Mark.Done ∷ [])
 
 -- errors, one or more
 abbrev pub AreErrors : List Mark → Type 0
 AreErrors [] = ⊤
 AreErrors (Mark.Error ∷ ms) = AreErrors ms
 AreErrors (Mark.Ack ∷ ms) = ⊥
-AreErrors (Mark.Data p ∷ ms) = ⊥
+AreErrors (Mark.Given p ∷ ms) = ⊥
 AreErrors (Mark.Done ∷ ms) = ⊥
 
 -- the marks of a failed command: a proper front of those of a counted one, then one or more errors, then nothing or its end
@@ -51,7 +51,7 @@ pub record IsRepliesFront (asks : Bool) (ms : List Mark) : Type 0 where
 abbrev pub AreAtFront : Bool → List Placed → Type 0
 AreAtFront failed [] = ⊤
 AreAtFront failed ((front, Mark.Ack) ∷ ms) = AreAtFront failed ms
-AreAtFront failed ((front, Mark.Data p) ∷ ms) = (front ≡ true) × AreAtFront failed ms
+AreAtFront failed ((front, Mark.Given p) ∷ ms) = (front ≡ true) × AreAtFront failed ms
 AreAtFront failed ((front, Mark.Error) ∷ ms) = AreAtFront true ms
 AreAtFront false ((front, Mark.Done) ∷ ms) = (front ≡ true) × AreAtFront false ms
 AreAtFront true ((front, Mark.Done) ∷ ms) = AreAtFront true ms

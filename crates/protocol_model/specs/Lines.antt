@@ -23,10 +23,10 @@ command_text l = written_command l.tag l.command
 
 -- the line of a reply, without its end
 abbrev pub reply_text : Reply → List ℕ
-reply_text (Reply.Acks t) = written_response (record { tag = t; mark = mark.Ack })
-reply_text (Reply.Gives t p) = written_response (record { tag = t; mark = mark.Given (written_point p) })
-reply_text (Reply.Completes t) = written_response (record { tag = t; mark = mark.Done })
-reply_text (Reply.Fails t code name) = written_error t code name
+reply_text (Reply.Ack t) = written_response (record { tag = t; mark = mark.Ack })
+reply_text (Reply.Given t p) = written_response (record { tag = t; mark = mark.Given (written_point p) })
+reply_text (Reply.Done t) = written_response (record { tag = t; mark = mark.Done })
+reply_text (Reply.Error t code name) = written_error t code name
 
 -- the lines of commands, and those of replies
 abbrev pub command_texts : List Line → List (List ℕ)

@@ -47,12 +47,12 @@ judged_ack (Stage.Given p) = Refused OutOfOrder
 judged_ack Stage.Failed = Refused OutOfOrder
 
 -- the first argument: a touch at the front
-abbrev pub judged_data : Bool → Stage → Point → Verdict
-judged_data true Stage.Sent p = Refused OutOfOrder
-judged_data true Stage.Received p = Becomes (Stage.Given p)
-judged_data true (Stage.Given q) p = Refused SecondData
-judged_data true Stage.Failed p = Refused OutOfOrder
-judged_data false stage p = Refused OutOfOrder
+abbrev pub judged_given : Bool → Stage → Point → Verdict
+judged_given true Stage.Sent p = Refused OutOfOrder
+judged_given true Stage.Received p = Becomes (Stage.Given p)
+judged_given true (Stage.Given q) p = Refused SecondData
+judged_given true Stage.Failed p = Refused OutOfOrder
+judged_given false stage p = Refused OutOfOrder
 
 -- an error: the first fails the command, a further one changes nothing
 abbrev pub judged_error : Stage → Verdict
@@ -75,7 +75,7 @@ judged_done false asks (Stage.Given p) = Refused OutOfOrder
 -- the table of marks against stages
 abbrev pub judged : Bool → Kind → Stage → Mark → Verdict
 judged front kind stage Mark.Ack = judged_ack stage
-judged front kind stage (Mark.Data p) = judged_data (front && asks_data kind) stage p
+judged front kind stage (Mark.Given p) = judged_given (front && asks_data kind) stage p
 judged front kind stage Mark.Error = judged_error stage
 judged front kind stage Mark.Done = judged_done front (asks_data kind) stage
 

@@ -13,31 +13,31 @@ Reading = Result Line LineFault
 
 -- a line that a server answers: received, a point, complete, or an error with its number and the command's name where it is known
 pub data Reply : Type 0 where
-  Acks : Tag → Reply
-  Gives : Tag → Point → Reply
-  Completes : Tag → Reply
-  Fails : Tag → ℕ → Option Kind → Reply
+  Ack : Tag → Reply
+  Given : Tag → Point → Reply
+  Done : Tag → Reply
+  Error : Tag → ℕ → Option Kind → Reply
 
 -- what a client hears of a reply; the text of an error is not looked at
 pub data Mark : Type 0 where
   Ack : Mark
-  Data : Point → Mark
+  Given : Point → Mark
   Done : Mark
   Error : Mark
 
 -- the tag that a reply answers
 abbrev pub tag_of : Reply → Tag
-tag_of (Acks t) = t
-tag_of (Gives t p) = t
-tag_of (Completes t) = t
-tag_of (Fails t code kind) = t
+tag_of (Ack t) = t
+tag_of (Given t p) = t
+tag_of (Done t) = t
+tag_of (Error t code kind) = t
 
 -- the mark of a reply
 abbrev pub mark_of : Reply → Mark
-mark_of (Acks t) = Mark.Ack
-mark_of (Gives t p) = Mark.Data p
-mark_of (Completes t) = Mark.Done
-mark_of (Fails t code kind) = Mark.Error
+mark_of (Ack t) = Mark.Ack
+mark_of (Given t p) = Mark.Given p
+mark_of (Done t) = Mark.Done
+mark_of (Error t code kind) = Mark.Error
 
 -- whether two tags are one
 abbrev pub tag_is : Tag → Tag → Bool

@@ -331,7 +331,7 @@ line n c = record { tag = Std n; command = c }
 
 -- an error under a standard tag, and its end
 abbrev pub failed : ℕ → ℕ → Kind → List Reply
-failed n code kind = Reply.Fails (Std n) code (Some kind) ∷ Reply.Completes (Std n) ∷ []
+failed n code kind = Reply.Error (Std n) code (Some kind) ∷ Reply.Done (Std n) ∷ []
 
 -- ---- a server by itself
 
@@ -360,7 +360,7 @@ read_under c n (suc more) = Call.Reads (Ok (line n c)) ∷ read_under c (suc n) 
 -- commands under so many tags, from one on, are received, or fail for another's sake
 abbrev pub acks_under : ℕ → ℕ → List Reply
 acks_under n zero = []
-acks_under n (suc more) = Reply.Acks (Std n) ∷ acks_under (suc n) more
+acks_under n (suc more) = Reply.Ack (Std n) ∷ acks_under (suc n) more
 
 -- commands of one kind under so many tags, from one on, fail for the sake of another
 abbrev pub failed_under : Kind → ℕ → ℕ → List Reply

@@ -81,7 +81,7 @@ kind_in (Err (misread.BadArguments k)) = Some k
 
 -- a command fails with a number: an error, and its end
 abbrev pub fails : Tag → ℕ → Option Kind → List Reply
-fails t code name = Reply.Fails t code name ∷ Reply.Completes t ∷ []
+fails t code name = Reply.Error t code name ∷ Reply.Done t ∷ []
 
 -- each waiting command fails, in order
 abbrev pub all_fail : ℕ → List Waiting → List Reply
@@ -152,32 +152,32 @@ running_fails (Some line) = fails line.tag 9007 (Some (kind_of line.command))
 abbrev pub aborted : Server → Tag → Answer
 aborted s t =
     answers (record (in_error s) { running = None })
-    (Reply.Acks t ∷ (running_fails s.running ++ (all_fail 9007 s.waiting ++ Reply.Completes t ∷ [])))
+    (Reply.Ack t ∷ (running_fails s.running ++ (all_fail 9007 s.waiting ++ Reply.Done t ∷ [])))
 
 -- a standard command, or a faulty line on a standard tag: refused in the error state, which ClearAllErrors ends; refused where 64 wait; else queued
 abbrev pub stands : Server → Tag → Result Command Misread → Answer
 stands s t reading =
-    if s.error && not (is_clear reading) then answers s (Reply.Acks t ∷ fails t 9008 (kind_in reading))
-    else if s.error then answers (queued t reading (record s { error = false })) (Reply.Acks t ∷ [])
-    else if nat_le 64 (length s.waiting) then answers (in_error s) (Reply.Acks t ∷ (fails t 9009 (kind_in reading) ++ all_fail 9007 s.waiting))
-    else answers (queued t reading s) (Reply.Acks t ∷ [])
+    if s.error && not (is_clear reading) then answers s (Reply.Ack t ∷ fails t 9008 (kind_in reading))
+    else if s.error then answers (queued t reading (record s { error = false })) (Reply.Ack t ∷ [])
+    else if nat_le 64 (length s.waiting) then answers (in_error s) (Reply.Ack t ∷ (fails t 9009 (kind_in reading) ++ all_fail 9007 s.waiting))
+    else answers (queued t reading s) (Reply.Ack t ∷ [])
 
 -- a line under a tag that is not in use: an abort, a faulty line on an event tag, or a standard one
 abbrev pub fresh : Server → Tag → Result Command Misread → Answer
 fresh s t (Ok c) = if is_abort (Ok c) then aborted s t else stands s t (Ok c)
 fresh s t (Err why) =
-    if is_event_tag t then answers s (Reply.Acks t ∷ fails t (fault_number why) (kind_in (Err why)))
+    if is_event_tag t then answers s (Reply.Ack t ∷ fails t (fault_number why) (kind_in (Err why)))
     else stands s t (Err why)
 
 -- a line with a tag: refused where a command under it runs or waits
 abbrev pub tagged : Server → Tag → Result Command Misread → Answer
 tagged s t reading =
-    if runs_under t s.running || waits_under t s.waiting then answers s (Reply.Fails (Event 0) 9002 None ∷ [])
+    if runs_under t s.running || waits_under t s.waiting then answers s (Reply.Error (Event 0) 9002 None ∷ [])
     else fresh s t reading
 
 -- what is answered to a line that was read; a line without a tag is answered on the event tag number 0
 abbrev pub server_read : Server → Reading → Answer
-server_read s (Err fault.NoTag) = answers s (Reply.Fails (Event 0) 9001 None ∷ [])
+server_read s (Err fault.NoTag) = answers s (Reply.Error (Event 0) 9001 None ∷ [])
 server_read s (Err (fault.UnknownCommand t)) = tagged s t (Err misread.UnknownCommand)
 server_read s (Err (fault.BadArguments t k)) = tagged s t (Err (misread.BadArguments k))
 server_read s (Ok line) = tagged s line.tag (Ok line.command)
@@ -254,13 +254,13 @@ starts_running s t c = answers (record s { running = Some (record { tag = t; com
 
 -- what a command does at its turn: some are complete at once, the others run
 abbrev pub carried_out : Server → Tag → Command → Answer
-carried_out s t command.StartSession = answers (record s { session = true }) (Reply.Completes t ∷ [])
-carried_out s t command.EndSession = answers (record s { session = false }) (Reply.Completes t ∷ [])
-carried_out s t command.ClearAllErrors = answers s (Reply.Completes t ∷ [])
-carried_out s t command.OnPtMeasReport = answers s (Reply.Completes t ∷ [])
-carried_out s t (command.SetCsyTransformation p) = answers (record s { stored = point_opposite p }) (Reply.Completes t ∷ [])
+carried_out s t command.StartSession = answers (record s { session = true }) (Reply.Done t ∷ [])
+carried_out s t command.EndSession = answers (record s { session = false }) (Reply.Done t ∷ [])
+carried_out s t command.ClearAllErrors = answers s (Reply.Done t ∷ [])
+carried_out s t command.OnPtMeasReport = answers s (Reply.Done t ∷ [])
+carried_out s t (command.SetCsyTransformation p) = answers (record s { stored = point_opposite p }) (Reply.Done t ∷ [])
 carried_out s t (command.SetCoordSystem system) =
-    answers (acted (act.Framed (frame_of system s.stored)) (record s { frame = frame_of system s.stored })) (Reply.Completes t ∷ [])
+    answers (acted (act.Framed (frame_of system s.stored)) (record s { frame = frame_of system s.stored })) (Reply.Done t ∷ [])
 carried_out s t command.Home = starts_running (record s { homed = false }) t command.Home
 carried_out s t (command.ChangeTool n) = starts_running (record s { tool = None }) t (command.ChangeTool n)
 carried_out s t (command.GoTo p) = starts_running s t (command.GoTo p)
@@ -299,16 +299,16 @@ idle s = record s { running = None }
 
 -- a command other than a touch is done
 abbrev pub finished : Server → Tag → Command → Answer
-finished s t command.Home = answers (acted act.Homed (record (idle s) { homed = true })) (Reply.Completes t ∷ [])
-finished s t (command.ChangeTool n) = answers (acted (act.Changed n) (record (idle s) { tool = Some n })) (Reply.Completes t ∷ [])
-finished s t (command.GoTo p) = answers (acted (act.Moved p s.frame) (idle s)) (Reply.Completes t ∷ [])
+finished s t command.Home = answers (acted act.Homed (record (idle s) { homed = true })) (Reply.Done t ∷ [])
+finished s t (command.ChangeTool n) = answers (acted (act.Changed n) (record (idle s) { tool = Some n })) (Reply.Done t ∷ [])
+finished s t (command.GoTo p) = answers (acted (act.Moved p s.frame) (idle s)) (Reply.Done t ∷ [])
 finished s t _ = answers s []
 
 -- a touch: the reported point is the touched one as seen from the frame's zero point
 abbrev pub touched : Server → Tag → Command → Point → Option (List ℕ) → Answer
 touched s t (command.PtMeas p d) at (Some tool) =
     let point : Point = point_difference at (offset s.frame) in
-    answers (acted (act.Contact p d tool s.frame point) (idle s)) (Reply.Gives t point ∷ Reply.Completes t ∷ [])
+    answers (acted (act.Contact p d tool s.frame point) (idle s)) (Reply.Given t point ∷ Reply.Done t ∷ [])
 touched s t c at tool = answers s []
 
 -- how what runs ends: done, touched, without a surface (9014), or by a fault of the machine (9015)

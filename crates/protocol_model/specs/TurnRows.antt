@@ -39,7 +39,7 @@ asked c s = called (read_under c 8 1 ++ Call.Turns ∷ []) s
 
 -- it is received, and refused at its turn with this number
 abbrev pub refused_with : ℕ → Kind → List Reply
-refused_with number k = Reply.Acks (Std 8) ∷ failed 8 number k
+refused_with number k = Reply.Ack (Std 8) ∷ failed 8 number k
 
 -- a client with an abort besides, at this stage
 abbrev pub with_abort : Stage → Client → Client

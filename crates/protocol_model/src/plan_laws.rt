@@ -19,7 +19,7 @@ ghost use Rattle.protocol_model.specs.PlanReading.{touches_of, ends_of, feature_
 ///   none of them one of these, and EndSession;
 /// - `whole`: where no feature is completed, the commands that measure are the machine's frame and those of the program's steps, in order;
 /// - `lines`: each of its commands can be written in a line, under each standard tag from 1 to 9,999.
-#[tactic(auto, using(crate::proofs::PlanLaws::plan_touches_left, crate::proofs::PlanLaws::plan_ends_left, crate::proofs::PlanLaws::plan_makes, crate::proofs::PlanLaws::plan_as_planned, crate::proofs::PlanLaws::plan_in_order, crate::proofs::PlanLaws::plan_whole, crate::proofs::PlanLaws::plan_can_be_written))]
+#[tactic(auto, using(crate::proofs::plan::PlanLaws::plan_touches_left, crate::proofs::plan::PlanLaws::plan_ends_left, crate::proofs::plan::PlanLaws::plan_makes, crate::proofs::plan::PlanLaws::plan_as_planned, crate::proofs::plan::PlanLaws::plan_in_order, crate::proofs::plan::PlanLaws::plan_whole, crate::proofs::plan::PlanLaws::plan_can_be_written))]
 pub fn plans_measure_what_is_left()
     ensures touches { (program : Meaning) (completed : ℕ) (start : Start) → IsProgram program
         → touches_of (plan program completed start) ≡ feature_touches (drop completed program.features) }

@@ -23,7 +23,7 @@ ghost use Rattle.protocol_model.specs.declared.plans.Start.TheVariants.{SameConn
 /// - `ends`: where a feature is completed, the last step up to there is a touch;
 /// - `commands`: the plan is its opening, what is selected there, the commands of each step behind,
 ///   and the end of the session.
-#[tactic(auto, using(crate::proofs::Splitting::all_steps, crate::proofs::Splitting::front_touches, crate::proofs::Splitting::front_ends, crate::proofs::Splitting::plan_commands))]
+#[tactic(auto, using(crate::proofs::plan::Splitting::all_steps, crate::proofs::plan::Splitting::front_touches, crate::proofs::plan::Splitting::front_ends, crate::proofs::plan::Splitting::plan_commands))]
 pub fn plans_go_on_behind_the_last_touch()
     ensures parts { (completed : ℕ) (steps : List Step)
         → up_to completed steps ++ behind completed steps ≡ steps }

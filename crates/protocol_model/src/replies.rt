@@ -9,7 +9,7 @@ ghost use Rattle.protocol_model.specs.Language.{Placed, marks_of, IsRepliesFront
 /// The table of marks against stages accepts exactly the fronts of the language of replies: a counted command is received and
 /// complete, with its data in between where it asks for some; a failed one has a proper front of that, then one or more errors, then
 /// nothing or its end. Data, and the end of a command that has not failed, come at the front only.
-#[tactic(auto, using(crate::proofs::Speaking::accepts_only, crate::proofs::Speaking::accepts_all))]
+#[tactic(auto, using(crate::proofs::table::Speaking::accepts_only, crate::proofs::table::Speaking::accepts_all))]
 pub fn table_accepts_the_language()
     ensures only { (kind : Kind) (marks : List Placed) → Accepts kind Stage.Sent marks
         → IsRepliesFront (asks_data kind) (marks_of marks) × AreAtFront false marks }

@@ -169,7 +169,7 @@ pub fn broken_rows()
 pub fn aborted_rows()
     // A tool change is running.
     ensures change_answered { said_behind (play circle 1 (at_its_turn 5 ++ abort ∷ [])) (server_reads ∷ [])
-        ≡ Reply.Acks (OnEvent 1) ∷ failed 6 9007 kind.ChangeTool ++ Reply.Completes (OnEvent 1) ∷ [] }
+        ≡ Reply.Ack (OnEvent 1) ∷ failed 6 9007 kind.ChangeTool ++ Reply.Done (OnEvent 1) ∷ [] }
     ensures change_aborted { reported circle 1 (at_its_turn 5 ++ abort ∷ server_reads ∷ client_reads_all ∷ []) ≡ report State.Halted 2 [] [] }
     ensures change_resumed { reported circle 1 (at_its_turn 5 ++ abort ∷ server_reads ∷ client_reads_all ∷ resume ∷ quiet_to_the_end ∷ [])
         ≡ report State.Done 8
@@ -177,7 +177,7 @@ pub fn aborted_rows()
         (contact 0 1 (at (pos 1002) (pos 0) (pos 0)) ∷ contact 1 1 (at (pos 0) (pos 1000) (pos 4)) ∷ contact 2 1 (at (neg 1001) (pos 1) (pos 0)) ∷ []) }
     // A tool change is running, and two touches wait.
     ensures waiting_answered { said_behind (play circle 3 (change_while_two_wait ++ abort ∷ [])) (server_reads ∷ [])
-        ≡ Reply.Acks (OnEvent 1) ∷ failed 6 9007 kind.ChangeTool ++ (failed 7 9007 kind.PtMeas ++ (failed 8 9007 kind.PtMeas ++ Reply.Completes (OnEvent 1) ∷ [])) }
+        ≡ Reply.Ack (OnEvent 1) ∷ failed 6 9007 kind.ChangeTool ++ (failed 7 9007 kind.PtMeas ++ (failed 8 9007 kind.PtMeas ++ Reply.Done (OnEvent 1) ∷ [])) }
     ensures waiting_aborted { reported circle 3 (change_while_two_wait ++ abort ∷ server_reads ∷ client_reads_all ∷ []) ≡ report State.Halted 2 [] [] }
     ensures waiting_without_tool { (play circle 3 (change_while_two_wait ++ abort ∷ server_reads ∷ [])).world.server.tool ≡ None }
     ensures waiting_resumed { take 5
@@ -217,7 +217,7 @@ pub fn failed_rows()
     ensures waiting_answered { said_behind (play circle 4 touch_while_one_waits) (machine Missed ∷ [])
         ≡ failed 8 9014 kind.PtMeas ++ failed 9 9007 kind.PtMeas }
     ensures later_answered { said_behind (play circle 4 (touch_while_one_waits ++ machine Missed ∷ [])) (server_reads ∷ [])
-        ≡ Reply.Acks (Std 10) ∷ failed 10 9008 kind.EndSession }
+        ≡ Reply.Ack (Std 10) ∷ failed 10 9008 kind.EndSession }
     ensures waiting_resumed { reported circle 4
         (touch_while_one_waits ++ machine Missed ∷ server_reads ∷ client_reads_all ∷ resume ∷ quiet_to_the_end ∷ [])
         ≡ report State.Done 10
@@ -237,10 +237,10 @@ pub fn server_rows()
         (Call.Reads (Ok (line 1 command.StartSession)) ∷ Call.Turns
         ∷ Call.Reads (Ok (line 2 (command.GoTo (at (pos 0) (pos 0) (pos 0))))) ∷ Call.Turns ∷ [])
         (server_accepted 2 (server_restarted (play two_points 1 (opened ++ quiet_to_the_end ∷ [])).world.server))
-        ≡ Reply.Acks (Std 1) ∷ Reply.Completes (Std 1) ∷ Reply.Acks (Std 2) ∷ failed 2 9010 kind.GoTo }
+        ≡ Reply.Ack (Std 1) ∷ Reply.Done (Std 1) ∷ Reply.Ack (Std 2) ∷ failed 2 9010 kind.GoTo }
     ensures unknown_tool { called (Call.Reads (Ok (line 8 (command.ChangeTool (codes "P9")))) ∷ Call.Turns ∷ [])
         (play circle 1 (opened ++ quiet 6 ∷ [])).world.server
-        ≡ Reply.Acks (Std 8) ∷ failed 8 9012 kind.ChangeTool }
+        ≡ Reply.Ack (Std 8) ∷ failed 8 9012 kind.ChangeTool }
     ensures queue_full { called (read_under command.Home 1 65) (server_accepted 1 (new_server []))
         ≡ acks_under 1 65 ++ (failed 65 9009 kind.Home ++ failed_under kind.Home 1 64) }
     // The machine moves to a target in the part's frame only once that frame is selected.
@@ -249,29 +249,29 @@ pub fn server_rows()
         ∷ Call.Reads (Ok (line 9 (command.PtMeas (at (pos 30000) (pos 0) (pos 0)) None))) ∷ Call.Turns
         ∷ Call.Ends (Touched (at (pos 30002) (pos 0) (pos 0))) ∷ [])
         (play circle 1 (opened ++ quiet 6 ∷ [])).world.server
-        ≡ Reply.Acks (Std 8) ∷ Reply.Completes (Std 8)
-        ∷ Reply.Acks (Std 9) ∷ Reply.Gives (Std 9) (at (pos 30002) (pos 0) (pos 0)) ∷ Reply.Completes (Std 9) ∷ [] }
+        ≡ Reply.Ack (Std 8) ∷ Reply.Done (Std 8)
+        ∷ Reply.Ack (Std 9) ∷ Reply.Given (Std 9) (at (pos 30002) (pos 0) (pos 0)) ∷ Reply.Done (Std 9) ∷ [] }
     ensures selected_frame { called
         (Call.Reads (Ok (line 8 (command.SetCsyTransformation (at (neg 100000) (pos 0) (pos 0))))) ∷ Call.Turns
         ∷ Call.Reads (Ok (line 9 (command.SetCoordSystem PartCsy))) ∷ Call.Turns
         ∷ Call.Reads (Ok (line 10 (command.PtMeas (at (pos 30000) (pos 0) (pos 0)) None))) ∷ Call.Turns
         ∷ Call.Ends (Touched (at (pos 130002) (pos 0) (pos 0))) ∷ [])
         (play circle 1 (opened ++ quiet 6 ∷ [])).world.server
-        ≡ Reply.Acks (Std 8) ∷ Reply.Completes (Std 8) ∷ Reply.Acks (Std 9) ∷ Reply.Completes (Std 9)
-        ∷ Reply.Acks (Std 10) ∷ Reply.Gives (Std 10) (at (pos 30002) (pos 0) (pos 0)) ∷ Reply.Completes (Std 10) ∷ [] }
+        ≡ Reply.Ack (Std 8) ∷ Reply.Done (Std 8) ∷ Reply.Ack (Std 9) ∷ Reply.Done (Std 9)
+        ∷ Reply.Ack (Std 10) ∷ Reply.Given (Std 10) (at (pos 30002) (pos 0) (pos 0)) ∷ Reply.Done (Std 10) ∷ [] }
     ensures restarted_without_tool { (server_restarted (play one_point 1 (opened ++ quiet_to_the_end ∷ [])).world.server).tool ≡ None }
     // In the error state: a faulty line on a standard tag, one on an event tag, and a move behind the command that ends it.
     ensures error_state { called
         (Call.Reads (Err (BadArguments (Std 8) kind.GoTo)) ∷ Call.Reads (Err (BadArguments (OnEvent 1) kind.GoTo))
         ∷ Call.Reads (Ok (line 9 command.ClearAllErrors)) ∷ Call.Turns ∷ Call.Reads (Ok (line 10 command.Home)) ∷ Call.Turns ∷ Call.Ends Done ∷ [])
         (play circle 1 (at_its_turn 6 ++ machine Fault ∷ [])).world.server
-        ≡ Reply.Acks (Std 8) ∷ failed 8 9008 kind.GoTo
-        ++ Reply.Acks (OnEvent 1) ∷ Reply.Fails (OnEvent 1) 9004 (Some kind.GoTo) ∷ Reply.Completes (OnEvent 1)
-        ∷ Reply.Acks (Std 9) ∷ Reply.Completes (Std 9) ∷ Reply.Acks (Std 10) ∷ Reply.Completes (Std 10) ∷ [] }
+        ≡ Reply.Ack (Std 8) ∷ failed 8 9008 kind.GoTo
+        ++ Reply.Ack (OnEvent 1) ∷ Reply.Error (OnEvent 1) 9004 (Some kind.GoTo) ∷ Reply.Done (OnEvent 1)
+        ∷ Reply.Ack (Std 9) ∷ Reply.Done (Std 9) ∷ Reply.Ack (Std 10) ∷ Reply.Done (Std 10) ∷ [] }
     ensures machine_fault { said_behind (play circle 1 (at_its_turn 6)) (machine Fault ∷ []) ≡ failed 7 9015 kind.PtMeas }
     ensures tag_in_use { called (read_under command.Home 1 1 ++ read_under command.Home 1 1) (server_accepted 1 (new_server []))
-        ≡ Reply.Acks (Std 1) ∷ Reply.Fails (OnEvent 0) 9002 None ∷ [] }
-    ensures no_tag { called (Call.Reads (Err NoTag) ∷ []) (server_accepted 1 (new_server [])) ≡ Reply.Fails (OnEvent 0) 9001 None ∷ [] }
+        ≡ Reply.Ack (Std 1) ∷ Reply.Error (OnEvent 0) 9002 None ∷ [] }
+    ensures no_tag { called (Call.Reads (Err NoTag) ∷ []) (server_accepted 1 (new_server [])) ≡ Reply.Error (OnEvent 0) 9001 None ∷ [] }
 {}
 
 /// A client by itself.
@@ -280,8 +280,8 @@ pub fn client_rows()
     ensures no_data { (client_read (client_read (play one_point 1 (opened ++ quiet 7 ∷ client_sends ∷ [])).world.client (Std 8) Mark.Ack) (Std 8) Mark.Done).cause
         ≡ Some Cause.NoData }
     ensures second_data { (client_read
-        (client_read (client_read (play one_point 1 (opened ++ quiet 7 ∷ client_sends ∷ [])).world.client (Std 8) Mark.Ack) (Std 8) (Mark.Data (at (pos 0) (pos 0) (pos 0))))
-        (Std 8) (Mark.Data (at (pos 0) (pos 0) (pos 0)))).cause
+        (client_read (client_read (play one_point 1 (opened ++ quiet 7 ∷ client_sends ∷ [])).world.client (Std 8) Mark.Ack) (Std 8) (Mark.Given (at (pos 0) (pos 0) (pos 0))))
+        (Std 8) (Mark.Given (at (pos 0) (pos 0) (pos 0)))).cause
         ≡ Some Cause.SecondData }
     ensures out_of_order { (client_read (play circle 1 (opened ++ client_sends ∷ [])).world.client (Std 1) Mark.Done).cause ≡ Some Cause.OutOfOrder }
     ensures faulted { (client_read (play circle 1 (opened ++ client_sends ∷ [])).world.client (Std 8) Mark.Done).state ≡ State.Faulted }

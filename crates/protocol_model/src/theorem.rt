@@ -19,7 +19,7 @@ ghost use Rattle.protocol_model.specs.declared.events.Event.{Event};
 ///
 /// Connections may be left by either side at any byte, commands may fail, be aborted and be begun again, tags come round, and both
 /// sides may restart. Commands are read, as lines and point texts are, by any functions that read as the interface says.
-#[tactic(auto, using(crate::proofs::WholeRun::always_sound, crate::proofs::WholeRun::always_told, crate::proofs::WholeRun::never_faulted_run, crate::proofs::WholeRun::no_framing_fault))]
+#[tactic(auto, using(crate::proofs::whole_run::WholeRun::always_sound, crate::proofs::whole_run::WholeRun::always_told, crate::proofs::whole_run::WholeRun::never_faulted_run, crate::proofs::whole_run::WholeRun::no_framing_fault))]
 pub fn every_run()
     ensures sound { (readers : Readers) → AreReaders readers
         → (program : Meaning) (rack : List (List ℕ)) (window : ℕ) (events : List Event) → IsProgram program → window ≤ 16

@@ -59,9 +59,9 @@ pub fn check_rows()
     ensures no_session_report { asked command.OnPtMeasReport no_session
         ≡ refused_with 9005 kind.OnPtMeasReport }
     ensures cleared_without_a_session { asked command.ClearAllErrors no_session
-        ≡ Reply.Acks (Std 8) ∷ Reply.Completes (Std 8) ∷ [] }
+        ≡ Reply.Ack (Std 8) ∷ Reply.Done (Std 8) ∷ [] }
     ensures session_begins { asked command.StartSession no_session
-        ≡ Reply.Acks (Std 8) ∷ Reply.Completes (Std 8) ∷ [] }
+        ≡ Reply.Ack (Std 8) ∷ Reply.Done (Std 8) ∷ [] }
     ensures session_is_open { asked command.StartSession not_homed
         ≡ refused_with 9006 kind.StartSession }
     // Not homed, before an unknown tool, no tool and the volume.
@@ -82,10 +82,10 @@ pub fn check_rows()
     ensures frame_outside { asked (command.GoTo (at (pos 999900001) (pos 0) (pos 0)))
         (record ready { frame = frame.Part part }) ≡ refused_with 9013 kind.GoTo }
     ensures frame_inside { asked (command.GoTo (at (pos 999900000) (pos 0) (pos 0)))
-        (record ready { frame = frame.Part part }) ≡ Reply.Acks (Std 8) ∷ [] }
+        (record ready { frame = frame.Part part }) ≡ Reply.Ack (Std 8) ∷ [] }
     // At the limit the command runs, and nothing more is answered yet.
     ensures at_the_limit { asked (command.GoTo (at (neg 1000000000) (pos 0) (pos 0))) ready
-        ≡ Reply.Acks (Std 8) ∷ [] }
+        ≡ Reply.Ack (Std 8) ∷ [] }
 {}
 
 /// When a client is done, what it leaves, and what it cannot begin again with.

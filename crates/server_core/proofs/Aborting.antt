@@ -6,7 +6,7 @@ use Rattle.dme_line.specs.declared.tags.Tag.{Tag}
 use Rattle.protocol_model.specs.Replies.{Reply}
 use Rattle.protocol_model.specs.declared.lines.Line.{Line}
 use Rattle.protocol_model.specs.declared.lines.Waiting.{Waiting}
-use Rattle.protocol_model.proofs.Writable.{reply_bytes_more}
+use Rattle.protocol_model.proofs.lines.Writable.{reply_bytes_more}
 
 pub aborted_more : (out more done : List ℕ) (ws rest : List Waiting) (w : Waiting) → ws ≡ w ∷ rest
     → more ≡ out ++ reply_bytes (fails w.tag 9007 (kind_in w.reading)) → out ++ reply_bytes (all_fail 9007 ws) ≡ done
@@ -28,12 +28,12 @@ said_then out more last first then a b =
     ∙ (append_assoc out (reply_bytes first) (reply_bytes then) ∙ ap (λ (xs : List ℕ). out ++ xs) (sym (reply_bytes_more first then))))
 
 pub abort_said : (out received stopped emptied done : List ℕ) (t : Tag) (running : Option Line) (ws : List Waiting)
-    → received ≡ out ++ reply_bytes (Reply.Acks t ∷ [])
+    → received ≡ out ++ reply_bytes (Reply.Ack t ∷ [])
     → stopped ≡ received ++ reply_bytes (running_fails running)
     → emptied ≡ stopped ++ reply_bytes (all_fail 9007 ws)
-    → done ≡ emptied ++ reply_bytes (Reply.Completes t ∷ [])
-    → done ≡ out ++ reply_bytes (Reply.Acks t ∷ (running_fails running ++ (all_fail 9007 ws ++ Reply.Completes t ∷ [])))
+    → done ≡ emptied ++ reply_bytes (Reply.Done t ∷ [])
+    → done ≡ out ++ reply_bytes (Reply.Ack t ∷ (running_fails running ++ (all_fail 9007 ws ++ Reply.Done t ∷ [])))
 abort_said out received stopped emptied done t running ws a b c d =
-    said_then out received done (Reply.Acks t ∷ []) (running_fails running ++ (all_fail 9007 ws ++ Reply.Completes t ∷ [])) a
-    (said_then received stopped done (running_fails running) (all_fail 9007 ws ++ Reply.Completes t ∷ []) b
-    (said_then stopped emptied done (all_fail 9007 ws) (Reply.Completes t ∷ []) c d))
+    said_then out received done (Reply.Ack t ∷ []) (running_fails running ++ (all_fail 9007 ws ++ Reply.Done t ∷ [])) a
+    (said_then received stopped done (running_fails running) (all_fail 9007 ws ++ Reply.Done t ∷ []) b
+    (said_then stopped emptied done (all_fail 9007 ws) (Reply.Done t ∷ []) c d))

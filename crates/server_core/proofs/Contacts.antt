@@ -17,7 +17,7 @@ use Rattle.protocol_model.specs.Ends.{ServerEnd}
 use Rattle.protocol_model.specs.declared.lines.Line.{Line}
 use Rattle.protocol_model.specs.declared.machine.Outcome.{Outcome}
 use Rattle.protocol_model.specs.declared.machine.Outcome.TheVariants as outcome
-use Rattle.protocol_model.proofs.Served.{contacts_more}
+use Rattle.protocol_model.proofs.invariant.Served.{contacts_more}
 use Rattle.server_core.specs.Acting.{with_act, IsCommanded}
 use Rattle.server_core.proofs.Ledgers.{framed, Frames, turned_frames}
 

@@ -35,7 +35,7 @@ chosen P false x y p q = q refl
 -- a deed is done by an answer
 record IsAnswered (deed : Deed) (s : Server) (a : Answer) : Type 0 where
   ledger : a.server.ledger ≡ s.ledger ++ (s.last, deed.act) ∷ []
-  said : a.said ≡ deed.lines ++ Reply.Completes deed.tag ∷ []
+  said : a.said ≡ deed.lines ++ Reply.Done deed.tag ∷ []
   idle : a.server.running ≡ None
 
 abbrev DoneBy : Option Deed → Server → Answer → Type 0

@@ -15,7 +15,7 @@ use Rattle.protocol_model.specs.declared.lines.Line.{Line}
 use Rattle.protocol_model.specs.declared.lines.Misread.{Misread}
 use Rattle.protocol_model.specs.declared.lines.Waiting.{Waiting}
 use Rattle.protocol_model.specs.declared.machine.Outcome.{Outcome}
-use Rattle.protocol_model.proofs.Moves.{read_moves}
+use Rattle.protocol_model.proofs.invariant.Moves.{read_moves}
 use Rattle.server_core.specs.Acting.{with_act, IsOneMore}
 
 -- ---- a line that is read appends nothing

@@ -23,7 +23,7 @@ use Rattle.protocol_model.specs.Ends.{ServerEnd, front_served, serving_accepted,
 use Rattle.protocol_model.specs.declared.lines.Line.{Line}
 use Rattle.protocol_model.specs.declared.lines.Waiting.{Waiting}
 use Rattle.protocol_model.specs.declared.machine.Outcome.{Outcome}
-use Rattle.protocol_model.proofs.Moves.{Moves, read_moves, turned_moves, machined_moves}
+use Rattle.protocol_model.proofs.invariant.Moves.{Moves, read_moves, turned_moves, machined_moves}
 use Rattle.server_core.specs.Serving.{may_accept, may_feed, may_turn}
 use Rattle.server_core.specs.Steady.{IsOff, IsRunnable, IsOrderly, IsSteady}
 

@@ -35,4 +35,4 @@ pub record IsCommanded (e : ServerEnd) (ended : Outcome) (made : Made) : Type 0 
   pub tool : e.server.tool ≡ Some made.tool
   pub frame : made.frame ≡ e.server.frame
   pub point : made.point ≡ point_difference at (offset made.frame)
-  pub said : (serving_machined ended e).out ≡ e.out ++ reply_bytes (Reply.Gives tag made.point ∷ Reply.Completes tag ∷ [])
+  pub said : (serving_machined ended e).out ≡ e.out ++ reply_bytes (Reply.Given tag made.point ∷ Reply.Done tag ∷ [])

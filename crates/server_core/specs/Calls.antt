@@ -108,7 +108,7 @@ done_deed s t _ = None
 abbrev pub touch_deed : Server → Tag → Command → Point → Option (List ℕ) → Option Deed
 touch_deed s t (command.PtMeas target dir) at (Some tool) =
     let point : Point = point_difference at (offset s.frame) in
-    Some (record { tag = t; act = act.Contact target dir tool s.frame point; lines = Reply.Gives t point ∷ [] })
+    Some (record { tag = t; act = act.Contact target dir tool s.frame point; lines = Reply.Given t point ∷ [] })
 touch_deed s t c at tool = None
 
 -- what was done when what runs has ended
@@ -136,7 +136,7 @@ deed_of _ e = None
 -- one act is appended, on the present connection, the call answers its lines and the end of its command, nothing else, and nothing runs any more
 pub record HasActed (deed : Deed) (old new : ServerEnd) : Type 0 where
   pub ledger : new.server.ledger ≡ old.server.ledger ++ (old.server.last, deed.act) ∷ []
-  pub said : new.out ≡ old.out ++ reply_bytes (deed.lines ++ Reply.Completes deed.tag ∷ [])
+  pub said : new.out ≡ old.out ++ reply_bytes (deed.lines ++ Reply.Done deed.tag ∷ [])
   pub idle : new.server.running ≡ None
 
 -- a deed is done, or the ledger is as it was

@@ -37,7 +37,7 @@ fn write_end(out: &mut Vec<u8>)
 pub(crate) fn write_received(out: &mut Vec<u8>, tag: Tag)
     requires tag { IsTag tag }
     requires room { vec_len out.old + 80 ≤ vec_capacity out.old }
-    ensures text { out.new.items ≡ out.old.items ++ reply_bytes (Reply.Acks tag ∷ []) }
+    ensures text { out.new.items ≡ out.old.items ++ reply_bytes (Reply.Ack tag ∷ []) }
     ensures len { vec_len out.new ≤ vec_len out.old + 80 }
     ensures capacity { vec_capacity out.old ≤ vec_capacity out.new }
 {
@@ -49,7 +49,7 @@ pub(crate) fn write_received(out: &mut Vec<u8>, tag: Tag)
 pub(crate) fn write_complete(out: &mut Vec<u8>, tag: Tag)
     requires tag { IsTag tag }
     requires room { vec_len out.old + 80 ≤ vec_capacity out.old }
-    ensures text { out.new.items ≡ out.old.items ++ reply_bytes (Reply.Completes tag ∷ []) }
+    ensures text { out.new.items ≡ out.old.items ++ reply_bytes (Reply.Done tag ∷ []) }
     ensures len { vec_len out.new ≤ vec_len out.old + 80 }
     ensures capacity { vec_capacity out.old ≤ vec_capacity out.new }
 {
@@ -61,7 +61,7 @@ pub(crate) fn write_complete(out: &mut Vec<u8>, tag: Tag)
 pub(crate) fn write_point(out: &mut Vec<u8>, tag: Tag, point: Point)
     requires tag { IsTag tag }
     requires room { vec_len out.old + 80 ≤ vec_capacity out.old }
-    ensures text { out.new.items ≡ out.old.items ++ reply_bytes (Reply.Gives tag point ∷ []) }
+    ensures text { out.new.items ≡ out.old.items ++ reply_bytes (Reply.Given tag point ∷ []) }
     ensures len { vec_len out.new ≤ vec_len out.old + 80 }
     ensures capacity { vec_capacity out.old ≤ vec_capacity out.new }
 {
@@ -73,7 +73,7 @@ pub(crate) fn write_point(out: &mut Vec<u8>, tag: Tag, point: Point)
 pub(crate) fn write_error(out: &mut Vec<u8>, tag: Tag, error: ErrorNumber, kind: Option<Kind>)
     requires tag { IsTag tag }
     requires room { vec_len out.old + 80 ≤ vec_capacity out.old }
-    ensures text { out.new.items ≡ out.old.items ++ reply_bytes (Reply.Fails tag (number_of error) kind ∷ []) }
+    ensures text { out.new.items ≡ out.old.items ++ reply_bytes (Reply.Error tag (number_of error) kind ∷ []) }
     ensures len { vec_len out.new ≤ vec_len out.old + 80 }
     ensures capacity { vec_capacity out.old ≤ vec_capacity out.new }
 {

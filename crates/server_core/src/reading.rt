@@ -111,7 +111,7 @@ impl Controller {
     fn refuse_event(&self, out: &mut Vec<u8>, tag: Tag, why: Misread)
         requires tag { IsTag tag }
         requires room { vec_len out.old + 10560 ≤ vec_capacity out.old }
-        ensures text { out.new.items ≡ out.old.items ++ reply_bytes (Reply.Acks tag ∷ server.fails tag (server.fault_number why) (server.kind_in (Err why))) }
+        ensures text { out.new.items ≡ out.old.items ++ reply_bytes (Reply.Ack tag ∷ server.fails tag (server.fault_number why) (server.kind_in (Err why))) }
         ensures len { vec_len out.new ≤ vec_len out.old + 10560 }
     {
         write_received(out, tag);

@@ -1,5 +1,5 @@
 -- Each command of a plan can be written in a line.
-use Rattle.protocol_model.proofs.PlanLaws.{plan_can_be_written}
+use Rattle.protocol_model.proofs.plan.PlanLaws.{plan_can_be_written}
 use Rattle.protocol_model.proofs.plan_laws.plans_measure_what_is_left.Goals as goal
 
 -- src/plan_laws.rt:22:1

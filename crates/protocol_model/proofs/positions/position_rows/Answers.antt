@@ -1,5 +1,5 @@
 use Rattle.std.proofs.Common.{refl}
-use Rattle.protocol_model.proofs.Texts.{moved_between_text}
+use Rattle.protocol_model.proofs.worked_rows.Texts.{moved_between_text}
 use Rattle.protocol_model.proofs.positions.position_rows.Goals as goal
 
 pub returns-clause-text : goal.returns-clause-text

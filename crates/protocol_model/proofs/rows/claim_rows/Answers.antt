@@ -1,4 +1,4 @@
-use Rattle.protocol_model.proofs.Refused.{one_contact_serves_once, no_contact_is_left_out}
+use Rattle.protocol_model.proofs.worked_rows.Refused.{one_contact_serves_once, no_contact_is_left_out}
 use Rattle.protocol_model.proofs.rows.claim_rows.Goals as goal
 
 pub returns-clause-one_contact : goal.returns-clause-one_contact

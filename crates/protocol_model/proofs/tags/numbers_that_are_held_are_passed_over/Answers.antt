@@ -1,4 +1,4 @@
-use Rattle.protocol_model.proofs.NextNumber.{drawn_free, drawn_within, drawn_passed, drawn_up, drawn_again, drawn_spent}
+use Rattle.protocol_model.proofs.table.NextNumber.{drawn_free, drawn_within, drawn_passed, drawn_up, drawn_again, drawn_spent}
 use Rattle.protocol_model.proofs.tags.numbers_that_are_held_are_passed_over.Goals as goal
 
 pub returns-clause-free : goal.returns-clause-free

@@ -4,7 +4,7 @@ use Rattle.dmis_program.specs.Programs.{feature_touches}
 use Rattle.protocol_model.specs.Plan.{plan}
 use Rattle.protocol_model.specs.PlanReading.{touches_of}
 use Rattle.protocol_model.specs.declared.plans.Planned.{Planned}
-use Rattle.protocol_model.proofs.PlanLaws.{plan_touches_left}
+use Rattle.protocol_model.proofs.plan.PlanLaws.{plan_touches_left}
 use Rattle.resume_plan.specs.Sendable.{IsSendable}
 use Rattle.resume_plan.proofs.SendableLemmas.{plans_are_sendable}
 use Rattle.resume_plan.proofs.planning.plan.Goals as goal

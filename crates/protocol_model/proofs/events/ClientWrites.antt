@@ -1,0 +1,152 @@
+-- What the client writes keeps all that holds: commands, aborts, and a plan that goes on.
+use Rattle.std.proofs.Common.{◌≡◌, ℕ, ◌-◌, ◌<◌, ◌≤◌, ◌⊎◌, inl, inr, Bool, true, false, cond, not, ◌||◌, List, [], ◌∷◌, ◌++◌, length, refl, sym, ◌∙◌, ap, subst, arith, Option, Some, None, is_some, Ok, eqb, eqb-true, le_trans}
+use Rattle.std.proofs.lemmas.Bool.{false≢true, and_parts, ltb-true}
+use Rattle.dme_line.specs.Kinds.{kind_of}
+use Rattle.dme_line.specs.declared.tags.Tag.{Tag}
+use Rattle.dme_line.specs.declared.tags.Tag.TheVariants.{Std}
+use Rattle.dmis_program.specs.declared.features.Wanted.{Wanted}
+use Rattle.protocol_model.specs.Open.{count_open, is_held}
+use Rattle.protocol_model.specs.Client.{Client, Table, Tally, client_sent, sends_next, held_now, next_number, due, first_due, may_go, is_running, is_clearing}
+use Rattle.protocol_model.specs.Server.{is_abort}
+use Rattle.protocol_model.specs.Typed.{World, sent}
+use Rattle.protocol_model.proofs.table.Counts.{AreFailed, all_failed, failed_tags}
+use Rattle.protocol_model.proofs.table.Replying.{tabled, with_standard, reads_with_standard, OnlyCloses, only_closes, reads_no_event}
+use Rattle.protocol_model.proofs.plan.Fitting.{unknown}
+use Rattle.protocol_model.proofs.plan.Marks.{HasNoAbort}
+use Rattle.protocol_model.proofs.table.Drawing.{IsDrawn, drawn, none_drawn, standard_apart, held_length}
+use Rattle.protocol_model.proofs.invariant.Holding.{IsNear, HasEvents, HasState, tags_of, IsLive, IsOff, IsAtRest, IsHere, IsAhead, IsGone, Inv, know_of}
+use Rattle.protocol_model.proofs.events.ClientEvents.{failed_tags_more, count_more, distinct_more, near_sends}
+use Rattle.protocol_model.specs.declared.plans.Planned.{Planned}
+use Rattle.protocol_model.specs.declared.held.Held.{Held}
+use Rattle.protocol_model.specs.declared.states.State.{State}
+
+-- ---- a command is sent
+
+pub record IsDue (c : Client) : Type 0 where
+  pub running : c.state ≡ State.Running
+  pub planned : Planned
+  pub others : List Planned
+  pub unsent : c.unsent ≡ planned ∷ others
+  pub go : may_go c.window (count_open c.table.standard) planned.command ≡ true
+
+is_running-true : (s : State) → is_running s ≡ true → s ≡ State.Running
+is_running-true State.Apart e = absurd (false≢true e)
+is_running-true State.Running e = refl
+is_running-true State.Failing e = absurd (false≢true e)
+is_running-true State.Aborting e = absurd (false≢true e)
+is_running-true State.Halted e = absurd (false≢true e)
+is_running-true State.Done e = absurd (false≢true e)
+is_running-true State.Faulted e = absurd (false≢true e)
+
+first_by : (b : Bool) (p : Planned) → is_some (cond b (Some p) None) ≡ true → b ≡ true
+first_by true p e = refl
+first_by false p e = absurd (false≢true e)
+
+due_by : (c : Client) (ps : List Planned) → c.unsent ≡ ps → c.state ≡ State.Running → is_some (first_due c.window (count_open c.table.standard) ps) ≡ true → IsDue c
+due_by c [] e r is = absurd (false≢true is)
+due_by c (p ∷ ps) e r is = record { running = r; planned = p; others = ps; unsent = e; go = first_by _ p is }
+
+pub due_is : (c : Client) → is_some (due c) ≡ true → IsDue c
+due_is c is = go (is_running c.state) refl is
+  where
+    go : (b : Bool) → is_running c.state ≡ b → is_some (cond b (first_due c.window (count_open c.table.standard) c.unsent) None) ≡ true → IsDue c
+    go true r e = due_by c c.unsent refl (is_running-true c.state r) e
+    go false r e = absurd (false≢true e)
+
+-- a command goes out under a tag that is not held
+sends_one : (w : World) (inv : Inv w) (live : IsLive w) (d : IsDue w.client) (n : ℕ) → is_held (Std n) w.client.table.standard ≡ false → Inv (sent w (sends_next w.client (d.planned ∷ d.others) (Some n)))
+sends_one w inv live d n free =
+    let c : Client = w.client in
+    let ws : List Wanted = c.program.features in
+    let x : Held = held_now (Std n) (kind_of d.planned.command) in
+    let next : Table = with_standard x live.table in
+    let failed : c.table.tally.failed ≡ false = subst (λ (s : State). HasState s c.table) d.running live.state in
+    let no_event : c.table.event ≡ [] = subst (λ (s : State). HasEvents s c.abort c.table.event) d.running live.events in
+    let none : live.table.event ≡ [] = reads_no_event ws w.down c.table live.table live.reads no_event in
+    let tests = and_parts _ _ d.go in
+    let room : count_open c.table.standard < c.window = ltb-true _ _ tests.0 in
+    let plain : HasNoAbort (d.planned ∷ d.others) = subst HasNoAbort d.unsent live.plain in
+    record {
+      program = inv.program;
+      window = inv.window;
+      numbers = inv.numbers;
+      ledger = inv.ledger;
+      idle = inv.idle;
+      side = inr (record {
+        on = live.on;
+        table = next;
+        left = live.left;
+        reads = reads_with_standard ws x w.down c.table live.table live.reads;
+        counted = live.counted;
+        progress = live.progress;
+        pending = live.pending;
+        pending_is = failed_tags_more c.table.standard x refl ∙ live.pending_is;
+        tidy = live.tidy;
+        distinct = distinct_more c.table.standard x live.distinct free;
+        within = le_trans (count_more c.table.standard x) room;
+        state = subst (λ (s : State). HasState s (tabled (c.table.standard ++ x ∷ []) c.table.event c.table.tally)) (sym d.running) failed;
+        events = live.events;
+        plain = plain.1;
+        place = placed failed none plain.0 (clearing tests.1) live.place;
+      });
+    }
+  where
+    x : Held
+    x = held_now (Std n) (kind_of d.planned.command)
+
+    after_sending : World
+    after_sending = sent w (sends_next w.client (d.planned ∷ d.others) (Some n))
+
+    clearing : (not (is_clearing d.planned.command) || eqb (count_open w.client.table.standard) 0) ≡ true → is_clearing d.planned.command ≡ true → count_open w.client.table.standard ≡ 0
+    clearing may is =
+        let zero_now : eqb (count_open w.client.table.standard) 0 ≡ true = ap (λ (b : Bool). not b || eqb (count_open w.client.table.standard) 0) (sym is) ∙ may in
+        eqb-true _ 0 zero_now
+
+    cleared : w.client.table.tally.failed ≡ false → count_open w.client.table.standard ≡ 0 → AreFailed live.table.standard × (live.table.tally.failed ≡ false)
+    cleared failed none_open =
+        let closes : OnlyCloses w.client.program.features w.client.table live.table w.down = only_closes w.client.program.features w.down w.client.table live.table live.reads (all_failed w.client.table.standard none_open) in
+        (closes.left, ap (λ (y : Tally). y.failed) closes.same ∙ failed)
+
+    placed : w.client.table.tally.failed ≡ false → live.table.event ≡ [] → is_abort (Ok d.planned.command) ≡ false → (is_clearing d.planned.command ≡ true → count_open w.client.table.standard ≡ 0)
+        → IsHere w live.table live.left ⊎ (IsAhead w live.table live.left ⊎ IsGone w) → IsHere after_sending (with_standard x live.table) live.left ⊎ (IsAhead after_sending (with_standard x live.table) live.left ⊎ IsGone after_sending)
+    placed failed none plain zero_at (inl here) = inl (record {
+      on = here.on;
+      same = here.same;
+      near = near_sends live.table d.planned d.others live.left w.up w.server.running w.server.waiting w.server.error (know_of w.server) n
+          (subst (λ (l : List Planned). IsNear live.table l live.left w.up w.server.running w.server.waiting w.server.error (know_of w.server)) d.unsent here.near) none plain (λ e. cleared failed (zero_at e));
+    })
+    placed failed none plain zero_at (inr (inl ahead)) = inr (inl (record {
+      below = ahead.below;
+      near = near_sends live.table d.planned d.others live.left w.up None [] false unknown n
+          (subst (λ (l : List Planned). IsNear live.table l live.left w.up None [] false unknown) d.unsent ahead.near) none plain (λ e. cleared failed (zero_at e));
+    }))
+    placed failed none plain zero_at (inr (inr gone)) = inr (inr (record { off = gone.off; same = gone.same }))
+
+few_tags : (p : Option Tag) → length (tags_of p) ≤ 1
+few_tags None = omega arith
+few_tags (Some t) = omega arith
+
+held_few : (w : World) → Inv w → (live : IsLive w) → length w.client.table.standard ≤ 17
+held_few w inv live =
+    let tags : length (failed_tags w.client.table.standard) ≤ 1 = subst (λ (ts : List Tag). length ts ≤ 1) (sym live.pending_is) (few_tags live.pending) in
+    let open_now : count_open w.client.table.standard ≤ 16 = le_trans live.within inv.window in
+    omega (arith, held_length w.client.table.standard)
+
+too_many : (n : ℕ) → 9999 ≤ n → n ≤ 17 → ⊥
+too_many n a b = omega arith
+
+pub sends_event : (w : World) → Inv w → is_some (due w.client) ≡ true → Inv (sent w (client_sent w.client))
+sends_event w inv can = go inv.side
+  where
+    d : IsDue w.client
+    d = due_is w.client can
+
+    numbered : (live : IsLive w) (number : Option ℕ) → next_number Std w.client.table.standard w.client.drawn ≡ number → Inv (sent w (sends_next w.client (d.planned ∷ d.others) number))
+    numbered live None e = absurd (too_many _ (none_drawn Std w.client.table.standard w.client.drawn (9999 - w.client.drawn) 9999 standard_apart e) (held_few w inv live))
+    numbered live (Some n) e = let number : IsDrawn Std w.client.table.standard n = drawn Std w.client.table.standard w.client.drawn (9999 - w.client.drawn) 9999 n e in sends_one w inv live d n number.free
+
+    go : IsOff w ⊎ IsLive w → Inv (sent w (client_sent w.client))
+    go (inl off) = absurd (subst IsAtRest d.running off.rest)
+    go (inr live) =
+        subst (λ (ps : List Planned). Inv (sent w (sends_next w.client ps (next_number Std w.client.table.standard w.client.drawn)))) (sym d.unsent)
+        (numbered live (next_number Std w.client.table.standard w.client.drawn) refl)

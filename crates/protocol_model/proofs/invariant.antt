@@ -1,0 +1,7 @@
+-- What always holds of a client and a server that lines join, and the facts on which the events stand.
+pub mod Served
+pub mod Holding
+pub mod Pairs
+pub mod Moves
+pub mod LineFacts
+pub mod Touching

@@ -1,0 +1,151 @@
+-- A counted command and the contacts of the unfinished feature.
+use Rattle.std.proofs.Common.{◌≡◌, ℕ, ◌+◌, true, false, List, [], ◌∷◌, ◌++◌, refl, sym, ◌∙◌, ap, subst, append_assoc, append-nil, length-append, Option, Some, None}
+use Rattle.std.proofs.lemmas.Bool.{false≢true}
+use Rattle.fixed_um.specs.declared.lengths.Point.{Point}
+use Rattle.contact_ledger.specs.declared.features.Feature.{Feature}
+use Rattle.dmis_program.specs.declared.features.Touch.{Touch}
+use Rattle.dmis_program.specs.declared.features.Wanted.{Wanted}
+use Rattle.protocol_model.specs.Claims.{Made, contacts, IsServed}
+use Rattle.protocol_model.specs.Plan.{is_empty}
+use Rattle.protocol_model.specs.Client.{Tally, act_of, joined, measured}
+use Rattle.protocol_model.proofs.plan.Marks.{Marked, marks, marks_of, touch_in}
+use Rattle.protocol_model.proofs.invariant.Served.{Served, served_push, joined_is, serves_more, HaveTouches, with_made, IsProgress, IsNext, next_touch}
+use Rattle.protocol_model.proofs.invariant.Moves.{done_on}
+use Rattle.protocol_model.specs.declared.plans.Does.{Does}
+
+-- a touch is counted with its point
+abbrev pub HasPoint : Does → Option Point → Type 0
+HasPoint (Does.Touches t last) None = ⊥
+HasPoint (Does.Touches t last) (Some p) = Unit {0}
+HasPoint Does.Nothing given = Unit {0}
+HasPoint Does.Homes given = Unit {0}
+HasPoint (Does.Moves p f) given = Unit {0}
+HasPoint (Does.Changes n) given = Unit {0}
+HasPoint (Does.Frames f) given = Unit {0}
+
+-- what is counted changes the points and the features alone
+pub record Keeps (y z : Tally) : Type 0 where
+  pub failed : z.failed ≡ y.failed
+  pub todo : z.todo ≡ y.todo
+  pub counted : z.counted ≡ y.counted
+
+keeps_all : (y : Tally) → Keeps y y
+keeps_all y = record { failed = refl; todo = refl; counted = refl }
+
+pub measured_keeps : (ws : List Wanted) (does : Does) (given : Option Point) (y : Tally) → Keeps y (measured ws does given y)
+measured_keeps ws (Does.Touches t false) (Some p) y = record { failed = refl; todo = refl; counted = refl }
+measured_keeps ws (Does.Touches t true) (Some p) y = record { failed = refl; todo = refl; counted = refl }
+measured_keeps ws (Does.Touches t last) None y = keeps_all y
+measured_keeps ws Does.Nothing given y = keeps_all y
+measured_keeps ws Does.Homes given y = keeps_all y
+measured_keeps ws (Does.Moves p f) given y = keeps_all y
+measured_keeps ws (Does.Changes n) given y = keeps_all y
+measured_keeps ws (Does.Frames f) given y = keeps_all y
+
+-- behind a counted command: what is left, and the contacts cut anew
+pub record Goes (ws : List Wanted) (n : ℕ) (y : Tally) (ms : List Made) (does : Does) (given : Option Point) (rest : List Marked) : Type 0 where
+  pub left : List Wanted
+  pub touches : rest ≡ marks_of left
+  pub progress : IsProgress ws n (measured ws does given y).features (measured ws does given y).points (ms ++ contacts (done_on n (act_of does given))) left
+
+made_of : ℕ → Touch → Point → Made
+made_of n t p = record { connection = n; target = t.target; dir = t.dir; tool = t.tool; frame = t.frame; point = p }
+
+is_served : (n : ℕ) (t : Touch) (p : Point) → IsServed n t p (record { connection = n; target = t.target; dir = t.dir; tool = t.tool; frame = t.frame; point = p })
+is_served n t p = record { on = refl; target = refl; dir = refl; tool = refl; frame = refl; point_is = refl }
+
+not_empty : (ts : List Touch) → is_empty ts ≡ false → ts ≡ [] → ⊥
+not_empty [] e none = false≢true (sym e)
+not_empty (t ∷ ts) e none = cc
+
+empty_is : (ts : List Touch) → is_empty ts ≡ true → ts ≡ []
+empty_is [] e = refl
+empty_is (t ∷ ts) e = absurd (false≢true e)
+
+-- a touch that is not the last of its feature
+touch_goes : (ws : List Wanted) (n : ℕ) (fs : List Feature) (points : List Point) (ms : List Made) (left : List Wanted) (t : Touch) (p : Point) (rest : List Marked) → IsProgress ws n fs points ms left → IsNext t false rest left
+    → (later : List Wanted) × (rest ≡ marks_of later) × IsProgress ws n fs (points ++ p ∷ []) (ms ++ record { connection = n; target = t.target; dir = t.dir; tool = t.tool; frame = t.frame; point = p } ∷ []) later
+touch_goes ws n fs points ms left t p rest h next =
+    let m : Made = record { connection = n; target = t.target; dir = t.dir; tool = t.tool; frame = t.frame; point = p } in
+    let smaller : Wanted = record { label = next.wanted.label; touches = next.ts } in
+    let here : with_made h.made left ≡ with_made (h.made ++ t ∷ []) (smaller ∷ next.later) =
+    ap (with_made h.made) next.first
+    ∙ ap (λ (ts : List Touch). record { label = next.wanted.label; touches = ts } ∷ next.later)
+    (ap (λ (ts : List Touch). h.made ++ ts) next.touches ∙ sym (append_assoc h.made (t ∷ []) next.ts)) in
+    let some : HaveTouches (next.wanted ∷ next.later) = subst HaveTouches next.first h.some in (
+      smaller ∷ next.later,
+      next.rest_is,
+      record {
+        front = h.front;
+        made = h.made ++ t ∷ [];
+        before = h.before;
+        run = h.run ++ m ∷ [];
+        whole = h.whole ∙ ap (λ (l : List Wanted). h.front ++ l) here;
+        long = h.long;
+        parts = ap (λ (l : List Made). l ++ m ∷ []) h.parts ∙ append_assoc h.before h.run (m ∷ []);
+        served = h.served;
+        serves = serves_more n h.made points h.run t p m h.serves (is_served n t p);
+        some = (not_empty next.ts (sym next.ends), some.1);
+      },
+    )
+
+with_none : (ws : List Wanted) → with_made [] ws ≡ ws
+with_none [] = refl
+with_none (w ∷ ws) = refl
+
+-- and one that is
+touch_ends : (ws : List Wanted) (n : ℕ) (fs : List Feature) (points : List Point) (ms : List Made) (left : List Wanted) (t : Touch) (p : Point) (rest : List Marked) → IsProgress ws n fs points ms left → IsNext t true rest left
+    → (later : List Wanted) × (rest ≡ marks_of later) × IsProgress ws n (joined ws fs (points ++ p ∷ [])) [] (ms ++ record { connection = n; target = t.target; dir = t.dir; tool = t.tool; frame = t.frame; point = p } ∷ []) later
+touch_ends ws n fs points ms left t p rest h next =
+    let m : Made = record { connection = n; target = t.target; dir = t.dir; tool = t.tool; frame = t.frame; point = p } in
+    let none : next.ts ≡ [] = empty_is next.ts (sym next.ends) in
+    let whole_one : Wanted = record { label = next.wanted.label; touches = h.made ++ t ∷ [] } in
+    let here : with_made h.made left ≡ whole_one ∷ next.later =
+    ap (with_made h.made) next.first
+    ∙ ap (λ (ts : List Touch). record { label = next.wanted.label; touches = ts } ∷ next.later)
+    (ap (λ (ts : List Touch). h.made ++ ts) (next.touches ∙ ap (λ (ts : List Touch). t ∷ ts) none)) in
+    let whole : ws ≡ h.front ++ whole_one ∷ next.later = h.whole ∙ ap (λ (l : List Wanted). h.front ++ l) here in
+    let run : List Made = h.run ++ m ∷ [] in
+    let feature : Feature = record { label = whole_one.label; points = points ++ p ∷ [] } in
+    let features : joined ws fs (points ++ p ∷ []) ≡ fs ++ feature ∷ [] =
+    ap (λ (l : List Wanted). joined l fs (points ++ p ∷ [])) whole ∙ joined_is h.front whole_one next.later fs (points ++ p ∷ []) h.long in
+    let served : Served ws (fs ++ feature ∷ []) (h.before ++ run) =
+    subst (λ (l : List Wanted). Served l (fs ++ feature ∷ []) (h.before ++ run)) (sym whole)
+    (served_push h.front whole_one next.later fs feature h.before run n h.long (subst (λ (l : List Wanted). Served l fs h.before) whole h.served) refl
+    (serves_more n h.made points h.run t p m h.serves (is_served n t p))) in
+    let some : HaveTouches (next.wanted ∷ next.later) = subst HaveTouches next.first h.some in (
+      next.later,
+      next.rest_is ∙ ap (λ (ts : List Touch). marks ts ++ marks_of next.later) none,
+      subst (λ (gs : List Feature). IsProgress ws n gs [] (ms ++ m ∷ []) next.later) (sym features)
+          (record {
+            front = h.front ++ whole_one ∷ [];
+            made = [];
+            before = h.before ++ run;
+            run = [];
+            whole = whole ∙ (sym (append_assoc h.front (whole_one ∷ []) next.later) ∙ ap (λ (l : List Wanted). (h.front ++ whole_one ∷ []) ++ l) (sym (with_none next.later)));
+            long = length-append h.front (whole_one ∷ []) ∙ (ap (λ (k : ℕ). k + 1) h.long ∙ sym (length-append fs (feature ∷ [])));
+            parts = ap (λ (l : List Made). l ++ m ∷ []) h.parts ∙ (append_assoc h.before h.run (m ∷ []) ∙ sym (append-nil (h.before ++ run)));
+            served = served;
+            serves = tt;
+            some = some.1;
+          }),
+    )
+
+calm_goes : (ws : List Wanted) (n : ℕ) (y : Tally) (ms : List Made) (left : List Wanted) → IsProgress ws n y.features y.points ms left → IsProgress ws n y.features y.points (ms ++ []) left
+calm_goes ws n y ms left h = subst (λ (l : List Made). IsProgress ws n y.features y.points l left) (sym (append-nil ms)) h
+
+pub does_goes : (ws : List Wanted) (n : ℕ) (y : Tally) (ms : List Made) (left : List Wanted) (does : Does) (given : Option Point) (rest : List Marked) → IsProgress ws n y.features y.points ms left → HasPoint does given → touch_in does ++ rest ≡ marks_of left → Goes ws n y ms does given rest
+does_goes ws n y ms left (Does.Touches t false) (Some p) rest h has e =
+    let next : IsNext t false rest left = next_touch t false rest left h.some e in
+    let goes = touch_goes ws n y.features y.points ms left t p rest h next in
+    record { left = goes.0; touches = goes.1; progress = goes.2 }
+does_goes ws n y ms left (Does.Touches t true) (Some p) rest h has e =
+    let next : IsNext t true rest left = next_touch t true rest left h.some e in
+    let goes = touch_ends ws n y.features y.points ms left t p rest h next in
+    record { left = goes.0; touches = goes.1; progress = goes.2 }
+does_goes ws n y ms left (Does.Touches t last) None rest h has e = absurd has
+does_goes ws n y ms left Does.Nothing given rest h has e = record { left = left; touches = e; progress = calm_goes ws n y ms left h }
+does_goes ws n y ms left Does.Homes given rest h has e = record { left = left; touches = e; progress = calm_goes ws n y ms left h }
+does_goes ws n y ms left (Does.Moves p f) given rest h has e = record { left = left; touches = e; progress = calm_goes ws n y ms left h }
+does_goes ws n y ms left (Does.Changes m) given rest h has e = record { left = left; touches = e; progress = calm_goes ws n y ms left h }
+does_goes ws n y ms left (Does.Frames f) given rest h has e = record { left = left; touches = e; progress = calm_goes ws n y ms left h }

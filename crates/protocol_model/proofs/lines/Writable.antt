@@ -1,0 +1,126 @@
+-- Lines that can be written: their bytes are lines, and they read back.
+use Rattle.std.proofs.Common.{◌≡◌, ℕ, ◌≤◌, List, [], ◌∷◌, ◌++◌, refl, ◌∙◌, ap, arith, Ok, unsigned_abs, ℤ, ◌-ℤ◌, neg_ℤ}
+use Rattle.std.proofs.lemmas.Int.{ints}
+use Rattle.fixed_um.specs.Limits.{volume_limit, wire_limit}
+use Rattle.fixed_um.specs.Points.{IsInVolume, point_difference, point_opposite}
+use Rattle.fixed_um.specs.declared.lengths.Point.{Point}
+use Rattle.dme_line.specs.Words.{IsWireText}
+use Rattle.dme_line.specs.Tags.{IsTag}
+use Rattle.dme_line.specs.Points.{written_point, IsOnWire}
+use Rattle.dme_line.specs.Written.{written_command, IsWritable}
+use Rattle.dme_line.specs.Responses.{written_response}
+use Rattle.dme_line.specs.Errors.{written_error, error_report}
+use Rattle.dme_line.specs.declared.tags.Tag.{Tag}
+use Rattle.dme_line.specs.declared.commands.Command.{Command}
+use Rattle.dme_line.specs.declared.responses.Mark.TheVariants as mark
+use Rattle.dme_line.specs.declared.responses.Response.{Response}
+use Rattle.dme_line.proofs.CommandWire.{command-wire, wire_weaker}
+use Rattle.dme_line.proofs.CommandBack.{command_reads_back}
+use Rattle.dme_line.proofs.OneCommand.{one_command_reading}
+use Rattle.dme_line.proofs.OneResponse.{one_response_reading}
+use Rattle.dme_line.proofs.PointLemmas.{one_point_reading}
+use Rattle.dme_line.proofs.ResponseBack.{response_reads_back, response-wire, point_reads_back, error-wire, error_reads_back}
+use Rattle.dme_line.proofs.WireTexts.{point-wire}
+use Rattle.line_framing.specs.Content.{IsLine, AreLines, line_bytes}
+use Rattle.line_framing.proofs.Streams.{line_bytes-append}
+use Rattle.protocol_model.specs.Replies.{Reply}
+use Rattle.protocol_model.specs.Lines.{command_text, reply_text, command_texts, reply_texts, command_bytes, reply_bytes, Readers, AreReaders}
+use Rattle.protocol_model.specs.declared.lines.Line.{Line}
+
+-- ---- commands
+
+abbrev pub AreWritable : List Line → Type 0
+AreWritable [] = Unit {0}
+AreWritable (l ∷ ls) = IsWritable l.tag l.command × AreWritable ls
+
+pub writable_join : (xs ys : List Line) → AreWritable xs → AreWritable ys → AreWritable (xs ++ ys)
+writable_join [] ys h g = g
+writable_join (x ∷ xs) ys h g = (h.0, writable_join xs ys h.1 g)
+
+pub writable_behind : (xs ys : List Line) → AreWritable (xs ++ ys) → AreWritable ys
+writable_behind [] ys h = h
+writable_behind (x ∷ xs) ys h = writable_behind xs ys h.1
+
+wire_line : (n : ℕ) (text : List ℕ) → IsWireText n text → n ≤ 65536 → IsLine text
+wire_line n text h le = record { free = h.free; short = omega (arith, h.short) }
+
+pub command_lines : (ls : List Line) → AreWritable ls → AreLines (command_texts ls)
+command_lines [] h = tt
+command_lines (l ∷ ls) h = (wire_line 200 (command_text l) (command-wire l.tag l.command h.0) (omega arith), command_lines ls h.1)
+
+texts_more : (xs ys : List Line) → command_texts (xs ++ ys) ≡ command_texts xs ++ command_texts ys
+texts_more [] ys = refl
+texts_more (x ∷ xs) ys = ap (λ (l : List (List ℕ)). command_text x ∷ l) (texts_more xs ys)
+
+pub command_bytes_more : (xs ys : List Line) → command_bytes (xs ++ ys) ≡ command_bytes xs ++ command_bytes ys
+command_bytes_more xs ys = ap line_bytes (texts_more xs ys) ∙ line_bytes-append (command_texts xs) (command_texts ys)
+
+pub command_read : (r : Readers) → AreReaders r → (t : Tag) (c : Command) → IsWritable t c → r.command (written_command t c) ≡ Ok (t, c)
+command_read r h t c w = one_command_reading (written_command t c) (r.command (written_command t c)) (Ok (t, c)) (h.command (written_command t c)) (command_reads_back t c w)
+
+-- ---- replies
+
+abbrev pub IsWritableReply : Reply → Type 0
+IsWritableReply (Reply.Ack t) = IsTag t
+IsWritableReply (Reply.Given t p) = IsTag t × IsOnWire p
+IsWritableReply (Reply.Done t) = IsTag t
+IsWritableReply (Reply.Error t code name) = IsTag t
+
+abbrev pub AreReplies : List Reply → Type 0
+AreReplies [] = Unit {0}
+AreReplies (r ∷ rs) = IsWritableReply r × AreReplies rs
+
+pub replies_join : (xs ys : List Reply) → AreReplies xs → AreReplies ys → AreReplies (xs ++ ys)
+replies_join [] ys h g = g
+replies_join (x ∷ xs) ys h g = (h.0, replies_join xs ys h.1 g)
+
+-- the response that a reply is written as
+abbrev pub response_of : Reply → Response
+response_of (Reply.Ack t) = record { tag = t; mark = mark.Ack }
+response_of (Reply.Given t p) = record { tag = t; mark = mark.Given (written_point p) }
+response_of (Reply.Done t) = record { tag = t; mark = mark.Done }
+response_of (Reply.Error t code name) = record { tag = t; mark = mark.Error (error_report code name) }
+
+reply_wire : (r : Reply) → IsWritableReply r → IsWireText 200 (reply_text r)
+reply_wire (Reply.Ack t) h = response-wire (record { tag = t; mark = mark.Ack }) (record { tagged = h; texts = tt })
+reply_wire (Reply.Given t p) h = response-wire (record { tag = t; mark = mark.Given (written_point p) }) (record { tagged = h.0; texts = wire_weaker 49 192 (written_point p) (omega arith) (point-wire p h.1) })
+reply_wire (Reply.Done t) h = response-wire (record { tag = t; mark = mark.Done }) (record { tagged = h; texts = tt })
+reply_wire (Reply.Error t code name) h = wire_weaker 80 200 (written_error t code name) (omega arith) (error-wire t code name)
+
+pub reply_lines : (rs : List Reply) → AreReplies rs → AreLines (reply_texts rs)
+reply_lines [] h = tt
+reply_lines (r ∷ rs) h = (wire_line 200 (reply_text r) (reply_wire r h.0) (omega arith), reply_lines rs h.1)
+
+reply_texts_more : (xs ys : List Reply) → reply_texts (xs ++ ys) ≡ reply_texts xs ++ reply_texts ys
+reply_texts_more [] ys = refl
+reply_texts_more (x ∷ xs) ys = ap (λ (l : List (List ℕ)). reply_text x ∷ l) (reply_texts_more xs ys)
+
+pub reply_bytes_more : (xs ys : List Reply) → reply_bytes (xs ++ ys) ≡ reply_bytes xs ++ reply_bytes ys
+reply_bytes_more xs ys = ap line_bytes (reply_texts_more xs ys) ∙ line_bytes-append (reply_texts xs) (reply_texts ys)
+
+response_back : (r : Readers) → AreReaders r → (x : Response) → IsTag x.tag → r.response (written_response x) ≡ Ok x
+response_back r h x t = one_response_reading (written_response x) (r.response (written_response x)) (Ok x) (h.response (written_response x)) (response_reads_back x t)
+
+pub reply_read : (r : Readers) → AreReaders r → (x : Reply) → IsWritableReply x → r.response (reply_text x) ≡ Ok (response_of x)
+reply_read r h (Reply.Ack t) w = response_back r h (record { tag = t; mark = mark.Ack }) w
+reply_read r h (Reply.Given t p) w = response_back r h (record { tag = t; mark = mark.Given (written_point p) }) w.0
+reply_read r h (Reply.Done t) w = response_back r h (record { tag = t; mark = mark.Done }) w
+reply_read r h (Reply.Error t code name) w =
+    one_response_reading (written_error t code name) (r.response (written_error t code name)) (Ok (record { tag = t; mark = mark.Error (error_report code name) })) (h.response (written_error t code name)) (error_reads_back t code name w)
+
+pub point_read : (r : Readers) → AreReaders r → (p : Point) → IsOnWire p → r.point (written_point p) ≡ Ok p
+point_read r h p w = one_point_reading (written_point p) (r.point (written_point p)) (Ok p) (h.point (written_point p)) (point_reads_back p w)
+
+-- ---- points
+
+abs_difference : (a b : ℤ) → unsigned_abs a ≤ volume_limit → unsigned_abs b ≤ volume_limit → unsigned_abs (a -ℤ b) ≤ wire_limit
+abs_difference a b h g = omega (arith, ints)
+
+pub difference_on_wire : (p q : Point) → IsInVolume p → IsInVolume q → IsOnWire (point_difference p q)
+difference_on_wire p q h g = record { x = abs_difference p.x q.x h.x g.x; y = abs_difference p.y q.y h.y g.y; z = abs_difference p.z q.z h.z g.z }
+
+abs_opposite : (a : ℤ) → unsigned_abs a ≤ volume_limit → unsigned_abs (neg_ℤ a) ≤ volume_limit
+abs_opposite a h = omega (arith, ints)
+
+pub opposite_in_volume : (p : Point) → IsInVolume p → IsInVolume (point_opposite p)
+opposite_in_volume p h = record { x = abs_opposite p.x h.x; y = abs_opposite p.y h.y; z = abs_opposite p.z h.z }

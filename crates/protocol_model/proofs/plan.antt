@@ -1,0 +1,6 @@
+-- What a plan asks of its program, what is selected where in it, what it measures and where it goes on.
+pub mod Blocks
+pub mod Fitting
+pub mod Marks
+pub mod PlanLaws
+pub mod Splitting

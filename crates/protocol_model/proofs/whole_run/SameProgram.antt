@@ -1,0 +1,107 @@
+-- No event changes the program or the window of the client.
+use Rattle.std.proofs.Common.{◌≡◌, ℕ, Bool, true, false, cond, List, [], ◌∷◌, refl, ◌∙◌, ap, Option, Some, None, Result, Ok, Err}
+use Rattle.dmis_program.specs.Meaning.{Meaning}
+use Rattle.dme_line.specs.declared.tags.Tag.{Tag}
+use Rattle.dme_line.specs.declared.tags.Tag.TheVariants as tag
+use Rattle.dme_line.specs.declared.commands.Kind.{Kind}
+use Rattle.dme_line.specs.declared.points.NotPoint.{NotPoint}
+use Rattle.dme_line.specs.declared.responses.Mark.{Mark as Marked}
+use Rattle.dme_line.specs.declared.responses.Mark.TheVariants as mark
+use Rattle.dme_line.specs.declared.responses.Response.{Response}
+use Rattle.dme_line.specs.declared.responses.NotResponse.{NotResponse}
+use Rattle.fixed_um.specs.declared.lengths.Point.{Point}
+use Rattle.line_framing.specs.Next.{Front, next_of}
+use Rattle.line_framing.specs.declared.faults.FramingFault.TheVariants as framing
+use Rattle.protocol_model.specs.Replies.{Mark, tag_is}
+use Rattle.protocol_model.specs.Lines.{Readers}
+use Rattle.protocol_model.specs.Open.{asks_data}
+use Rattle.protocol_model.specs.Client.{Client, Table, sends_next, sends_abort, next_number, client_hears, client_read, heard_on, faulted}
+use Rattle.protocol_model.specs.Ends.{held_under, given_point, given_under, response_read, line_read, front_read}
+use Rattle.protocol_model.specs.World.{World, can, happens, after, run_of}
+use Rattle.protocol_model.specs.declared.events.Event.{Event}
+use Rattle.protocol_model.specs.declared.events.Event.TheVariants.{Connect, Accept, ClientSends, Up, ServerReads, ServerTurn, Machine, Down, ClientReads, ClientLeaves, ServerLeaves, Abort, Resume, ClientRestart, ServerRestart}
+use Rattle.protocol_model.specs.declared.plans.Planned.{Planned}
+use Rattle.protocol_model.specs.declared.states.Cause.{Cause}
+
+-- what no event changes
+abbrev kept : Client → Meaning × ℕ
+kept c = (c.program, c.window)
+
+-- two clients with one program and one window
+abbrev Same : Client → Client → Type 0
+Same c d = kept d ≡ kept c
+
+sends_same : (c : Client) (ps : List Planned) (n : Option ℕ) → Same c (sends_next c ps n).client
+sends_same c [] n = refl
+sends_same c (p ∷ ps) None = refl
+sends_same c (p ∷ ps) (Some n) = refl
+
+aborts_same : (c : Client) (n : Option ℕ) → Same c (sends_abort c n).client
+aborts_same c None = refl
+aborts_same c (Some n) = refl
+
+hears_same : (c : Client) (t : Tag) (m : Mark) (r : Result Table Cause) → Same c (client_hears c t m r)
+hears_same c t m (Ok b) = refl
+hears_same c t m (Err cause) = refl
+
+one_of : (c : Client) (b : Bool) (d e : Client) → Same c d → Same c e → Same c (cond b d e)
+one_of c true d e p q = p
+one_of c false d e p q = q
+
+read_same : (c : Client) (t : Tag) (m : Mark) → Same c (client_read c t m)
+read_same c t m = one_of c (tag_is t (tag.Event 0)) c (client_hears c t m (heard_on c.program.features c.table t m)) refl (hears_same c t m (heard_on c.program.features c.table t m))
+
+point_same : (c : Client) (t : Tag) (r : Result Point NotPoint) → Same c (given_point c t r)
+point_same c t (Ok p) = read_same c t (Mark.Given p)
+point_same c t (Err why) = refl
+
+under_same : (readers : Readers) (c : Client) (t : Tag) (text : List ℕ) (kind : Option Kind) → Same c (given_under readers c t text kind)
+under_same readers c t text None = refl
+under_same readers c t text (Some k) = one_of c (asks_data k) (given_point c t (readers.point text)) (faulted Cause.OutOfOrder c) (point_same c t (readers.point text)) refl
+
+response_same : (readers : Readers) (c : Client) (t : Tag) (m : Marked) → Same c (response_read readers c t m)
+response_same readers c t mark.Ack = read_same c t Mark.Ack
+response_same readers c t (mark.Given text) = one_of c (tag_is t (tag.Event 0)) c (given_under readers c t text (held_under t c)) refl (under_same readers c t text (held_under t c))
+response_same readers c t mark.Done = read_same c t Mark.Done
+response_same readers c t (mark.Error text) = read_same c t Mark.Error
+
+line_same : (readers : Readers) (c : Client) (r : Result Response NotResponse) → Same c (line_read readers c r)
+line_same readers c (Ok r) = response_same readers c r.tag r.mark
+line_same readers c (Err refused) = refl
+
+front_same : (readers : Readers) (c : Client) (f : Front) → Same c (front_read readers c f)
+front_same readers c (Ok None) = refl
+front_same readers c (Ok (Some (line, rest))) = line_same readers c (readers.response line)
+front_same readers c (Err framing.LineTooLong) = refl
+front_same readers c (Err framing.BadByte) = refl
+
+happens_same : (readers : Readers) (e : Event) (b : World) → Same b.client.client (happens readers e b).client.client
+happens_same readers Connect b = refl
+happens_same readers (Accept n) b = refl
+happens_same readers ClientSends b = sends_same b.client.client b.client.client.unsent (next_number tag.Std b.client.client.table.standard b.client.client.drawn)
+happens_same readers (Up k) b = refl
+happens_same readers ServerReads b = refl
+happens_same readers ServerTurn b = refl
+happens_same readers (Machine outcome) b = refl
+happens_same readers (Down k) b = refl
+happens_same readers ClientReads b = front_same readers b.client.client (next_of b.client.input.rest)
+happens_same readers ClientLeaves b = refl
+happens_same readers ServerLeaves b = refl
+happens_same readers Abort b = aborts_same b.client.client (next_number tag.Event b.client.client.table.event b.client.client.event_drawn)
+happens_same readers Resume b = refl
+happens_same readers (ClientRestart k) b = refl
+happens_same readers ServerRestart b = refl
+
+after_same : (readers : Readers) (e : Event) (b : World) (t : Bool) → Same b.client.client (cond t (happens readers e b) b).client.client
+after_same readers e b true = happens_same readers e b
+after_same readers e b false = refl
+
+runs_same : (readers : Readers) (es : List Event) (b : World) → Same b.client.client (run_of readers es b).client.client
+runs_same readers [] b = refl
+runs_same readers (e ∷ es) b = runs_same readers es (after readers e b) ∙ after_same readers e b (can e b)
+
+pub run_same : (readers : Readers) (es : List Event) (b : World) → (run_of readers es b).client.client.program ≡ b.client.client.program
+run_same readers es b = ap (λ (k : Meaning × ℕ). k.0) (runs_same readers es b)
+
+pub run_window : (readers : Readers) (es : List Event) (b : World) → (run_of readers es b).client.client.window ≡ b.client.client.window
+run_window readers es b = ap (λ (k : Meaning × ℕ). k.1) (runs_same readers es b)

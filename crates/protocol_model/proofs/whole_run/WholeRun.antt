@@ -1,0 +1,112 @@
+-- Every event, and every list of events, keeps what both ends with their bytes carry; and the claims that follow.
+use Rattle.std.proofs.Common.{◌≡◌, ◌≢◌, ℕ, suc, ◌≤◌, Bool, true, false, cond, List, [], ◌∷◌, refl, subst, arith, Option, None}
+use Rattle.std.proofs.lemmas.Bool.{false≢true, and_parts}
+use Rattle.dmis_program.specs.Meaning.{Meaning}
+use Rattle.dmis_program.specs.Programs.{IsProgram}
+use Rattle.protocol_model.specs.Lines.{Readers, AreReaders}
+use Rattle.protocol_model.specs.Server.{may_end}
+use Rattle.protocol_model.specs.Claims.{Sound, Told}
+use Rattle.protocol_model.specs.World.{World, start, can, happens, after, run_of}
+use Rattle.protocol_model.specs.declared.events.Event.{Event}
+use Rattle.protocol_model.specs.declared.events.Event.TheVariants.{Connect, Accept, ClientSends, Up, ServerReads, ServerTurn, Machine, Down, ClientReads, ClientLeaves, ServerLeaves, Abort, Resume, ClientRestart, ServerRestart}
+use Rattle.protocol_model.proofs.plan.Blocks.{program_is_plain}
+use Rattle.protocol_model.proofs.whole_run.SameProgram.{run_same}
+use Rattle.protocol_model.proofs.invariant.Served.{served_sound}
+use Rattle.protocol_model.proofs.events.ClientEvents.{served_now, told_now, never_faulted}
+use Rattle.protocol_model.proofs.events.ServerEvents.{not_nothing, on_by}
+use Rattle.protocol_model.proofs.events.Whole.{start_holds}
+use Rattle.protocol_model.proofs.whole_run.PlainServer.{plain_new}
+use Rattle.protocol_model.proofs.whole_run.Carrying.{lined, IsCarried, reads_carried, turn_carried, machine_carried, up_carried, down_carried}
+use Rattle.protocol_model.proofs.whole_run.CarryingClient.{connect_carried, accept_carried, client_left_carried, client_restart_carried, server_left_carried, server_restart_carried, sends_carried, abort_carried, resume_carried, hears_carried}
+use Rattle.protocol_model.specs.declared.lines.Line.{Line}
+use Rattle.protocol_model.specs.declared.states.State.{State}
+
+pub happens_carried : (readers : Readers) → AreReaders readers → (e : Event) (b : World) → IsCarried b → can e b ≡ true → IsCarried (happens readers e b)
+happens_carried readers are Connect b h can = connect_carried b h
+happens_carried readers are (Accept n) b h can = accept_carried b n h can
+happens_carried readers are ClientSends b h can = sends_carried b h can
+happens_carried readers are (Up k) b h can = up_carried b k h (and_parts _ _ can).0
+happens_carried readers are ServerReads b h can = let parts = and_parts _ _ can in reads_carried readers are b h parts.0 (and_parts _ _ parts.1).1
+happens_carried readers are ServerTurn b h can =
+    let parts = and_parts _ _ can in
+    turn_carried b h (on_by (lined b h.up h.down) h.inv b.server.server.on refl (λ r e. not_nothing b.server.server.waiting parts.1 e)) can
+happens_carried readers are (Machine outcome) b h can =
+    machine_carried b outcome h (on_by (lined b h.up h.down) h.inv b.server.server.on refl (λ r e. let no_end : may_end None outcome ≡ true = subst (λ (o : Option Line). may_end o outcome ≡ true) r can in false≢true no_end)) can
+happens_carried readers are (Down k) b h can = down_carried b k h (and_parts _ _ can).0
+happens_carried readers are ClientReads b h can = let parts = and_parts _ _ can in hears_carried readers are b h parts.0 (and_parts _ _ parts.1).1
+happens_carried readers are ClientLeaves b h can = client_left_carried b h
+happens_carried readers are ServerLeaves b h can = server_left_carried b h
+happens_carried readers are Abort b h can = abort_carried b h can
+happens_carried readers are Resume b h can = resume_carried b h can
+happens_carried readers are (ClientRestart k) b h can = client_restart_carried b k h
+happens_carried readers are ServerRestart b h can = server_restart_carried b h
+
+after_by : (readers : Readers) → AreReaders readers → (e : Event) (b : World) → IsCarried b → (t : Bool) → can e b ≡ t → IsCarried (cond t (happens readers e b) b)
+after_by readers are e b h true is = happens_carried readers are e b h is
+after_by readers are e b h false is = h
+
+pub run_carried : (readers : Readers) → AreReaders readers → (es : List Event) (b : World) → IsCarried b → IsCarried (run_of readers es b)
+run_carried readers are [] b h = h
+run_carried readers are (e ∷ es) b h = run_carried readers are es (after readers e b) (after_by readers are e b h (can e b) refl)
+
+pub start_carried : (p : Meaning) (rack : List (List ℕ)) (window : ℕ) → IsProgram p → window ≤ 16 → IsCarried (start p rack window)
+start_carried p rack window program le = record {
+  up = [];
+  down = [];
+  inv = start_holds p rack window (program_is_plain p program) le;
+  client = record { program = program; drawn = omega arith; event_drawn = omega arith; unsent = tt; no_abort = tt };
+  server = plain_new rack;
+  client_out = refl;
+  server_out = refl;
+  client_fault = refl;
+  server_fault = refl;
+  at_rest = λ e. refl;
+  wired = record {
+    made = refl;
+    numbers = omega arith;
+    first = λ e. absurd (false≢true e);
+    taken = λ e. absurd (false≢true e);
+    lines = tt;
+    replies = tt;
+    down_is = λ e. absurd (false≢true e);
+    newest_waits = λ lt. absurd (below lt);
+    newest_serves = λ e. absurd (false≢true e);
+    waits = λ k lt le. absurd (between k lt le);
+    serves = λ e. absurd (false≢true e);
+  };
+}
+  where
+    below : suc 0 ≤ 0 → ⊥
+    below h = omega arith
+
+    between : (k : ℕ) → suc 0 ≤ k → k ≤ 0 → ⊥
+    between k a b = omega arith
+
+-- ---- the claims
+
+pub always_sound : (readers : Readers) → AreReaders readers → (p : Meaning) (rack : List (List ℕ)) (window : ℕ) (es : List Event) → IsProgram p → window ≤ 16
+    → Sound p.features (run_of readers es (start p rack window)).client.client.table.tally.features (run_of readers es (start p rack window)).server.server.ledger
+always_sound readers are p rack window es program le =
+    let b : World = run_of readers es (start p rack window) in
+    let h : IsCarried b = run_carried readers are es (start p rack window) (start_carried p rack window program le) in
+    subst (λ (q : Meaning). Sound q.features b.client.client.table.tally.features b.server.server.ledger) (run_same readers es (start p rack window))
+    (served_sound b.client.client.program.features b.client.client.table.tally.features b.server.server.ledger (served_now (lined b h.up h.down) h.inv))
+
+pub always_told : (readers : Readers) → AreReaders readers → (p : Meaning) (rack : List (List ℕ)) (window : ℕ) (es : List Event) → IsProgram p → window ≤ 16
+    → Told (run_of readers es (start p rack window)).client.client.table.tally.counted (run_of readers es (start p rack window)).server.server.ledger (run_of readers es (start p rack window)).client.client.last
+always_told readers are p rack window es program le =
+    let b : World = run_of readers es (start p rack window) in
+    let h : IsCarried b = run_carried readers are es (start p rack window) (start_carried p rack window program le) in
+    let told = told_now (lined b h.up h.down) h.inv in
+    record { more = told.0; whole = told.1 }
+
+pub never_faulted_run : (readers : Readers) → AreReaders readers → (p : Meaning) (rack : List (List ℕ)) (window : ℕ) (es : List Event) → IsProgram p → window ≤ 16
+    → (run_of readers es (start p rack window)).client.client.state ≢ State.Faulted
+never_faulted_run readers are p rack window es program le =
+    let b : World = run_of readers es (start p rack window) in
+    let h : IsCarried b = run_carried readers are es (start p rack window) (start_carried p rack window program le) in
+    never_faulted (lined b h.up h.down) h.inv
+
+pub no_framing_fault : (readers : Readers) → AreReaders readers → (p : Meaning) (rack : List (List ℕ)) (window : ℕ) (es : List Event) → IsProgram p → window ≤ 16
+    → (run_of readers es (start p rack window)).server.input.fault ≡ None
+no_framing_fault readers are p rack window es program le = (run_carried readers are es (start p rack window) (start_carried p rack window program le)).server_fault
