@@ -8,7 +8,8 @@ use Rattle.std.proofs.lemmas.Grind.{common_steps}
 use Rattle.byte_ports.specs.Transfers.{ConsumesFront, GaveBytes, GaveTimes, none, more}
 
 -- known bytes grew by a front of bs, and then by a front of what was left of bs
-pub Appends-more : (a b c : Option (List ℕ)) (bs : List ℕ) (m n : ℕ) → Appends a b (take m bs) → Appends b c (take n (drop m bs)) → Appends a c (take (m + n) bs)
+pub Appends-more : (a b c : Option (List ℕ)) (bs : List ℕ) (m n : ℕ) → Appends a b (take m bs) → Appends b c (take n (drop m bs))
+    → Appends a c (take (m + n) bs)
 Appends-more a b c bs m n p q = subst (Appends a c) (sym (take-add m n bs)) (Appends-trans a b c (take m bs) (take n (drop m bs)) p q)
 
 -- bytes that were pulled, by one pull or by several, are a front
@@ -23,7 +24,8 @@ ConsumesFront-more a b c bs cs p q = record { bytes = bs ++ cs; long = omega ari
 
 module _ {S : Type 0} (left : S → Option (List ℕ)) (has_failed : S → Bool) where
   -- one pull more, which gave the first m bytes of buf
-  pub GaveTimes-more : (n m : ℕ) (old mid new : S) (buf : List ℕ) → GaveTimes left has_failed n old mid → Consumes (left mid) (left new) (take m buf) → m ≢ 0 → m ≤ length buf → has_failed new ≡ false
+  pub GaveTimes-more : (n m : ℕ) (old mid new : S) (buf : List ℕ) → GaveTimes left has_failed n old mid
+      → Consumes (left mid) (left new) (take m buf) → m ≢ 0 → m ≤ length buf → has_failed new ≡ false
       → GaveTimes left has_failed (n + 1) old new
   GaveTimes-more n m old mid new buf p taken some within works =
       let count_of : length (take m buf) ≡ m = length-take-le m buf within in

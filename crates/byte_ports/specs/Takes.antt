@@ -1,7 +1,8 @@
 -- What a sink that takes few bytes at once has.
 use Rattle.std.specs.Prelude.{ℕ, List, Option, Bool}
 
--- the bytes that were taken; the most that one push takes; how many bytes fit before it grows; how many pushes work from now on, or all; whether a push has failed
+-- the bytes that were taken; the most that one push takes; how many bytes fit before it grows; how many pushes work from now on, or all;
+-- whether a push has failed
 pub record Kept : Type 0 where
   pub taken : List ℕ
   pub most : ℕ

@@ -22,4 +22,5 @@ pub record GaveBytes {S : Type 0} (left : S → Option (List ℕ)) (has_failed :
 -- so many such pulls, one after another, lead from old to new: none of them met the end of the input
 pub data GaveTimes {S : Type 0} (left : S → Option (List ℕ)) (has_failed : S → Bool) : ℕ → S → S → Type 0 where
   none : (s : S) → GaveTimes left has_failed 0 s s
-  more : (n : ℕ) (old mid new : S) → GaveTimes left has_failed n old mid → GaveBytes left has_failed mid new → GaveTimes left has_failed (n + 1) old new
+  more : (n : ℕ) (old mid new : S) → GaveTimes left has_failed n old mid → GaveBytes left has_failed mid new
+      → GaveTimes left has_failed (n + 1) old new

@@ -57,7 +57,8 @@ impl Pieces {
     /// and all later ones answer `Failed`.
     pub fn failing_at(alloc: Global, call: u64) -> Self
         requires { 0 < call }
-        ensures { result ≡ record { pieces = []; calls_left = Some (call - 1); has_failed = false } }
+        ensures { result ≡ record { pieces = []; calls_left = Some (call - 1);
+            has_failed = false } }
     {
         Pieces {
             alloc,
@@ -129,13 +130,15 @@ impl Source for Pieces {
     #[tactic(auto, using(crate::proofs::StoredLemmas::given))]
     fn pull(&mut self, buf: &mut [u8]) -> Result<usize, Failed>
         ensures within { IfOk result (λ n. n ≤ length buf.new) }
-        ensures bytes { ReadConsumes (Some (concat self.old.pieces)) (Some (concat self.new.pieces)) result buf.new }
+        ensures bytes { ReadConsumes (Some (concat self.old.pieces)) (Some (concat self.new.pieces))
+            result buf.new }
         ensures works { OnOk result (self.new.has_failed ≡ false) }
         ensures fails { OnErr result (self.new.has_failed ≡ true) }
         ensures stays { self.old.has_failed ≡ true → self.new.has_failed ≡ true }
 
         ensures due { IsErr result ↔ (self.old.calls_left ≡ Some 0) }
-        ensures count { IfOk result (λ n. n ≡ min (length (next_piece self.old.pieces)) (length buf.old)) }
+        ensures count { IfOk result (λ n. n ≡ min (length (next_piece self.old.pieces))
+            (length buf.old)) }
         ensures after { IfOk result (λ n. self.new.pieces ≡ pieces_after n self.old.pieces) }
         ensures kept { OnErr result (self.new.pieces ≡ self.old.pieces) }
         ensures call { self.new.calls_left ≡ option_map (λ n. n - 1) self.old.calls_left }

@@ -100,7 +100,8 @@ impl Sink for Takes {
         ensures due { self.old.calls_left ≡ Some 0 → IsErr result }
         ensures cause { OnErr result ((self.old.calls_left ≡ Some 0)
             ⊎ (self.old.room < min (length bytes.now) self.old.most)) }
-        ensures call { OnOk result (self.new.calls_left ≡ option_map (λ n. n - 1) self.old.calls_left) }
+        ensures call { OnOk result (self.new.calls_left
+            ≡ option_map (λ n. n - 1) self.old.calls_left) }
         ensures spent { OnErr result (self.new.calls_left ≡ Some 0) }
         ensures most { self.new.most ≡ self.old.most }
     {

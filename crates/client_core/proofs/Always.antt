@@ -1,5 +1,6 @@
 -- What holds of a client at any time: its state and connection, its cause, its window and numbers, and what it holds on no connection.
-use Rattle.std.proofs.Common.{◌≡◌, ℕ, zero, suc, ◌≤◌, ◌<◌, ◌==◌, Bool, true, false, cond, not, is_some, nat_lt, List, [], ◌∷◌, ◌++◌, drop, refl, sym, ◌∙◌, ap, subst, arith, Option, Some, None, Result, Ok, Err, le_refl}
+use Rattle.std.proofs.Common.{◌≡◌, ℕ, zero, suc, ◌≤◌, ◌<◌, ◌==◌, Bool, true, false, cond, not, is_some, nat_lt, List, [], ◌∷◌, ◌++◌, drop,
+  refl, sym, ◌∙◌, ap, subst, arith, Option, Some, None, Result, Ok, Err, le_refl}
 use Rattle.std.proofs.lemmas.Bool.{false≢true, ltb-true, leb-true}
 use Rattle.fixed_um.specs.declared.lengths.Point.{Point}
 use Rattle.dme_line.specs.Kinds.{kind_of}
@@ -21,7 +22,9 @@ use Rattle.dmis_program.specs.declared.features.Wanted.{Wanted}
 use Rattle.protocol_model.specs.Replies.{Mark, tag_is}
 use Rattle.protocol_model.specs.Lines.{Readers}
 use Rattle.protocol_model.specs.Open.{asks_data, is_failed, count_open}
-use Rattle.protocol_model.specs.Client.{Client, Table, heard, heard_on, faulted, new_client, client_connected, may_go, first_due, due, held_now, sends_next, next_number, sends_abort, may_abort, first_state, last_state, state_behind, is_running, is_whole, ends_abort, client_hears, client_read, client_resumed, client_left, left_state, client_restarted}
+use Rattle.protocol_model.specs.Client.{Client, Table, heard, heard_on, faulted, new_client, client_connected, may_go, first_due, due,
+  held_now, sends_next, next_number, sends_abort, may_abort, first_state, last_state, state_behind, is_running, is_whole, ends_abort,
+  client_hears, client_read, client_resumed, client_left, left_state, client_restarted}
 use Rattle.protocol_model.specs.Ends.{ClientEnd, new_client_end, held_under, given_point, given_under, response_read, line_read, front_read}
 use Rattle.protocol_model.specs.declared.held.Held.{Held}
 use Rattle.protocol_model.specs.declared.plans.Planned.{Planned}
@@ -30,7 +33,8 @@ use Rattle.protocol_model.specs.declared.states.Cause.{Cause}
 use Rattle.protocol_model.proofs.table.Basics.{if_false}
 use Rattle.protocol_model.proofs.table.Counts.{count_keeps}
 use Rattle.protocol_model.proofs.table.Replying.{fine, step_cases}
-use Rattle.client_core.specs.Calls.{Call, Connected, Send, Feed, ReadOne, Abort, Resume, Leave, Restart, Sent, possible, done_by, behind_call, behind_calls}
+use Rattle.client_core.specs.Calls.{Call, Connected, Send, Feed, ReadOne, Abort, Resume, Leave, Restart, Sent, possible, done_by,
+  behind_call, behind_calls}
 use Rattle.client_core.specs.Clients.{is_faulted, may_connect, may_read}
 use Rattle.client_core.specs.Clients as clients
 use Rattle.client_core.specs.Always.{IsReached, FitsState, IsQuiet}
@@ -71,12 +75,15 @@ record IsLive (c : Client) : Type 0 where
 faulted_live : (c : Client) (cause : Cause) → IsLive c → IsLive (faulted cause c)
 faulted_live c cause h = record { steady = faulted_steady c cause (IsLive.on h) (IsLive.steady h); on = IsLive.on h }
 
-heard_fewer : (ws : List Wanted) (b c : Table) (t : Tag) (m : Mark) → heard ws b t m ≡ fine c → count_open c.standard ≤ count_open b.standard
+heard_fewer : (ws : List Wanted) (b c : Table) (t : Tag) (m : Mark) → heard ws b t m ≡ fine c
+    → count_open c.standard ≤ count_open b.standard
 heard_fewer ws b c t m is =
     step_cases ws b t m c (count_open c.standard ≤ count_open b.standard) is
     (λ zero_tag same. subst (λ (x : Table). count_open x.standard ≤ count_open b.standard) same (le_refl (count_open b.standard)))
-    (λ n hs e sort here after. subst (λ (x : Table). count_open x.standard ≤ count_open b.standard) (sym after) (count_keeps (not b.tally.failed) b.standard (tag.Std n) m hs e here))
-    (λ n hs e sort other here after. subst (λ (x : Table). count_open x.standard ≤ count_open b.standard) (sym after) (le_refl (count_open b.standard)))
+    (λ n hs e sort here after. subst (λ (x : Table). count_open x.standard ≤ count_open b.standard) (sym after)
+        (count_keeps (not b.tally.failed) b.standard (tag.Std n) m hs e here))
+    (λ n hs e sort other here after. subst (λ (x : Table). count_open x.standard ≤ count_open b.standard) (sym after)
+        (le_refl (count_open b.standard)))
 
 -- a reply leaves it on its connection, and not Faulted
 record Stays (s : State) : Type 0 where
@@ -92,7 +99,8 @@ stays_failing true none = record { connected = tt; awake = refl }
 stays_failing false true = record { connected = refl; awake = refl }
 stays_failing false false = record { connected = refl; awake = refl }
 
-stays : (s : State) (ends failed whole : Bool) (count : ℕ) → FitsState s true → is_faulted s ≡ false → Stays (last_state (first_state s ends failed) whole count)
+stays : (s : State) (ends failed whole : Bool) (count : ℕ) → FitsState s true → is_faulted s ≡ false
+    → Stays (last_state (first_state s ends failed) whole count)
 stays State.Apart ends failed whole count h awake = absurd (false≢true (sym h))
 stays State.Running ends true whole count h awake = stays_failing whole (count == 0)
 stays State.Running ends false whole count h awake = stays_whole whole
@@ -103,17 +111,20 @@ stays State.Halted ends failed whole count h awake = record { connected = refl; 
 stays State.Done ends failed whole count h awake = record { connected = tt; awake = refl }
 stays State.Faulted ends failed whole count h awake = absurd (false≢true (sym awake))
 
-hears_live : (c : Client) (t : Tag) (m : Mark) → Reads c → IsLive c → (r : Result Table Cause) → heard c.program.features c.table t m ≡ r → IsLive (client_hears c t m r)
+hears_live : (c : Client) (t : Tag) (m : Mark) → Reads c → IsLive c → (r : Result Table Cause) → heard c.program.features c.table t m ≡ r
+    → IsLive (client_hears c t m r)
 hears_live c t m reads h (Ok b) is =
     let s : Stays (state_behind c.state (ends_abort c.abort t m) b) =
-    stays c.state (ends_abort c.abort t m) b.tally.failed (is_whole b) (count_open b.standard) (subst (λ (on : Bool). FitsState c.state on) (Reads.on reads) (IsSteady.connected (IsLive.steady h))) (Reads.awake reads) in
+    stays c.state (ends_abort c.abort t m) b.tally.failed (is_whole b) (count_open b.standard)
+        (subst (λ (on : Bool). FitsState c.state on) (Reads.on reads) (IsSteady.connected (IsLive.steady h))) (Reads.awake reads) in
     let fewer = heard_fewer c.program.features c.table b t m is in
     let before : IsSteady c = IsLive.steady h in
     let opened = before.opened in
     record {
       on = IsLive.on h;
       steady = record {
-        connected = subst (λ (on : Bool). FitsState (state_behind c.state (ends_abort c.abort t m) b) on) (sym (Reads.on reads)) (Stays.connected s);
+        connected = subst (λ (on : Bool). FitsState (state_behind c.state (ends_abort c.abort t m) b) on) (sym (Reads.on reads))
+            (Stays.connected s);
         cause = before.cause ∙ (Reads.awake reads ∙ sym (Stays.awake s));
         some = before.some;
         few = before.few;
@@ -128,7 +139,8 @@ reply_live c t m reads h = go (tag_is t (tag.Event 0)) refl
   where
     go : (b : Bool) → tag_is t (tag.Event 0) ≡ b → IsLive (cond b c (client_hears c t m (heard_on c.program.features c.table t m)))
     go true e = h
-    go false e = hears_live c t m reads h (heard_on c.program.features c.table t m) (if_false {A = Result Table Cause} (tag_is t (tag.Event 0)) (fine c.table) (heard_on c.program.features c.table t m) e)
+    go false e = hears_live c t m reads h (heard_on c.program.features c.table t m)
+        (if_false {A = Result Table Cause} (tag_is t (tag.Event 0)) (fine c.table) (heard_on c.program.features c.table t m) e)
 
 either_live : (b : Bool) (c d : Client) → IsLive c → IsLive d → IsLive (cond b c d)
 either_live true c d h g = h
@@ -138,15 +150,18 @@ point_live : (c : Client) (t : Tag) (r : Result Point NotPoint) → Reads c → 
 point_live c t (Ok q) reads h = reply_live c t (Mark.Given q) reads h
 point_live c t (Err why) reads h = faulted_live c Cause.NotResponse h
 
-under_live : (readers : Readers) (c : Client) (t : Tag) (text : List ℕ) (kind : Option Kind) → Reads c → IsLive c → IsLive (given_under readers c t text kind)
+under_live : (readers : Readers) (c : Client) (t : Tag) (text : List ℕ) (kind : Option Kind) → Reads c → IsLive c
+    → IsLive (given_under readers c t text kind)
 under_live readers c t text None reads h = faulted_live c Cause.UnknownTag h
 under_live readers c t text (Some k) reads h =
-    either_live (asks_data k) (given_point c t (readers.point text)) (faulted Cause.OutOfOrder c) (point_live c t (readers.point text) reads h) (faulted_live c Cause.OutOfOrder h)
+    either_live (asks_data k) (given_point c t (readers.point text)) (faulted Cause.OutOfOrder c)
+        (point_live c t (readers.point text) reads h) (faulted_live c Cause.OutOfOrder h)
 
 response_live : (readers : Readers) (c : Client) (t : Tag) (m : Marked) → Reads c → IsLive c → IsLive (response_read readers c t m)
 response_live readers c t mark.Ack reads h = reply_live c t Mark.Ack reads h
 response_live readers c t (mark.Given text) reads h =
-    either_live (tag_is t (tag.Event 0)) c (given_under readers c t text (held_under t c)) h (under_live readers c t text (held_under t c) reads h)
+    either_live (tag_is t (tag.Event 0)) c (given_under readers c t text (held_under t c)) h
+        (under_live readers c t text (held_under t c) reads h)
 response_live readers c t mark.Done reads h = reply_live c t Mark.Done reads h
 response_live readers c t (mark.Error text) reads h = reply_live c t Mark.Error reads h
 
@@ -177,7 +192,8 @@ due_fewer window open_now (p ∷ ps) e = go (may_go window open_now p.command) r
 may_fewer : (c : Client) → is_some (due c) ≡ true → count_open c.table.standard < c.window
 may_fewer c e = go (is_running c.state) refl e
   where
-    go : (b : Bool) → is_running c.state ≡ b → is_some (cond b (first_due c.window (count_open c.table.standard) c.unsent) None) ≡ true → count_open c.table.standard < c.window
+    go : (b : Bool) → is_running c.state ≡ b → is_some (cond b (first_due c.window (count_open c.table.standard) c.unsent) None) ≡ true
+        → count_open c.table.standard < c.window
     go true r is = due_fewer c.window (count_open c.table.standard) c.unsent is
     go false r is = absurd (false≢true is)
 
@@ -189,11 +205,13 @@ open_more [] x = go (is_failed x.stage)
     go false = omega (arith)
 open_more (h ∷ hs) x = go (is_failed h.stage) (open_more hs x)
   where
-    go : (b : Bool) → count_open (hs ++ x ∷ []) ≤ suc (count_open hs) → cond b (count_open (hs ++ x ∷ [])) (suc (count_open (hs ++ x ∷ []))) ≤ suc (cond b (count_open hs) (suc (count_open hs)))
+    go : (b : Bool) → count_open (hs ++ x ∷ []) ≤ suc (count_open hs)
+        → cond b (count_open (hs ++ x ∷ [])) (suc (count_open (hs ++ x ∷ []))) ≤ suc (cond b (count_open hs) (suc (count_open hs)))
     go true e = e
     go false e = omega (arith, e)
 
-sends_steady : (c : Client) (l : List Planned) (number : Option ℕ) → c.state ≡ State.Running → count_open c.table.standard < c.window → IsSteady c → IsSteady (sends_next c l number).client
+sends_steady : (c : Client) (l : List Planned) (number : Option ℕ) → c.state ≡ State.Running → count_open c.table.standard < c.window
+    → IsSteady c → IsSteady (sends_next c l number).client
 sends_steady c [] number running fewer h = h
 sends_steady c (q ∷ qs) None running fewer h = faulted_steady c Cause.TagsSpent (running_on c running h) h
 sends_steady c (q ∷ qs) (Some n) running fewer h =
@@ -216,7 +234,8 @@ aborts_by c State.Faulted is e h = absurd (false≢true e)
 
 aborts_steady : (c : Client) (number : Option ℕ) → Aborts c → IsSteady c → IsSteady (sends_abort c number).client
 aborts_steady c None a h = faulted_steady c Cause.TagsSpent (Aborts.on a) h
-aborts_steady c (Some n) a h = record { connected = Aborts.on a; cause = h.cause ∙ Aborts.awake a; some = h.some; few = h.few; last = h.last; opened = h.opened }
+aborts_steady c (Some n) a h = record { connected = Aborts.on a; cause = h.cause
+    ∙ Aborts.awake a; some = h.some; few = h.few; last = h.last; opened = h.opened }
 
 -- ---- the connection
 
@@ -234,7 +253,8 @@ connected_steady n c may h =
 
 resumed_steady : (c : Client) → c.state ≡ State.Halted → IsSteady c → IsSteady (client_resumed c)
 resumed_steady c halted h =
-    record { connected = subst (λ (s : State). FitsState s c.on) halted h.connected; cause = h.cause ∙ ap is_faulted halted; some = h.some; few = h.few; last = h.last; opened = h.opened }
+    record { connected = subst (λ (s : State). FitsState s c.on) halted h.connected; cause = h.cause
+        ∙ ap is_faulted halted; some = h.some; few = h.few; last = h.last; opened = h.opened }
 
 left_fits : (s : State) → FitsState (left_state s) false
 left_fits State.Done = tt
@@ -255,10 +275,12 @@ left_awake State.Halted = refl
 left_awake State.Faulted = refl
 
 left_steady : (c : Client) → IsSteady c → IsSteady (client_left c)
-left_steady c h = record { connected = left_fits c.state; cause = left_awake c.state; some = h.some; few = h.few; last = h.last; opened = h.opened }
+left_steady c h = record { connected = left_fits c.state; cause = left_awake c.state; some = h.some; few = h.few; last = h.last;
+    opened = h.opened }
 
 pub new_steady : (p : Meaning) (fs : List Feature) (window : ℕ) → 1 ≤ window → window ≤ 16 → IsSteady (new_client p fs window)
-new_steady p fs window some few = record { connected = refl; cause = refl; some = some; few = few; last = omega (arith); opened = omega (arith) }
+new_steady p fs window some few = record { connected = refl; cause = refl; some = some; few = few; last = omega (arith);
+    opened = omega (arith) }
 
 restarted_steady : (k : ℕ) (c : Client) → IsSteady c → IsSteady (client_restarted k c)
 restarted_steady k c h = record { connected = refl; cause = refl; some = h.some; few = h.few; last = h.last; opened = omega (arith) }
@@ -271,7 +293,8 @@ pub record IsSound (e : ClientEnd) : Type 0 where
   pub unmet : is_faulted e.client.state ≡ false → e.input.fault ≡ None
 
 -- on a connection it may hold anything
-live_sound : (e : ClientEnd) → e.client.on ≡ true → IsSteady e.client → (is_faulted e.client.state ≡ false → e.input.fault ≡ None) → IsSound e
+live_sound : (e : ClientEnd) → e.client.on ≡ true → IsSteady e.client → (is_faulted e.client.state ≡ false → e.input.fault ≡ None)
+    → IsSound e
 live_sound e on steady unmet = record { steady = steady; quiet = λ off. absurd (false≢true (sym off ∙ on)); unmet = unmet }
 
 sends_on : (c : Client) (l : List Planned) (number : Option ℕ) → (sends_next c l number).client.on ≡ c.on
@@ -287,7 +310,8 @@ fed_unmet : (fault : Option FramingFault) (rest piece : List ℕ) → fault ≡ 
 fed_unmet None rest piece e = refl
 fed_unmet (Some fault) rest piece e = e
 
-read_unmet : (readers : Readers) (e : ClientEnd) (f : Front) → next_of e.input.rest ≡ f → e.input.fault ≡ None → is_faulted (front_read readers e.client f).state ≡ false → (left_by f e.input).fault ≡ None
+read_unmet : (readers : Readers) (e : ClientEnd) (f : Front) → next_of e.input.rest ≡ f → e.input.fault ≡ None
+    → is_faulted (front_read readers e.client f).state ≡ false → (left_by f e.input).fault ≡ None
 read_unmet readers e (Ok None) is none awake = none
 read_unmet readers e (Ok (Some (line, rest))) is none awake = none
 read_unmet readers e (Err framing.LineTooLong) is none awake = absurd (false≢true (sym awake))
@@ -299,35 +323,44 @@ drop_none (suc k) [] e = refl
 drop_none (suc k) (x ∷ xs) e = absurd (cc)
 
 done_sound : (readers : Readers) (call : Call) (e : ClientEnd) → possible call e ≡ true → IsSound e → IsSound (done_by readers call e)
-done_sound readers (Connected n) e may h = live_sound (done_by readers (Connected n) e) refl (connected_steady n e.client may (IsSound.steady h)) (λ awake. refl)
+done_sound readers (Connected n) e may h = live_sound (done_by readers (Connected n) e) refl
+    (connected_steady n e.client may (IsSound.steady h)) (λ awake. refl)
 done_sound readers Send e may h =
     let running : e.client.state ≡ State.Running = due_running e.client may in
     let number : Option ℕ = next_number tag.Std e.client.table.standard e.client.drawn in
     live_sound (done_by readers Send e) (sends_on e.client e.client.unsent number ∙ running_on e.client running (IsSound.steady h))
-    (sends_steady e.client e.client.unsent number running (may_fewer e.client may) (IsSound.steady h)) (λ awake. IsSound.unmet h (ap is_faulted running))
+    (sends_steady e.client e.client.unsent number running (may_fewer e.client may) (IsSound.steady h))
+        (λ awake. IsSound.unmet h (ap is_faulted running))
 done_sound readers (Feed bytes) e may h =
     let r : Reads e.client = reads_by e.client may in
-    live_sound (done_by readers (Feed bytes) e) (Reads.on r) (IsSound.steady h) (λ awake. fed_unmet e.input.fault e.input.rest bytes (IsSound.unmet h (Reads.awake r)))
+    live_sound (done_by readers (Feed bytes) e) (Reads.on r) (IsSound.steady h)
+        (λ awake. fed_unmet e.input.fault e.input.rest bytes (IsSound.unmet h (Reads.awake r)))
 done_sound readers ReadOne e may h =
     let r : Reads e.client = reads_by e.client may in
-    let l : IsLive (front_read readers e.client (next_of e.input.rest)) = front_live readers e.client (next_of e.input.rest) r (record { steady = IsSound.steady h; on = Reads.on r }) in
-    live_sound (done_by readers ReadOne e) (IsLive.on l) (IsLive.steady l) (read_unmet readers e (next_of e.input.rest) refl (IsSound.unmet h (Reads.awake r)))
+    let l : IsLive (front_read readers e.client (next_of e.input.rest)) =
+        front_live readers e.client (next_of e.input.rest) r (record { steady = IsSound.steady h; on = Reads.on r }) in
+    live_sound (done_by readers ReadOne e) (IsLive.on l) (IsLive.steady l)
+        (read_unmet readers e (next_of e.input.rest) refl (IsSound.unmet h (Reads.awake r)))
 done_sound readers Abort e may h =
     let a : Aborts e.client = aborts_by e.client e.client.state refl may (IsSteady.connected (IsSound.steady h)) in
     let number : Option ℕ = next_number tag.Event e.client.table.event e.client.event_drawn in
-    live_sound (done_by readers Abort e) (aborts_on e.client number ∙ Aborts.on a) (aborts_steady e.client number a (IsSound.steady h)) (λ awake. IsSound.unmet h (Aborts.awake a))
+    live_sound (done_by readers Abort e) (aborts_on e.client number
+        ∙ Aborts.on a) (aborts_steady e.client number a (IsSound.steady h)) (λ awake. IsSound.unmet h (Aborts.awake a))
 done_sound readers Resume e may h =
     let halted : e.client.state ≡ State.Halted = resumed_state e.client e.client.state may in
     live_sound (done_by readers Resume e) (subst (λ (s : State). FitsState s e.client.on) halted (IsSteady.connected (IsSound.steady h)))
     (resumed_steady e.client halted (IsSound.steady h)) (λ awake. IsSound.unmet h (ap is_faulted halted))
 done_sound readers Leave e may h =
-    record { steady = left_steady e.client (IsSound.steady h); quiet = λ off. record { input = refl; out = refl; points = refl }; unmet = λ awake. refl }
+    record { steady = left_steady e.client (IsSound.steady h); quiet = λ off. record { input = refl; out = refl; points = refl };
+        unmet = λ awake. refl }
 done_sound readers (Restart k) e may h =
-    record { steady = restarted_steady k e.client (IsSound.steady h); quiet = λ off. record { input = refl; out = refl; points = refl }; unmet = λ awake. refl }
+    record { steady = restarted_steady k e.client (IsSound.steady h); quiet = λ off. record { input = refl; out = refl; points = refl };
+        unmet = λ awake. refl }
 done_sound readers (Sent k) e may h =
     record {
       steady = IsSound.steady h;
-      quiet = λ off. let q : IsQuiet e = IsSound.quiet h off in record { input = q.input; out = drop_none k e.out q.out; points = q.points };
+      quiet = λ off. let q : IsQuiet e = IsSound.quiet h off in
+          record { input = q.input; out = drop_none k e.out q.out; points = q.points };
       unmet = IsSound.unmet h;
     }
 
@@ -344,7 +377,9 @@ calls_sound readers (call ∷ calls) e h = calls_sound readers calls (behind_cal
 
 new_sound : (p : Meaning) (fs : List Feature) (window : ℕ) → 1 ≤ window → window ≤ 16 → IsSound (new_client_end p fs window)
 new_sound p fs window some few =
-    record { steady = new_steady p fs window some few; quiet = λ off. record { input = refl; out = refl; points = refl }; unmet = λ awake. refl }
+    record { steady = new_steady p fs window some few; quiet = λ off. record { input = refl; out = refl; points = refl };
+        unmet = λ awake. refl }
 
 pub sound : (e : ClientEnd) → IsReached e → IsSound e
-sound e h = subst IsSound (sym h.reached) (calls_sound h.readers h.calls (new_client_end h.program h.kept h.window) (new_sound h.program h.kept h.window h.some h.few))
+sound e h = subst IsSound (sym h.reached) (calls_sound h.readers h.calls (new_client_end h.program h.kept h.window)
+    (new_sound h.program h.kept h.window h.some h.few))

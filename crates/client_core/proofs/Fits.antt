@@ -1,5 +1,6 @@
 -- The features that a client holds, and the points of the unfinished one, fit the touches that are left of its plan.
-use Rattle.std.proofs.Common.{◌≡◌, ℕ, zero, suc, ◌+◌, ◌≤◌, ◌==◌, Bool, true, false, ◌&&◌, List, [], ◌∷◌, ◌++◌, length, take, drop, refl, sym, ◌∙◌, ap, subst, arith, length-append}
+use Rattle.std.proofs.Common.{◌≡◌, ℕ, zero, suc, ◌+◌, ◌≤◌, ◌==◌, Bool, true, false, ◌&&◌, List, [], ◌∷◌, ◌++◌, length, take, drop, refl,
+  sym, ◌∙◌, ap, subst, arith, length-append}
 use Rattle.std.proofs.lemmas.Bool.{false≢true, eq-eqb}
 use Rattle.std.specs.Prelude.{bytes_eq}
 use Rattle.std.specs.List.{AllByRecursion}
@@ -57,11 +58,13 @@ pub begins_fits : (ws : List Wanted) → AllByRecursion IsFeature ws → Fits ws
 begins_fits [] h = refl
 begins_fits (w ∷ ws) h = begins_next w ws w.touches refl (IsFeature.some h.0)
 
-pub plan_fits_features : (ws : List Wanted) (fs : List Feature) → AllByRecursion IsFeature ws → are_ours ws fs ≡ true → Fits ws fs 0 (feature_ends (drop (length fs) ws))
+pub plan_fits_features : (ws : List Wanted) (fs : List Feature) → AllByRecursion IsFeature ws → are_ours ws fs ≡ true
+    → Fits ws fs 0 (feature_ends (drop (length fs) ws))
 plan_fits_features [] [] h ours = refl
 plan_fits_features (w ∷ ws) [] h ours = begins_fits (w ∷ ws) h
 plan_fits_features [] (f ∷ fs) h ours = absurd (false≢true ours)
-plan_fits_features (w ∷ ws) (f ∷ fs) h ours = let two = both (is_ours w f) (are_ours ws fs) ours in (two.0, plan_fits_features ws fs h.1 two.1)
+plan_fits_features (w ∷ ws) (f ∷ fs) h ours = let two = both (is_ours w f) (are_ours ws fs) ours
+    in (two.0, plan_fits_features ws fs h.1 two.1)
 
 -- the first of them, and those behind it
 abbrev first_end : List Bool → Bool
@@ -73,21 +76,25 @@ later_ends [] = []
 later_ends (b ∷ bs) = bs
 
 -- a point that is not the last of its feature
-next_more : (w : Wanted) (ws : List Wanted) (points left : ℕ) (rest : List Bool) → false ∷ rest ≡ ends_left left ++ feature_ends ws → points + suc left ≡ length w.touches → NextFits w ws (suc points) rest
+next_more : (w : Wanted) (ws : List Wanted) (points left : ℕ) (rest : List Bool) → false ∷ rest ≡ ends_left left ++ feature_ends ws
+    → points + suc left ≡ length w.touches → NextFits w ws (suc points) rest
 next_more w ws points zero rest e many = absurd (false≢true (ap first_end e))
 next_more w ws points (suc n) rest e many = record { left = n; ends_are = ap later_ends e; many = omega (arith, many) }
 
-pub point_fits : (ws : List Wanted) (fs : List Feature) (points : ℕ) (rest : List Bool) → Fits ws fs points (false ∷ rest) → Fits ws fs (suc points) rest
+pub point_fits : (ws : List Wanted) (fs : List Feature) (points : ℕ) (rest : List Bool) → Fits ws fs points (false ∷ rest)
+    → Fits ws fs (suc points) rest
 point_fits [] [] points rest h = absurd (no h)
   where
     no : false ∷ rest ≡ [] → ⊥
     no e = cc
-point_fits (w ∷ ws) [] points rest h = let n : NextFits w ws points (false ∷ rest) = h in next_more w ws points n.left rest n.ends_are n.many
+point_fits (w ∷ ws) [] points rest h = let n : NextFits w ws points (false ∷ rest) = h
+    in next_more w ws points n.left rest n.ends_are n.many
 point_fits [] (f ∷ fs) points rest h = absurd h
 point_fits (w ∷ ws) (f ∷ fs) points rest h = (h.0, point_fits ws fs points rest h.1)
 
 -- it ends a feature, which joins the others
-pub joined_more : (ws : List Wanted) (fs : List Feature) (points : ℕ) (all : List Point) (rest : List Bool) → Fits ws fs points (true ∷ rest) → length (joined ws fs all) ≡ suc (length fs)
+pub joined_more : (ws : List Wanted) (fs : List Feature) (points : ℕ) (all : List Point) (rest : List Bool)
+    → Fits ws fs points (true ∷ rest) → length (joined ws fs all) ≡ suc (length fs)
 joined_more [] [] points all rest h = absurd (no h)
   where
     no : true ∷ rest ≡ [] → ⊥
@@ -101,14 +108,18 @@ same_bytes : (xs : List ℕ) → bytes_eq xs xs ≡ true
 same_bytes [] = refl
 same_bytes (x ∷ xs) = ap (λ (b : Bool). b && bytes_eq xs xs) (eq-eqb x x refl) ∙ same_bytes xs
 
-whole_is_ours : (w : Wanted) (points : List Point) → length points ≡ length w.touches → is_ours w (record { label = w.label; points = points }) ≡ true
-whole_is_ours w points long = ap (λ (b : Bool). b && (length points == length w.touches)) (same_bytes w.label) ∙ (ap (λ (n : ℕ). n == length w.touches) long ∙ eq-eqb (length w.touches) (length w.touches) refl)
+whole_is_ours : (w : Wanted) (points : List Point) → length points ≡ length w.touches
+    → is_ours w (record { label = w.label; points = points }) ≡ true
+whole_is_ours w points long = ap (λ (b : Bool). b && (length points == length w.touches)) (same_bytes w.label)
+    ∙ (ap (λ (n : ℕ). n == length w.touches) long ∙ eq-eqb (length w.touches) (length w.touches) refl)
 
-last_left : (ws : List Wanted) (left : ℕ) (rest : List Bool) → true ∷ rest ≡ ends_left left ++ feature_ends ws → (left ≡ 0) × (rest ≡ feature_ends ws)
+last_left : (ws : List Wanted) (left : ℕ) (rest : List Bool) → true ∷ rest ≡ ends_left left ++ feature_ends ws → (left ≡ 0)
+    × (rest ≡ feature_ends ws)
 last_left ws zero rest e = (refl, ap later_ends e)
 last_left ws (suc n) rest e = absurd (false≢true (sym (ap first_end e)))
 
-pub last_fits : (ws : List Wanted) (fs : List Feature) (points : List Point) (p : Point) (rest : List Bool) → AllByRecursion IsFeature ws → Fits ws fs (length points) (true ∷ rest)
+pub last_fits : (ws : List Wanted) (fs : List Feature) (points : List Point) (p : Point) (rest : List Bool) → AllByRecursion IsFeature ws
+    → Fits ws fs (length points) (true ∷ rest)
     → Fits ws (joined ws fs (points ++ p ∷ [])) 0 rest
 last_fits [] [] points p rest all h = absurd (no h)
   where
@@ -129,4 +140,5 @@ pub fewer_are_ours : (ws : List Wanted) (fs : List Feature) (k : ℕ) → are_ou
 fewer_are_ours ws fs zero h = refl
 fewer_are_ours ws [] (suc k) h = refl
 fewer_are_ours [] (f ∷ fs) (suc k) h = absurd (false≢true h)
-fewer_are_ours (w ∷ ws) (f ∷ fs) (suc k) h = let two = both (is_ours w f) (are_ours ws fs) h in ap (λ (b : Bool). b && are_ours ws (take k fs)) two.0 ∙ fewer_are_ours ws fs k two.1
+fewer_are_ours (w ∷ ws) (f ∷ fs) (suc k) h = let two = both (is_ours w f) (are_ours ws fs) h
+    in ap (λ (b : Bool). b && are_ours ws (take k fs)) two.0 ∙ fewer_are_ours ws fs k two.1

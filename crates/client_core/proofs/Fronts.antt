@@ -38,26 +38,34 @@ behind_one k ks ls Effect.Failure h = tt
 behind_one k ks ls (Effect.Count kind given) h = absurd (false≢true h.0)
 
 -- the mark stands at the command's own tag
-becomes_front : (front : Bool) (h : Held) (hs : List Held) (m : Mark) (s : Stage) (b : Bool) → is_failed h.stage ≡ b → judged front h.kind h.stage m ≡ Becomes s
+becomes_front : (front : Bool) (h : Held) (hs : List Held) (m : Mark) (s : Stage) (b : Bool) → is_failed h.stage ≡ b
+    → judged front h.kind h.stage m ≡ Becomes s
     → Fronted front (live_kinds (h ∷ hs)) (live_kinds (staged h s ∷ hs)) Effect.Quiet
 becomes_front front h hs m s true failed v =
-    let still : s ≡ Stage.Failed = failed_stays front h.kind m s (ap (λ (x : Stage). judged front h.kind x m) (sym (is_failed-true h.stage failed)) ∙ v) in
+    let still : s ≡ Stage.Failed = failed_stays front h.kind m s
+        (ap (λ (x : Stage). judged front h.kind x m) (sym (is_failed-true h.stage failed)) ∙ v) in
     live_failed (staged h s) hs (ap is_failed still) ∙ sym (live_failed h hs failed)
-becomes_front front h hs m s false calm v = live_calm (staged h s) hs (becomes_calm front h.kind h.stage m s calm v) ∙ sym (live_calm h hs calm)
+becomes_front front h hs m s false calm v = live_calm (staged h s) hs (becomes_calm front h.kind h.stage m s calm v)
+    ∙ sym (live_calm h hs calm)
 
-closes_front : (front : Bool) (h : Held) (hs : List Held) (m : Mark) (b : Bool) → is_failed h.stage ≡ b → judged front h.kind h.stage m ≡ Closes
+closes_front : (front : Bool) (h : Held) (hs : List Held) (m : Mark) (b : Bool) → is_failed h.stage ≡ b
+    → judged front h.kind h.stage m ≡ Closes
     → Fronted front (live_kinds (h ∷ hs)) (live_kinds hs) Effect.Quiet
 closes_front front h hs m true failed v = sym (live_failed h hs failed)
 closes_front front h hs m false calm v = absurd (no_closes front h.kind h.stage m calm v)
 
-counts_front : (front : Bool) (h : Held) (hs : List Held) (m : Mark) (given : Option Point) (b : Bool) → is_failed h.stage ≡ b → judged front h.kind h.stage m ≡ Counts given
+counts_front : (front : Bool) (h : Held) (hs : List Held) (m : Mark) (given : Option Point) (b : Bool) → is_failed h.stage ≡ b
+    → judged front h.kind h.stage m ≡ Counts given
     → Fronted front (live_kinds (h ∷ hs)) (live_kinds hs) (Effect.Count h.kind given)
-counts_front front h hs m given true failed v = absurd (never_counts front h.kind m given (ap (λ (x : Stage). judged front h.kind x m) (sym (is_failed-true h.stage failed)) ∙ v))
-counts_front true h hs m given false calm v = (refl, live_calm h hs calm, λ none. counts_given h.kind h.stage m (v ∙ ap (λ (o : Option Point). Counts o) none))
+counts_front front h hs m given true failed v = absurd (never_counts front h.kind m given
+    (ap (λ (x : Stage). judged front h.kind x m) (sym (is_failed-true h.stage failed)) ∙ v))
+counts_front true h hs m given false calm v = (refl, live_calm h hs calm,
+    λ none. counts_given h.kind h.stage m (v ∙ ap (λ (o : Option Point). Counts o) none))
 counts_front false h hs m given false calm v = absurd (no_counts h.kind h.stage m given v)
 
 -- the mark stands behind it
-past_front : (front : Bool) (h : Held) (hs rest : List Held) (e : Effect) (b : Bool) → is_failed h.stage ≡ b → Fronted (front && b) (live_kinds hs) (live_kinds rest) e
+past_front : (front : Bool) (h : Held) (hs rest : List Held) (e : Effect) (b : Bool) → is_failed h.stage ≡ b
+    → Fronted (front && b) (live_kinds hs) (live_kinds rest) e
     → Fronted front (live_kinds (h ∷ hs)) (live_kinds (h ∷ rest)) e
 past_front front h hs rest e true failed later =
     subst (λ (f : Bool). Fronted f (live_kinds (h ∷ hs)) (live_kinds (h ∷ rest)) e) (and-true front)
@@ -67,14 +75,16 @@ past_front front h hs rest e false calm later =
     looser front (live_kinds (h ∷ hs)) (live_kinds (h ∷ rest)) e
     (subst (λ (ks : List Kind). Fronted false ks (live_kinds (h ∷ rest)) e) (sym (live_calm h hs calm))
     (subst (λ (ls : List Kind). Fronted false (h.kind ∷ live_kinds hs) ls e) (sym (live_calm h rest calm))
-    (behind_one h.kind (live_kinds hs) (live_kinds rest) e (subst (λ (f : Bool). Fronted f (live_kinds hs) (live_kinds rest) e) (and_false front) later))))
+    (behind_one h.kind (live_kinds hs) (live_kinds rest) e (subst (λ (f : Bool). Fronted f (live_kinds hs) (live_kinds rest) e)
+        (and_false front) later))))
   where
     looser : (f : Bool) (ks ls : List Kind) (x : Effect) → Fronted false ks ls x → Fronted f ks ls x
     looser f ks ls Effect.Quiet g = g
     looser f ks ls Effect.Failure g = tt
     looser f ks ls (Effect.Count k given) g = absurd (false≢true g.0)
 
-pub fronted : (front : Bool) (hs : List Held) (t : Tag) (m : Mark) (gs : List Held) (e : Effect) → heard_in front hs t m ≡ two gs e → Fronted front (live_kinds hs) (live_kinds gs) e
+pub fronted : (front : Bool) (hs : List Held) (t : Tag) (m : Mark) (gs : List Held) (e : Effect) → heard_in front hs t m ≡ two gs e
+    → Fronted front (live_kinds hs) (live_kinds gs) e
 fronted front [] t m gs e is = absurd (cc)
 fronted front (h ∷ hs) t m gs e is =
     heard_cases front h hs t m gs e (Fronted front (live_kinds (h ∷ hs)) (live_kinds gs) e) is
@@ -82,7 +92,8 @@ fronted front (h ∷ hs) t m gs e is =
     (λ same v g f. rw f tt)
     (λ same v g f. rw (g, f) (closes_front front h hs m (is_failed h.stage) refl v))
     (λ given same v g f. rw (g, f) (counts_front front h hs m given (is_failed h.stage) refl v))
-    (λ rest other later g. rw g (past_front front h hs rest e (is_failed h.stage) refl (fronted (front && is_failed h.stage) hs t m rest e later)))
+    (λ rest other later g. rw g (past_front front h hs rest e (is_failed h.stage) refl
+        (fronted (front && is_failed h.stage) hs t m rest e later)))
 
 -- where none is open, none is left that has not failed
 pub none_live : (hs : List Held) → count_open hs ≡ 0 → live_kinds hs ≡ []
@@ -90,14 +101,19 @@ none_live [] e = refl
 none_live (h ∷ hs) e = go (is_failed h.stage) refl (none_live hs)
   where
     go : (b : Bool) → is_failed h.stage ≡ b → (count_open hs ≡ 0 → live_kinds hs ≡ []) → live_kinds (h ∷ hs) ≡ []
-    go true failed others = live_failed h hs failed ∙ others (sym (if_true {A = ℕ} (is_failed h.stage) (count_open hs) (suc (count_open hs)) failed) ∙ e)
-    go false calm others = let more : suc (count_open hs) ≡ 0 = sym (if_false {A = ℕ} (is_failed h.stage) (count_open hs) (suc (count_open hs)) calm) ∙ e in absurd (cc)
+    go true failed others = live_failed h hs failed ∙ others (sym
+        (if_true {A = ℕ} (is_failed h.stage) (count_open hs) (suc (count_open hs)) failed) ∙ e)
+    go false calm others = let more : suc (count_open hs) ≡ 0 =
+        sym (if_false {A = ℕ} (is_failed h.stage) (count_open hs) (suc (count_open hs)) calm) ∙ e in absurd (cc)
 
 -- a command that was just sent is the last of them
 pub live_more : (hs : List Held) (x : Held) → is_failed x.stage ≡ false → live_kinds (hs ++ x ∷ []) ≡ live_kinds hs ++ x.kind ∷ []
 live_more [] x calm = live_calm x [] calm
 live_more (h ∷ hs) x calm = go (is_failed h.stage) refl (live_more hs x calm)
   where
-    go : (b : Bool) → is_failed h.stage ≡ b → live_kinds (hs ++ x ∷ []) ≡ live_kinds hs ++ x.kind ∷ [] → live_kinds (h ∷ (hs ++ x ∷ [])) ≡ live_kinds (h ∷ hs) ++ x.kind ∷ []
-    go true failed others = live_failed h (hs ++ x ∷ []) failed ∙ (others ∙ ap (λ (l : List Kind). l ++ x.kind ∷ []) (sym (live_failed h hs failed)))
-    go false live others = live_calm h (hs ++ x ∷ []) live ∙ (ap (λ (l : List Kind). h.kind ∷ l) others ∙ ap (λ (l : List Kind). l ++ x.kind ∷ []) (sym (live_calm h hs live)))
+    go : (b : Bool) → is_failed h.stage ≡ b → live_kinds (hs ++ x ∷ []) ≡ live_kinds hs ++ x.kind ∷ []
+        → live_kinds (h ∷ (hs ++ x ∷ [])) ≡ live_kinds (h ∷ hs) ++ x.kind ∷ []
+    go true failed others = live_failed h (hs ++ x ∷ []) failed
+        ∙ (others ∙ ap (λ (l : List Kind). l ++ x.kind ∷ []) (sym (live_failed h hs failed)))
+    go false live others = live_calm h (hs ++ x ∷ []) live ∙ (ap (λ (l : List Kind). h.kind ∷ l) others
+        ∙ ap (λ (l : List Kind). l ++ x.kind ∷ []) (sym (live_calm h hs live)))

@@ -1,5 +1,6 @@
 -- A feature joins the others as the next that the program wants.
-use Rattle.std.proofs.Common.{◌≡◌, ◌≤◌, ◌<◌, ◌++◌, ◌∷◌, [], ℕ, List, length, refl, sym, ap, suc, Option, Some, None, take, arith, slice_index_or, nat_le, drop, zero, ◌∙◌, Bool, true, false, ◌&&◌}
+use Rattle.std.proofs.Common.{◌≡◌, ◌≤◌, ◌<◌, ◌++◌, ◌∷◌, [], ℕ, List, length, refl, sym, ap, suc, Option, Some, None, take, arith,
+  slice_index_or, nat_le, drop, zero, ◌∙◌, Bool, true, false, ◌&&◌}
 use Rattle.std.proofs.Math.Seq.{take-append_seam}
 use Rattle.std.proofs.Math.Dec.{leb-suc-zero, leb-suc-suc}
 use Rattle.std.proofs.lemmas.Bool.{le-leb}
@@ -15,7 +16,8 @@ use Rattle.std.specs.Option.{is_some}
 use Rattle.dme_line.specs.declared.commands.Command.{Command}
 use Rattle.protocol_model.specs.declared.plans.Planned.{Planned}
 
-pub joins : (ws : List Wanted) (fs : List Feature) (w : Wanted) (points : List Point) → length fs < length ws → w ≡ slice_index_or ws (length fs) w
+pub joins : (ws : List Wanted) (fs : List Feature) (w : Wanted) (points : List Point) → length fs < length ws
+    → w ≡ slice_index_or ws (length fs) w
     → joined ws fs points ≡ fs ++ record { label = w.label; points = points } ∷ []
 joins [] fs w points short is = absurd (omega (arith, short))
 joins (v ∷ ws) [] w points short is = ap (λ (x : Wanted). record { label = x.label; points = points } ∷ []) (sym is)
@@ -27,21 +29,25 @@ joins_none (v ∷ ws) [] points long = absurd (omega (arith, long))
 joins_none (v ∷ ws) (f ∷ fs) points long = ap (λ (xs : List Feature). f ∷ xs) (joins_none ws fs points (omega (arith, long)))
 
 -- a feature that is given back still has the points of the unfinished one in front
-pub front_within : (points whole : List Point) (p : Point) (given made : Feature) → given ≡ made → made.points ≡ whole → whole ≡ points ++ p ∷ []
+pub front_within : (points whole : List Point) (p : Point) (given made : Feature) → given ≡ made → made.points ≡ whole
+    → whole ≡ points ++ p ∷ []
     → length points ≤ length given.points
 front_within points whole p given made same is more =
     rw (ap (λ (f : Feature). f.points) same, is, more, length-append points (p ∷ [])) (omega arith)
 
-pub front_kept : (points whole : List Point) (p : Point) (given made : Feature) → given ≡ made → made.points ≡ whole → whole ≡ points ++ p ∷ []
+pub front_kept : (points whole : List Point) (p : Point) (given made : Feature) → given ≡ made → made.points ≡ whole
+    → whole ≡ points ++ p ∷ []
     → take (length points) given.points ≡ points
 front_kept points whole p given made same is more =
     rw (ap (λ (f : Feature). f.points) same, is, more) (take-append_seam points (p ∷ []))
 
 -- no more features than the program wants
-pub joined_within : (ws : List Wanted) (fs : List Feature) (points : List Point) → length fs ≤ length ws → length (joined ws fs points) ≤ length ws
+pub joined_within : (ws : List Wanted) (fs : List Feature) (points : List Point) → length fs ≤ length ws
+    → length (joined ws fs points) ≤ length ws
 joined_within [] fs points short = short
 joined_within (v ∷ ws) [] points short = omega arith
-joined_within (v ∷ ws) (f ∷ fs) points short = let less : length (joined ws fs points) ≤ length ws = joined_within ws fs points (omega (arith, short)) in omega (arith, less)
+joined_within (v ∷ ws) (f ∷ fs) points short = let less : length (joined ws fs points) ≤ length ws =
+    joined_within ws fs points (omega (arith, short)) in omega (arith, less)
 
 -- behind the first n nothing is left where there are no more
 pub nothing_behind : {A : Type 0} (n : ℕ) (xs : List A) → nat_le (length xs) n ≡ is_empty (drop n xs)
@@ -58,7 +64,8 @@ second false b is = absurd (cc is)
 pub ours_within : (ws : List Wanted) (fs : List Feature) → are_ours ws fs ≡ true → length fs ≤ length ws
 ours_within ws [] is = omega arith
 ours_within [] (f ∷ fs) is = absurd (cc is)
-ours_within (w ∷ ws) (f ∷ fs) is = let less : length fs ≤ length ws = ours_within ws fs (second (is_ours w f) (are_ours ws fs) is) in omega (arith, less)
+ours_within (w ∷ ws) (f ∷ fs) is = let less : length fs ≤ length ws = ours_within ws fs (second (is_ours w f) (are_ours ws fs) is)
+    in omega (arith, less)
 
 -- a planned command is due where its command is
 pub is_due : (o : Option Planned) (c : Command) → command_of o ≡ Some c → true ≡ is_some o

@@ -10,8 +10,10 @@ use Rattle.dme_line.proofs.OneResponse.{one_response_reading}
 use Rattle.dme_line.proofs.PointLemmas.{one_point_reading}
 use Rattle.protocol_model.specs.Lines.{Readers, AreReaders}
 
-pub one_point : (text : List ℕ) (r : Result Point NotPoint) (readers : Readers) → ReadsPoint text r → AreReaders readers → readers.point text ≡ r
+pub one_point : (text : List ℕ) (r : Result Point NotPoint) (readers : Readers) → ReadsPoint text r → AreReaders readers
+    → readers.point text ≡ r
 one_point text r readers read are = one_point_reading text (readers.point text) r (are.point text) read
 
-pub one_response : (line : List ℕ) (r : Result Response NotResponse) (readers : Readers) → ReadsResponse line r → AreReaders readers → readers.response line ≡ r
+pub one_response : (line : List ℕ) (r : Result Response NotResponse) (readers : Readers) → ReadsResponse line r → AreReaders readers
+    → readers.response line ≡ r
 one_response line r readers read are = one_response_reading line (readers.response line) r (are.response line) read

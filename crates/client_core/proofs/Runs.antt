@@ -1,5 +1,7 @@
 -- What a client holds and counts behind every list of calls.
-use Rattle.std.proofs.Common.{◌≡◌, ℕ, suc, ◌+◌, ◌≤◌, Bool, true, false, cond, ◌||◌, not, is_some, if◌then◌else◌, List, [], ◌∷◌, ◌++◌, length, take, refl, sym, ◌∙◌, ap, subst, arith, append_assoc, append-nil, length-append, Option, Some, None, Result, Ok, Err, eqb, eqb-true, le_refl}
+use Rattle.std.proofs.Common.{◌≡◌, ℕ, suc, ◌+◌, ◌≤◌, Bool, true, false, cond, ◌||◌, not, is_some, if◌then◌else◌, List, [], ◌∷◌, ◌++◌,
+  length, take, refl, sym, ◌∙◌, ap, subst, arith, append_assoc, append-nil, length-append, Option, Some, None, Result, Ok, Err, eqb,
+  eqb-true, le_refl}
 use Rattle.std.proofs.Math.Seq.{take-append_seam}
 use Rattle.std.proofs.lemmas.Bool.{false≢true}
 use Rattle.fixed_um.specs.declared.lengths.Point.{Point}
@@ -22,7 +24,10 @@ use Rattle.dmis_program.specs.declared.features.Wanted.{Wanted}
 use Rattle.protocol_model.specs.Replies.{Mark, tag_is}
 use Rattle.protocol_model.specs.Lines.{Readers}
 use Rattle.protocol_model.specs.Open.{Effect, Heard as Heardings, heard_in, asks_data, count_open}
-use Rattle.protocol_model.specs.Client.{Client, Table, Tally, act_of, measured, counted_next, begins_session, tallied, heard, heard_on, faulted, new_client, client_connected, is_running, first_due, due, held_now, sends_next, next_number, sends_abort, may_abort, first_state, last_state, state_behind, is_whole, ends_abort, client_hears, client_read, may_resume, client_resumed, client_left, left_state, client_restarted}
+use Rattle.protocol_model.specs.Client.{Client, Table, Tally, act_of, measured, counted_next, begins_session, tallied, heard, heard_on,
+  faulted, new_client, client_connected, is_running, first_due, due, held_now, sends_next, next_number, sends_abort, may_abort, first_state,
+  last_state, state_behind, is_whole, ends_abort, client_hears, client_read, may_resume, client_resumed, client_left, left_state,
+  client_restarted}
 use Rattle.protocol_model.specs.Ends.{ClientEnd, new_client_end, held_under, given_point, given_under, response_read, line_read, front_read}
 use Rattle.protocol_model.specs.Plan.{plan}
 use Rattle.protocol_model.specs.PlanReading.{end_of, ends_of}
@@ -41,8 +46,11 @@ use Rattle.protocol_model.proofs.plan.Fitting.{unknown}
 use Rattle.protocol_model.proofs.table.Counts.{count_keeps}
 use Rattle.protocol_model.proofs.table.Replying.{fine, step_cases}
 use Rattle.protocol_model.proofs.invariant.Touching.{Keeps, measured_keeps}
-use Rattle.protocol_model.proofs.undisturbed.Following.{is_touch, AreAsked, IsAsked, fits_asked, asked_at, acts_join, act_stands, planned_more, kinds_of}
-use Rattle.client_core.specs.Calls.{Call, Connected, Send, Feed, ReadOne, Abort, Resume, Leave, Restart, Sent, possible, done_by, behind_call, behind_calls, Begun, start_behind, acts_of_fronts, Plans, first_plan, plans_by, plans_behind, client_behind, plans_begun, is_last, features_ended, AreCounted, next_kind, kind_counted, counted_by}
+use Rattle.protocol_model.proofs.undisturbed.Following.{is_touch, AreAsked, IsAsked, fits_asked, asked_at, acts_join, act_stands,
+  planned_more, kinds_of}
+use Rattle.client_core.specs.Calls.{Call, Connected, Send, Feed, ReadOne, Abort, Resume, Leave, Restart, Sent, possible, done_by,
+  behind_call, behind_calls, Begun, start_behind, acts_of_fronts, Plans, first_plan, plans_by, plans_behind, client_behind, plans_begun,
+  is_last, features_ended, AreCounted, next_kind, kind_counted, counted_by}
 use Rattle.client_core.specs.Clients.{are_ours, may_read}
 use Rattle.client_core.proofs.Fits.{Fits, both, fits_ours, plan_fits_features, joined_more, point_fits, last_fits, fewer_are_ours}
 use Rattle.client_core.proofs.Fronts.{live_kinds, Fronted, fronted, none_live, live_more}
@@ -72,7 +80,8 @@ abbrev other_kinds : List Kind → List Kind
 other_kinds [] = []
 other_kinds (k ∷ ks) = ks
 
-measured_completed : (ws : List Wanted) (does : Does) (given : Option Point) (y : Tally) → (measured ws does given y).completed ≡ y.completed
+measured_completed : (ws : List Wanted) (does : Does) (given : Option Point) (y : Tally)
+    → (measured ws does given y).completed ≡ y.completed
 measured_completed ws (Does.Touches t false) (Some p) y = refl
 measured_completed ws (Does.Touches t true) (Some p) y = refl
 measured_completed ws (Does.Touches t last) None y = refl
@@ -82,12 +91,15 @@ measured_completed ws (Does.Moves p f) given y = refl
 measured_completed ws (Does.Changes n) given y = refl
 measured_completed ws (Does.Frames f) given y = refl
 
-measured_fits : (p : Meaning) → IsProgram p → (does : Does) (given : Option Point) (y : Tally) (rest : List Planned) → (given ≡ None → is_touch does ≡ true → ⊥)
+measured_fits : (p : Meaning) → IsProgram p → (does : Does) (given : Option Point) (y : Tally) (rest : List Planned)
+    → (given ≡ None → is_touch does ≡ true → ⊥)
     → Fits p.features y.features (length y.points) (end_of does ++ ends_of rest)
     → Fits p.features (measured p.features does given y).features (length (measured p.features does given y).points) (ends_of rest)
 measured_fits p program (Does.Touches t false) (Some q) y rest has h =
-    subst (λ (n : ℕ). Fits p.features y.features n (ends_of rest)) (omega (arith, length-append y.points (q ∷ []))) (point_fits p.features y.features (length y.points) (ends_of rest) h)
-measured_fits p program (Does.Touches t true) (Some q) y rest has h = last_fits p.features y.features y.points q (ends_of rest) (IsProgram.features program) h
+    subst (λ (n : ℕ). Fits p.features y.features n (ends_of rest)) (omega (arith, length-append y.points (q ∷ [])))
+        (point_fits p.features y.features (length y.points) (ends_of rest) h)
+measured_fits p program (Does.Touches t true) (Some q) y rest has h =
+    last_fits p.features y.features y.points q (ends_of rest) (IsProgram.features program) h
 measured_fits p program (Does.Touches t last) None y rest has h = absurd (has refl refl)
 measured_fits p program Does.Nothing given y rest has h = h
 measured_fits p program Does.Homes given y rest has h = h
@@ -100,15 +112,18 @@ ended_more [] q = omega (arith)
 ended_more (p ∷ ps) q = go (is_last p.does) (ended_more ps q)
   where
     go : (b : Bool) → features_ended (ps ++ q ∷ []) ≡ features_ended ps + features_ended (q ∷ [])
-        → cond b (suc (features_ended (ps ++ q ∷ []))) (features_ended (ps ++ q ∷ [])) ≡ cond b (suc (features_ended ps)) (features_ended ps) + features_ended (q ∷ [])
+        → cond b (suc (features_ended (ps ++ q ∷ []))) (features_ended (ps ++ q ∷ []))
+        ≡ cond b (suc (features_ended ps)) (features_ended ps) + features_ended (q ∷ [])
     go true e = omega (arith, e)
     go false e = e
 
-measured_joins : (p : Meaning) (does : Does) (given : Option Point) (y : Tally) (rest : List Planned) → (given ≡ None → is_touch does ≡ true → ⊥)
+measured_joins : (p : Meaning) (does : Does) (given : Option Point) (y : Tally) (rest : List Planned)
+    → (given ≡ None → is_touch does ≡ true → ⊥)
     → Fits p.features y.features (length y.points) (end_of does ++ ends_of rest)
     → length (measured p.features does given y).features ≡ length y.features + cond (is_last does) 1 0
 measured_joins p (Does.Touches t false) (Some q) y rest has h = omega (arith)
-measured_joins p (Does.Touches t true) (Some q) y rest has h = let more = joined_more p.features y.features (length y.points) (y.points ++ q ∷ []) (ends_of rest) h in omega (arith, more)
+measured_joins p (Does.Touches t true) (Some q) y rest has h = let more =
+    joined_more p.features y.features (length y.points) (y.points ++ q ∷ []) (ends_of rest) h in omega (arith, more)
 measured_joins p (Does.Touches t last) None y rest has h = absurd (has refl refl)
 measured_joins p Does.Nothing given y rest has h = omega (arith)
 measured_joins p Does.Homes given y rest has h = omega (arith)
@@ -116,13 +131,17 @@ measured_joins p (Does.Moves q f) given y rest has h = omega (arith)
 measured_joins p (Does.Changes n) given y rest has h = omega (arith)
 measured_joins p (Does.Frames f) given y rest has h = omega (arith)
 
-joins_on : (b : Bool) (now before features ended longer : ℕ) → now ≡ before + cond b 1 0 → longer ≡ ended + cond b 1 0 → before ≡ features + ended → now ≡ features + longer
+joins_on : (b : Bool) (now before features ended longer : ℕ) → now ≡ before + cond b 1 0 → longer ≡ ended + cond b 1 0
+    → before ≡ features + ended → now ≡ features + longer
 joins_on true now before features ended longer e f g = omega (arith, e, f, g)
 joins_on false now before features ended longer e f g = omega (arith, e, f, g)
 
-counts_on : (p : Meaning) → IsProgram p → (y : Tally) (gs : List Held) (kind : Kind) (given : Option Point) (todo finished unsent : List Planned) (features : ℕ) (earlier : List Begun)
-    → finished ++ todo ≡ plan p features (start_behind earlier) → length finished ≡ y.completed → AreActs y.counted (acts_of_fronts p earlier ++ acts_planned finished)
-    → Fits p.features y.features (length y.points) (ends_of todo) → length y.features ≡ features + features_ended finished → kind ∷ (live_kinds gs ++ kinds_of unsent) ≡ kinds_of todo → (given ≡ None → asks_data kind ≡ false)
+counts_on : (p : Meaning) → IsProgram p → (y : Tally) (gs : List Held) (kind : Kind) (given : Option Point)
+    (todo finished unsent : List Planned) (features : ℕ) (earlier : List Begun)
+    → finished ++ todo ≡ plan p features (start_behind earlier) → length finished ≡ y.completed
+    → AreActs y.counted (acts_of_fronts p earlier ++ acts_planned finished)
+    → Fits p.features y.features (length y.points) (ends_of todo) → length y.features ≡ features + features_ended finished
+    → kind ∷ (live_kinds gs ++ kinds_of unsent) ≡ kinds_of todo → (given ≡ None → asks_data kind ≡ false)
     → IsOnPlan p gs (counted_next p.features kind given todo y) unsent features earlier
 counts_on p program y gs kind given [] finished unsent features earlier parts many acts fits joined kinds given_one = absurd (no kinds)
   where
@@ -132,23 +151,30 @@ counts_on p program y gs kind given (q ∷ rest) finished unsent features earlie
     let same : kind_of q.command ≡ kind = sym (ap (λ (l : List Kind). first_kind l kind) kinds) in
     let others : live_kinds gs ++ kinds_of unsent ≡ kinds_of rest = ap other_kinds kinds in
     let one : IsAsked q = asked_at finished q rest (subst AreAsked (sym parts) (plan_asked p features (start_behind earlier) program)) in
-    let has : given ≡ None → is_touch q.does ≡ true → ⊥ = λ none touch. false≢true (sym (given_one none) ∙ (ap asks_data (sym same) ∙ one touch)) in
-    let mid : Tally = record y { session = y.session || begins_session kind; todo = rest; counted = y.counted ++ act_of q.does given; completed = suc y.completed } in
+    let has : given ≡ None → is_touch q.does ≡ true → ⊥ = λ none touch. false≢true (sym (given_one none)
+        ∙ (ap asks_data (sym same) ∙ one touch)) in
+    let mid : Tally = record y { session = y.session || begins_session kind; todo = rest; counted = y.counted ++ act_of q.does given;
+        completed = suc y.completed } in
     let keeps : Keeps mid (measured p.features q.does given mid) = measured_keeps p.features q.does given mid in
     let stands : AreActs (y.counted ++ act_of q.does given) ((acts_of_fronts p earlier ++ acts_planned finished) ++ act_in q.does) =
-    acts_join y.counted (act_of q.does given) (acts_of_fronts p earlier ++ acts_planned finished) (act_in q.does) acts (act_stands q.does given has) in
-    let longer : (acts_of_fronts p earlier ++ acts_planned finished) ++ act_in q.does ≡ acts_of_fronts p earlier ++ acts_planned (finished ++ q ∷ []) =
+    acts_join y.counted (act_of q.does given) (acts_of_fronts p earlier ++ acts_planned finished) (act_in q.does) acts
+        (act_stands q.does given has) in
+    let longer : (acts_of_fronts p earlier ++ acts_planned finished) ++ act_in q.does ≡ acts_of_fronts p earlier
+        ++ acts_planned (finished ++ q ∷ []) =
     append_assoc (acts_of_fronts p earlier) (acts_planned finished) (act_in q.does)
-    ∙ ap (λ (l : List Does). acts_of_fronts p earlier ++ l) (ap (λ (l : List Does). acts_planned finished ++ l) (sym (append-nil (act_in q.does))) ∙ sym (planned_more finished (q ∷ []))) in
+    ∙ ap (λ (l : List Does). acts_of_fronts p earlier ++ l) (ap (λ (l : List Does). acts_planned finished ++ l)
+    (sym (append-nil (act_in q.does))) ∙ sym (planned_more finished (q ∷ []))) in
     record {
       finished = finished ++ q ∷ [];
       parts = ap (λ (l : List Planned). (finished ++ q ∷ []) ++ l) keeps.todo ∙ (append_assoc finished (q ∷ []) rest ∙ parts);
       many = length-append finished (q ∷ []) ∙ (omega (arith, many) ∙ sym (measured_completed p.features q.does given mid));
       acts = subst (λ (l : List Act). AreActs l (acts_of_fronts p earlier ++ acts_planned (finished ++ q ∷ []))) (sym keeps.counted)
           (subst (λ (l : List Does). AreActs (y.counted ++ act_of q.does given) l) longer stands);
-      fits = subst (λ (l : List Planned). Fits p.features (measured p.features q.does given mid).features (length (measured p.features q.does given mid).points) (ends_of l)) (sym keeps.todo)
+      fits = subst (λ (l : List Planned). Fits p.features (measured p.features q.does given mid).features
+          (length (measured p.features q.does given mid).points) (ends_of l)) (sym keeps.todo)
           (measured_fits p program q.does given mid rest has fits);
-      joined = joins_on (is_last q.does) _ (length y.features) features (features_ended finished) (features_ended (finished ++ q ∷ [])) (measured_joins p q.does given mid rest has fits) (ended_more finished q) joined;
+      joined = joins_on (is_last q.does) _ (length y.features) features (features_ended finished) (features_ended (finished ++ q ∷ []))
+          (measured_joins p q.does given mid rest has fits) (ended_more finished q) joined;
       calm = λ e. others ∙ ap kinds_of (sym keeps.todo);
     }
 
@@ -158,12 +184,16 @@ not_true : (b : Bool) → not b ≡ true → b ≡ false
 not_true true e = absurd (false≢true e)
 not_true false e = refl
 
-effect_on : (p : Meaning) → IsProgram p → (hs gs : List Held) (y : Tally) (unsent : List Planned) (features : ℕ) (earlier : List Begun) (e : Effect)
-    → IsOnPlan p hs y unsent features earlier → Fronted (not y.failed) (live_kinds hs) (live_kinds gs) e → IsOnPlan p gs (tallied p.features e y) unsent features earlier
+effect_on : (p : Meaning) → IsProgram p → (hs gs : List Held) (y : Tally) (unsent : List Planned) (features : ℕ) (earlier : List Begun)
+    (e : Effect)
+    → IsOnPlan p hs y unsent features earlier → Fronted (not y.failed) (live_kinds hs) (live_kinds gs) e
+    → IsOnPlan p gs (tallied p.features e y) unsent features earlier
 effect_on p program hs gs y unsent features earlier Effect.Quiet f h =
-    record { finished = f.finished; parts = f.parts; many = f.many; acts = f.acts; fits = f.fits; joined = f.joined; calm = λ still. ap (λ (l : List Kind). l ++ kinds_of unsent) h ∙ f.calm still }
+    record { finished = f.finished; parts = f.parts; many = f.many; acts = f.acts; fits = f.fits; joined = f.joined;
+        calm = λ still. ap (λ (l : List Kind). l ++ kinds_of unsent) h ∙ f.calm still }
 effect_on p program hs gs y unsent features earlier Effect.Failure f h =
-    record { finished = f.finished; parts = f.parts; many = f.many; acts = f.acts; fits = f.fits; joined = f.joined; calm = λ still. absurd (false≢true (sym still)) }
+    record { finished = f.finished; parts = f.parts; many = f.many; acts = f.acts; fits = f.fits; joined = f.joined;
+        calm = λ still. absurd (false≢true (sym still)) }
 effect_on p program hs gs y unsent features earlier (Effect.Count kind given) f h =
     counts_on p program y gs kind given y.todo f.finished unsent features earlier f.parts f.many f.acts f.fits f.joined
     (ap (λ (l : List Kind). l ++ kinds_of unsent) (sym h.1) ∙ f.calm (not_true y.failed h.0)) h.2
@@ -175,17 +205,21 @@ record Heard (p : Meaning) (b c : Table) (unsent : List Planned) (features : ℕ
   plan_is : OnPlan p c unsent features earlier
   fewer : count_open c.standard ≤ count_open b.standard
 
-heard_on_plan : (p : Meaning) → IsProgram p → (b c : Table) (t : Tag) (m : Mark) (unsent : List Planned) (features : ℕ) (earlier : List Begun) → heard p.features b t m ≡ fine c
+heard_on_plan : (p : Meaning) → IsProgram p → (b c : Table) (t : Tag) (m : Mark) (unsent : List Planned) (features : ℕ)
+    (earlier : List Begun) → heard p.features b t m ≡ fine c
     → OnPlan p b unsent features earlier → Heard p b c unsent features earlier
 heard_on_plan p program b c t m unsent features earlier is f =
     step_cases p.features b t m c (Heard p b c unsent features earlier) is
-    (λ zero_tag same. subst (λ (x : Table). Heard p b x unsent features earlier) same (record { plan_is = f; fewer = le_refl (count_open b.standard) }))
+    (λ zero_tag same. subst (λ (x : Table). Heard p b x unsent features earlier) same
+        (record { plan_is = f; fewer = le_refl (count_open b.standard) }))
     (λ n hs e sort here after. subst (λ (x : Table). Heard p b x unsent features earlier) (sym after)
     (record {
-      plan_is = effect_on p program b.standard hs b.tally unsent features earlier e f (fronted (not b.tally.failed) b.standard (tag.Std n) m hs e here);
+      plan_is = effect_on p program b.standard hs b.tally unsent features earlier e f
+          (fronted (not b.tally.failed) b.standard (tag.Std n) m hs e here);
       fewer = count_keeps (not b.tally.failed) b.standard (tag.Std n) m hs e here;
     }))
-    (λ n hs e sort other here after. subst (λ (x : Table). Heard p b x unsent features earlier) (sym after) (record { plan_is = f; fewer = le_refl (count_open b.standard) }))
+    (λ n hs e sort other here after. subst (λ (x : Table). Heard p b x unsent features earlier) (sym after)
+        (record { plan_is = f; fewer = le_refl (count_open b.standard) }))
 
 -- ---- states
 
@@ -202,7 +236,8 @@ Rests State.Faulted hs = Unit {0}
 failing_rests : (b : Table) → Rests (last_state State.Failing (is_whole b) (count_open b.standard)) b.standard
 failing_rests b = go (is_whole b) (eqb (count_open b.standard) 0) refl
   where
-    go : (whole none : Bool) → eqb (count_open b.standard) 0 ≡ none → Rests (cond whole State.Done (cond none State.Halted State.Failing)) b.standard
+    go : (whole none : Bool) → eqb (count_open b.standard) 0 ≡ none
+        → Rests (cond whole State.Done (cond none State.Halted State.Failing)) b.standard
     go true none e = tt
     go false true e = eqb-true (count_open b.standard) 0 e
     go false false e = tt
@@ -214,7 +249,8 @@ running_rests b = go (is_whole b)
     go true = tt
     go false = tt
 
-behind_rests : (state : State) (ends : Bool) (b : Table) (hs : List Held) → Rests state hs → count_open b.standard ≤ count_open hs → Rests (state_behind state ends b) b.standard
+behind_rests : (state : State) (ends : Bool) (b : Table) (hs : List Held) → Rests state hs → count_open b.standard ≤ count_open hs
+    → Rests (state_behind state ends b) b.standard
 behind_rests State.Apart ends b hs h le = tt
 behind_rests State.Running ends b hs h le = go b.tally.failed
   where
@@ -252,26 +288,31 @@ pub record Holds (p : Meaning) (c : Client) (plans : Plans) : Type 0 where
   pub off : c.on ≡ false → IsOff c.state
   pub rests : Rests c.state c.table.standard
 
-front_is : (p : Meaning) (y : Tally) (hs : List Held) (unsent : List Planned) (features : ℕ) (earlier : List Begun) → (f : IsOnPlan p hs y unsent features earlier)
+front_is : (p : Meaning) (y : Tally) (hs : List Held) (unsent : List Planned) (features : ℕ) (earlier : List Begun)
+    → (f : IsOnPlan p hs y unsent features earlier)
     → take y.completed (plan p features (start_behind earlier)) ≡ f.finished
 front_is p y hs unsent features earlier f =
     subst (λ (n : ℕ). take n (plan p features (start_behind earlier)) ≡ f.finished) f.many
     (ap (λ (l : List Planned). take (length f.finished) l) (sym f.parts) ∙ take-append_seam f.finished y.todo)
 
-counted_front : (p : Meaning) (y : Tally) (hs : List Held) (unsent : List Planned) (features : ℕ) (earlier : List Begun) → IsOnPlan p hs y unsent features earlier
+counted_front : (p : Meaning) (y : Tally) (hs : List Held) (unsent : List Planned) (features : ℕ) (earlier : List Begun)
+    → IsOnPlan p hs y unsent features earlier
     → AreActs y.counted (acts_of_fronts p (record { features = features; completed = y.completed } ∷ earlier))
 counted_front p y hs unsent features earlier f =
-    subst (λ (l : List Planned). AreActs y.counted (acts_of_fronts p earlier ++ acts_planned l)) (sym (front_is p y hs unsent features earlier f)) f.acts
+    subst (λ (l : List Planned). AreActs y.counted (acts_of_fronts p earlier ++ acts_planned l))
+        (sym (front_is p y hs unsent features earlier f)) f.acts
 
 -- what holds on a connection holds
-read_holds : (p : Meaning) (plans : Plans) (c : Client) → IsProgram c.program → c.program ≡ p → c.on ≡ true → (r : Reads c plans) → Rests c.state c.table.standard → Holds p c plans
+read_holds : (p : Meaning) (plans : Plans) (c : Client) → IsProgram c.program → c.program ≡ p → c.on ≡ true → (r : Reads c plans)
+    → Rests c.state c.table.standard → Holds p c plans
 read_holds p plans c program same on r rests = record {
   program = program;
   same = same;
   ours = fits_ours c.program.features c.table.tally.features (length c.table.tally.points) (ends_of c.table.tally.todo) r.fits;
   counted = record {
     acts = counted_front c.program c.table.tally c.table.standard c.unsent plans.features plans.earlier r;
-    joined = subst (λ (l : List Planned). length c.table.tally.features ≡ plans.features + features_ended l) (sym (front_is c.program c.table.tally c.table.standard c.unsent plans.features plans.earlier r)) r.joined;
+    joined = subst (λ (l : List Planned). length c.table.tally.features ≡ plans.features + features_ended l)
+        (sym (front_is c.program c.table.tally c.table.standard c.unsent plans.features plans.earlier r)) r.joined;
   };
   live = λ e. r;
   off = λ e. absurd (false≢true (sym e ∙ on));
@@ -291,46 +332,57 @@ faulted_holds p plans c cause on h = record {
 
 -- ---- what is read
 
-hears_holds : (p : Meaning) (plans : Plans) (c : Client) (t : Tag) (m : Mark) → c.on ≡ true → Holds p c plans → (r : Result Table Cause) → heard c.program.features c.table t m ≡ r → Holds p (client_hears c t m r) plans
+hears_holds : (p : Meaning) (plans : Plans) (c : Client) (t : Tag) (m : Mark) → c.on ≡ true → Holds p c plans → (r : Result Table Cause)
+    → heard c.program.features c.table t m ≡ r → Holds p (client_hears c t m r) plans
 hears_holds p plans c t m on h (Ok b) is =
     let r : Reads c plans = h.live on in
-    let now : Heard c.program c.table b c.unsent plans.features plans.earlier = heard_on_plan c.program h.program c.table b t m c.unsent plans.features plans.earlier is r in
+    let now : Heard c.program c.table b c.unsent plans.features plans.earlier =
+        heard_on_plan c.program h.program c.table b t m c.unsent plans.features plans.earlier is r in
     read_holds p plans (client_hears c t m (Ok b)) h.program h.same on now.plan_is
     (behind_rests c.state (ends_abort c.abort t m) b c.table.standard h.rests now.fewer)
 hears_holds p plans c t m on h (Err cause) is = faulted_holds p plans c cause on h
 
-reply_holds : (p : Meaning) (plans : Plans) (c : Client) (t : Tag) (m : Mark) → c.on ≡ true → Holds p c plans → Holds p (client_read c t m) plans
+reply_holds : (p : Meaning) (plans : Plans) (c : Client) (t : Tag) (m : Mark) → c.on ≡ true → Holds p c plans
+    → Holds p (client_read c t m) plans
 reply_holds p plans c t m on h = go (tag_is t (tag.Event 0)) refl
   where
     go : (b : Bool) → tag_is t (tag.Event 0) ≡ b → Holds p (cond b c (client_hears c t m (heard_on c.program.features c.table t m))) plans
     go true e = h
-    go false e = hears_holds p plans c t m on h (heard_on c.program.features c.table t m) (if_false {A = Result Table Cause} (tag_is t (tag.Event 0)) (fine c.table) (heard_on c.program.features c.table t m) e)
+    go false e = hears_holds p plans c t m on h (heard_on c.program.features c.table t m)
+        (if_false {A = Result Table Cause} (tag_is t (tag.Event 0)) (fine c.table) (heard_on c.program.features c.table t m) e)
 
 either_holds : (p : Meaning) (plans : Plans) (b : Bool) (c d : Client) → Holds p c plans → Holds p d plans → Holds p (cond b c d) plans
 either_holds p plans true c d h g = h
 either_holds p plans false c d h g = g
 
-point_holds : (p : Meaning) (plans : Plans) (c : Client) (t : Tag) (r : Result Point NotPoint) → c.on ≡ true → Holds p c plans → Holds p (given_point c t r) plans
+point_holds : (p : Meaning) (plans : Plans) (c : Client) (t : Tag) (r : Result Point NotPoint) → c.on ≡ true → Holds p c plans
+    → Holds p (given_point c t r) plans
 point_holds p plans c t (Ok q) on h = reply_holds p plans c t (Mark.Given q) on h
 point_holds p plans c t (Err why) on h = faulted_holds p plans c Cause.NotResponse on h
 
-under_holds : (readers : Readers) (p : Meaning) (plans : Plans) (c : Client) (t : Tag) (text : List ℕ) (kind : Option Kind) → c.on ≡ true → Holds p c plans → Holds p (given_under readers c t text kind) plans
+under_holds : (readers : Readers) (p : Meaning) (plans : Plans) (c : Client) (t : Tag) (text : List ℕ) (kind : Option Kind) → c.on ≡ true
+    → Holds p c plans → Holds p (given_under readers c t text kind) plans
 under_holds readers p plans c t text None on h = faulted_holds p plans c Cause.UnknownTag on h
 under_holds readers p plans c t text (Some k) on h =
-    either_holds p plans (asks_data k) (given_point c t (readers.point text)) (faulted Cause.OutOfOrder c) (point_holds p plans c t (readers.point text) on h) (faulted_holds p plans c Cause.OutOfOrder on h)
+    either_holds p plans (asks_data k) (given_point c t (readers.point text)) (faulted Cause.OutOfOrder c)
+        (point_holds p plans c t (readers.point text) on h) (faulted_holds p plans c Cause.OutOfOrder on h)
 
-response_holds : (readers : Readers) (p : Meaning) (plans : Plans) (c : Client) (t : Tag) (m : Marked) → c.on ≡ true → Holds p c plans → Holds p (response_read readers c t m) plans
+response_holds : (readers : Readers) (p : Meaning) (plans : Plans) (c : Client) (t : Tag) (m : Marked) → c.on ≡ true → Holds p c plans
+    → Holds p (response_read readers c t m) plans
 response_holds readers p plans c t mark.Ack on h = reply_holds p plans c t Mark.Ack on h
 response_holds readers p plans c t (mark.Given text) on h =
-    either_holds p plans (tag_is t (tag.Event 0)) c (given_under readers c t text (held_under t c)) h (under_holds readers p plans c t text (held_under t c) on h)
+    either_holds p plans (tag_is t (tag.Event 0)) c (given_under readers c t text (held_under t c)) h
+        (under_holds readers p plans c t text (held_under t c) on h)
 response_holds readers p plans c t mark.Done on h = reply_holds p plans c t Mark.Done on h
 response_holds readers p plans c t (mark.Error text) on h = reply_holds p plans c t Mark.Error on h
 
-line_holds : (readers : Readers) (p : Meaning) (plans : Plans) (c : Client) (r : Result Response NotResponse) → c.on ≡ true → Holds p c plans → Holds p (line_read readers c r) plans
+line_holds : (readers : Readers) (p : Meaning) (plans : Plans) (c : Client) (r : Result Response NotResponse) → c.on ≡ true
+    → Holds p c plans → Holds p (line_read readers c r) plans
 line_holds readers p plans c (Ok r) on h = response_holds readers p plans c r.tag r.mark on h
 line_holds readers p plans c (Err refused) on h = faulted_holds p plans c Cause.NotResponse on h
 
-front_holds : (readers : Readers) (p : Meaning) (plans : Plans) (c : Client) (f : Front) → c.on ≡ true → Holds p c plans → Holds p (front_read readers c f) plans
+front_holds : (readers : Readers) (p : Meaning) (plans : Plans) (c : Client) (f : Front) → c.on ≡ true → Holds p c plans
+    → Holds p (front_read readers c f) plans
 front_holds readers p plans c (Ok None) on h = h
 front_holds readers p plans c (Ok (Some (line, rest))) on h = line_holds readers p plans c (readers.response line) on h
 front_holds readers p plans c (Err framing.LineTooLong) on h = faulted_holds p plans c Cause.LineTooLong on h
@@ -357,13 +409,16 @@ running_by State.Faulted e = absurd (false≢true e)
 pub due_running : (c : Client) → is_some (due c) ≡ true → c.state ≡ State.Running
 due_running c e = go (is_running c.state) refl e
   where
-    go : (b : Bool) → is_running c.state ≡ b → is_some (cond b (first_due c.window (count_open c.table.standard) c.unsent) None) ≡ true → c.state ≡ State.Running
+    go : (b : Bool) → is_running c.state ≡ b → is_some (cond b (first_due c.window (count_open c.table.standard) c.unsent) None) ≡ true
+        → c.state ≡ State.Running
     go true r is = running_by c.state r
     go false r is = absurd (false≢true is)
 
-sends_holds : (p : Meaning) (plans : Plans) (c : Client) (l : List Planned) (number : Option ℕ) → c.unsent ≡ l → c.state ≡ State.Running → Holds p c plans → Holds p (sends_next c l number).client plans
+sends_holds : (p : Meaning) (plans : Plans) (c : Client) (l : List Planned) (number : Option ℕ) → c.unsent ≡ l → c.state ≡ State.Running
+    → Holds p c plans → Holds p (sends_next c l number).client plans
 sends_holds p plans c [] number e running h = h
-sends_holds p plans c (q ∷ qs) None e running h = faulted_holds p plans c Cause.TagsSpent (on_unless_off c (λ off. subst IsOff running (h.off off))) h
+sends_holds p plans c (q ∷ qs) None e running h = faulted_holds p plans c Cause.TagsSpent
+    (on_unless_off c (λ off. subst IsOff running (h.off off))) h
 sends_holds p plans c (q ∷ qs) (Some n) e running h =
     let on : c.on ≡ true = on_unless_off c (λ off. subst IsOff running (h.off off)) in
     let r : Reads c plans = h.live on in
@@ -376,7 +431,8 @@ sends_holds p plans c (q ∷ qs) (Some n) e running h =
       fits = r.fits;
       joined = r.joined;
       calm = λ still. ap (λ (l : List Kind). l ++ kinds_of qs) (live_more c.table.standard x refl)
-          ∙ (append_assoc (live_kinds c.table.standard) (kind_of q.command ∷ []) (kinds_of qs) ∙ (ap (λ (l : List Planned). live_kinds c.table.standard ++ kinds_of l) (sym e) ∙ r.calm still));
+          ∙ (append_assoc (live_kinds c.table.standard) (kind_of q.command ∷ []) (kinds_of qs)
+          ∙ (ap (λ (l : List Planned). live_kinds c.table.standard ++ kinds_of l) (sym e) ∙ r.calm still));
     }) (subst (λ (s : State). Rests s (c.table.standard ++ x ∷ [])) (sym running) tt)
 
 may_abort_on : (s : State) → may_abort s ≡ true → IsOff s → ⊥
@@ -388,19 +444,25 @@ may_abort_on State.Halted e off = off
 may_abort_on State.Done e off = false≢true e
 may_abort_on State.Faulted e off = off
 
-aborts_holds : (p : Meaning) (plans : Plans) (c : Client) (number : Option ℕ) → c.on ≡ true → Holds p c plans → Holds p (sends_abort c number).client plans
+aborts_holds : (p : Meaning) (plans : Plans) (c : Client) (number : Option ℕ) → c.on ≡ true → Holds p c plans
+    → Holds p (sends_abort c number).client plans
 aborts_holds p plans c None on h = faulted_holds p plans c Cause.TagsSpent on h
 aborts_holds p plans c (Some n) on h =
     let r : Reads c plans = h.live on in
-    read_holds p plans (sends_abort c (Some n)).client h.program h.same on (record { finished = r.finished; parts = r.parts; many = r.many; acts = r.acts; fits = r.fits; joined = r.joined; calm = r.calm }) tt
+    read_holds p plans (sends_abort c (Some n)).client h.program h.same on
+        (record { finished = r.finished; parts = r.parts; many = r.many; acts = r.acts; fits = r.fits; joined = r.joined; calm = r.calm })
+        tt
 
 -- ---- plans are begun
 
-begins_fit : (p : Meaning) (fs : List Feature) (start : Start) → IsProgram p → are_ours p.features fs ≡ true → Fits p.features fs 0 (ends_of (plan p (length fs) start))
+begins_fit : (p : Meaning) (fs : List Feature) (start : Start) → IsProgram p → are_ours p.features fs ≡ true
+    → Fits p.features fs 0 (ends_of (plan p (length fs) start))
 begins_fit p fs start program ours =
-    subst (λ (l : List Bool). Fits p.features fs 0 l) (sym (plan_ends_left p (length fs) start program)) (plan_fits_features p.features fs (IsProgram.features program) ours)
+    subst (λ (l : List Bool). Fits p.features fs 0 l) (sym (plan_ends_left p (length fs) start program))
+        (plan_fits_features p.features fs (IsProgram.features program) ours)
 
-connected_holds : (p : Meaning) (plans : Plans) (n : ℕ) (c : Client) → Holds p c plans → Holds p (client_connected n c) (first_plan c.table.tally.features)
+connected_holds : (p : Meaning) (plans : Plans) (n : ℕ) (c : Client) → Holds p c plans
+    → Holds p (client_connected n c) (first_plan c.table.tally.features)
 connected_holds p plans n c h =
     read_holds p (first_plan c.table.tally.features) (client_connected n c) h.program h.same refl (record {
       finished = [];
@@ -427,17 +489,21 @@ resumed_plans c plans = record {
   earlier = record { features = plans.features; completed = c.table.tally.completed } ∷ plans.earlier;
 }
 
-resumed_holds : (p : Meaning) (plans : Plans) (c : Client) → c.state ≡ State.Halted → Holds p c plans → Holds p (client_resumed c) (resumed_plans c plans)
+resumed_holds : (p : Meaning) (plans : Plans) (c : Client) → c.state ≡ State.Halted → Holds p c plans
+    → Holds p (client_resumed c) (resumed_plans c plans)
 resumed_holds p plans c halted h =
     let on : c.on ≡ true = on_unless_off c (λ off. subst IsOff halted (h.off off)) in
     let r : Reads c plans = h.live on in
-    let none : live_kinds c.table.standard ≡ [] = none_live c.table.standard (subst (λ (s : State). Rests s c.table.standard) halted h.rests) in
+    let none : live_kinds c.table.standard ≡ [] = none_live c.table.standard
+        (subst (λ (s : State). Rests s c.table.standard) halted h.rests) in
     let steps : List Planned = plan c.program (length c.table.tally.features) Start.SameConnection in
     read_holds p (resumed_plans c plans) (client_resumed c) h.program h.same on (record {
       finished = [];
       parts = refl;
       many = refl;
-      acts = subst (λ (l : List Does). AreActs c.table.tally.counted l) (sym (append-nil (acts_of_fronts c.program (record { features = plans.features; completed = c.table.tally.completed } ∷ plans.earlier))))
+      acts = subst (λ (l : List Does). AreActs c.table.tally.counted l)
+          (sym (append-nil (acts_of_fronts c.program (record { features = plans.features; completed = c.table.tally.completed }
+          ∷ plans.earlier))))
           (counted_front c.program c.table.tally c.table.standard c.unsent plans.features plans.earlier r);
       fits = begins_fit c.program c.table.tally.features Start.SameConnection h.program h.ours;
       joined = omega (arith);
@@ -475,7 +541,8 @@ left_holds p plans c h = record {
   rests = left_rests c.state c.table.standard;
 }
 
-new_holds : (p : Meaning) (fs : List Feature) (window : ℕ) → IsProgram p → are_ours p.features fs ≡ true → Holds p (new_client p fs window) (first_plan fs)
+new_holds : (p : Meaning) (fs : List Feature) (window : ℕ) → IsProgram p → are_ours p.features fs ≡ true
+    → Holds p (new_client p fs window) (first_plan fs)
 new_holds p fs window program ours = record {
   program = program;
   same = refl;
@@ -486,7 +553,8 @@ new_holds p fs window program ours = record {
   rests = tt;
 }
 
-restarted_holds : (p : Meaning) (plans : Plans) (k : ℕ) (c : Client) → Holds p c plans → Holds p (client_restarted k c) (first_plan (take k c.table.tally.features))
+restarted_holds : (p : Meaning) (plans : Plans) (k : ℕ) (c : Client) → Holds p c plans
+    → Holds p (client_restarted k c) (first_plan (take k c.table.tally.features))
 restarted_holds p plans k c h = record {
   program = h.program;
   same = h.same;
@@ -502,13 +570,16 @@ restarted_holds p plans k c h = record {
 read_on : (c : Client) → may_read c ≡ true → c.on ≡ true
 read_on c e = (both c.on _ e).0
 
-done_holds : (readers : Readers) (p : Meaning) (plans : Plans) (call : Call) (e : ClientEnd) → possible call e ≡ true → Holds p e.client plans → Holds p (done_by readers call e).client (plans_by call e plans)
+done_holds : (readers : Readers) (p : Meaning) (plans : Plans) (call : Call) (e : ClientEnd) → possible call e ≡ true
+    → Holds p e.client plans → Holds p (done_by readers call e).client (plans_by call e plans)
 done_holds readers p plans (Connected n) e may h = connected_holds p plans n e.client h
-done_holds readers p plans Send e may h = sends_holds p plans e.client e.client.unsent (next_number tag.Std e.client.table.standard e.client.drawn) refl (due_running e.client may) h
+done_holds readers p plans Send e may h = sends_holds p plans e.client e.client.unsent
+    (next_number tag.Std e.client.table.standard e.client.drawn) refl (due_running e.client may) h
 done_holds readers p plans (Feed bytes) e may h = h
 done_holds readers p plans ReadOne e may h = front_holds readers p plans e.client (next_of e.input.rest) (read_on e.client may) h
 done_holds readers p plans Abort e may h =
-    aborts_holds p plans e.client (next_number tag.Event e.client.table.event e.client.event_drawn) (on_unless_off e.client (λ off. may_abort_on e.client.state may (h.off off))) h
+    aborts_holds p plans e.client (next_number tag.Event e.client.table.event e.client.event_drawn)
+        (on_unless_off e.client (λ off. may_abort_on e.client.state may (h.off off))) h
 done_holds readers p plans Resume e may h = resumed_holds p plans e.client (resumed_state e.client e.client.state may) h
 done_holds readers p plans Leave e may h = left_holds p plans e.client h
 done_holds readers p plans (Restart k) e may h = restarted_holds p plans k e.client h
@@ -526,33 +597,42 @@ calls_hold : (readers : Readers) (p : Meaning) (plans : Plans) (calls : List Cal
     → Holds p (behind_calls readers calls e).client (plans_behind readers calls e plans)
 calls_hold readers p plans [] e h = h
 calls_hold readers p plans (call ∷ calls) e h =
-    calls_hold readers p (if possible call e then plans_by call e plans else plans) calls (behind_call readers call e) (call_holds readers p plans call e h)
+    calls_hold readers p (if possible call e then plans_by call e plans else plans) calls (behind_call readers call e)
+        (call_holds readers p plans call e h)
 
-pub behind_holds : (readers : Readers) (p : Meaning) (kept : List Feature) (window : ℕ) (calls : List Call) → IsProgram p → are_ours p.features kept ≡ true
+pub behind_holds : (readers : Readers) (p : Meaning) (kept : List Feature) (window : ℕ) (calls : List Call) → IsProgram p
+    → are_ours p.features kept ≡ true
     → Holds p (client_behind readers calls p kept window) (plans_begun readers calls p kept window)
 behind_holds readers p kept window calls program ours =
     calls_hold readers p (first_plan kept) calls (new_client_end p kept window) (new_holds p kept window program ours)
 
 -- a client keeps its program
-pub program_stays : (readers : Readers) (p : Meaning) (kept : List Feature) (window : ℕ) (calls : List Call) → IsProgram p → are_ours p.features kept ≡ true
+pub program_stays : (readers : Readers) (p : Meaning) (kept : List Feature) (window : ℕ) (calls : List Call) → IsProgram p
+    → are_ours p.features kept ≡ true
     → (client_behind readers calls p kept window).program ≡ p
 program_stays readers p kept window calls program ours =
-    let h : Holds p (client_behind readers calls p kept window) (plans_begun readers calls p kept window) = behind_holds readers p kept window calls program ours in
+    let h : Holds p (client_behind readers calls p kept window) (plans_begun readers calls p kept window) =
+        behind_holds readers p kept window calls program ours in
     h.same
 
 -- the features that a client holds are the first of its program
-pub features_are_ours : (readers : Readers) (p : Meaning) (kept : List Feature) (window : ℕ) (calls : List Call) → IsProgram p → are_ours p.features kept ≡ true
+pub features_are_ours : (readers : Readers) (p : Meaning) (kept : List Feature) (window : ℕ) (calls : List Call) → IsProgram p
+    → are_ours p.features kept ≡ true
     → are_ours p.features (client_behind readers calls p kept window).table.tally.features ≡ true
 features_are_ours readers p kept window calls program ours =
-    let h : Holds p (client_behind readers calls p kept window) (plans_begun readers calls p kept window) = behind_holds readers p kept window calls program ours in
+    let h : Holds p (client_behind readers calls p kept window) (plans_begun readers calls p kept window) =
+        behind_holds readers p kept window calls program ours in
     subst (λ (q : Meaning). are_ours q.features (client_behind readers calls p kept window).table.tally.features ≡ true) h.same h.ours
 
 -- and what it has counted is that of its plans
-pub counted_are_planned : (readers : Readers) (p : Meaning) (kept : List Feature) (window : ℕ) (calls : List Call) → IsProgram p → are_ours p.features kept ≡ true
+pub counted_are_planned : (readers : Readers) (p : Meaning) (kept : List Feature) (window : ℕ) (calls : List Call) → IsProgram p
+    → are_ours p.features kept ≡ true
     → AreCounted p (plans_begun readers calls p kept window) (client_behind readers calls p kept window).table.tally
 counted_are_planned readers p kept window calls program ours =
-    let h : Holds p (client_behind readers calls p kept window) (plans_begun readers calls p kept window) = behind_holds readers p kept window calls program ours in
-    subst (λ (q : Meaning). AreCounted q (plans_begun readers calls p kept window) (client_behind readers calls p kept window).table.tally) h.same h.counted
+    let h : Holds p (client_behind readers calls p kept window) (plans_begun readers calls p kept window) =
+        behind_holds readers p kept window calls program ours in
+    subst (λ (q : Meaning). AreCounted q (plans_begun readers calls p kept window) (client_behind readers calls p kept window).table.tally)
+        h.same h.counted
 
 -- a counted command is the next of the plan, by its kind
 first_is_next : (todo : List Planned) (k : Kind) (ks : List Kind) → k ∷ ks ≡ kinds_of todo → next_kind todo ≡ Some k
@@ -565,21 +645,28 @@ first_is_next (q ∷ todo) k ks e = ap (λ (x : Kind). Some x) (sym (ap (λ (l :
 kind_is : (k kind : Kind) → Some k ≡ Some kind → k ≡ kind
 kind_is k kind e = cc
 
-pub counted_is_next : (readers : Readers) (p : Meaning) (kept : List Feature) (window : ℕ) (calls : List Call) → IsProgram p → are_ours p.features kept ≡ true
+pub counted_is_next : (readers : Readers) (p : Meaning) (kept : List Feature) (window : ℕ) (calls : List Call) → IsProgram p
+    → are_ours p.features kept ≡ true
     → (client_behind readers calls p kept window).on ≡ true
-    → (n : ℕ) (m : Mark) (kind : Kind) → counted_by (client_behind readers calls p kept window) n m ≡ Some kind → next_kind (client_behind readers calls p kept window).table.tally.todo ≡ Some kind
+    → (n : ℕ) (m : Mark) (kind : Kind) → counted_by (client_behind readers calls p kept window) n m ≡ Some kind
+    → next_kind (client_behind readers calls p kept window).table.tally.todo ≡ Some kind
 counted_is_next readers p kept window calls program ours on n m kind is =
     let c : Client = client_behind readers calls p kept window in
     let h : Holds p c (plans_begun readers calls p kept window) = behind_holds readers p kept window calls program ours in
     let r : Reads c (plans_begun readers calls p kept window) = h.live on in
-    go c.table.standard c.table.tally c.unsent (plans_begun readers calls p kept window) c.program r (heard_in (not c.table.tally.failed) c.table.standard (tag.Std n) m) refl is
+    go c.table.standard c.table.tally c.unsent (plans_begun readers calls p kept window) c.program r
+        (heard_in (not c.table.tally.failed) c.table.standard (tag.Std n) m) refl is
   where
-    go : (hs : List Held) (y : Tally) (unsent : List Planned) (plans : Plans) (program : Meaning) → IsOnPlan program hs y unsent plans.features plans.earlier
-        → (heard : Heardings) → heard_in (not y.failed) hs (tag.Std n) m ≡ heard → kind_counted heard ≡ Some kind → next_kind y.todo ≡ Some kind
+    go : (hs : List Held) (y : Tally) (unsent : List Planned) (plans : Plans) (program : Meaning)
+        → IsOnPlan program hs y unsent plans.features plans.earlier
+        → (heard : Heardings) → heard_in (not y.failed) hs (tag.Std n) m ≡ heard → kind_counted heard ≡ Some kind
+        → next_kind y.todo ≡ Some kind
     go hs y unsent plans program r (Ok (gs, Effect.Quiet)) here e = absurd (cc)
     go hs y unsent plans program r (Ok (gs, Effect.Failure)) here e = absurd (cc)
     go hs y unsent plans program r (Ok (gs, Effect.Count k given)) here e =
-        let f : Fronted (not y.failed) (live_kinds hs) (live_kinds gs) (Effect.Count k given) = fronted (not y.failed) hs (tag.Std n) m gs (Effect.Count k given) here in
-        first_is_next y.todo k (live_kinds gs ++ kinds_of unsent) (ap (λ (l : List Kind). l ++ kinds_of unsent) (sym f.1) ∙ r.calm (not_true y.failed f.0))
+        let f : Fronted (not y.failed) (live_kinds hs) (live_kinds gs) (Effect.Count k given) =
+            fronted (not y.failed) hs (tag.Std n) m gs (Effect.Count k given) here in
+        first_is_next y.todo k (live_kinds gs ++ kinds_of unsent) (ap (λ (l : List Kind). l ++ kinds_of unsent) (sym f.1)
+            ∙ r.calm (not_true y.failed f.0))
         ∙ ap (λ (x : Kind). Some x) (kind_is k kind e)
     go hs y unsent plans program r (Err cause) here e = absurd (cc)

@@ -1,5 +1,6 @@
 -- A command that goes out under the tag that was drawn for it is what `protocol_model` sends.
-use Rattle.std.proofs.Common.{◌≡◌, ◌<◌, ℕ, suc, Bool, false, List, [], ◌∷◌, drop, slice_index_or, length, Option, Some, None, refl, ap, sym, ◌∙◌}
+use Rattle.std.proofs.Common.{◌≡◌, ◌<◌, ℕ, suc, Bool, false, List, [], ◌∷◌, drop, slice_index_or, length, Option, Some, None, refl, ap, sym,
+  ◌∙◌}
 use Rattle.std.proofs.Math.Seq.{drop-cons}
 use Rattle.std.proofs.lemmas.Option.{none-some}
 use Rattle.dme_line.specs.Kinds.{kind_of, is_event_kind}
@@ -31,10 +32,12 @@ not_drawn : (sort : ℕ → Tag) (number : Option ℕ) → tagged sort number �
 not_drawn sort None is = refl
 not_drawn sort (Some n) is = absurd (none-some _ (sym is))
 
-standard_tag : (o : Opened) (k : Kind) (answer : Option Tag) → is_event_kind k ≡ false → next_tag o k ≡ answer → tagged Std (next_number Std o.standard o.drawn) ≡ answer
+standard_tag : (o : Opened) (k : Kind) (answer : Option Tag) → is_event_kind k ≡ false → next_tag o k ≡ answer
+    → tagged Std (next_number Std o.standard o.drawn) ≡ answer
 standard_tag o k answer standard is = rw standard at is
 
-first_left : (plan : List Planned) (sent : ℕ) (p : Planned) → sent < length plan → p ≡ slice_index_or plan sent p → drop sent plan ≡ p ∷ drop (suc sent) plan
+first_left : (plan : List Planned) (sent : ℕ) (p : Planned) → sent < length plan → p ≡ slice_index_or plan sent p
+    → drop sent plan ≡ p ∷ drop (suc sent) plan
 first_left plan sent p within is = drop-cons plan sent p within ∙ ap (λ (q : Planned). q ∷ drop (suc sent) plan) (sym is)
 
 -- what is sent: the client after it, and the line
@@ -42,8 +45,10 @@ client_at : (program : Meaning) (window : ℕ) (on : Bool) (last : ℕ) (state :
     (sent : ℕ) (abort : Option Tag) (p : Planned) (tag : Tag) (n : ℕ)
     → drop sent y.plan.items ≡ p ∷ drop (suc sent) y.plan.items → next_number Std o.standard o.drawn ≡ Some n → Std n ≡ tag
     → after ≡ with_drawn o tag (kind_of p.command)
-    → seen program window on last state cause after y (suc sent) abort ≡ (client_sent (seen program window on last state cause o y sent abort)).client
-client_at program window on last state cause o after y sent abort p tag n first number_is tag_is held = rw (held, ← tag_is, first, number_is) refl
+    → seen program window on last state cause after y (suc sent) abort
+    ≡ (client_sent (seen program window on last state cause o y sent abort)).client
+client_at program window on last state cause o after y sent abort p tag n first number_is tag_is held =
+    rw (held, ← tag_is, first, number_is) refl
 
 lines_at : (program : Meaning) (window : ℕ) (on : Bool) (last : ℕ) (state : State) (cause : Option Cause) (o : Opened) (y : Progress)
     (sent : ℕ) (abort : Option Tag) (p : Planned) (tag : Tag) (n : ℕ)
@@ -54,7 +59,8 @@ lines_at program window on last state cause o y sent abort p tag n first number_
 abort_at : (program : Meaning) (window : ℕ) (on : Bool) (last : ℕ) (state : State) (cause : Option Cause) (o after : Opened) (y : Progress)
     (sent : ℕ) (abort : Option Tag) (tag : Tag) (n : ℕ)
     → next_number Event o.event o.event_drawn ≡ Some n → Event n ≡ tag → after ≡ with_drawn o tag kind.AbortE
-    → seen program window on last State.Aborting cause after y sent (Some tag) ≡ (client_aborted (seen program window on last state cause o y sent abort)).client
+    → seen program window on last State.Aborting cause after y sent (Some tag)
+    ≡ (client_aborted (seen program window on last state cause o y sent abort)).client
 abort_at program window on last state cause o after y sent abort tag n number_is tag_is held = rw (held, ← tag_is, number_is) refl
 
 abort_line_at : (program : Meaning) (window : ℕ) (on : Bool) (last : ℕ) (state : State) (cause : Option Cause) (o : Opened) (y : Progress)
@@ -63,14 +69,18 @@ abort_line_at : (program : Meaning) (window : ℕ) (on : Bool) (last : ℕ) (sta
     → (client_aborted (seen program window on last state cause o y sent abort)).lines ≡ record { tag = tag; command = command.AbortE } ∷ []
 abort_line_at program window on last state cause o y sent abort tag n number_is tag_is = rw (← tag_is, number_is) refl
 
-pub sent_client : (program : Meaning) (window : ℕ) (on : Bool) (last : ℕ) (state : State) (cause : Option Cause) (o after : Opened) (y : Progress)
+pub sent_client : (program : Meaning) (window : ℕ) (on : Bool) (last : ℕ) (state : State) (cause : Option Cause) (o after : Opened)
+    (y : Progress)
     (sent : ℕ) (abort : Option Tag) (p : Planned) (tag : Tag)
     → sent < length y.plan.items → p ≡ slice_index_or y.plan.items sent p → is_event_kind (kind_of p.command) ≡ false
     → next_tag o (kind_of p.command) ≡ Some tag → after ≡ with_drawn o tag (kind_of p.command)
-    → seen program window on last state cause after y (suc sent) abort ≡ (client_sent (seen program window on last state cause o y sent abort)).client
+    → seen program window on last state cause after y (suc sent) abort
+    ≡ (client_sent (seen program window on last state cause o y sent abort)).client
 sent_client program window on last state cause o after y sent abort p tag within is standard next held =
-    let d : IsDrawn Std (next_number Std o.standard o.drawn) tag = drawn_as _ _ _ (standard_tag o (kind_of p.command) (Some tag) standard next) in
-    client_at program window on last state cause o after y sent abort p tag d.n (first_left y.plan.items sent p within is) d.number_is d.tag_is held
+    let d : IsDrawn Std (next_number Std o.standard o.drawn) tag =
+        drawn_as _ _ _ (standard_tag o (kind_of p.command) (Some tag) standard next) in
+    client_at program window on last state cause o after y sent abort p tag d.n (first_left y.plan.items sent p within is) d.number_is
+        d.tag_is held
 
 pub sent_lines : (program : Meaning) (window : ℕ) (on : Bool) (last : ℕ) (state : State) (cause : Option Cause) (o : Opened) (y : Progress)
     (sent : ℕ) (abort : Option Tag) (p : Planned) (tag : Tag)
@@ -78,7 +88,8 @@ pub sent_lines : (program : Meaning) (window : ℕ) (on : Bool) (last : ℕ) (st
     → next_tag o (kind_of p.command) ≡ Some tag
     → (client_sent (seen program window on last state cause o y sent abort)).lines ≡ record { tag = tag; command = p.command } ∷ []
 sent_lines program window on last state cause o y sent abort p tag within is standard next =
-    let d : IsDrawn Std (next_number Std o.standard o.drawn) tag = drawn_as _ _ _ (standard_tag o (kind_of p.command) (Some tag) standard next) in
+    let d : IsDrawn Std (next_number Std o.standard o.drawn) tag =
+        drawn_as _ _ _ (standard_tag o (kind_of p.command) (Some tag) standard next) in
     lines_at program window on last state cause o y sent abort p tag d.n (first_left y.plan.items sent p within is) d.number_is d.tag_is
 
 -- no tag is free
@@ -86,28 +97,34 @@ pub sent_none : (program : Meaning) (window : ℕ) (on : Bool) (last : ℕ) (sta
     (sent : ℕ) (abort : Option Tag) (p : Planned)
     → sent < length y.plan.items → p ≡ slice_index_or y.plan.items sent p → is_event_kind (kind_of p.command) ≡ false
     → next_tag o (kind_of p.command) ≡ None
-    → client_sent (seen program window on last state cause o y sent abort) ≡ record { client = faulted Cause.TagsSpent (seen program window on last state cause o y sent abort); lines = [] }
+    → client_sent (seen program window on last state cause o y sent abort)
+    ≡ record { client = faulted Cause.TagsSpent (seen program window on last state cause o y sent abort); lines = [] }
 sent_none program window on last state cause o y sent abort p within is standard next =
     let d : next_number Std o.standard o.drawn ≡ None = not_drawn _ _ (standard_tag o (kind_of p.command) None standard next) in
     rw (first_left y.plan.items sent p within is, d) refl
 
 -- an abort is sent
-pub aborted_client : (program : Meaning) (window : ℕ) (on : Bool) (last : ℕ) (state : State) (cause : Option Cause) (o after : Opened) (y : Progress)
+pub aborted_client : (program : Meaning) (window : ℕ) (on : Bool) (last : ℕ) (state : State) (cause : Option Cause) (o after : Opened)
+    (y : Progress)
     (sent : ℕ) (abort : Option Tag) (tag : Tag) → next_tag o kind.AbortE ≡ Some tag → after ≡ with_drawn o tag kind.AbortE
-    → seen program window on last State.Aborting cause after y sent (Some tag) ≡ (client_aborted (seen program window on last state cause o y sent abort)).client
+    → seen program window on last State.Aborting cause after y sent (Some tag)
+    ≡ (client_aborted (seen program window on last state cause o y sent abort)).client
 aborted_client program window on last state cause o after y sent abort tag next held =
     let d : IsDrawn Event (next_number Event o.event o.event_drawn) tag = drawn_as _ _ _ next in
     abort_at program window on last state cause o after y sent abort tag d.n d.number_is d.tag_is held
 
-pub aborted_lines : (program : Meaning) (window : ℕ) (on : Bool) (last : ℕ) (state : State) (cause : Option Cause) (o : Opened) (y : Progress)
+pub aborted_lines : (program : Meaning) (window : ℕ) (on : Bool) (last : ℕ) (state : State) (cause : Option Cause) (o : Opened)
+    (y : Progress)
     (sent : ℕ) (abort : Option Tag) (tag : Tag) → next_tag o kind.AbortE ≡ Some tag
     → (client_aborted (seen program window on last state cause o y sent abort)).lines ≡ record { tag = tag; command = command.AbortE } ∷ []
 aborted_lines program window on last state cause o y sent abort tag next =
     let d : IsDrawn Event (next_number Event o.event o.event_drawn) tag = drawn_as _ _ _ next in
     abort_line_at program window on last state cause o y sent abort tag d.n d.number_is d.tag_is
 
-pub aborted_none : (program : Meaning) (window : ℕ) (on : Bool) (last : ℕ) (state : State) (cause : Option Cause) (o : Opened) (y : Progress)
+pub aborted_none : (program : Meaning) (window : ℕ) (on : Bool) (last : ℕ) (state : State) (cause : Option Cause) (o : Opened)
+    (y : Progress)
     (sent : ℕ) (abort : Option Tag) → next_tag o kind.AbortE ≡ None
-    → client_aborted (seen program window on last state cause o y sent abort) ≡ record { client = faulted Cause.TagsSpent (seen program window on last state cause o y sent abort); lines = [] }
+    → client_aborted (seen program window on last state cause o y sent abort)
+    ≡ record { client = faulted Cause.TagsSpent (seen program window on last state cause o y sent abort); lines = [] }
 aborted_none program window on last state cause o y sent abort next =
     let d : next_number Event o.event o.event_drawn ≡ None = not_drawn _ _ next in rw d refl

@@ -27,13 +27,15 @@ snd_of x y v w is = ap (λ r. elim r [ Ok p ↦ p.1 | Err e ↦ v ]) is
 never : {A C : Type 0} (x : A) (e : C) → Path (Result A C) (Ok x) (Err e) → ⊥
 never x e is = absurd (cc is)
 
-on_standard : (ws : List Wanted) (o after : Opened) (y : client.Tally) (effect : Effect) (h : Heard) → heard_standard o h ≡ Ok (after, effect)
+on_standard : (ws : List Wanted) (o after : Opened) (y : client.Tally) (effect : Effect) (h : Heard)
+    → heard_standard o h ≡ Ok (after, effect)
     → client.heard_standard ws (table_of o y) h ≡ Ok (table_of after (client.tallied ws effect y))
 on_standard ws o after y effect (Ok (hs, e)) is =
     let whole : record o { standard = hs; failed = failed_behind e o.failed } ≡ after = fst_of _ _ _ _ is in
     let same : e ≡ effect = snd_of _ _ _ _ is in
     subst (λ (a : Opened). client.heard_standard ws (table_of o y) (Ok (hs, e)) ≡ Ok (table_of a (client.tallied ws effect y))) whole
-    (subst (λ (f : Effect). client.heard_standard ws (table_of o y) (Ok (hs, e)) ≡ Ok (record { standard = hs; event = o.event; tally = client.tallied ws f y })) same refl)
+    (subst (λ (f : Effect). client.heard_standard ws (table_of o y) (Ok (hs, e))
+        ≡ Ok (record { standard = hs; event = o.event; tally = client.tallied ws f y })) same refl)
 on_standard ws o after y effect (Err cause) is = absurd (never _ _ (sym is))
 
 on_event : (ws : List Wanted) (o after : Opened) (y : client.Tally) (effect : Effect) (h : Heard) → heard_event o h ≡ Ok (after, effect)
@@ -44,7 +46,8 @@ on_event ws o after y effect (Ok (hs, e)) is =
 on_event ws o after y effect (Err cause) is = absurd (never _ _ (sym is))
 
 -- a mark that has a place
-pub on_table : (ws : List Wanted) (o after : Opened) (y : client.Tally) (t : Tag) (m : Mark) (effect : Effect) → heard o t m ≡ Ok (after, effect)
+pub on_table : (ws : List Wanted) (o after : Opened) (y : client.Tally) (t : Tag) (m : Mark) (effect : Effect)
+    → heard o t m ≡ Ok (after, effect)
     → y.failed ≡ o.failed → client.heard_on ws (table_of o y) t m ≡ Ok (table_of after (tallied_on t ws effect y))
 on_table ws o after y (Std n) m effect is same =
     ap (λ (b : Bool). client.heard_standard ws (table_of o y) (heard_in (not b) o.standard (Std n) m)) same
@@ -56,7 +59,8 @@ off_standard : (ws : List Wanted) (o : Opened) (y : client.Tally) (cause : Cause
 off_standard ws o y cause (Ok (hs, e)) is = absurd (never _ _ is)
 off_standard ws o y cause (Err why) is = ap (λ (c : Result (Opened × Effect) Cause). elim c [ Ok p ↦ Err cause | Err w ↦ Err w ]) is
 
-off_event : (o : Opened) (y : client.Tally) (cause : Cause) (h : Heard) → heard_event o h ≡ Err cause → client.heard_event (table_of o y) h ≡ Err cause
+off_event : (o : Opened) (y : client.Tally) (cause : Cause) (h : Heard) → heard_event o h ≡ Err cause
+    → client.heard_event (table_of o y) h ≡ Err cause
 off_event o y cause (Ok (hs, e)) is = absurd (never _ _ is)
 off_event o y cause (Err why) is = ap (λ (c : Result (Opened × Effect) Cause). elim c [ Ok p ↦ Err cause | Err w ↦ Err w ]) is
 
@@ -91,7 +95,8 @@ pub stays_drawn : (o after : Opened) (t : Tag) (m : Mark) (effect : Effect) → 
 stays_drawn o after (Std n) m effect is = drawn_standard o after effect (heard_in (not o.failed) o.standard (Std n) m) is
 stays_drawn o after (Event n) m effect is = drawn_event o after effect (heard_in true o.event (Event n) m) is
 
-failed_standard : (o after : Opened) (effect : Effect) (h : Heard) → heard_standard o h ≡ Ok (after, effect) → after.failed ≡ failed_behind effect o.failed
+failed_standard : (o after : Opened) (effect : Effect) (h : Heard) → heard_standard o h ≡ Ok (after, effect)
+    → after.failed ≡ failed_behind effect o.failed
 failed_standard o after effect (Ok (hs, e)) is =
     let whole : record o { standard = hs; failed = failed_behind e o.failed } ≡ after = fst_of _ _ _ _ is in
     let same : e ≡ effect = snd_of _ _ _ _ is in
@@ -110,7 +115,8 @@ uncounted_tally ws p Effect.Failure failed is = refl
 uncounted_tally ws p (Effect.Count k given) failed is = absurd (cc is)
 
 pub uncounted : (ws : List Wanted) (o after : Opened) (p : Progress) (t : Tag) (m : Mark) (effect : Effect) → is_count effect ≡ false
-    → heard o t m ≡ Ok (after, effect) → client.heard_on ws (table_of o (tally_of o.failed p)) t m ≡ Ok (table_of after (tally_of after.failed p))
+    → heard o t m ≡ Ok (after, effect) → client.heard_on ws (table_of o (tally_of o.failed p)) t m
+    ≡ Ok (table_of after (tally_of after.failed p))
 uncounted ws o after p (Std n) m effect quiet is =
     on_table ws o after (tally_of o.failed p) (Std n) m effect is refl
     ∙ ap (λ (y : client.Tally). Ok (table_of after y)) (uncounted_tally ws p effect o.failed quiet
@@ -127,17 +133,20 @@ pub counted : (ws : List Wanted) (o after : Opened) (p q : Progress) (n : ℕ) (
 counted ws o after p q n m k given is counts =
     on_table ws o after (tally_of o.failed p) (Std n) m (Effect.Count k given) is refl
     ∙ ap (λ (y : client.Tally). Ok (table_of after y)) (sym (counts o.failed)
-    ∙ ap (λ (f : Bool). tally_of f q) (sym (failed_standard o after (Effect.Count k given) (heard_in (not o.failed) o.standard (Std n) m) is)))
+    ∙ ap (λ (f : Bool). tally_of f q) (sym (failed_standard o after (Effect.Count k given) (heard_in (not o.failed) o.standard (Std n) m)
+    is)))
 
 -- and one under an event tag
 pub counted_event : (ws : List Wanted) (o after : Opened) (p : Progress) (n : ℕ) (m : Mark) (effect : Effect)
-    → heard o (Event n) m ≡ Ok (after, effect) → client.heard_on ws (table_of o (tally_of o.failed p)) (Event n) m ≡ Ok (table_of after (tally_of after.failed p))
+    → heard o (Event n) m ≡ Ok (after, effect) → client.heard_on ws (table_of o (tally_of o.failed p)) (Event n) m
+    ≡ Ok (table_of after (tally_of after.failed p))
 counted_event ws o after p n m effect is =
     on_table ws o after (tally_of o.failed p) (Event n) m effect is refl
     ∙ ap (λ (f : Bool). Ok (table_of after (tally_of f p))) (sym (failed_event o after effect (heard_in true o.event (Event n) m) is))
 
 -- a mark that has no place
-pub refused : (ws : List Wanted) (o : Opened) (p : Progress) (t : Tag) (m : Mark) (why : Option Cause) (cause : Cause) → IsRefused (heard o t m) why
+pub refused : (ws : List Wanted) (o : Opened) (p : Progress) (t : Tag) (m : Mark) (why : Option Cause) (cause : Cause)
+    → IsRefused (heard o t m) why
     → why ≡ Some cause → client.heard_on ws (table_of o (tally_of o.failed p)) t m ≡ Err cause
 refused ws o p t m None cause is same = absurd (is)
 refused ws o p t m (Some d) cause is same =
@@ -146,7 +155,8 @@ refused ws o p t m (Some d) cause is same =
     (off_table ws o (tally_of o.failed p) t m d is refl)
 
 -- the end of a command is read that counts the next one of the plan
-pub counted_read : (program : Meaning) (window : ℕ) (on : Bool) (last : ℕ) (state : State) (cause : Option Cause) (o after : Opened) (p q : Progress)
+pub counted_read : (program : Meaning) (window : ℕ) (on : Bool) (last : ℕ) (state : State) (cause : Option Cause) (o after : Opened)
+    (p q : Progress)
     (sent : ℕ) (abort : Option Tag) (t : Tag) (effect : Effect) (k : Kind) (given : Option Point) (ends : Bool)
     → is_event_tag t ≡ false
     → heard o t Mark.Done ≡ Ok (after, effect)
@@ -155,7 +165,8 @@ pub counted_read : (program : Meaning) (window : ℕ) (on : Bool) (last : ℕ) (
     → q.plan ≡ p.plan → ends ≡ client.ends_abort abort t Mark.Done
     → seen program window on last (client.state_behind state ends (table_of after (tally_of after.failed q))) cause after q sent abort
     ≡ client.client_read (seen program window on last state cause o p sent abort) t Mark.Done
-counted_read program window on last state cause o after p q sent abort (Event n) effect k given ends standard is counts told plan_is ends_is = absurd (cc standard)
+counted_read program window on last state cause o after p q sent abort (Event n) effect k given ends standard is counts told plan_is
+    ends_is = absurd (cc standard)
 counted_read program window on last state cause o after p q sent abort (Std n) effect k given ends standard is counts told plan_is ends_is =
     let one : Some effect ≡ Some (Effect.Count k given) = sym (ap effect_heard is) ∙ counts in
     let same : effect ≡ Effect.Count k given = cc one in

@@ -10,7 +10,8 @@ use Rattle.protocol_model.specs.declared.states.State.{State}
 use Rattle.client_core.specs.Calls.{Call, behind_calls}
 use Rattle.client_core.specs.Clients.{are_ours}
 
--- a list of calls leads to it from a client that was never on a connection, with a program, the features of it that were kept, and a window from 1 to 16
+-- a list of calls leads to it from a client that was never on a connection, with a program, the features of it that were kept, and a window
+-- from 1 to 16
 pub record IsReached (e : ClientEnd) : Type 0 where
   pub readers : Readers
   pub are : AreReaders readers

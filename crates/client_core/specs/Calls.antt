@@ -1,5 +1,6 @@
 -- Lists of calls of a client, whatever its peer sends, and what is claimed of them (this profile).
-use Rattle.std.specs.Prelude.{◌≡◌, ℕ, suc, ◌+◌, nat_le, Bool, true, false, not, if◌then◌else◌, is_some, Option, Some, None, List, [], ◌∷◌, ◌++◌, length, take, Ok, Err}
+use Rattle.std.specs.Prelude.{◌≡◌, ℕ, suc, ◌+◌, nat_le, Bool, true, false, not, if◌then◌else◌, is_some, Option, Some, None, List, [], ◌∷◌,
+  ◌++◌, length, take, Ok, Err}
 use Rattle.contact_ledger.specs.declared.features.Feature.{Feature}
 use Rattle.dme_line.specs.Kinds.{kind_of}
 use Rattle.dme_line.specs.declared.commands.Kind.{Kind}
@@ -10,7 +11,8 @@ use Rattle.protocol_model.specs.Open.{Effect, Heard, heard_in}
 use Rattle.protocol_model.specs.Lines.{Readers}
 use Rattle.protocol_model.specs.Plan.{plan}
 use Rattle.protocol_model.specs.Client.{Client, Tally, due, may_abort, may_resume}
-use Rattle.protocol_model.specs.Ends.{ClientEnd, new_client_end, end_connected, end_sent, end_aborted, end_fed, end_read, end_resumed, end_left, end_restarted, end_taken}
+use Rattle.protocol_model.specs.Ends.{ClientEnd, new_client_end, end_connected, end_sent, end_aborted, end_fed, end_read, end_resumed,
+  end_left, end_restarted, end_taken}
 use Rattle.protocol_model.specs.Undisturbed.{acts_planned, AreActs}
 use Rattle.protocol_model.specs.declared.plans.Does.{Does}
 use Rattle.protocol_model.specs.declared.plans.Planned.{Planned}
@@ -78,7 +80,8 @@ abbrev pub acts_of_fronts : Meaning → List Begun → List Does
 acts_of_fronts p [] = []
 acts_of_fronts p (b ∷ bs) = acts_of_fronts p bs ++ acts_planned (take b.completed (plan p b.features (start_behind bs)))
 
--- the plan that a client is on, by how many features it held when that was begun, and the plans that were begun before it on the connection, the latest first
+-- the plan that a client is on, by how many features it held when that was begun, and the plans that were begun before it on the
+-- connection, the latest first
 pub record Plans : Type 0 where
   pub features : ℕ
   pub earlier : List Begun
@@ -130,7 +133,8 @@ abbrev pub features_ended : List Planned → ℕ
 features_ended [] = 0
 features_ended (p ∷ ps) = if is_last p.does then suc (features_ended ps) else features_ended ps
 
--- a client's tally is that of its plans: its acts are those for which the counted front of the present plan stands, behind those of the plans before it;
+-- a client's tally is that of its plans: its acts are those for which the counted front of the present plan stands, behind those of the
+-- plans before it;
 -- and its features are those that it held when that was begun and one for each that ends in the front
 pub record AreCounted (p : Meaning) (plans : Plans) (tally : Tally) : Type 0 where
   pub acts : AreActs tally.counted (acts_of_fronts p (record { features = plans.features; completed = tally.completed } ∷ plans.earlier))

@@ -13,7 +13,8 @@ HasCause State.Faulted cause = IsSome cause
 HasCause _ cause = Unit {0}
 
 -- of a plan so many commands are sent and so many counted, each can be written, and the features are no more than the wanted ones
-pub record IsKept (plan : List Planned) (sent completed : ℕ) (wanted : List Wanted) (features : List Feature) (state : State) (cause : Option Cause) : Type 0 where
+pub record IsKept (plan : List Planned) (sent completed : ℕ) (wanted : List Wanted) (features : List Feature) (state : State)
+    (cause : Option Cause) : Type 0 where
   pub sent_within : sent ≤ length plan
   pub completed_within : completed ≤ length plan
   pub sendable : All IsSendable plan

@@ -188,7 +188,8 @@ impl Client {
         ensures can { OnOk result (may_read self.old.client ≡ true) }
         ensures refused { IfErr result (λ fault. IsReadRefused self.old self.new fault) }
         ensures met { IfErr result (λ fault. fault ≢ ClientFault.Memory
-            → may_read self.old.client ≡ true → (readers : Readers) → AreReaders readers → self.new ≡ end_read readers self.old) }
+            → may_read self.old.client ≡ true → (readers : Readers) → AreReaders readers
+            → self.new ≡ end_read readers self.old) }
         ensures before { may_read self.old.client ≡ false → self.new ≡ self.old }
         ensures memory { IsErrOf result ClientFault.Memory → may_read self.old.client ≡ true }
         ensures line { IsErrOf result ClientFault.Memory → IsLineDue (next_of self.old.input.rest) }
@@ -235,7 +236,8 @@ impl Client {
         ensures refused { IfErr result (λ fault.
             IsSendRefused (may_abort self.old.client.state) self.old self.new
             (end_aborted self.old) fault) }
-        ensures memory { IsErrOf result ClientFault.Memory → may_abort self.old.client.state ≡ true }
+        ensures memory { IsErrOf result ClientFault.Memory
+            → may_abort self.old.client.state ≡ true }
         ensures bounded { length self.new.out ≤ length self.old.out + 202 }
     {
         if !self.executor.may_abort() {

@@ -113,7 +113,8 @@ impl Executor {
 
     /// The state after a reply; `ends`: the reply ends the abort.
     pub(crate) fn settle(&mut self, ends: bool)
-        ensures { self.new ≡ record self.old { state = state_behind self.old.state ends self.old.table } }
+        ensures { self.new ≡ record self.old { state = state_behind self.old.state ends
+            self.old.table } }
     {
         let first = first_state(self.state, ends, self.commands.has_failed());
         self.state = last_state(first, self.is_whole(), self.commands.count());
@@ -129,7 +130,8 @@ impl Executor {
 
     /// The command that is to be sent next, if one is due.
     pub(crate) fn due(&self) -> Option<&Command>
-        ensures { MatchOption result (due self.now ≡ None) (λ command. command_of (due self.now) ≡ Some command.now) }
+        ensures { MatchOption result (due self.now ≡ None)
+            (λ command. command_of (due self.now) ≡ Some command.now) }
     {
         if !matches!(self.state, State::Running) {
             return None;

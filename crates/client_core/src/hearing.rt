@@ -93,7 +93,8 @@ impl Executor {
     fn close(&mut self, tag: Tag, ends: bool)
         requires said { tag_is tag (tags.Event 0) ≡ false }
         requires ends { ends ≡ ends_abort self.old.abort tag Mark.Done }
-        requires closes { counts_standard tag (effect_heard (heard (opened_of self.old) tag Mark.Done)) ≡ false }
+        requires closes { counts_standard tag (effect_heard
+            (heard (opened_of self.old) tag Mark.Done)) ≡ false }
         ensures { self.new ≡ client_read self.old tag Mark.Done }
     {
         match self.commands.complete(tag) {
@@ -113,7 +114,8 @@ impl Executor {
     ) -> Result<(), AllocError>
         requires standard { is_event_tag tag ≡ false }
         requires ends { ends ≡ ends_abort self.old.abort tag Mark.Done }
-        requires counts { effect_heard (heard (opened_of self.old) tag Mark.Done) ≡ Some (Effect.Count kind given.now) }
+        requires counts { effect_heard (heard (opened_of self.old) tag Mark.Done)
+            ≡ Some (Effect.Count kind given.now) }
         ensures ok { OnOk result (self.new ≡ client_read self.old tag Mark.Done) }
         ensures err { OnErr result (self.new ≡ self.old) }
     {

@@ -27,7 +27,8 @@ pub fn whatever_the_peer_sends()
         → (client_behind readers calls program kept window).program ≡ program }
     ensures features { (readers : Readers) (program : Meaning) (kept : List OneFeature) (window : ℕ)
         (calls : List Call) → IsProgram program → are_ours program.features kept ≡ true
-        → are_ours program.features (client_behind readers calls program kept window).table.tally.features ≡ true }
+        → are_ours program.features (client_behind readers calls program kept
+        window).table.tally.features ≡ true }
     ensures counted { (readers : Readers) (program : Meaning) (kept : List OneFeature) (window : ℕ)
         (calls : List Call) → IsProgram program → are_ours program.features kept ≡ true
         → AreCounted program (plans_begun readers calls program kept window)

@@ -14,7 +14,8 @@ impl Executor {
     /// The text of a data line is read: under a held tag it is a point, where the command asks for one.
     #[tactic(auto, using(crate::proofs::Readings::one_point))]
     fn hear_data(&mut self, tag: Tag, text: &[u8])
-        ensures { (readers : Readers) → AreReaders readers → self.new ≡ given readers self.old tag text.now }
+        ensures { (readers : Readers) → AreReaders readers
+            → self.new ≡ given readers self.old tag text.now }
     {
         if is_unasked(tag) {
             return;

@@ -54,7 +54,8 @@ fn join(
     features: &mut FeatureLedger,
     point: Point,
 ) -> Result<(), AllocError>
-    ensures features { OnOk result (features.new ≡ joined wanted.now features.old (points.old ++ point ∷ [])) }
+    ensures features { OnOk result (features.new
+        ≡ joined wanted.now features.old (points.old ++ point ∷ [])) }
     ensures points { OnOk result (points.new ≡ []) }
     ensures features_err { OnErr result (features.new ≡ features.old) }
     ensures points_err { OnErr result (points.new ≡ points.old) }
@@ -92,10 +93,12 @@ impl Progress {
     ) -> Result<(), AllocError>
         requires { self.old.completed ≤ length self.old.plan.items }
         ensures ok { OnOk result ((failed : Bool) → tally_of failed self.new
-            ≡ counted_next wanted.now kind given.now (tally_of failed self.old).todo (tally_of failed self.old)) }
+            ≡ counted_next wanted.now kind given.now (tally_of failed self.old).todo
+                (tally_of failed self.old)) }
         ensures plan { self.new.plan ≡ self.old.plan }
         ensures within { self.new.completed ≤ length self.old.plan.items }
-        ensures features { length self.old.features ≤ length wanted.now → length self.new.features ≤ length wanted.now }
+        ensures features { length self.old.features ≤ length wanted.now
+            → length self.new.features ≤ length wanted.now }
         ensures session_err { OnErr result (self.new.session ≡ self.old.session) }
         ensures completed_err { OnErr result (self.new.completed ≡ self.old.completed) }
         ensures counted_err { OnErr result (self.new.counted.items ≡ self.old.counted.items) }

@@ -30,7 +30,8 @@ impl Executor {
         requires due { IsSome (due self.old) }
         requires room { vec_len out.old + 202 ≤ vec_capacity out.old }
         ensures ok { OnOk result (self.new ≡ (client_sent self.old).client) }
-        ensures text { OnOk result (out.new.items ≡ out.old.items ++ command_bytes (client_sent self.old).lines) }
+        ensures text { OnOk result (out.new.items ≡ out.old.items
+            ++ command_bytes (client_sent self.old).lines) }
         ensures err { OnErr result (self.new ≡ self.old) }
         ensures silent { OnErr result (out.new.items ≡ out.old.items) }
         ensures len { vec_len out.new ≤ vec_len out.old + 202 }
@@ -57,7 +58,8 @@ impl Executor {
     pub(crate) fn send_abort(&mut self, out: &mut Vec<u8>) -> Result<(), AllocError>
         requires room { vec_len out.old + 202 ≤ vec_capacity out.old }
         ensures ok { OnOk result (self.new ≡ (client_aborted self.old).client) }
-        ensures text { OnOk result (out.new.items ≡ out.old.items ++ command_bytes (client_aborted self.old).lines) }
+        ensures text { OnOk result (out.new.items ≡ out.old.items
+            ++ command_bytes (client_aborted self.old).lines) }
         ensures err { OnErr result (self.new ≡ self.old) }
         ensures silent { OnErr result (out.new.items ≡ out.old.items) }
         ensures len { vec_len out.new ≤ vec_len out.old + 202 }

@@ -65,7 +65,8 @@ impl Queue {
 
     /// The command that came first, which stays; none where none waits. Takes no memory.
     pub fn first(&self) -> Option<&Waiting>
-        ensures { MatchOption result (self.now ≡ []) (λ command. self.now ≡ command.now ∷ drop 1 self.now) }
+        ensures { MatchOption result (self.now ≡ [])
+            (λ command. self.now ≡ command.now ∷ drop 1 self.now) }
     {
         match self.commands.as_slice() {
             [] => None,

@@ -9,10 +9,12 @@ abbrev pub tail_tokens : List Argument → List Token
 tail_tokens [] = Close ∷ []
 tail_tokens (a ∷ more) = Comma ∷ (argument_tokens a ++ tail_tokens more)
 
-pub list_tokens-tail : (a : Argument) (more : List Argument) → list_tokens (a ∷ more) ++ (Close ∷ []) ≡ argument_tokens a ++ tail_tokens more
+pub list_tokens-tail : (a : Argument) (more : List Argument)
+    → list_tokens (a ∷ more) ++ (Close ∷ []) ≡ argument_tokens a ++ tail_tokens more
 list_tokens-tail a [] = refl
 list_tokens-tail a (b ∷ more) =
-    append_assoc (argument_tokens a) (Comma ∷ list_tokens (b ∷ more)) (Close ∷ []) ∙ ap (λ (ts : List Token). argument_tokens a ++ (Comma ∷ ts)) (list_tokens-tail b more)
+    append_assoc (argument_tokens a) (Comma ∷ list_tokens (b ∷ more)) (Close ∷ [])
+        ∙ ap (λ (ts : List Token). argument_tokens a ++ (Comma ∷ ts)) (list_tokens-tail b more)
 
 -- an argument and what follows it
 pub record SamePair (a b : Argument) (us vs : List Token) : Type 0 where
@@ -38,7 +40,8 @@ same_tail (a ∷ args) (b ∷ others) e =
     cc
 
 -- the tokens of an enclosed list that is not empty
-pub enclosed-tail : (a : Argument) (more : List Argument) (ts : List Token) → Open ∷ ts ≡ enclosed (list_tokens (a ∷ more)) → ts ≡ argument_tokens a ++ tail_tokens more
+pub enclosed-tail : (a : Argument) (more : List Argument) (ts : List Token) → Open ∷ ts ≡ enclosed (list_tokens (a ∷ more))
+    → ts ≡ argument_tokens a ++ tail_tokens more
 enclosed-tail a more ts e =
     let t = list_tokens-tail a more in
     cc
@@ -101,14 +104,17 @@ is_long (a ∷ b ∷ d ∷ more) h =
 pub no_first : (ts us : List Token) → ts ≡ Open ∷ us → NoArgument us → NoPlace ts
 no_first ts us o none args long e =
     let l = is_long args long in
-    none l.a (tail_tokens (l.b ∷ l.d ∷ l.more)) (enclosed-tail l.a (l.b ∷ l.d ∷ l.more) us (sym o ∙ e ∙ ap (λ (x : List Argument). enclosed (list_tokens x)) l.is))
+    none l.a (tail_tokens (l.b ∷ l.d ∷ l.more)) (enclosed-tail l.a (l.b ∷ l.d ∷ l.more) us (sym o ∙ e
+        ∙ ap (λ (x : List Argument). enclosed (list_tokens x)) l.is))
 
 -- what is left behind the first argument
-behind_first : (ts us vs : List Token) (x a : Argument) (more : List Argument) → ts ≡ Open ∷ us → us ≡ argument_tokens x ++ vs → ts ≡ enclosed (list_tokens (a ∷ more)) → vs ≡ tail_tokens more
+behind_first : (ts us vs : List Token) (x a : Argument) (more : List Argument) → ts ≡ Open ∷ us → us ≡ argument_tokens x ++ vs
+    → ts ≡ enclosed (list_tokens (a ∷ more)) → vs ≡ tail_tokens more
 behind_first ts us vs x a more o f e = (same_argument x a vs (tail_tokens more) (sym f ∙ enclosed-tail a more us (sym o ∙ e))).behind
 
 -- and behind each further one
-behind_next : (us vs : List Token) (x a : Argument) (more : List Argument) → us ≡ Comma ∷ (argument_tokens x ++ vs) → us ≡ tail_tokens (a ∷ more) → vs ≡ tail_tokens more
+behind_next : (us vs : List Token) (x a : Argument) (more : List Argument) → us ≡ Comma ∷ (argument_tokens x ++ vs)
+    → us ≡ tail_tokens (a ∷ more) → vs ≡ tail_tokens more
 behind_next us vs x a more f e =
     let g : argument_tokens x ++ vs ≡ argument_tokens a ++ tail_tokens more = cc in
     (same_argument x a vs (tail_tokens more) g).behind
@@ -116,21 +122,26 @@ behind_next us vs x a more f e =
 pub no_second : (ts us vs : List Token) (x : Argument) → ts ≡ Open ∷ us → us ≡ argument_tokens x ++ vs → NoNext vs → NoPlace ts
 no_second ts us vs x o f none args long e =
     let l = is_long args long in
-    none l.b (tail_tokens (l.d ∷ l.more)) (behind_first ts us vs x l.a (l.b ∷ l.d ∷ l.more) o f (e ∙ ap (λ (y : List Argument). enclosed (list_tokens y)) l.is))
+    none l.b (tail_tokens (l.d ∷ l.more)) (behind_first ts us vs x l.a (l.b ∷ l.d ∷ l.more) o f (e
+        ∙ ap (λ (y : List Argument). enclosed (list_tokens y)) l.is))
 
-pub no_third : (ts us vs ws : List Token) (x y : Argument) → ts ≡ Open ∷ us → us ≡ argument_tokens x ++ vs → vs ≡ Comma ∷ (argument_tokens y ++ ws) → NoNext ws → NoPlace ts
+pub no_third : (ts us vs ws : List Token) (x y : Argument) → ts ≡ Open ∷ us → us ≡ argument_tokens x ++ vs
+    → vs ≡ Comma ∷ (argument_tokens y ++ ws) → NoNext ws → NoPlace ts
 no_third ts us vs ws x y o f g none args long e =
     let l = is_long args long in
     let h = behind_first ts us vs x l.a (l.b ∷ l.d ∷ l.more) o f (e ∙ ap (λ (z : List Argument). enclosed (list_tokens z)) l.is) in
     none l.d (tail_tokens l.more) (behind_next vs ws y l.b (l.d ∷ l.more) g h)
 
 -- what is left behind the third
-behind_third : (ts us vs ws xs : List Token) (x y z : Argument) (args : List Argument) (l : IsLong args) → ts ≡ Open ∷ us → us ≡ argument_tokens x ++ vs → vs ≡ Comma ∷ (argument_tokens y ++ ws) → ws ≡ Comma ∷ (argument_tokens z ++ xs) → ts ≡ enclosed (list_tokens args) → xs ≡ tail_tokens l.more
+behind_third : (ts us vs ws xs : List Token) (x y z : Argument) (args : List Argument) (l : IsLong args) → ts ≡ Open ∷ us
+    → us ≡ argument_tokens x ++ vs → vs ≡ Comma ∷ (argument_tokens y ++ ws) → ws ≡ Comma ∷ (argument_tokens z ++ xs)
+    → ts ≡ enclosed (list_tokens args) → xs ≡ tail_tokens l.more
 behind_third ts us vs ws xs x y z args l o f g h e =
     let k = behind_first ts us vs x l.a (l.b ∷ l.d ∷ l.more) o f (e ∙ ap (λ (w : List Argument). enclosed (list_tokens w)) l.is) in
     behind_next ws xs z l.d l.more h (behind_next vs ws y l.b (l.d ∷ l.more) g k)
 
-pub no_fourth : (ts us vs ws xs : List Token) (x y z : Argument) → ts ≡ Open ∷ us → us ≡ argument_tokens x ++ vs → vs ≡ Comma ∷ (argument_tokens y ++ ws) → ws ≡ Comma ∷ (argument_tokens z ++ xs) → (xs ≡ Close ∷ [] → ⊥) → NoNext xs → NoPlace ts
+pub no_fourth : (ts us vs ws xs : List Token) (x y z : Argument) → ts ≡ Open ∷ us → us ≡ argument_tokens x ++ vs
+    → vs ≡ Comma ∷ (argument_tokens y ++ ws) → ws ≡ Comma ∷ (argument_tokens z ++ xs) → (xs ≡ Close ∷ [] → ⊥) → NoNext xs → NoPlace ts
 no_fourth ts us vs ws xs x y z o f g h not_end none args long e =
     let l = is_long args long in
     let k = behind_third ts us vs ws xs x y z args l o f g h e in
@@ -139,7 +150,9 @@ no_fourth ts us vs ws xs x y z o f g h not_end none args long e =
       | inr q ↦ none q.0 (Close ∷ []) (k ∙ ap tail_tokens q.1)
     ]
 
-pub no_end : (ts us vs ws xs ys : List Token) (x y z w : Argument) → ts ≡ Open ∷ us → us ≡ argument_tokens x ++ vs → vs ≡ Comma ∷ (argument_tokens y ++ ws) → ws ≡ Comma ∷ (argument_tokens z ++ xs) → xs ≡ Comma ∷ (argument_tokens w ++ ys) → (ys ≡ Close ∷ [] → ⊥) → NoPlace ts
+pub no_end : (ts us vs ws xs ys : List Token) (x y z w : Argument) → ts ≡ Open ∷ us → us ≡ argument_tokens x ++ vs
+    → vs ≡ Comma ∷ (argument_tokens y ++ ws) → ws ≡ Comma ∷ (argument_tokens z ++ xs) → xs ≡ Comma ∷ (argument_tokens w ++ ys)
+    → (ys ≡ Close ∷ [] → ⊥) → NoPlace ts
 no_end ts us vs ws xs ys x y z w o f g h i not_end args long e =
     let l = is_long args long in
     let k = behind_third ts us vs ws xs x y z args l o f g h e in

@@ -1,5 +1,6 @@
 -- The written form of a command can stand in a line, and reads back.
-use Rattle.std.proofs.Common.{◌≡◌, ℕ, ◌≤◌, inr, true, false, List, [], ◌∷◌, ◌++◌, map, Option, Some, None, Ok, refl, ap, sym, subst, ◌∙◌, arith, codes, append_assoc, append-nil, ℤ}
+use Rattle.std.proofs.Common.{◌≡◌, ℕ, ◌≤◌, inr, true, false, List, [], ◌∷◌, ◌++◌, map, Option, Some, None, Ok, refl, ap, sym, subst, ◌∙◌,
+  arith, codes, append_assoc, append-nil, ℤ}
 use Rattle.std.specs.Prelude.{unsigned_abs}
 use Rattle.std.specs.Char.{to_ascii_lowercase}
 use Rattle.std.specs.List.{list_all}
@@ -25,7 +26,8 @@ use Rattle.dme_line.specs.declared.commands.Csy.TheVariants.{MachineCsy, PartCsy
 use Rattle.dme_line.specs.declared.commands.Kind.{Kind}
 use Rattle.dme_line.specs.declared.commands.Kind.TheVariants as kind
 use Rattle.dme_line.specs.declared.commands.Command.{Command}
-use Rattle.dme_line.specs.declared.commands.Command.TheVariants.{StartSession, EndSession, ClearAllErrors, Home, OnPtMeasReport, GoTo, PtMeas, ChangeTool, SetCsyTransformation, SetCoordSystem, AbortE}
+use Rattle.dme_line.specs.declared.commands.Command.TheVariants.{StartSession, EndSession, ClearAllErrors, Home, OnPtMeasReport, GoTo,
+  PtMeas, ChangeTool, SetCsyTransformation, SetCoordSystem, AbortE}
 use Rattle.dme_line.proofs.TokenLemmas.{tokens-word}
 use Rattle.dme_line.proofs.WireTexts.{IsPlainWord, word_bytes, written-word, component-word, name-word}
 
@@ -33,7 +35,8 @@ use Rattle.dme_line.proofs.WireTexts.{IsPlainWord, word_bytes, written-word, com
 
 -- a point with something behind it, its texts one behind another
 abbrev pub point_before : Point → List ℕ → List ℕ
-point_before p tail = 88 ∷ 40 ∷ (written p.x ++ (41 ∷ 44 ∷ 32 ∷ 89 ∷ 40 ∷ (written p.y ++ (41 ∷ 44 ∷ 32 ∷ 90 ∷ 40 ∷ (written p.z ++ (41 ∷ tail))))))
+point_before p tail = 88 ∷ 40 ∷ (written p.x ++ (41 ∷ 44 ∷ 32 ∷ 89 ∷ 40
+    ∷ (written p.y ++ (41 ∷ 44 ∷ 32 ∷ 90 ∷ 40 ∷ (written p.z ++ (41 ∷ tail))))))
 
 pub point-append : (p : Point) (tail : List ℕ) → written_point p ++ tail ≡ point_before p tail
 point-append p tail = simp append_assoc
@@ -42,25 +45,32 @@ point-append p tail = simp append_assoc
 word_before : (limit : ℕ) (w rest : List ℕ) → IsPlainWord limit w → begins_word rest ≡ false → tokens (w ++ rest) ≡ Word w ∷ tokens rest
 word_before limit w rest h stop = tokens-word w rest (word_bytes limit w h) h.some stop
 
-pub point-tokens : (p : Point) (tail : List ℕ) → IsOnWire p → tokens (point_before p tail) ≡ Word (codes "X") ∷ Open ∷ Word (written p.x) ∷ Close ∷ Comma ∷ Word (codes "Y") ∷ Open ∷ Word (written p.y) ∷ Close ∷ Comma ∷ Word (codes "Z") ∷ Open ∷ Word (written p.z) ∷ Close ∷ tokens tail
+pub point-tokens : (p : Point) (tail : List ℕ) → IsOnWire p
+    → tokens (point_before p tail) ≡ Word (codes "X") ∷ Open ∷ Word (written p.x) ∷ Close ∷ Comma ∷ Word (codes "Y") ∷ Open
+    ∷ Word (written p.y) ∷ Close ∷ Comma ∷ Word (codes "Z") ∷ Open ∷ Word (written p.z) ∷ Close ∷ tokens tail
 point-tokens p tail h =
     let z = word_before 12 (written p.z) (41 ∷ tail) (written-word p.z h.z) refl in
     let y = word_before 12 (written p.y) (41 ∷ 44 ∷ 32 ∷ 90 ∷ 40 ∷ (written p.z ++ (41 ∷ tail))) (written-word p.y h.y) refl in
-    let x = word_before 12 (written p.x) (41 ∷ 44 ∷ 32 ∷ 89 ∷ 40 ∷ (written p.y ++ (41 ∷ 44 ∷ 32 ∷ 90 ∷ 40 ∷ (written p.z ++ (41 ∷ tail))))) (written-word p.x h.x) refl in
+    let x = word_before 12 (written p.x) (41 ∷ 44 ∷ 32 ∷ 89 ∷ 40 ∷ (written p.y ++ (41 ∷ 44 ∷ 32 ∷ 90 ∷ 40 ∷ (written p.z ++ (41 ∷ tail)))))
+        (written-word p.x h.x) refl in
     rw (x, y, z) refl
 
 -- a direction behind a point, and the closing parenthesis
 abbrev ijk_before : Direction → List ℕ
-ijk_before d = 44 ∷ 32 ∷ 73 ∷ 74 ∷ 75 ∷ 40 ∷ (written_component d.i ++ (44 ∷ 32 ∷ (written_component d.j ++ (44 ∷ 32 ∷ (written_component d.k ++ (41 ∷ 41 ∷ []))))))
+ijk_before d = 44 ∷ 32 ∷ 73 ∷ 74 ∷ 75 ∷ 40 ∷ (written_component d.i
+    ++ (44 ∷ 32 ∷ (written_component d.j ++ (44 ∷ 32 ∷ (written_component d.k ++ (41 ∷ 41 ∷ []))))))
 
 ijk-append : (d : Direction) → written_ijk (Some d) ++ codes ")" ≡ ijk_before d
 ijk-append d = simp append_assoc
 
-ijk-tokens : (d : Direction) → IsDirection d → tokens (ijk_before d) ≡ Comma ∷ Word (codes "IJK") ∷ Open ∷ Word (written_component d.i) ∷ Comma ∷ Word (written_component d.j) ∷ Comma ∷ Word (written_component d.k) ∷ Close ∷ Close ∷ []
+ijk-tokens : (d : Direction) → IsDirection d → tokens (ijk_before d) ≡ Comma ∷ Word (codes "IJK") ∷ Open ∷ Word (written_component d.i)
+    ∷ Comma ∷ Word (written_component d.j) ∷ Comma ∷ Word (written_component d.k) ∷ Close ∷ Close ∷ []
 ijk-tokens d h =
     let k = word_before 15 (written_component d.k) (41 ∷ 41 ∷ []) (component-word d.k h.k_within) refl in
-    let j = word_before 15 (written_component d.j) (44 ∷ 32 ∷ (written_component d.k ++ (41 ∷ 41 ∷ []))) (component-word d.j h.j_within) refl in
-    let i = word_before 15 (written_component d.i) (44 ∷ 32 ∷ (written_component d.j ++ (44 ∷ 32 ∷ (written_component d.k ++ (41 ∷ 41 ∷ []))))) (component-word d.i h.i_within) refl in
+    let j = word_before 15 (written_component d.j) (44 ∷ 32 ∷ (written_component d.k ++ (41 ∷ 41 ∷ []))) (component-word d.j h.j_within)
+        refl in
+    let i = word_before 15 (written_component d.i) (44 ∷ 32 ∷ (written_component d.j
+        ++ (44 ∷ 32 ∷ (written_component d.k ++ (41 ∷ 41 ∷ []))))) (component-word d.i h.i_within) refl in
     rw (i, j, k) refl
 
 -- a transformation and the closing parenthesis
@@ -70,11 +80,14 @@ transformation_before p = codes "PartCsy, " ++ (written p.x ++ (44 ∷ 32 ∷ (w
 transformation-append : (p : Point) → written_transformation p ++ codes ")" ≡ transformation_before p
 transformation-append p = simp append_assoc
 
-transformation-tokens : (p : Point) → IsOnWire p → tokens (transformation_before p) ≡ Word (codes "PartCsy") ∷ Comma ∷ Word (written p.x) ∷ Comma ∷ Word (written p.y) ∷ Comma ∷ Word (written p.z) ∷ Comma ∷ Word (codes "0") ∷ Comma ∷ Word (codes "0") ∷ Comma ∷ Word (codes "0") ∷ Close ∷ []
+transformation-tokens : (p : Point) → IsOnWire p → tokens (transformation_before p) ≡ Word (codes "PartCsy") ∷ Comma ∷ Word (written p.x)
+    ∷ Comma ∷ Word (written p.y) ∷ Comma ∷ Word (written p.z) ∷ Comma ∷ Word (codes "0") ∷ Comma ∷ Word (codes "0") ∷ Comma
+    ∷ Word (codes "0") ∷ Close ∷ []
 transformation-tokens p h =
     let z = word_before 12 (written p.z) (codes ", 0, 0, 0)") (written-word p.z h.z) refl in
     let y = word_before 12 (written p.y) (44 ∷ 32 ∷ (written p.z ++ codes ", 0, 0, 0)")) (written-word p.y h.y) refl in
-    let x = word_before 12 (written p.x) (44 ∷ 32 ∷ (written p.y ++ (44 ∷ 32 ∷ (written p.z ++ codes ", 0, 0, 0)")))) (written-word p.x h.x) refl in
+    let x = word_before 12 (written p.x) (44 ∷ 32 ∷ (written p.y ++ (44 ∷ 32 ∷ (written p.z ++ codes ", 0, 0, 0)")))) (written-word p.x h.x)
+        refl in
     rw (x, y, z) refl
 
 -- ---- what the written arguments say
@@ -93,34 +106,50 @@ zero_numeral = record { negative = false; digits = 48 ∷ []; places = 0; raised
 
 zero_is : IsZero (codes "0")
 unfolding zero_numeral
-zero_is = (zero_numeral, record { sign = []; whole = 48 ∷ []; point = []; fraction = []; exponent = []; parts = refl; is_sign = none refl; is_whole = (omega arith, tt); is_fraction = absent refl; is_exponent = nothing refl; digits_are = refl; places_are = refl; some_digit = omega arith }, omega arith, refl)
+zero_is = (zero_numeral, record { sign = []; whole = 48 ∷ []; point = []; fraction = []; exponent = []; parts = refl; is_sign = none refl;
+    is_whole = (omega arith, tt); is_fraction = absent refl; is_exponent = nothing refl; digits_are = refl; places_are = refl; some_digit =
+    omega arith }, omega arith, refl)
 
 -- the tokens behind a command's name
 abbrev written_tokens : Command → List Token
 written_tokens c = tokens (40 ∷ (written_arguments c ++ codes ")"))
 
-move-tokens : (p : Point) → IsOnWire p → written_tokens (GoTo p) ≡ Open ∷ Word (codes "X") ∷ Open ∷ Word (written p.x) ∷ Close ∷ Comma ∷ Word (codes "Y") ∷ Open ∷ Word (written p.y) ∷ Close ∷ Comma ∷ Word (codes "Z") ∷ Open ∷ Word (written p.z) ∷ Close ∷ Close ∷ []
-move-tokens p h = ap (λ (t : List ℕ). tokens (40 ∷ t)) (point-append p (codes ")")) ∙ ap (λ (ts : List Token). Open ∷ ts) (point-tokens p (codes ")") h)
+move-tokens : (p : Point) → IsOnWire p → written_tokens (GoTo p) ≡ Open ∷ Word (codes "X") ∷ Open ∷ Word (written p.x) ∷ Close ∷ Comma
+    ∷ Word (codes "Y") ∷ Open ∷ Word (written p.y) ∷ Close ∷ Comma ∷ Word (codes "Z") ∷ Open ∷ Word (written p.z) ∷ Close ∷ Close ∷ []
+move-tokens p h = ap (λ (t : List ℕ). tokens (40 ∷ t)) (point-append p (codes ")"))
+    ∙ ap (λ (ts : List Token). Open ∷ ts) (point-tokens p (codes ")") h)
 
 move_back : (p : Point) → IsOnWire p → IsPlace (written_tokens (GoTo p)) p None
 move_back p h = record {
   arguments = Single (codes "X") (written p.x) ∷ Single (codes "Y") (written p.y) ∷ Single (codes "Z") (written p.z) ∷ [];
   spelled = move-tokens p h;
-  target = record { x = record { numeral = written p.x; found = refl; reads = reads_back p.x h.x }; y = record { numeral = written p.y; found = refl; reads = reads_back p.y h.y }; z = record { numeral = written p.z; found = refl; reads = reads_back p.z h.z } };
+  target = record { x = record { numeral = written p.x; found = refl; reads = reads_back p.x h.x };
+      y = record { numeral = written p.y; found = refl; reads = reads_back p.y h.y }; z =
+      record { numeral = written p.z; found = refl; reads = reads_back p.z h.z } };
   ijk = refl;
 }
 
-touch-tokens : (p : Point) (d : Direction) → IsOnWire p → IsDirection d → written_tokens (PtMeas p (Some d)) ≡ Open ∷ Word (codes "X") ∷ Open ∷ Word (written p.x) ∷ Close ∷ Comma ∷ Word (codes "Y") ∷ Open ∷ Word (written p.y) ∷ Close ∷ Comma ∷ Word (codes "Z") ∷ Open ∷ Word (written p.z) ∷ Close ∷ Comma ∷ Word (codes "IJK") ∷ Open ∷ Word (written_component d.i) ∷ Comma ∷ Word (written_component d.j) ∷ Comma ∷ Word (written_component d.k) ∷ Close ∷ Close ∷ []
+touch-tokens : (p : Point) (d : Direction) → IsOnWire p → IsDirection d
+    → written_tokens (PtMeas p (Some d)) ≡ Open ∷ Word (codes "X") ∷ Open ∷ Word (written p.x) ∷ Close ∷ Comma ∷ Word (codes "Y") ∷ Open
+    ∷ Word (written p.y) ∷ Close ∷ Comma ∷ Word (codes "Z") ∷ Open ∷ Word (written p.z) ∷ Close ∷ Comma ∷ Word (codes "IJK") ∷ Open
+    ∷ Word (written_component d.i) ∷ Comma ∷ Word (written_component d.j) ∷ Comma ∷ Word (written_component d.k) ∷ Close ∷ Close ∷ []
 touch-tokens p d h g =
-    let whole : (written_point p ++ written_ijk (Some d)) ++ codes ")" ≡ point_before p (ijk_before d) = append_assoc (written_point p) (written_ijk (Some d)) (codes ")") ∙ ap (λ (t : List ℕ). written_point p ++ t) (ijk-append d) ∙ point-append p (ijk_before d) in
-    ap (λ (t : List ℕ). tokens (40 ∷ t)) whole ∙ ap (λ (ts : List Token). Open ∷ ts) (point-tokens p (ijk_before d) h ∙ rw (ijk-tokens d g) refl)
+    let whole : (written_point p ++ written_ijk (Some d)) ++ codes ")" ≡ point_before p (ijk_before d) =
+        append_assoc (written_point p) (written_ijk (Some d)) (codes ")") ∙ ap (λ (t : List ℕ). written_point p ++ t) (ijk-append d)
+        ∙ point-append p (ijk_before d) in
+    ap (λ (t : List ℕ). tokens (40 ∷ t)) whole ∙ ap (λ (ts : List Token). Open ∷ ts) (point-tokens p (ijk_before d) h
+        ∙ rw (ijk-tokens d g) refl)
 
 touch_back : (p : Point) (d : Direction) → IsOnWire p → IsDirection d → IsPlace (written_tokens (PtMeas p (Some d))) p (Some d)
 touch_back p d h g = record {
-  arguments = Single (codes "X") (written p.x) ∷ Single (codes "Y") (written p.y) ∷ Single (codes "Z") (written p.z) ∷ Triple (codes "IJK") (written_component d.i) (written_component d.j) (written_component d.k) ∷ [];
+  arguments = Single (codes "X") (written p.x) ∷ Single (codes "Y") (written p.y) ∷ Single (codes "Z") (written p.z)
+      ∷ Triple (codes "IJK") (written_component d.i) (written_component d.j) (written_component d.k) ∷ [];
   spelled = touch-tokens p d h g;
-  target = record { x = record { numeral = written p.x; found = refl; reads = reads_back p.x h.x }; y = record { numeral = written p.y; found = refl; reads = reads_back p.y h.y }; z = record { numeral = written p.z; found = refl; reads = reads_back p.z h.z } };
-  ijk = (refl, record { words = (written_component d.i, written_component d.j, written_component d.k); found = refl; reads = direction_reads_back d g });
+  target = record { x = record { numeral = written p.x; found = refl; reads = reads_back p.x h.x };
+      y = record { numeral = written p.y; found = refl; reads = reads_back p.y h.y }; z =
+      record { numeral = written p.z; found = refl; reads = reads_back p.z h.z } };
+  ijk = (refl, record { words = (written_component d.i, written_component d.j, written_component d.k); found = refl;
+      reads = direction_reads_back d g });
 }
 
 -- a touch without a direction is written as a move
@@ -134,12 +163,15 @@ place_back p (Some d) h g = touch_back p d h g
 tool-tokens : (n : List ℕ) → IsName n → written_tokens (ChangeTool n) ≡ Open ∷ Word (quoted n) ∷ Close ∷ []
 tool-tokens n h = ap (λ (ts : List Token). Open ∷ ts) (tokens-word (quoted n) (codes ")") (name-word n h).words (omega arith) refl)
 
-transformation_says : (p : Point) → IsInVolume p → Says kind.SetCsyTransformation (written_tokens (SetCsyTransformation p)) (SetCsyTransformation p)
+transformation_says : (p : Point) → IsInVolume p → Says kind.SetCsyTransformation (written_tokens (SetCsyTransformation p))
+    (SetCsyTransformation p)
 transformation_says p h =
-    let spelled = ap (λ (t : List ℕ). tokens (40 ∷ t)) (transformation-append p) ∙ ap (λ (ts : List Token). Open ∷ ts) (transformation-tokens p (volume_on_wire p h)) in (
+    let spelled = ap (λ (t : List ℕ). tokens (40 ∷ t)) (transformation-append p)
+        ∙ ap (λ (ts : List Token). Open ∷ ts) (transformation-tokens p (volume_on_wire p h)) in (
       p,
       record {
-        words = record { system = codes "PartCsy"; x = written p.x; y = written p.y; z = written p.z; a = codes "0"; b = codes "0"; c = codes "0" };
+        words = record { system = codes "PartCsy"; x = written p.x; y = written p.y; z = written p.z; a = codes "0"; b = codes "0";
+            c = codes "0" };
         spelled = spelled;
         named = refl;
         lengths = record { x = volume_back p.x h.x; y = volume_back p.y h.y; z = volume_back p.z h.z };
@@ -157,10 +189,12 @@ arguments_say StartSession h = (refl, refl)
 arguments_say EndSession h = (refl, refl)
 arguments_say ClearAllErrors h = (refl, refl)
 arguments_say Home h = (refl, refl)
-arguments_say OnPtMeasReport h = (record { x = codes "X"; y = codes "Y"; z = codes "Z"; spelled = refl; x_named = refl; y_named = refl; z_named = refl }, refl)
+arguments_say OnPtMeasReport h = (record { x = codes "X"; y = codes "Y"; z = codes "Z"; spelled = refl; x_named = refl; y_named = refl;
+    z_named = refl }, refl)
 arguments_say (GoTo p) h = (p, move_back p h, refl)
 arguments_say (PtMeas p d) h = (p, d, place_back p d h.0 h.1, refl)
-arguments_say (ChangeTool n) h = (n, record { word = quoted n; spelled = tool-tokens n h; reads = record { bare = n; spelled = inr refl; named = h.named; is_folded = sym h.capitals } }, refl)
+arguments_say (ChangeTool n) h = (n, record { word = quoted n; spelled = tool-tokens n h;
+    reads = record { bare = n; spelled = inr refl; named = h.named; is_folded = sym h.capitals } }, refl)
 arguments_say (SetCsyTransformation p) h = transformation_says p h
 arguments_say (SetCoordSystem s) h = system_says s
 arguments_say AbortE h = (refl, refl)
@@ -186,7 +220,8 @@ at_parenthesis rest c more e = let p : 40 ≡ c = cc in ap is_name_part (sym p)
 own_name : (name : List ℕ) → is_word name name ≡ true
 own_name name = (bytes_eq-Decides (map to_ascii_lowercase name) (map to_ascii_lowercase name)).1 refl
 
-pub command_reads_back : (tag : Tag) (command : Command) → IsWritable tag command → ReadsCommand (written_command tag command) (Ok (tag, command))
+pub command_reads_back : (tag : Tag) (command : Command) → IsWritable tag command
+    → ReadsCommand (written_command tag command) (Ok (tag, command))
 unfolding written_command
 command_reads_back tag command h =
     let rest : List ℕ = 40 ∷ (written_arguments command ++ codes ")") in
@@ -198,7 +233,8 @@ command_reads_back tag command h =
       begins = record {
         text = name ++ rest;
         tagged = record { numbered = h.tagged.numbered; parts = refl };
-        named = record { parts = refl; whole = name_whole (kind_of command); stop = at_parenthesis (written_arguments command ++ codes ")") };
+        named = record { parts = refl; whole = name_whole (kind_of command);
+            stop = at_parenthesis (written_arguments command ++ codes ")") };
       };
       known = own_name name;
       fits = h.tagged;

@@ -11,14 +11,16 @@ use Rattle.dme_line.specs.CommandText.{Begins, IsCommandText, is_name_part}
 use Rattle.dme_line.specs.Arguments.{Says}
 use Rattle.dme_line.specs.declared.tags.Tag.{Tag}
 use Rattle.dme_line.specs.declared.commands.Kind.{Kind}
-use Rattle.dme_line.specs.declared.commands.Kind.TheVariants.{StartSession, EndSession, ClearAllErrors, Home, OnPtMeasReport, GoTo, PtMeas, ChangeTool, SetCsyTransformation, SetCoordSystem, AbortE}
+use Rattle.dme_line.specs.declared.commands.Kind.TheVariants.{StartSession, EndSession, ClearAllErrors, Home, OnPtMeasReport, GoTo, PtMeas,
+  ChangeTool, SetCsyTransformation, SetCoordSystem, AbortE}
 use Rattle.dme_line.specs.declared.commands.Command.{Command}
 use Rattle.dme_line.proofs.TagLemmas.{one_tag, tag_numbered}
 use Rattle.dme_line.proofs.NameCutLemmas.{one_cut}
 
 -- two names that one word is in any case have the same small letters
 pub same_letters : (a b word : List ℕ) → is_word a word ≡ true → is_word b word ≡ true → map to_ascii_lowercase a ≡ map to_ascii_lowercase b
-same_letters a b word f g = sym ((bytes_eq-Decides (map to_ascii_lowercase word) (map to_ascii_lowercase a)).0 f) ∙ (bytes_eq-Decides (map to_ascii_lowercase word) (map to_ascii_lowercase b)).0 g
+same_letters a b word f g = sym ((bytes_eq-Decides (map to_ascii_lowercase word) (map to_ascii_lowercase a)).0 f)
+    ∙ (bytes_eq-Decides (map to_ascii_lowercase word) (map to_ascii_lowercase b)).0 g
 
 -- the names of commands differ in their length and first letter
 mark_of : List ℕ → ℕ
@@ -54,7 +56,8 @@ kind_again AbortE = refl
 
 -- a word is the name of one kind
 pub one_kind : (k l : Kind) (word : List ℕ) → is_word (kind_name k) word ≡ true → is_word (kind_name l) word ≡ true → k ≡ l
-one_kind k l word f g = sym (kind_again k) ∙ ap (λ (t : List ℕ). kind_by (mark_of t)) (same_letters (kind_name k) (kind_name l) word f g) ∙ kind_again l
+one_kind k l word f g = sym (kind_again k) ∙ ap (λ (t : List ℕ). kind_by (mark_of t)) (same_letters (kind_name k) (kind_name l) word f g)
+    ∙ kind_again l
 
 -- a line begins in one way
 pub record SameFront (t u : Tag) (a b r s : List ℕ) : Type 0 where
@@ -67,9 +70,11 @@ cons_same c xs ys e = cc
 
 pub one_front : (line : List ℕ) (t u : Tag) (a b r s : List ℕ) → Begins line t a r → Begins line u b s → SameFront t u a b r s
 one_front line t u a b r s f g =
-    let tags = one_tag t u (32 ∷ f.text) (32 ∷ g.text) (tag_numbered t f.tagged.numbered) (tag_numbered u g.tagged.numbered) (sym f.tagged.parts ∙ g.tagged.parts) in
+    let tags = one_tag t u (32 ∷ f.text) (32 ∷ g.text) (tag_numbered t f.tagged.numbered) (tag_numbered u g.tagged.numbered)
+        (sym f.tagged.parts ∙ g.tagged.parts) in
     let texts = cons_same 32 f.text g.text tags.behind in
-    let cut = one_cut is_name_part a b r s (sym f.named.parts ∙ texts ∙ g.named.parts) f.named.whole g.named.whole f.named.stop g.named.stop in
+    let cut = one_cut is_name_part a b r s (sym f.named.parts ∙ texts ∙ g.named.parts) f.named.whole g.named.whole f.named.stop g.named.stop
+        in
     record { tag = tags.tag; name = cut.front; rest = cut.behind }
 
 -- what a line says where its name and kind are known
@@ -77,13 +82,15 @@ pub record SaysHere (tag : Tag) (kind : Kind) (rest : List ℕ) (command : Comma
   pub fits : IsTagOf kind tag
   pub says : Says kind (tokens rest) command
 
-pub says_here : (line : List ℕ) (tag other : Tag) (name rest : List ℕ) (kind : Kind) (command : Command) → Begins line tag name rest → is_word (kind_name kind) name ≡ true → IsCommandText line other command → SaysHere tag kind rest command
+pub says_here : (line : List ℕ) (tag other : Tag) (name rest : List ℕ) (kind : Kind) (command : Command) → Begins line tag name rest
+    → is_word (kind_name kind) name ≡ true → IsCommandText line other command → SaysHere tag kind rest command
 says_here line tag other name rest kind command f known h =
     let front = one_front line other tag h.name name h.rest rest h.begins f in
     let kinds = one_kind h.kind kind name (subst (λ (n : List ℕ). is_word (kind_name h.kind) n ≡ true) front.name h.known) known in
     let fits = subst (λ (k : Kind). IsTagOf k other) kinds h.fits in
     let says = subst (λ (k : Kind). Says k (tokens h.rest) command) kinds h.says in
-    record { fits = subst (λ (t : Tag). IsTagOf kind t) front.tag fits; says = subst (λ (r : List ℕ). Says kind (tokens r) command) front.rest says }
+    record { fits = subst (λ (t : Tag). IsTagOf kind t) front.tag fits;
+        says = subst (λ (r : List ℕ). Says kind (tokens r) command) front.rest says }
 
 pub wrong_sort : (a b : Bool) → a ≡ b → not (beq a b) ≡ true → ⊥
 wrong_sort true true e h = cc

@@ -14,7 +14,8 @@ use Rattle.dme_line.specs.declared.commands.Csy.TheVariants.{MachineCsy, PartCsy
 use Rattle.dme_line.specs.declared.commands.Kind.{Kind}
 use Rattle.dme_line.specs.declared.commands.Kind.TheVariants as kind
 use Rattle.dme_line.specs.declared.commands.Command.{Command}
-use Rattle.dme_line.specs.declared.commands.Command.TheVariants.{StartSession, EndSession, ClearAllErrors, Home, OnPtMeasReport, GoTo, PtMeas, ChangeTool, SetCsyTransformation, SetCoordSystem, AbortE}
+use Rattle.dme_line.specs.declared.commands.Command.TheVariants.{StartSession, EndSession, ClearAllErrors, Home, OnPtMeasReport, GoTo,
+  PtMeas, ChangeTool, SetCsyTransformation, SetCoordSystem, AbortE}
 use Rattle.dme_line.proofs.WireTexts.{wire_append, word_wire, written-word, component-word, tag-wire, point-wire, name-word}
 use Rattle.dme_line.proofs.CommandBack.{volume_on_wire}
 
@@ -44,14 +45,18 @@ direction-wire d h =
     let k = word_wire 15 (written_component d.k) (component-word d.k h.k_within) in
     let k_text = wire_append 2 15 17 (codes ", ") (written_component d.k) comma k (omega arith) in
     let j_text = wire_append 15 17 32 (written_component d.j) (codes ", " ++ written_component d.k) j k_text (omega arith) in
-    let j_all = wire_append 2 32 34 (codes ", ") (written_component d.j ++ (codes ", " ++ written_component d.k)) comma j_text (omega arith) in
-    wire_append 15 34 49 (written_component d.i) (codes ", " ++ (written_component d.j ++ (codes ", " ++ written_component d.k))) i j_all (omega arith)
+    let j_all = wire_append 2 32 34 (codes ", ") (written_component d.j ++ (codes ", " ++ written_component d.k)) comma j_text (omega arith)
+        in
+    wire_append 15 34 49 (written_component d.i) (codes ", " ++ (written_component d.j ++ (codes ", " ++ written_component d.k))) i j_all
+        (omega arith)
 
 ijk-wire : (d : Option Direction) → IsIjk d → IsWireText 56 (written_ijk d)
 ijk-wire None h = record { free = refl; short = omega arith }
 ijk-wire (Some d) h =
-    let whole = wire_append 49 1 50 (written_direction d (codes ", ")) (codes ")") (direction-wire d h) (record { free = refl; short = omega arith }) (omega arith) in
-    wire_append 6 50 56 (codes ", IJK(") (written_direction d (codes ", ") ++ codes ")") (record { free = refl; short = omega arith }) whole (omega arith)
+    let whole = wire_append 49 1 50 (written_direction d (codes ", ")) (codes ")") (direction-wire d h)
+        (record { free = refl; short = omega arith }) (omega arith) in
+    wire_append 6 50 56 (codes ", IJK(") (written_direction d (codes ", ") ++ codes ")") (record { free = refl; short = omega arith }) whole
+        (omega arith)
 
 transformation-wire : (p : Point) → IsOnWire p → IsWireText 58 (written_transformation p)
 transformation-wire p h =
@@ -62,9 +67,13 @@ transformation-wire p h =
     let z_text = wire_append 12 9 21 (written p.z) (codes ", 0, 0, 0") z end (omega arith) in
     let z_all = wire_append 2 21 23 (codes ", ") (written p.z ++ codes ", 0, 0, 0") comma z_text (omega arith) in
     let y_text = wire_append 12 23 35 (written p.y) (codes ", " ++ (written p.z ++ codes ", 0, 0, 0")) y z_all (omega arith) in
-    let y_all = wire_append 2 35 37 (codes ", ") (written p.y ++ (codes ", " ++ (written p.z ++ codes ", 0, 0, 0"))) comma y_text (omega arith) in
-    let x_text = wire_append 12 37 49 (written p.x) (codes ", " ++ (written p.y ++ (codes ", " ++ (written p.z ++ codes ", 0, 0, 0")))) x y_all (omega arith) in
-    wire_append 9 49 58 (codes "PartCsy, ") (written p.x ++ (codes ", " ++ (written p.y ++ (codes ", " ++ (written p.z ++ codes ", 0, 0, 0"))))) (record { free = refl; short = omega arith }) x_text (omega arith)
+    let y_all = wire_append 2 35 37 (codes ", ") (written p.y ++ (codes ", " ++ (written p.z ++ codes ", 0, 0, 0"))) comma y_text
+        (omega arith) in
+    let x_text = wire_append 12 37 49 (written p.x) (codes ", " ++ (written p.y ++ (codes ", " ++ (written p.z ++ codes ", 0, 0, 0")))) x
+        y_all (omega arith) in
+    wire_append 9 49 58 (codes "PartCsy, ") (written p.x ++ (codes ", "
+        ++ (written p.y ++ (codes ", " ++ (written p.z ++ codes ", 0, 0, 0"))))) (record { free = refl; short = omega arith }) x_text
+        (omega arith)
 
 system-wire : (s : Csy) → IsWireText 105 (csy_name s)
 system-wire MachineCsy = record { free = refl; short = omega arith }
@@ -79,7 +88,8 @@ arguments-wire OnPtMeasReport h = record { free = refl; short = omega arith }
 arguments-wire (GoTo p) h = wire_weaker 49 105 (written_point p) (omega arith) (point-wire p h)
 arguments-wire (PtMeas p d) h = wire_append 49 56 105 (written_point p) (written_ijk d) (point-wire p h.0) (ijk-wire d h.1) (omega arith)
 arguments-wire (ChangeTool n) h = wire_weaker 66 105 (quoted n) (omega arith) (name-word n h).wire
-arguments-wire (SetCsyTransformation p) h = wire_weaker 58 105 (written_transformation p) (omega arith) (transformation-wire p (volume_on_wire p h))
+arguments-wire (SetCsyTransformation p) h = wire_weaker 58 105 (written_transformation p) (omega arith)
+    (transformation-wire p (volume_on_wire p h))
 arguments-wire (SetCoordSystem s) h = system-wire s
 arguments-wire AbortE h = record { free = refl; short = omega arith }
 
@@ -87,8 +97,13 @@ pub command-wire : (tag : Tag) (command : Command) → IsWritable tag command �
 unfolding written_command
 command-wire tag command h =
     let arguments = arguments-wire command h.arguments in
-    let closed = wire_append 105 1 106 (written_arguments command) (codes ")") arguments (record { free = refl; short = omega arith }) (omega arith) in
-    let opened = wire_append 1 106 107 (codes "(") (written_arguments command ++ codes ")") (record { free = refl; short = omega arith }) closed (omega arith) in
-    let named = wire_append 20 107 127 (kind_name (kind_of command)) (40 ∷ (written_arguments command ++ codes ")")) (name-wire (kind_of command)) opened (omega arith) in
-    let spaced = wire_append 1 127 128 (codes " ") (kind_name (kind_of command) ++ (40 ∷ (written_arguments command ++ codes ")"))) (record { free = refl; short = omega arith }) named (omega arith) in
-    wire_append 5 128 200 (written_tag tag) (32 ∷ (kind_name (kind_of command) ++ (40 ∷ (written_arguments command ++ codes ")")))) (tag-wire tag) spaced (omega arith)
+    let closed = wire_append 105 1 106 (written_arguments command) (codes ")") arguments (record { free = refl; short = omega arith })
+        (omega arith) in
+    let opened = wire_append 1 106 107 (codes "(") (written_arguments command ++ codes ")") (record { free = refl; short = omega arith })
+        closed (omega arith) in
+    let named = wire_append 20 107 127 (kind_name (kind_of command)) (40 ∷ (written_arguments command ++ codes ")"))
+        (name-wire (kind_of command)) opened (omega arith) in
+    let spaced = wire_append 1 127 128 (codes " ") (kind_name (kind_of command) ++ (40 ∷ (written_arguments command ++ codes ")")))
+        (record { free = refl; short = omega arith }) named (omega arith) in
+    wire_append 5 128 200 (written_tag tag) (32 ∷ (kind_name (kind_of command) ++ (40 ∷ (written_arguments command ++ codes ")"))))
+        (tag-wire tag) spaced (omega arith)

@@ -2,14 +2,17 @@
 use Rattle.std.proofs.Common.{◌≡◌, Bool, true, false, List, [], ◌∷◌, Option, Some, None, MatchOption, cond, refl, sym, ◌∙◌, find, subst}
 use Rattle.std.proofs.lemmas.Bool.{false≢true}
 use Rattle.dme_line.specs.declared.commands.Kind.{Kind}
-use Rattle.dme_line.specs.declared.commands.Kind.TheVariants.{StartSession, EndSession, ClearAllErrors, Home, OnPtMeasReport, GoTo, PtMeas, ChangeTool, SetCsyTransformation, SetCoordSystem, AbortE}
+use Rattle.dme_line.specs.declared.commands.Kind.TheVariants.{StartSession, EndSession, ClearAllErrors, Home, OnPtMeasReport, GoTo, PtMeas,
+  ChangeTool, SetCsyTransformation, SetCoordSystem, AbortE}
 use Rattle.dme_line.specs.declared.reading.TheConstants.{KINDS}
 
 abbrev NoneOf : (Kind → Bool) → List Kind → Type 0
 NoneOf p [] = Unit {0}
 NoneOf p (k ∷ ks) = (p k ≡ false) × NoneOf p ks
 
-found_step : (p : Kind → Bool) (k : Kind) (ks : List Kind) (b : Bool) (o : Option Kind) → p k ≡ b → o ≡ cond b (Some k) (find p ks) → ((q : Option Kind) → q ≡ find p ks → MatchOption q (NoneOf p ks) (λ l. p l ≡ true)) → MatchOption o ((p k ≡ false) × NoneOf p ks) (λ l. p l ≡ true)
+found_step : (p : Kind → Bool) (k : Kind) (ks : List Kind) (b : Bool) (o : Option Kind) → p k ≡ b → o ≡ cond b (Some k) (find p ks)
+    → ((q : Option Kind) → q ≡ find p ks → MatchOption q (NoneOf p ks) (λ l. p l ≡ true))
+    → MatchOption o ((p k ≡ false) × NoneOf p ks) (λ l. p l ≡ true)
 found_step p k ks true o e f g = subst (λ (q : Option Kind). MatchOption q ((p k ≡ false) × NoneOf p ks) (λ l. p l ≡ true)) (sym f) e
 found_step p k ks false None e f g = (e, g None f)
 found_step p k ks false (Some l) e f g = g (Some l) f
@@ -34,7 +37,8 @@ each_kind p h SetCsyTransformation = not_so (p SetCsyTransformation) h.1.1.1.1.1
 each_kind p h SetCoordSystem = not_so (p SetCoordSystem) h.1.1.1.1.1.1.1.1.1.0
 each_kind p h AbortE = not_so (p AbortE) h.1.1.1.1.1.1.1.1.1.1.0
 
-none_of_kinds : (p : Kind → Bool) (o : Option Kind) → MatchOption o (NoneOf p KINDS) (λ k. p k ≡ true) → MatchOption o ((k : Kind) → p k ≡ true → ⊥) (λ k. p k ≡ true)
+none_of_kinds : (p : Kind → Bool) (o : Option Kind) → MatchOption o (NoneOf p KINDS) (λ k. p k ≡ true)
+    → MatchOption o ((k : Kind) → p k ≡ true → ⊥) (λ k. p k ≡ true)
 none_of_kinds p None h = each_kind p h
 none_of_kinds p (Some k) h = h
 

@@ -9,14 +9,16 @@ starts : (p : ℕ → Bool) (rest : List ℕ) → begins p rest ≡ false → (c
 starts p rest h c more e = subst (λ (t : List ℕ). begins p t ≡ false) e h
 
 pub name_cut : (text : List ℕ) → IsNamed text (take (prefix_len is_name_part text) text) (drop (prefix_len is_name_part text) text)
-name_cut text = record { parts = sym (take-append-drop (prefix_len is_name_part text) text); whole = list_all-front is_name_part text; stop = starts is_name_part (drop (prefix_len is_name_part text) text) (begins-behind is_name_part text) }
+name_cut text = record { parts = sym (take-append-drop (prefix_len is_name_part text) text); whole = list_all-front is_name_part text;
+    stop = starts is_name_part (drop (prefix_len is_name_part text) text) (begins-behind is_name_part text) }
 
 -- two cuts of one text are one
 pub record SameCut (a b r s : List ℕ) : Type 0 where
   pub front : a ≡ b
   pub behind : r ≡ s
 
-pub one_cut : (p : ℕ → Bool) (a b r s : List ℕ) → a ++ r ≡ b ++ s → list_all p a ≡ true → list_all p b ≡ true → ((c : ℕ) (more : List ℕ) → r ≡ c ∷ more → p c ≡ false) → ((c : ℕ) (more : List ℕ) → s ≡ c ∷ more → p c ≡ false) → SameCut a b r s
+pub one_cut : (p : ℕ → Bool) (a b r s : List ℕ) → a ++ r ≡ b ++ s → list_all p a ≡ true → list_all p b ≡ true
+    → ((c : ℕ) (more : List ℕ) → r ≡ c ∷ more → p c ≡ false) → ((c : ℕ) (more : List ℕ) → s ≡ c ∷ more → p c ≡ false) → SameCut a b r s
 one_cut p [] [] r s e f g h k = record { front = refl; behind = e }
 one_cut p [] (d ∷ b) r s e f g h k = absurd (false≢true (sym (h d (b ++ s) e) ∙ (and_parts (p d) (list_all p b) g).0))
 one_cut p (c ∷ a) [] r s e f g h k = absurd (false≢true (sym (k c (a ++ r) (sym e)) ∙ (and_parts (p c) (list_all p a) f).0))

@@ -47,10 +47,12 @@ one_seven : (s t : Seven) → enclosed (seven_tokens s) ≡ enclosed (seven_toke
 one_seven s t e = same_seven s t (cc) (cc) (cc) (cc) (cc) (cc) (cc)
 
 one_lengths : (s : Seven) (p q : Point) → HasLengths s p → HasLengths s q → p ≡ q
-one_lengths s p q f g = same_point p q (one_length 3 volume_limit s.x p.x q.x f.x g.x) (one_length 3 volume_limit s.y p.y q.y f.y g.y) (one_length 3 volume_limit s.z p.z q.z f.z g.z)
+one_lengths s p q f g = same_point p q (one_length 3 volume_limit s.x p.x q.x f.x g.x) (one_length 3 volume_limit s.y p.y q.y f.y g.y)
+    (one_length 3 volume_limit s.z p.z q.z f.z g.z)
 
 one_transformation : (ts : List Token) (p q : Point) → IsTransformation ts p → IsTransformation ts q → p ≡ q
-one_transformation ts p q f g = one_lengths g.words p q (subst (λ (s : Seven). HasLengths s p) (one_seven f.words g.words (sym f.spelled ∙ g.spelled)) f.lengths) g.lengths
+one_transformation ts p q f g = one_lengths g.words p q (subst (λ (s : Seven). HasLengths s p)
+    (one_seven f.words g.words (sym f.spelled ∙ g.spelled)) f.lengths) g.lengths
 
 -- tokens say one command of a kind
 one_saying : (k : Kind) (ts : List Token) (c d : Command) → Says k ts c → Says k ts d → c ≡ d
@@ -64,7 +66,8 @@ one_saying kind.PtMeas ts c d f g =
     let same = one_place ts f.0 g.0 f.1 g.1 f.2 g.2 in
     f.3 ∙ (λ n. PtMeas (same.target n) (same.ijk n)) ∙ sym g.3
 one_saying kind.ChangeTool ts c d f g = f.2 ∙ ap (λ (n : List ℕ). ChangeTool n) (one_tool ts f.0 g.0 f.1 g.1) ∙ sym g.2
-one_saying kind.SetCsyTransformation ts c d f g = f.2 ∙ ap (λ (p : Point). SetCsyTransformation p) (one_transformation ts f.0 g.0 f.1 g.1) ∙ sym g.2
+one_saying kind.SetCsyTransformation ts c d f g = f.2 ∙ ap (λ (p : Point). SetCsyTransformation p) (one_transformation ts f.0 g.0 f.1 g.1)
+    ∙ sym g.2
 one_saying kind.SetCoordSystem ts c d f g = f.2 ∙ ap (λ (s : Csy). SetCoordSystem s) (one_system ts f.0 g.0 f.1 g.1) ∙ sym g.2
 one_saying kind.AbortE ts c d f g = f.1 ∙ sym g.1
 
@@ -80,7 +83,8 @@ one_command line t u c d f g =
     record { tag = front.tag; command = one_saying g.kind (tokens g.rest) c d here.says g.says }
 
 -- where a line begins with a name, a command that it stands for has a kind of that name, and its tag
-known_name : (line : List ℕ) (t u : Tag) (c : Command) (name rest : List ℕ) → IsCommandText line t c → Begins line u name rest → (k : Kind) × (is_word (kind_name k) name ≡ true) × (t ≡ u)
+known_name : (line : List ℕ) (t u : Tag) (c : Command) (name rest : List ℕ) → IsCommandText line t c → Begins line u name rest → (k : Kind)
+    × (is_word (kind_name k) name ≡ true) × (t ≡ u)
 known_name line t u c name rest f g =
     let front = one_front line t u f.name name f.rest rest f.begins g in
     (f.kind, subst (λ (n : List ℕ). is_word (kind_name f.kind) n ≡ true) front.name f.known, front.tag)
@@ -88,7 +92,8 @@ known_name line t u c name rest f g =
 abbrev Met : Type 0
 Met = Result (Tag × Command) LineFault
 
-ok_ok : (line : List ℕ) (t u : Tag) (c d : Command) → IsCommandText line t c → IsCommandText line u d → ◌≡◌ {A = Met} (Ok (t, c)) (Ok (u, d))
+ok_ok : (line : List ℕ) (t u : Tag) (c d : Command) → IsCommandText line t c → IsCommandText line u d
+    → ◌≡◌ {A = Met} (Ok (t, c)) (Ok (u, d))
 ok_ok line t u c d f g = let same = one_command line t u c d f g in λ n. Ok (same.tag n, same.command n)
 
 ok_unknown : (line : List ℕ) (t u : Tag) (c : Command) → IsCommandText line t c → ReadsCommand line (Err (UnknownCommand u)) → ⊥
@@ -97,13 +102,17 @@ ok_unknown line t u c f g = let k = known_name line t u c g.0 g.1 f g.2 in g.3 k
 ok_bad : (line : List ℕ) (t u : Tag) (c : Command) (k : Kind) → IsCommandText line t c → ReadsCommand line (Err (BadArguments u k)) → ⊥
 ok_bad line t u c k f g = g.4 c (subst (λ (x : Tag). IsCommandText line x c) (known_name line t u c g.0 g.1 f g.2).2 f)
 
-unknown_bad : (line : List ℕ) (t u : Tag) (k : Kind) → ReadsCommand line (Err (UnknownCommand t)) → ReadsCommand line (Err (BadArguments u k)) → ⊥
-unknown_bad line t u k f g = let front = one_front line u t g.0 f.0 g.1 f.1 g.2 f.2 in f.3 k (subst (λ (n : List ℕ). is_word (kind_name k) n ≡ true) front.name g.3)
+unknown_bad : (line : List ℕ) (t u : Tag) (k : Kind) → ReadsCommand line (Err (UnknownCommand t))
+    → ReadsCommand line (Err (BadArguments u k)) → ⊥
+unknown_bad line t u k f g = let front = one_front line u t g.0 f.0 g.1 f.1 g.2 f.2
+    in f.3 k (subst (λ (n : List ℕ). is_word (kind_name k) n ≡ true) front.name g.3)
 
-unknown_unknown : (line : List ℕ) (t u : Tag) → ReadsCommand line (Err (UnknownCommand t)) → ReadsCommand line (Err (UnknownCommand u)) → ◌≡◌ {A = Met} (Err (UnknownCommand t)) (Err (UnknownCommand u))
+unknown_unknown : (line : List ℕ) (t u : Tag) → ReadsCommand line (Err (UnknownCommand t)) → ReadsCommand line (Err (UnknownCommand u))
+    → ◌≡◌ {A = Met} (Err (UnknownCommand t)) (Err (UnknownCommand u))
 unknown_unknown line t u f g = let front = one_front line t u f.0 g.0 f.1 g.1 f.2 g.2 in ap (λ (x : Tag). Err (UnknownCommand x)) front.tag
 
-bad_bad : (line : List ℕ) (t u : Tag) (k l : Kind) → ReadsCommand line (Err (BadArguments t k)) → ReadsCommand line (Err (BadArguments u l)) → ◌≡◌ {A = Met} (Err (BadArguments t k)) (Err (BadArguments u l))
+bad_bad : (line : List ℕ) (t u : Tag) (k l : Kind) → ReadsCommand line (Err (BadArguments t k)) → ReadsCommand line (Err (BadArguments u l))
+    → ◌≡◌ {A = Met} (Err (BadArguments t k)) (Err (BadArguments u l))
 bad_bad line t u k l f g =
     let front = one_front line t u f.0 g.0 f.1 g.1 f.2 g.2 in
     let kinds = one_kind k l g.0 (subst (λ (n : List ℕ). is_word (kind_name k) n ≡ true) front.name f.3) g.3 in

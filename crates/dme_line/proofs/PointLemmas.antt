@@ -10,10 +10,15 @@ use Rattle.dme_line.specs.declared.points.NotPoint.{NotPoint}
 use Rattle.dme_line.proofs.PlaceLemmas.{one_length, same_point}
 
 -- no third axis
-third : (ts t u v w : List Token) (x y a b z : List ℕ) → ts ≡ argument_tokens (Single (codes "X") x) ++ t → t ≡ Comma ∷ u → u ≡ argument_tokens (Single (codes "Y") y) ++ v → v ≡ Comma ∷ w → ts ≡ point_tokens a b z → w ≡ argument_tokens (Single (codes "Z") z) ++ []
+third : (ts t u v w : List Token) (x y a b z : List ℕ) → ts ≡ argument_tokens (Single (codes "X") x) ++ t → t ≡ Comma ∷ u
+    → u ≡ argument_tokens (Single (codes "Y") y) ++ v → v ≡ Comma ∷ w → ts ≡ point_tokens a b z
+    → w ≡ argument_tokens (Single (codes "Z") z) ++ []
 third ts t u v w x y a b z p q r s e = cc
 
-pub no_z : (ts t u v w : List Token) (x y : List ℕ) → ts ≡ argument_tokens (Single (codes "X") x) ++ t → t ≡ Comma ∷ u → u ≡ argument_tokens (Single (codes "Y") y) ++ v → v ≡ Comma ∷ w → ((z : List ℕ) (us : List Token) → w ≡ argument_tokens (Single (codes "Z") z) ++ us → ⊥) → (a b z : List ℕ) → ts ≡ point_tokens a b z → ⊥
+pub no_z : (ts t u v w : List Token) (x y : List ℕ) → ts ≡ argument_tokens (Single (codes "X") x) ++ t → t ≡ Comma ∷ u
+    → u ≡ argument_tokens (Single (codes "Y") y) ++ v → v ≡ Comma ∷ w
+    → ((z : List ℕ) (us : List Token) → w ≡ argument_tokens (Single (codes "Z") z) ++ us → ⊥) → (a b z : List ℕ) → ts ≡ point_tokens a b z
+    → ⊥
 no_z ts t u v w x y p q r s none a b z e = none z [] (third ts t u v w x y a b z p q r s e)
 
 -- a text stands for one point
@@ -26,7 +31,8 @@ one_point text p q f g =
     let x = subst (λ (w : List ℕ). Reads 3 wire_limit w (Ok p.x)) same.0 f.reads.x_reads in
     let y = subst (λ (w : List ℕ). Reads 3 wire_limit w (Ok p.y)) same.1 f.reads.y_reads in
     let z = subst (λ (w : List ℕ). Reads 3 wire_limit w (Ok p.z)) same.2 f.reads.z_reads in
-    same_point p q (one_length 3 wire_limit g.x p.x q.x x g.reads.x_reads) (one_length 3 wire_limit g.y p.y q.y y g.reads.y_reads) (one_length 3 wire_limit g.z p.z q.z z g.reads.z_reads)
+    same_point p q (one_length 3 wire_limit g.x p.x q.x x g.reads.x_reads) (one_length 3 wire_limit g.y p.y q.y y g.reads.y_reads)
+        (one_length 3 wire_limit g.z p.z q.z z g.reads.z_reads)
 
 one_fault : (a b : NotPoint) → a ≡ b
 one_fault a b = λ n. record {}

@@ -6,10 +6,13 @@ use Rattle.dme_line.specs.declared.tags.Tag.TheVariants.{Std, Event}
 use Rattle.dme_line.specs.Tags.{written_tag, IsTag, IsNumbered}
 
 -- a number of so many digits is written in one way
-four_apart : (m n : ℕ) → m ≤ 9999 → n ≤ 9999 → last_digit (m / 1000) ≡ last_digit (n / 1000) → last_digit (m / 100) ≡ last_digit (n / 100) → last_digit (m / 10) ≡ last_digit (n / 10) → last_digit m ≡ last_digit n → m ≡ n
+four_apart : (m n : ℕ) → m ≤ 9999 → n ≤ 9999 → last_digit (m / 1000) ≡ last_digit (n / 1000) → last_digit (m / 100) ≡ last_digit (n / 100)
+    → last_digit (m / 10) ≡ last_digit (n / 10) → last_digit m ≡ last_digit n → m ≡ n
 four_apart m n f g a b c d = omega (arith, a, b, c, d)
 
-five_apart : (m n : ℕ) → m ≤ 99999 → n ≤ 99999 → last_digit (m / 10000) ≡ last_digit (n / 10000) → last_digit (m / 1000) ≡ last_digit (n / 1000) → last_digit (m / 100) ≡ last_digit (n / 100) → last_digit (m / 10) ≡ last_digit (n / 10) → last_digit m ≡ last_digit n → m ≡ n
+five_apart : (m n : ℕ) → m ≤ 99999 → n ≤ 99999 → last_digit (m / 10000) ≡ last_digit (n / 10000)
+    → last_digit (m / 1000) ≡ last_digit (n / 1000) → last_digit (m / 100) ≡ last_digit (n / 100)
+    → last_digit (m / 10) ≡ last_digit (n / 10) → last_digit m ≡ last_digit n → m ≡ n
 five_apart m n f g a b c d e = omega (arith, a, b, c, d, e)
 
 no_letter : (n : ℕ) → last_digit n ≡ 69 → ⊥

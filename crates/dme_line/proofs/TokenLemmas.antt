@@ -1,10 +1,12 @@
 -- The tokens of a text, from its front.
-use Rattle.std.proofs.Common.{◌≡◌, ◌≢◌, ℕ, suc, ◌+◌, ◌<◌, Bool, true, false, not, ◌||◌, cond, ◌⊎◌, inl, inr, List, [], ◌∷◌, ◌++◌, length, take, drop, refl, ap, sym, subst, ◌∙◌, arith, take-append-drop}
+use Rattle.std.proofs.Common.{◌≡◌, ◌≢◌, ℕ, suc, ◌+◌, ◌<◌, Bool, true, false, not, ◌||◌, cond, ◌⊎◌, inl, inr, List, [], ◌∷◌, ◌++◌, length,
+  take, drop, refl, ap, sym, subst, ◌∙◌, arith, take-append-drop}
 use Rattle.std.specs.Prelude.{◌==◌, ◌↔◌, IsTrue}
 use Rattle.std.specs.List.{list_all, prefix_len}
 use Rattle.std.proofs.lemmas.Bool.{and_parts, not-true, eqb-true, ne_eqb, false≢true, true≢false, or_cases}
 use Rattle.std.proofs.lemmas.List.Folds.{length-prefix_len}
-use Rattle.dme_line.specs.Tokens.{Token, Open, Close, Comma, Word, is_mark, mark_token, is_word_byte, begins_word, longer_word, tokens_behind, tokens}
+use Rattle.dme_line.specs.Tokens.{Token, Open, Close, Comma, Word, is_mark, mark_token, is_word_byte, begins_word, longer_word,
+  tokens_behind, tokens}
 
 -- one element more on a front
 one_more : (n : ℕ) → 1 + n ≡ suc n
@@ -21,14 +23,16 @@ plain_from_test c h =
     record { no_space = not-true _ p.0; no_mark = not-true _ p.1 }
 
 -- what stands behind a word byte, a mark and a space
-pub behind_plain : (c : ℕ) (joins : Bool) (ts : List Token) → IsPlain c → tokens_behind c joins ts ≡ cond joins (longer_word c ts) (Word (c ∷ []) ∷ ts)
+pub behind_plain : (c : ℕ) (joins : Bool) (ts : List Token) → IsPlain c
+    → tokens_behind c joins ts ≡ cond joins (longer_word c ts) (Word (c ∷ []) ∷ ts)
 behind_plain c joins ts h = rw (h.no_space, h.no_mark) refl
 
 behind_mark : (c : ℕ) (joins : Bool) (ts : List Token) → (c == 32) ≡ false → is_mark c ≡ true → tokens_behind c joins ts ≡ mark_token c ∷ ts
 behind_mark c joins ts h m = rw (h, m) refl
 
 -- a word, with what cannot belong to it behind it
-pub tokens-word : (w rest : List ℕ) → list_all is_word_byte w ≡ true → 0 < length w → begins_word rest ≡ false → tokens (w ++ rest) ≡ Word w ∷ tokens rest
+pub tokens-word : (w rest : List ℕ) → list_all is_word_byte w ≡ true → 0 < length w → begins_word rest ≡ false
+    → tokens (w ++ rest) ≡ Word w ∷ tokens rest
 tokens-word [] rest all some stop = absurd (omega arith)
 tokens-word (c ∷ []) rest all some stop =
     let p = and_parts (is_word_byte c) true all in
@@ -94,7 +98,8 @@ mark_no_word c w (inr (inr p)) e = cc
 abbrev pub IsFlush : List ℕ → Type 0
 IsFlush text = (c : ℕ) (more : List ℕ) → text ≡ c ∷ more → c ≢ 32
 
-first_mark : (c : ℕ) (joins m : Bool) (us ts : List Token) (mark : ℕ) → c ≢ 32 → is_mark c ≡ m → is_mark mark ≡ true → tokens_behind c joins us ≡ mark_token mark ∷ ts → c ≡ mark
+first_mark : (c : ℕ) (joins m : Bool) (us ts : List Token) (mark : ℕ) → c ≢ 32 → is_mark c ≡ m → is_mark mark ≡ true
+    → tokens_behind c joins us ≡ mark_token mark ∷ ts → c ≡ mark
 first_mark c joins true us ts mark flush m h e =
     let f = behind_mark c joins us (ne_eqb c 32 flush) m in
     let same : mark_token c ≡ mark_token mark = cc in
@@ -105,7 +110,8 @@ first_mark c joins false us ts mark flush m h e =
     absurd (mark_no_word mark w.word (this_mark mark h) same)
 
 -- a text whose first token is a mark begins with it
-pub mark_first : (c : ℕ) (cs : List ℕ) (mark : ℕ) (ts : List Token) → c ≢ 32 → is_mark mark ≡ true → tokens (c ∷ cs) ≡ mark_token mark ∷ ts → c ≡ mark
+pub mark_first : (c : ℕ) (cs : List ℕ) (mark : ℕ) (ts : List Token) → c ≢ 32 → is_mark mark ≡ true → tokens (c ∷ cs) ≡ mark_token mark ∷ ts
+    → c ≡ mark
 mark_first c cs mark ts flush h e = first_mark c (begins_word cs) (is_mark c) (tokens cs) ts mark flush refl h e
 
 -- a text that begins with a mark
@@ -126,7 +132,8 @@ no_tokens [] flush e = refl
 no_tokens (c ∷ cs) flush e = absurd (none_behind c (begins_word cs) (is_mark c) (tokens cs) (flush c cs refl) refl e)
 
 -- a text that begins with a space or a mark begins with no word
-word_behind : (c : ℕ) (joins m : Bool) (us ts : List Token) (w : List ℕ) → c ≢ 32 → is_mark c ≡ m → is_word_byte c ≡ false → tokens_behind c joins us ≡ Word w ∷ ts → ⊥
+word_behind : (c : ℕ) (joins m : Bool) (us ts : List Token) (w : List ℕ) → c ≢ 32 → is_mark c ≡ m → is_word_byte c ≡ false
+    → tokens_behind c joins us ≡ Word w ∷ ts → ⊥
 word_behind c joins true us ts w flush m no_word e =
     let f = behind_mark c joins us (ne_eqb c 32 flush) m in
     let same : mark_token c ≡ Word w = cc in
@@ -139,10 +146,12 @@ prefix_none c cs false e h = refl
 
 pub no_word_first : (text w : List ℕ) (ts : List Token) → IsFlush text → prefix_len is_word_byte text ≡ 0 → tokens text ≡ Word w ∷ ts → ⊥
 no_word_first [] w ts flush none e = cc
-no_word_first (c ∷ cs) w ts flush none e = word_behind c (begins_word cs) (is_mark c) (tokens cs) ts w (flush c cs refl) refl (prefix_none c cs (is_word_byte c) refl none) e
+no_word_first (c ∷ cs) w ts flush none e = word_behind c (begins_word cs) (is_mark c) (tokens cs) ts w (flush c cs refl) refl
+    (prefix_none c cs (is_word_byte c) refl none) e
 
 -- the front that passes, and what stops it
-front_step : (p : ℕ → Bool) (c : ℕ) (cs : List ℕ) (b : Bool) → p c ≡ b → list_all p (take (prefix_len p cs) cs) ≡ true → list_all p (take (cond b (1 + prefix_len p cs) 0) (c ∷ cs)) ≡ true
+front_step : (p : ℕ → Bool) (c : ℕ) (cs : List ℕ) (b : Bool) → p c ≡ b → list_all p (take (prefix_len p cs) cs) ≡ true
+    → list_all p (take (cond b (1 + prefix_len p cs) 0) (c ∷ cs)) ≡ true
 front_step p c cs true e all = rw (one_more (prefix_len p cs), e) all
 front_step p c cs false e all = refl
 
@@ -155,7 +164,8 @@ abbrev pub begins : (ℕ → Bool) → List ℕ → Bool
 begins p [] = false
 begins p (c ∷ cs) = p c
 
-behind_step : (p : ℕ → Bool) (c : ℕ) (cs : List ℕ) (b : Bool) → p c ≡ b → begins p (drop (prefix_len p cs) cs) ≡ false → begins p (drop (cond b (1 + prefix_len p cs) 0) (c ∷ cs)) ≡ false
+behind_step : (p : ℕ → Bool) (c : ℕ) (cs : List ℕ) (b : Bool) → p c ≡ b → begins p (drop (prefix_len p cs) cs) ≡ false
+    → begins p (drop (cond b (1 + prefix_len p cs) 0) (c ∷ cs)) ≡ false
 behind_step p c cs true e stop = rw (one_more (prefix_len p cs)) stop
 behind_step p c cs false e stop = e
 
@@ -167,16 +177,20 @@ begins_word-is : (text : List ℕ) → begins is_word_byte text ≡ false → be
 begins_word-is [] h = refl
 begins_word-is (c ∷ cs) h = h
 
-pub word_first : (text : List ℕ) → prefix_len is_word_byte text ≢ 0 → tokens text ≡ Word (take (prefix_len is_word_byte text) text) ∷ tokens (drop (prefix_len is_word_byte text) text)
+pub word_first : (text : List ℕ) → prefix_len is_word_byte text ≢ 0
+    → tokens text ≡ Word (take (prefix_len is_word_byte text) text) ∷ tokens (drop (prefix_len is_word_byte text) text)
 word_first text some =
     let n = prefix_len is_word_byte text in
     let whole = take-append-drop n text in
     let long : 0 < length (take n text) = omega (arith, length-prefix_len is_word_byte text) in
-    subst (λ (t : List ℕ). tokens t ≡ Word (take n text) ∷ tokens (drop n text)) whole (tokens-word (take n text) (drop n text) (list_all-front is_word_byte text) long (begins_word-is (drop n text) (begins-behind is_word_byte text)))
+    subst (λ (t : List ℕ). tokens t ≡ Word (take n text) ∷ tokens (drop n text)) whole
+        (tokens-word (take n text) (drop n text) (list_all-front is_word_byte text) long
+        (begins_word-is (drop n text) (begins-behind is_word_byte text)))
 
 -- ---- the same of a text whose spaces in front were skipped
 
-pub mark_first_of : (bytes text : List ℕ) (c : ℕ) (cs : List ℕ) (mark : ℕ) (ts : List Token) → tokens text ≡ tokens bytes → IsFlush text → text ≡ c ∷ cs → is_mark mark ≡ true → tokens bytes ≡ mark_token mark ∷ ts → c ≡ mark
+pub mark_first_of : (bytes text : List ℕ) (c : ℕ) (cs : List ℕ) (mark : ℕ) (ts : List Token) → tokens text ≡ tokens bytes → IsFlush text
+    → text ≡ c ∷ cs → is_mark mark ≡ true → tokens bytes ≡ mark_token mark ∷ ts → c ≡ mark
 mark_first_of bytes text c cs mark ts same flush is h e =
     let here : tokens (c ∷ cs) ≡ mark_token mark ∷ ts = ap tokens (sym is) ∙ same ∙ e in
     mark_first c cs mark ts (flush c cs is) h here
@@ -187,6 +201,8 @@ long c cs = ne_eqb (length (c ∷ cs)) 0 (λ e. absurd (omega (arith, e)))
 cons_empty : (c : ℕ) (cs : List ℕ) → (c ∷ cs) ≡ [] → ⊥
 cons_empty c cs e = cc
 
-pub is_end_by : (bytes text : List ℕ) (b : Bool) → tokens text ≡ tokens bytes → IsFlush text → b ≡ (length text == 0) → IsTrue b ↔ (tokens bytes ≡ [])
+pub is_end_by : (bytes text : List ℕ) (b : Bool) → tokens text ≡ tokens bytes → IsFlush text → b ≡ (length text == 0) → IsTrue b
+    ↔ (tokens bytes ≡ [])
 is_end_by bytes [] b same flush is = (λ h. sym same, λ e. is)
-is_end_by bytes (c ∷ cs) b same flush is = (λ h. absurd (false≢true (sym (is ∙ long c cs) ∙ h)), λ e. absurd (cons_empty c cs (no_tokens (c ∷ cs) flush (same ∙ e))))
+is_end_by bytes (c ∷ cs) b same flush is = (λ h. absurd (false≢true (sym (is ∙ long c cs) ∙ h)),
+    λ e. absurd (cons_empty c cs (no_tokens (c ∷ cs) flush (same ∙ e))))

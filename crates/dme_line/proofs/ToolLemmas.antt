@@ -1,5 +1,6 @@
 -- The name of a tool, in quotes or not.
-use Rattle.std.proofs.Common.{◌≡◌, ℕ, zero, suc, ◌-◌, ◌≤◌, Bool, true, false, ◌&&◌, cond, ◌⊎◌, inl, inr, List, [], ◌∷◌, ◌++◌, length, take, drop, get_or, Option, Some, None, Result, Ok, Err, MatchOption, IfOk, refl, ap, sym, subst, ◌∙◌, arith, length-append}
+use Rattle.std.proofs.Common.{◌≡◌, ℕ, zero, suc, ◌-◌, ◌≤◌, Bool, true, false, ◌&&◌, cond, ◌⊎◌, inl, inr, List, [], ◌∷◌, ◌++◌, length, take,
+  drop, get_or, Option, Some, None, Result, Ok, Err, MatchOption, IfOk, refl, ap, sym, subst, ◌∙◌, arith, length-append}
 use Rattle.std.specs.Prelude.{◌==◌, nat_le, slice_index, if◌then◌else◌}
 use Rattle.std.specs.declared.alloc.AllocError.{AllocError}
 use Rattle.std.specs.List.{list_all}
@@ -66,8 +67,10 @@ same_quoted : (a b : List ℕ) → quoted a ≡ quoted b → a ≡ b
 same_quoted a b e = append_cancel_right a b (34 ∷ []) cc
 
 -- the bare text of a tool's word is what the reader takes for it
-same_bare : (word bare inner : List ℕ) → IsBare word bare → is_name_text inner ≡ true → (word ≡ inner) ⊎ (word ≡ quoted inner) → inner ≡ bare
-same_bare word bare inner (inl e) named (inl f) = absurd (name_no_quote (bare ++ 34 ∷ []) (subst (λ (t : List ℕ). is_name_text t ≡ true) (sym f ∙ e) named))
+same_bare : (word bare inner : List ℕ) → IsBare word bare → is_name_text inner ≡ true → (word ≡ inner) ⊎ (word ≡ quoted inner)
+    → inner ≡ bare
+same_bare word bare inner (inl e) named (inl f) = absurd (name_no_quote (bare ++ 34 ∷ [])
+    (subst (λ (t : List ℕ). is_name_text t ≡ true) (sym f ∙ e) named))
 same_bare word bare inner (inl e) named (inr f) = same_quoted inner bare (sym f ∙ e)
 same_bare word bare inner (inr e) named (inl f) = sym f ∙ e.0
 same_bare word bare inner (inr e) named (inr f) = absurd (e.1 inner f)
@@ -86,16 +89,22 @@ bare_spelled word bare (inr e) = inl e.0
 pub same_word : (ts : List Token) (v w : List ℕ) → IsOneWord ts v → IsOneWord ts w → v ≡ w
 same_word ts v w e f = cc
 
-tool_cases : (ts : List Token) (word : List ℕ) (b : Bool) → is_name_text (bare_word word) ≡ b → IsOneWord ts word → MatchOption (cond b (Some (folded (bare_word word))) None) ((name : List ℕ) → IsTool ts name → ⊥) (λ name. IsTool ts name)
-tool_cases ts word true named spelled = record { word = word; spelled = spelled; reads = record { bare = bare_word word; spelled = bare_spelled word (bare_word word) (bare_is word); named = named; is_folded = refl } }
+tool_cases : (ts : List Token) (word : List ℕ) (b : Bool) → is_name_text (bare_word word) ≡ b → IsOneWord ts word
+    → MatchOption (cond b (Some (folded (bare_word word))) None) ((name : List ℕ) → IsTool ts name → ⊥) (λ name. IsTool ts name)
+tool_cases ts word true named spelled = record { word = word; spelled = spelled;
+    reads = record { bare = bare_word word; spelled = bare_spelled word (bare_word word) (bare_is word); named = named; is_folded = refl } }
 tool_cases ts word false named spelled = λ name h.
     let same = same_word ts h.word word h.spelled spelled in
     let bare = same_bare h.word (bare_word h.word) h.reads.bare (bare_is h.word) h.reads.named h.reads.spelled in
     let here = ap (λ (w : List ℕ). is_name_text (bare_word w)) same in
     false≢true (sym named ∙ sym here ∙ ap is_name_text (sym bare) ∙ h.reads.named)
 
-pub tool_read : (ts : List Token) (word bare : List ℕ) (r : Result (Option (List ℕ)) AllocError) → IsOneWord ts word → bare ≡ bare_word word → IfOk r (λ name. name ≡ (if is_name_text bare then Some (folded bare) else None)) → IfOk r (λ tool. MatchOption tool ((name : List ℕ) → IsTool ts name → ⊥) (λ name. IsTool ts name))
+pub tool_read : (ts : List Token) (word bare : List ℕ) (r : Result (Option (List ℕ)) AllocError) → IsOneWord ts word → bare ≡ bare_word word
+    → IfOk r (λ name. name ≡ (if is_name_text bare then Some (folded bare) else None))
+    → IfOk r (λ tool. MatchOption tool ((name : List ℕ) → IsTool ts name → ⊥) (λ name. IsTool ts name))
 tool_read ts word bare (Err e) spelled is h = h
 tool_read ts word bare (Ok o) spelled is h =
-    let same : o ≡ (if is_name_text (bare_word word) then Some (folded (bare_word word)) else None) = h ∙ ap (λ (b : List ℕ). if is_name_text b then Some (folded b) else None) is in
-    subst (λ (x : Option (List ℕ)). MatchOption x ((name : List ℕ) → IsTool ts name → ⊥) (λ name. IsTool ts name)) (sym same) (tool_cases ts word (is_name_text (bare_word word)) refl spelled)
+    let same : o ≡ (if is_name_text (bare_word word) then Some (folded (bare_word word)) else None) = h
+        ∙ ap (λ (b : List ℕ). if is_name_text b then Some (folded b) else None) is in
+    subst (λ (x : Option (List ℕ)). MatchOption x ((name : List ℕ) → IsTool ts name → ⊥) (λ name. IsTool ts name)) (sym same)
+        (tool_cases ts word (is_name_text (bare_word word)) refl spelled)

@@ -1,5 +1,6 @@
 -- What is written can stand in a line, and its numerals and names are words.
-use Rattle.std.proofs.Common.{◌≡◌, ◌≢◌, ℕ, ◌+◌, ◌/◌, ◌^◌, ◌<◌, ◌≤◌, Bool, true, false, ◌&&◌, List, [], ◌∷◌, ◌++◌, length, refl, ap, sym, ◌∙◌, arith, codes, length-append, ℤ, pos, negsuc}
+use Rattle.std.proofs.Common.{◌≡◌, ◌≢◌, ℕ, ◌+◌, ◌/◌, ◌^◌, ◌<◌, ◌≤◌, Bool, true, false, ◌&&◌, List, [], ◌∷◌, ◌++◌, length, refl, ap, sym,
+  ◌∙◌, arith, codes, length-append, ℤ, pos, negsuc}
 use Rattle.std.specs.Prelude.{◌==◌, nat_le, unsigned_abs, decimal}
 use Rattle.std.specs.List.{list_all}
 use Rattle.std.specs.Char.{digit_value}
@@ -24,7 +25,8 @@ use Rattle.dme_line.specs.declared.tags.Tag.TheVariants.{Std, Event}
 -- ---- texts one behind another
 
 pub wire_append : (m n k : ℕ) (a b : List ℕ) → IsWireText m a → IsWireText n b → m + n ≤ k → IsWireText k (a ++ b)
-wire_append m n k a b f g le = record { free = list_all-append is_content a b ∙ and_from _ _ f.free g.free; short = omega (arith, length-append a b, f.short, g.short) }
+wire_append m n k a b f g le = record { free = list_all-append is_content a b
+    ∙ and_from _ _ f.free g.free; short = omega (arith, length-append a b, f.short, g.short) }
 
 -- a text of a word's bytes is one of a line
 all_weaker : (p q : ℕ → Bool) (xs : List ℕ) → ((c : ℕ) → p c ≡ true → q c ≡ true) → list_all p xs ≡ true → list_all q xs ≡ true
@@ -54,7 +56,8 @@ digits_plain [] h = refl
 digits_plain (d ∷ ds) h = and_from _ _ (digit_plain d h.0) (digits_plain ds h.1)
 
 three-plain : (n : ℕ) → list_all is_plain (three_digits n) ≡ true
-three-plain n = and_from _ _ (last_digit-plain (n / 100)) (and_from _ _ (last_digit-plain (n / 10)) (and_from _ _ (last_digit-plain n) refl))
+three-plain n = and_from _ _ (last_digit-plain (n / 100)) (and_from _ _ (last_digit-plain (n / 10))
+    (and_from _ _ (last_digit-plain n) refl))
 
 four-plain : (n : ℕ) → list_all is_plain (four_digits n) ≡ true
 four-plain n = and_from _ _ (last_digit-plain (n / 1000)) (three-plain n)
@@ -87,7 +90,8 @@ decimal_plain n small =
     let d = decimal_is_IsNumeral n (omega arith) in
     record { plain = digits_plain (decimal n) d.0.1; some = omega (arith, d.0.0); short = whole-short n small }
 
-numeral_word : (whole : ℕ) (z : ℤ) (decimals : List ℕ) (k : ℕ) → whole < 10 ^ 7 → list_all is_plain decimals ≡ true → length decimals ≡ k → IsPlainWord (9 + k) (minus_sign z ++ (decimal whole ++ (codes "." ++ decimals)))
+numeral_word : (whole : ℕ) (z : ℤ) (decimals : List ℕ) (k : ℕ) → whole < 10 ^ 7 → list_all is_plain decimals ≡ true → length decimals ≡ k
+    → IsPlainWord (9 + k) (minus_sign z ++ (decimal whole ++ (codes "." ++ decimals)))
 numeral_word whole z decimals k small all long =
     let d = decimal_plain whole small in
     let m = minus-short z in
@@ -95,18 +99,22 @@ numeral_word whole z decimals k small all long =
     let lengths = length-append (decimal whole) behind in
     let all_lengths = length-append (minus_sign z) (decimal whole ++ behind) in
     record {
-      plain = append_plain (minus_sign z) (decimal whole ++ behind) (minus-plain z) (append_plain (decimal whole) behind d.plain (and_from _ _ refl all));
+      plain = append_plain (minus_sign z) (decimal whole ++ behind) (minus-plain z)
+          (append_plain (decimal whole) behind d.plain (and_from _ _ refl all));
       some = omega (arith, lengths, all_lengths, d.some);
       short = omega (arith, lengths, all_lengths, d.short, m, long);
     }
 
 pub written-word : (z : ℤ) → unsigned_abs z ≤ wire_limit → IsPlainWord 12 (written z)
 unfolding written
-written-word z within = numeral_word (unsigned_abs z / 1000) z (three_digits (unsigned_abs z)) 3 (omega arith) (three-plain (unsigned_abs z)) refl
+written-word z within = numeral_word (unsigned_abs z / 1000) z (three_digits (unsigned_abs z)) 3 (omega arith)
+    (three-plain (unsigned_abs z)) refl
 
 pub component-word : (z : ℤ) → unsigned_abs z ≤ component_limit → IsPlainWord 15 (written_component z)
 unfolding written_component
-component-word z within = numeral_word (unsigned_abs z / 1000000) z (six_digits (unsigned_abs z)) 6 (omega arith) (append_plain (three_digits (unsigned_abs z / 1000)) (three_digits (unsigned_abs z)) (three-plain (unsigned_abs z / 1000)) (three-plain (unsigned_abs z))) refl
+component-word z within = numeral_word (unsigned_abs z / 1000000) z (six_digits (unsigned_abs z)) 6 (omega arith)
+    (append_plain (three_digits (unsigned_abs z / 1000)) (three_digits (unsigned_abs z)) (three-plain (unsigned_abs z / 1000))
+    (three-plain (unsigned_abs z))) refl
 
 -- ---- tags, points and names
 
@@ -114,7 +122,8 @@ pub four_digits-wire : (n : ℕ) → IsWireText 4 (four_digits n)
 four_digits-wire n = record { free = all_weaker is_plain is_content (four_digits n) plain_content (four-plain n); short = omega arith }
 
 pub tag-wire : (t : Tag) → IsWireText 5 (written_tag t)
-tag-wire (Std n) = record { free = and_from _ _ (plain_content (last_digit (n / 10000)) (last_digit-plain (n / 10000))) (four_digits-wire n).free; short = omega arith }
+tag-wire (Std n) = record { free = and_from _ _ (plain_content (last_digit (n / 10000)) (last_digit-plain (n / 10000)))
+    (four_digits-wire n).free; short = omega arith }
 tag-wire (Event n) = record { free = and_from _ _ refl (four_digits-wire n).free; short = omega arith }
 
 pub point-wire : (p : Point) → IsOnWire p → IsWireText 49 (written_point p)
@@ -124,11 +133,15 @@ point-wire p h =
     let z = word_wire 12 (written p.z) (written-word p.z h.z) in
     let end : IsWireText 1 (codes ")") = record { free = refl; short = omega arith } in
     let z_text = wire_append 12 1 13 (written p.z) (codes ")") z end (omega arith) in
-    let z_all = wire_append 5 13 18 (codes "), Z(") (written p.z ++ codes ")") (record { free = refl; short = omega arith }) z_text (omega arith) in
+    let z_all = wire_append 5 13 18 (codes "), Z(") (written p.z ++ codes ")") (record { free = refl; short = omega arith }) z_text
+        (omega arith) in
     let y_text = wire_append 12 18 30 (written p.y) (codes "), Z(" ++ (written p.z ++ codes ")")) y z_all (omega arith) in
-    let y_all = wire_append 5 30 35 (codes "), Y(") (written p.y ++ (codes "), Z(" ++ (written p.z ++ codes ")"))) (record { free = refl; short = omega arith }) y_text (omega arith) in
-    let x_text = wire_append 12 35 47 (written p.x) (codes "), Y(" ++ (written p.y ++ (codes "), Z(" ++ (written p.z ++ codes ")")))) x y_all (omega arith) in
-    wire_append 2 47 49 (codes "X(") (written p.x ++ (codes "), Y(" ++ (written p.y ++ (codes "), Z(" ++ (written p.z ++ codes ")"))))) (record { free = refl; short = omega arith }) x_text (omega arith)
+    let y_all = wire_append 5 30 35 (codes "), Y(") (written p.y ++ (codes "), Z(" ++ (written p.z ++ codes ")")))
+        (record { free = refl; short = omega arith }) y_text (omega arith) in
+    let x_text = wire_append 12 35 47 (written p.x) (codes "), Y(" ++ (written p.y ++ (codes "), Z(" ++ (written p.z ++ codes ")")))) x
+        y_all (omega arith) in
+    wire_append 2 47 49 (codes "X(") (written p.x ++ (codes "), Y(" ++ (written p.y ++ (codes "), Z(" ++ (written p.z ++ codes ")")))))
+        (record { free = refl; short = omega arith }) x_text (omega arith)
 
 name_not : (m b : ℕ) → b ≡ m → is_name_byte m ≡ false → is_name_byte b ≡ true → ⊥
 name_not m b e f h = false≢true (sym f ∙ ap is_name_byte (sym e) ∙ h)
@@ -164,5 +177,6 @@ name-word name h =
     let free = all_weaker is_name_byte is_content name name_content q.1 in
     record {
       words = and_from _ _ refl (list_all-append is_word_byte name (34 ∷ []) ∙ and_from _ _ words refl);
-      wire = record { free = and_from _ _ refl (list_all-append is_content name (34 ∷ []) ∙ and_from _ _ free refl); short = omega (arith, short, length-append name (34 ∷ [])) };
+      wire = record { free = and_from _ _ refl (list_all-append is_content name (34 ∷ []) ∙ and_from _ _ free refl);
+          short = omega (arith, short, length-append name (34 ∷ [])) };
     }

@@ -126,7 +126,8 @@ pub record Seven : Type 0 where
   pub c : List ℕ
 
 abbrev pub seven_tokens : Seven → List Token
-seven_tokens s = Word s.system ∷ Comma ∷ Word s.x ∷ Comma ∷ Word s.y ∷ Comma ∷ Word s.z ∷ Comma ∷ Word s.a ∷ Comma ∷ Word s.b ∷ Comma ∷ Word s.c ∷ []
+seven_tokens s = Word s.system ∷ Comma ∷ Word s.x ∷ Comma ∷ Word s.y ∷ Comma ∷ Word s.z ∷ Comma ∷ Word s.a ∷ Comma ∷ Word s.b ∷ Comma
+    ∷ Word s.c ∷ []
 
 -- lengths in millimetres within the volume limit
 pub record HasLengths (words : Seven) (p : Point) : Type 0 where

@@ -59,5 +59,7 @@ pub record HoldsTool (line : List ℕ) : Type 0 where
 abbrev pub ReadsCommand : List ℕ → Result (Tag × Command) LineFault → Type 0
 ReadsCommand line (Ok (tag, command)) = IsCommandText line tag command
 ReadsCommand line (Err NoTag) = (tag : Tag) (text : List ℕ) → IsTagged line tag text → ⊥
-ReadsCommand line (Err (UnknownCommand tag)) = (name rest : List ℕ) × Begins line tag name rest × ((kind : Kind) → is_word (kind_name kind) name ≡ true → ⊥)
-ReadsCommand line (Err (BadArguments tag kind)) = (name rest : List ℕ) × Begins line tag name rest × (is_word (kind_name kind) name ≡ true) × ((command : Command) → IsCommandText line tag command → ⊥)
+ReadsCommand line (Err (UnknownCommand tag)) = (name rest : List ℕ) × Begins line tag name rest
+    × ((kind : Kind) → is_word (kind_name kind) name ≡ true → ⊥)
+ReadsCommand line (Err (BadArguments tag kind)) = (name rest : List ℕ) × Begins line tag name rest × (is_word (kind_name kind) name ≡ true)
+    × ((command : Command) → IsCommandText line tag command → ⊥)

@@ -6,7 +6,8 @@ use Rattle.dme_line.specs.Kinds.{kind_name}
 use Rattle.dme_line.specs.declared.tags.Tag.{Tag}
 use Rattle.dme_line.specs.declared.commands.Kind.{Kind}
 use Rattle.dme_line.specs.declared.errors.ErrorNumber.{ErrorNumber}
-use Rattle.dme_line.specs.declared.errors.ErrorNumber.TheVariants.{NoTag, TagInUse, UnknownCommand, BadArguments, NoSession, SessionOpen, Aborted, ErrorState, QueueFull, NotHomed, NoTool, UnknownTool, OutOfVolume, NoSurface, MachineFault}
+use Rattle.dme_line.specs.declared.errors.ErrorNumber.TheVariants.{NoTag, TagInUse, UnknownCommand, BadArguments, NoSession, SessionOpen,
+  Aborted, ErrorState, QueueFull, NotHomed, NoTool, UnknownTool, OutOfVolume, NoSurface, MachineFault}
 use Rattle.dme_line.specs.declared.responses.Mark.TheVariants.{Error}
 use Rattle.dme_line.specs.declared.responses.Response.{Response}
 
@@ -48,7 +49,8 @@ text_of MachineFault = codes "Machine fault"
 
 -- all errors
 abbrev pub errors : List ErrorNumber
-errors = NoTag ∷ TagInUse ∷ UnknownCommand ∷ BadArguments ∷ NoSession ∷ SessionOpen ∷ Aborted ∷ ErrorState ∷ QueueFull ∷ NotHomed ∷ NoTool ∷ UnknownTool ∷ OutOfVolume ∷ NoSurface ∷ MachineFault ∷ []
+errors = NoTag ∷ TagInUse ∷ UnknownCommand ∷ BadArguments ∷ NoSession ∷ SessionOpen ∷ Aborted ∷ ErrorState ∷ QueueFull ∷ NotHomed ∷ NoTool
+    ∷ UnknownTool ∷ OutOfVolume ∷ NoSurface ∷ MachineFault ∷ []
 
 -- the error of a number, where there is one
 unfoldable pub numbered : ℕ → Option ErrorNumber
@@ -70,7 +72,8 @@ error_name (Some kind) = kind_name kind
 
 -- the text of an error: Error(3, number, "name", "text")
 abbrev pub error_report : ℕ → Option Kind → List ℕ
-error_report code kind = codes "Error(3, " ++ (four_digits code ++ (codes ", " ++ (quoted (error_name kind) ++ (codes ", " ++ (quoted (error_text code) ++ codes ")")))))
+error_report code kind = codes "Error(3, " ++ (four_digits code
+    ++ (codes ", " ++ (quoted (error_name kind) ++ (codes ", " ++ (quoted (error_text code) ++ codes ")")))))
 
 -- the line of an error, without its end
 unfoldable pub written_error : Tag → ℕ → Option Kind → List ℕ

@@ -1,5 +1,6 @@
 -- What the slices of a text that was taken apart say. Public clauses cite Arguments instead.
-use Rattle.std.specs.Prelude.{ℕ, ◌-◌, ◌≡◌, ◌⊎◌, ◌==◌, ◌&&◌, nat_le, if◌then◌else◌, List, [], ◌∷◌, length, take, drop, slice_index, Option, Some, None}
+use Rattle.std.specs.Prelude.{ℕ, ◌-◌, ◌≡◌, ◌⊎◌, ◌==◌, ◌&&◌, nat_le, if◌then◌else◌, List, [], ◌∷◌, length, take, drop, slice_index, Option,
+  Some, None}
 use Rattle.std.specs.Borrow.{Bor}
 use Rattle.dme_line.specs.Arguments.{Argument, Single, Triple, Seven}
 use Rattle.dme_line.specs.declared.arguments.Argument.{Argument as Slices}
@@ -35,7 +36,8 @@ the_words w = (w.0.now, w.1.now, w.2.now)
 
 -- a word without a quote in front and one behind
 abbrev pub bare_word : List ℕ → List ℕ
-bare_word word = if nat_le 2 (length word) && ((slice_index word 0 == 34) && (slice_index word (length word - 1) == 34)) then take (length word - 2) (drop 1 word) else word
+bare_word word = if nat_le 2 (length word) && ((slice_index word 0 == 34) && (slice_index word (length word - 1) == 34)) then take
+    (length word - 2) (drop 1 word) else word
 
 -- a mark with the text that stands in a line
 abbrev pub the_mark : MarkSlice → Mark

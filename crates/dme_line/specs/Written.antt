@@ -7,7 +7,8 @@ use Rattle.fixed_um.specs.Written.{written, written_direction}
 use Rattle.fixed_um.specs.declared.lengths.Point.{Point}
 use Rattle.dme_line.specs.declared.tags.Tag.{Tag}
 use Rattle.dme_line.specs.declared.commands.Command.{Command}
-use Rattle.dme_line.specs.declared.commands.Command.TheVariants.{StartSession, EndSession, ClearAllErrors, Home, OnPtMeasReport, GoTo, PtMeas, ChangeTool, SetCsyTransformation, SetCoordSystem, AbortE}
+use Rattle.dme_line.specs.declared.commands.Command.TheVariants.{StartSession, EndSession, ClearAllErrors, Home, OnPtMeasReport, GoTo,
+  PtMeas, ChangeTool, SetCsyTransformation, SetCoordSystem, AbortE}
 use Rattle.dme_line.specs.Tags.{written_tag}
 use Rattle.dme_line.specs.Kinds.{kind_of, kind_name, csy_name, IsTagOf}
 use Rattle.dme_line.specs.Words.{quoted}
@@ -20,7 +21,8 @@ written_ijk (Some d) = codes ", IJK(" ++ (written_direction d (codes ", ") ++ co
 
 -- the machine's zero point in part coordinates, with no rotation
 abbrev pub written_transformation : Point → List ℕ
-written_transformation p = codes "PartCsy, " ++ (written p.x ++ (codes ", " ++ (written p.y ++ (codes ", " ++ (written p.z ++ codes ", 0, 0, 0")))))
+written_transformation p = codes "PartCsy, " ++ (written p.x
+    ++ (codes ", " ++ (written p.y ++ (codes ", " ++ (written p.z ++ codes ", 0, 0, 0")))))
 
 -- what stands between a command's parentheses
 abbrev pub written_arguments : Command → List ℕ

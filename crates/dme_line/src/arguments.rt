@@ -56,7 +56,8 @@ pub(crate) fn is_closed(bytes: &[u8]) -> bool
 /// A comma and a named argument, and what stands behind them.
 fn take_next(bytes: &[u8]) -> Option<(Argument<'_>, &[u8])>
     ensures { MatchOption result
-        ((a : GivenArgument) (ts : List Token) → tokens bytes.now ≡ Comma ∷ (argument_tokens a ++ ts) → ⊥)
+        ((a : GivenArgument) (ts : List Token) → tokens bytes.now ≡ Comma
+            ∷ (argument_tokens a ++ ts) → ⊥)
         (λ p. tokens bytes.now ≡ Comma ∷ (argument_tokens (the_argument p.0) ++ tokens p.1.now)) }
 {
     take_argument(take_mark(bytes, b',')?)
@@ -65,7 +66,8 @@ fn take_next(bytes: &[u8]) -> Option<(Argument<'_>, &[u8])>
 /// Three or four named arguments in their parentheses, and nothing behind them.
 pub(crate) fn read_place(bytes: &[u8]) -> Option<Place<'_>>
     ensures { MatchOption result
-        ((arguments : List GivenArgument) → IsPlaceLong arguments → tokens bytes.now ≡ enclosed (list_tokens arguments) → ⊥)
+        ((arguments : List GivenArgument) → IsPlaceLong arguments
+            → tokens bytes.now ≡ enclosed (list_tokens arguments) → ⊥)
         (λ p. tokens bytes.now ≡ enclosed (list_tokens (the_list p))) }
 {
     let (first, rest) = take_argument(take_mark(bytes, b'(')?)?;

@@ -63,7 +63,8 @@ pub fn one_point_reading()
 pub fn point_reads_back()
     ensures text { (p : Point) → IsOnWire p → IsWireText 49 (written_point p) }
     ensures back { (p : Point) → IsOnWire p → ReadsPoint (written_point p) (Ok p) }
-    ensures response { (tag : Tag) (p : Point) → IsTag tag → IsOnWire p → IsWritableResponse (data_response tag p) }
+    ensures response { (tag : Tag) (p : Point) → IsTag tag → IsOnWire p
+        → IsWritableResponse (data_response tag p) }
 {}
 
 /// An error line is the line of a response that can be written, has at most 80 bytes, and reads back as this response.
@@ -72,7 +73,9 @@ pub fn error_reads_back()
         → written_error tag code kind ≡ written_response (error_response tag code kind) }
     ensures writable { (tag : Tag) (code : ℕ) (kind : Option Kind)
         → IsTag tag → IsWritableResponse (error_response tag code kind) }
-    ensures text { (tag : Tag) (code : ℕ) (kind : Option Kind) → IsWireText 80 (written_error tag code kind) }
+    ensures text { (tag : Tag) (code : ℕ) (kind : Option Kind)
+        → IsWireText 80 (written_error tag code kind) }
     ensures back { (tag : Tag) (code : ℕ) (kind : Option Kind)
-        → IsTag tag → ReadsResponse (written_error tag code kind) (Ok (error_response tag code kind)) }
+        → IsTag tag → ReadsResponse (written_error tag code kind)
+        (Ok (error_response tag code kind)) }
 {}

@@ -49,7 +49,8 @@ pub fn write_point(out: &mut Vec<u8>, point: Point) -> Result<(), AllocError>
 /// The word of an axis that is named by one capital letter, and what stands behind it.
 fn take_axis(bytes: &[u8], letter: u8) -> Option<(&[u8], &[u8])>
     ensures { MatchOption result
-        ((word : List ℕ) (ts : List Token) → tokens bytes.now ≡ argument_tokens (Single (letter ∷ []) word) ++ ts → ⊥)
+        ((word : List ℕ) (ts : List Token) → tokens bytes.now
+            ≡ argument_tokens (Single (letter ∷ []) word) ++ ts → ⊥)
         (λ p. tokens bytes.now ≡ argument_tokens (Single (letter ∷ []) p.0.now) ++ tokens p.1.now) }
 {
     match take_argument(bytes)? {

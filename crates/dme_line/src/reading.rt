@@ -143,7 +143,8 @@ fn read_arguments(alloc: Global, kind: Kind, bytes: &[u8]) -> Result<Option<Comm
     ensures read { IfOk result (λ o. MatchOption o
         ((c : Command) → Says kind (tokens bytes.now) c → ⊥)
         (λ c. Says kind (tokens bytes.now) c)) }
-    ensures err { OnErr result ((kind ≡ Kind.ChangeTool) × ((word : List ℕ) × IsOneWord (tokens bytes.now) word)) }
+    ensures err { OnErr result ((kind ≡ Kind.ChangeTool)
+        × ((word : List ℕ) × IsOneWord (tokens bytes.now) word)) }
 {
     match kind {
         Kind::StartSession => Ok(is_empty_list(bytes).then_some(Command::StartSession)),

@@ -97,7 +97,8 @@ pub fn write_response(out: &mut Vec<u8>, response: &Response) -> Result<(), Allo
 pub fn write_received_reserved(out: &mut Vec<u8>, tag: Tag)
     requires tag { IsTag tag }
     requires room { vec_len out.old + 7 ≤ vec_capacity out.old }
-    ensures text { out.new.items ≡ out.old.items ++ written_response (record { tag = tag; mark = mark.Ack }) }
+    ensures text { out.new.items ≡ out.old.items
+        ++ written_response (record { tag = tag; mark = mark.Ack }) }
     ensures len { vec_len out.new ≤ vec_len out.old + 7 }
     ensures capacity { vec_capacity out.old ≤ vec_capacity out.new }
 {
@@ -112,7 +113,8 @@ pub fn write_received_reserved(out: &mut Vec<u8>, tag: Tag)
 pub fn write_complete_reserved(out: &mut Vec<u8>, tag: Tag)
     requires tag { IsTag tag }
     requires room { vec_len out.old + 7 ≤ vec_capacity out.old }
-    ensures text { out.new.items ≡ out.old.items ++ written_response (record { tag = tag; mark = mark.Done }) }
+    ensures text { out.new.items ≡ out.old.items
+        ++ written_response (record { tag = tag; mark = mark.Done }) }
     ensures len { vec_len out.new ≤ vec_len out.old + 7 }
     ensures capacity { vec_capacity out.old ≤ vec_capacity out.new }
 {
@@ -143,7 +145,8 @@ pub fn write_data_reserved(out: &mut Vec<u8>, tag: Tag, point: Point)
 /// The caller owes what `write_data_reserved` says, but for the room.
 pub fn write_data(out: &mut Vec<u8>, tag: Tag, point: Point) -> Result<(), AllocError>
     requires { IsTag tag }
-    ensures ok { OnOk result (out.new.items ≡ out.old.items ++ written_response (data_response tag point)) }
+    ensures ok { OnOk result (out.new.items ≡ out.old.items
+        ++ written_response (data_response tag point)) }
     ensures on_wire { OnOk result (IsOnWire point) }
     ensures err { OnErr result (out.new.items ≡ out.old.items) }
 {

@@ -16,8 +16,10 @@ use std::alloc::{AllocError, Global};
 /// What stands behind an axis by this name with nothing in its parentheses.
 fn take_empty_axis<'a>(bytes: &'a [u8], name: &[u8]) -> Option<&'a [u8]>
     ensures { MatchOption result
-        ((w : List ℕ) (ts : List Token) → tokens bytes.now ≡ Word w ∷ Open ∷ Close ∷ ts → is_word name.now w ≡ true → ⊥)
-        (λ rest. (w : List ℕ) × (tokens bytes.now ≡ Word w ∷ Open ∷ Close ∷ tokens rest.now) × (is_word name.now w ≡ true)) }
+        ((w : List ℕ) (ts : List Token) → tokens bytes.now ≡ Word w ∷ Open ∷ Close ∷ ts
+            → is_word name.now w ≡ true → ⊥)
+        (λ rest. (w : List ℕ) × (tokens bytes.now ≡ Word w ∷ Open ∷ Close ∷ tokens rest.now)
+            × (is_word name.now w ≡ true)) }
 {
     let (own, rest) = take_word(bytes)?;
     if !is_word(name, own) {
@@ -29,7 +31,8 @@ fn take_empty_axis<'a>(bytes: &'a [u8], name: &[u8]) -> Option<&'a [u8]>
 
 /// Reads the one report list that this profile knows, the three axes in their order.
 pub(crate) fn read_report(bytes: &[u8]) -> Option<()>
-    ensures { MatchOption result (IsReport (tokens bytes.now) → ⊥) (λ _. IsReport (tokens bytes.now)) }
+    ensures { MatchOption result (IsReport (tokens bytes.now)
+        → ⊥) (λ _. IsReport (tokens bytes.now)) }
 {
     let rest = take_empty_axis(take_mark(bytes, b'(')?, b"X")?;
     let rest = take_empty_axis(take_mark(rest, b',')?, b"Y")?;

@@ -52,7 +52,8 @@ pub(crate) fn write_tag_reserved(out: &mut Vec<u8>, tag: Tag)
 }
 
 fn digit(byte: u8) -> Option<u32>
-    ensures { MatchOption result ((n : ℕ) → byte ≡ last_digit n → ⊥) (λ n. (n ≤ 9) × (byte ≡ 48 + n)) }
+    ensures { MatchOption result ((n : ℕ) → byte ≡ last_digit n → ⊥) (λ n. (n ≤ 9)
+        × (byte ≡ 48 + n)) }
 {
     if byte < b'0' || byte > b'9' {
         return None;

@@ -1,14 +1,19 @@
 -- Words without a fault do not call for help: a walk over them does not stop at `help`, and it stops at a subcommand.
-use Rattle.std.proofs.Common.{◌≡◌, ℕ, Bool, true, false, ◌||◌, List, [], ◌∷◌, fold, Option, Some, None, is_some, option_map, find, codes, length, cond, refl, arith, true≢false, ap, sym, ◌∙◌}
+use Rattle.std.proofs.Common.{◌≡◌, ℕ, Bool, true, false, ◌||◌, List, [], ◌∷◌, fold, Option, Some, None, is_some, option_map, find, codes,
+  length, cond, refl, arith, true≢false, ap, sym, ◌∙◌}
 use Rattle.std.specs.Str.{bytes_eq}
 use Rattle.std.proofs.lemmas.Option.{none-some, same_Some}
 use Rattle.std.proofs.lemmas.Slice.Eq.{bytes_eq-Decides}
 use Rattle.std.specs.List.{list_any}
 use Rattle.clap.specs.Lexer.{long_of, short_of}
-use Rattle.clap.specs.Walk.{Held, Names, Outcome, Row, Rule, Step, Text, Waiting, Walk, after_flag, settled, answers_to, finished, nothing_held, walk, walk_from, after_step, arg_by_index, arg_by_long, bundle, done, idle, long_met, long_or_other, next, option, plain, plain_word, positional, refused, short_or_plain, subcommand, subcommand_met, subcommand_or_other, to_positional, trailing, value, waits, walked, walked_from, word_met}
+use Rattle.clap.specs.Walk.{Held, Names, Outcome, Row, Rule, Step, Text, Waiting, Walk, after_flag, settled, answers_to, finished,
+  nothing_held, walk, walk_from, after_step, arg_by_index, arg_by_long, bundle, done, idle, long_met, long_or_other, next, option, plain,
+  plain_word, positional, refused, short_or_plain, subcommand, subcommand_met, subcommand_or_other, to_positional, trailing, value, waits,
+  walked, walked_from, word_met}
 use Rattle.clap.specs.Kinds.{Kinds, or_else}
 use Rattle.clap.specs.Simple.{App, Shape, argument_words, built, entered, label_of, names_of, rows_at, subcommand_of}
-use Rattle.clap.specs.Faults.{check_fault, defaults_fault, settle_fault, entered_fault, fault_of, level_fault, other_fault, step_fault, turn_fault, walk_fault, word_fault}
+use Rattle.clap.specs.Faults.{check_fault, defaults_fault, settle_fault, entered_fault, fault_of, level_fault, other_fault, step_fault,
+  turn_fault, walk_fault, word_fault}
 use Rattle.dme_program.specs.CommandLine.{whole_line}
 use Rattle.clap.specs.declared.error.kind.ErrorKind.TheVariants as kind
 
@@ -51,7 +56,8 @@ flag_step c waiting word h refused = plain_step c waiting word h
 
 other_step : (c : List Rule) (waiting : Waiting) (word : Text) (long : Option (Text × Option Text)) (h : Held)
     → IsNoHelp (long_or_other c waiting word long h).1
-other_step c waiting word (Some p) h = flag_step c waiting word (long_met c (arg_by_long c p.0) p.1 h).0 (long_met c (arg_by_long c p.0) p.1 h).1
+other_step c waiting word (Some p) h = flag_step c waiting word (long_met c (arg_by_long c p.0) p.1 h).0
+    (long_met c (arg_by_long c p.0) p.1 h).1
 other_step c waiting word None h = go (short_of word)
   where
     go : (flags : Option Text) → IsNoHelp (short_or_plain c waiting word flags h).1
@@ -93,7 +99,8 @@ turn_stops s names w word (Some p) is on before none =
     λ rest at_help. before p.1 (ap (λ (name : Text). Some (name, p.1)) (ap (λ (q : Text × List Text). q.0) (same_Some _ _ at_help)))
 turn_stops s names w word None is on before none =
     let met = word_met s.rules names w.is_trailing w.waiting w.position word w.held in
-    let free : or_else (word_fault s names w.is_trailing w.waiting word w.held) (step_fault s w.position met.0 met.1) ≡ [] = rw is at none in
+    let free : or_else (word_fault s names w.is_trailing w.waiting word w.held) (step_fault s w.position met.0 met.1) ≡ [] = rw is at none
+        in
     step_stops s.rules word w met.0 met.1 is (word_step s names w.is_trailing w.waiting w.position word w.held on (first_none _ _ free))
 
 -- words without a fault
@@ -136,7 +143,8 @@ first_entered a first second (Some p) subs named single free there =
 
     go : (b d : Bool) → answers_to p.0 (label_of second) ≡ d
         → is_some (option_map (λ s. rows_at s p.1) (cond b (Some first) (cond d (Some second) None))) ≡ true
-        → option_map (λ (q : Text × List Row). q.0) (option_map (λ s. rows_at s p.1) (cond b (Some first) (cond d (Some second) None))) ≡ Some first.name
+        → option_map (λ (q : Text × List Row). q.0) (option_map (λ s. rows_at s p.1) (cond b (Some first) (cond d (Some second) None)))
+        ≡ Some first.name
     go true d is there = refl
     go false true is there = absurd (at_help (bytes_eq second.name p.0) refl (rw single at is))
     go false false is there = absurd (true≢false (sym there))

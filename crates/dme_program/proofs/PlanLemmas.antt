@@ -1,5 +1,6 @@
 -- Numbers that are counted on.
-use Rattle.std.proofs.Common.{◌≡◌, ℕ, ◌+◌, ◌%◌, Bool, true, false, cond, ◌==◌, ◌<◌, length, length-append, List, [], ◌∷◌, ◌++◌, refl, ap, ◌∙◌, arith, append_assoc}
+use Rattle.std.proofs.Common.{◌≡◌, ℕ, ◌+◌, ◌%◌, Bool, true, false, cond, ◌==◌, ◌<◌, length, length-append, List, [], ◌∷◌, ◌++◌, refl, ap,
+  ◌∙◌, arith, append_assoc}
 use Rattle.std.proofs.lemmas.Bool.{eqb-true, eqb-false}
 use Rattle.dme_line.specs.declared.tags.Tag.TheVariants.{Std}
 use Rattle.dme_line.specs.Written.{written_command}
@@ -23,7 +24,8 @@ lines_counted count (p ∷ ps) =
 
 -- text behind other text, with a byte of its own
 some_behind : (front back : List ℕ) → 0 < length (front ++ 10 ∷ back)
-some_behind front back = let all : length (front ++ 10 ∷ back) ≡ length front + length (10 ∷ back) = length-append front (10 ∷ back) in omega arith
+some_behind front back = let all : length (front ++ 10 ∷ back) ≡ length front + length (10 ∷ back) = length-append front (10 ∷ back)
+    in omega arith
 
 -- each plan has a line: it begins a session
 pub plan_has_text : (text : List ℕ) (program : Meaning) → text ≡ plan_text program → 0 < length text

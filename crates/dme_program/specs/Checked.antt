@@ -35,7 +35,8 @@ pub record PrintsFront (frames : List (List ℕ × Point)) (input : List ℕ) (o
   pub written : AppendsFront old new (plan_text program)
 
 -- the whole input was read, and this is its first refusal with its line
-pub record IsRefused (frames : List (List ℕ × Point)) (left : Option (List ℕ)) (refusal : Refusal) (line : ℕ) (input : List ℕ) : Type 0 where
+pub record IsRefused (frames : List (List ℕ × Point)) (left : Option (List ℕ)) (refusal : Refusal) (line : ℕ) (input : List ℕ) : Type 0
+    where
   pub read : left ≡ Some []
   pub refused : program_of frames input ≡ Err (refusal, line)
 

@@ -16,4 +16,5 @@ check_line = with_rule (with_rule (new_app (codes "check")) setup_rule) program_
 
 -- `dme COMMAND ..`: a subcommand is required
 abbrev pub whole_line : App
-whole_line = with_subcommand (record (new_app (codes "dme")) { top = record (new_app (codes "dme")).top { subcommand_required = true } }) check_line.top
+whole_line = with_subcommand (record (new_app (codes "dme")) { top = record (new_app (codes "dme")).top { subcommand_required = true } })
+    check_line.top

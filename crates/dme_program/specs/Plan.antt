@@ -1,4 +1,5 @@
--- The plan of a program as text: the commands of the whole plan on a new connection as lines under tags that are counted on (the lines are those of the I++ DME Interface version 1, the tags this profile's).
+-- The plan of a program as text: the commands of the whole plan on a new connection as lines under tags that are counted on (the lines are
+-- those of the I++ DME Interface version 1, the tags this profile's).
 use Rattle.std.specs.Prelude.{ℕ, ◌+◌, ◌%◌, List, [], ◌∷◌, ◌++◌}
 use Rattle.dme_line.specs.declared.tags.Tag.{Tag}
 use Rattle.dme_line.specs.declared.tags.Tag.TheVariants.{Std}

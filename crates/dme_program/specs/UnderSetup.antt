@@ -15,7 +15,8 @@ pub record AreFramesOf (text : List ℕ) (frames : List (List ℕ × Point)) : T
   pub said : setup_of text ≡ Ok setup
   pub taken : frames ≡ setup.frames
 
--- the frames that a program may recall: those of the setup that is named, and none where none is; nothing is said of a setup that does not tell its bytes
+-- the frames that a program may recall: those of the setup that is named, and none where none is; nothing is said of a setup that does not
+-- tell its bytes
 abbrev pub MayRecall : Option (Option (List ℕ)) → List (List ℕ × Point) → Type 0
 MayRecall None frames = frames ≡ []
 MayRecall (Some None) frames = Unit {0}

@@ -36,9 +36,11 @@ pub(crate) fn input_fault(fault: PullFault) -> CheckFault
 pub(crate) fn read_input<R: Source>(alloc: Global, source: &mut R) -> Result<Vec<u8>, CheckFault>
     ensures all { IfOk result (λ input. IfSome (R.left source.old) (λ bytes. input.items ≡ bytes)) }
     ensures end { OnOk result (IfSome (R.left source.old) (λ _. R.left source.new ≡ Some [])) }
-    ensures short { OnOk result (IfSome (R.left source.old) (λ bytes. length bytes ≤ 999999 * 65536)) }
+    ensures short { OnOk result (IfSome (R.left source.old)
+        (λ bytes. length bytes ≤ 999999 * 65536)) }
     ensures works { OnOk result (R.has_failed source.new ≡ false) }
-    ensures read { IsErrOf result CheckFault.Read → IsUnread R.left R.has_failed source.old source.new }
+    ensures read { IsErrOf result CheckFault.Read
+        → IsUnread R.left R.has_failed source.old source.new }
     ensures unread { R.has_failed source.old ≡ false → R.has_failed source.new ≡ true
         → IsErrOf result CheckFault.Read }
     ensures told { IfErr result (λ fault. (fault ≡ CheckFault.Read) ⊎ (fault ≡ CheckFault.Memory)) }
@@ -67,11 +69,15 @@ fn checked_text<R: Source>(
     frames: &Frames,
     source: &mut R,
 ) -> Result<Vec<u8>, CheckFault>
-    ensures text { IfOk result (λ text. IfSome (R.left source.old) (HasText frames.now text.items)) }
+    ensures text { IfOk result (λ text. IfSome (R.left source.old)
+        (HasText frames.now text.items)) }
     ensures some { IfOk result (λ text. 0 < length text.items) }
-    ensures refused { IfErr result (BlamesProgram frames.now (R.left source.old) (R.left source.new)) }
-    ensures read { IsErrOf result CheckFault.Read → IsUnread R.left R.has_failed source.old source.new }
-    ensures short { OnOk result (IfSome (R.left source.old) (λ input. length input ≤ 999999 * 65536)) }
+    ensures refused { IfErr result (BlamesProgram frames.now (R.left source.old)
+        (R.left source.new)) }
+    ensures read { IsErrOf result CheckFault.Read
+        → IsUnread R.left R.has_failed source.old source.new }
+    ensures short { OnOk result (IfSome (R.left source.old)
+        (λ input. length input ≤ 999999 * 65536)) }
     ensures works { OnOk result (R.has_failed source.new ≡ false) }
     ensures unread { R.has_failed source.old ≡ false → R.has_failed source.new ≡ true
         → IsErrOf result CheckFault.Read }
@@ -101,17 +107,20 @@ pub fn check_plan<R: Source, W: Sink>(
     // The program is accepted, and just its plan was written.
     ensures ok { OnOk result (IfSome (R.left source.old) (λ input.
         Prints frames.now input (W.taken sink.old) (W.taken sink.new))) }
-    ensures works { OnOk result ((R.has_failed source.new ≡ false) × (W.has_failed sink.new ≡ false)) }
+    ensures works { OnOk result ((R.has_failed source.new ≡ false)
+        × (W.has_failed sink.new ≡ false)) }
 
     // A program is blamed only for the first refusal of the whole input.
-    ensures refused { IfErr result (BlamesProgram frames.now (R.left source.old) (R.left source.new)) }
+    ensures refused { IfErr result (BlamesProgram frames.now (R.left source.old)
+        (R.left source.new)) }
 
     // A source is blamed where it has failed, or has not ended after a million pulls, and only there.
     ensures unread { R.has_failed source.old ≡ false → R.has_failed source.new ≡ true
         → IsErrOf result CheckFault.Read }
     ensures long { IfSome (R.left source.old) (λ input. 999999 * 65536 < length input
         → IsErrOf result CheckFault.Read ⊎ IsErrOf result CheckFault.Memory) }
-    ensures read { IsErrOf result CheckFault.Read → IsUnread R.left R.has_failed source.old source.new }
+    ensures read { IsErrOf result CheckFault.Read
+        → IsUnread R.left R.has_failed source.old source.new }
 
     // A sink is blamed where it has failed, and only there; it has taken a front of the text, short of all.
     ensures unwritten { W.has_failed sink.old ≡ false → W.has_failed sink.new ≡ true

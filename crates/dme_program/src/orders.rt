@@ -25,13 +25,17 @@ pub enum OrderFault {
 
 /// The setup that a source gives.
 fn read_setup<S: Source>(alloc: Global, source: &mut S) -> Result<Setup, OrderFault>
-    ensures setup { IfOk result (λ setup. IfSome (S.left source.old) (λ text. setup_of text ≡ Ok setup)) }
+    ensures setup { IfOk result (λ setup. IfSome (S.left source.old)
+        (λ text. setup_of text ≡ Ok setup)) }
     ensures works { OnOk result (S.has_failed source.new ≡ false) }
-    ensures refused { IfErr result (BlamesSetup (Some (S.left source.old)) (Some (S.left source.new))) }
-    ensures read { IsErrOf result OrderFault.SetupRead → IsUnread S.left S.has_failed source.old source.new }
+    ensures refused { IfErr result (BlamesSetup (Some (S.left source.old))
+        (Some (S.left source.new))) }
+    ensures read { IsErrOf result OrderFault.SetupRead
+        → IsUnread S.left S.has_failed source.old source.new }
     ensures unread { S.has_failed source.old ≡ false → S.has_failed source.new ≡ true
         → IsErrOf result OrderFault.SetupRead }
-    ensures check { IfErr result (λ fault. (c : CheckFault) → fault ≡ OrderFault.Check c → c ≡ CheckFault.Memory) }
+    ensures check { IfErr result (λ fault. (c : CheckFault) → fault ≡ OrderFault.Check c
+        → c ≡ CheckFault.Memory) }
 {
     let text = match read_input(alloc, source) {
         Ok(text) => text,
@@ -56,20 +60,25 @@ pub fn check_under_setup<S: Source, R: Source, W: Sink>(
     sink: &mut W,
 ) -> Result<(), OrderFault>
     // The program is accepted under the setup's frames, and just its plan was written.
-    ensures ok { OnOk result (Under (option_map S.left setup.old) (λ frames. IfSome (R.left program.old)
+    ensures ok { OnOk result (Under (option_map S.left setup.old)
+        (λ frames. IfSome (R.left program.old)
         (λ input. Prints frames input (W.taken sink.old) (W.taken sink.new)))) }
-    ensures works { OnOk result ((R.has_failed program.new ≡ false) × (W.has_failed sink.new ≡ false)) }
+    ensures works { OnOk result ((R.has_failed program.new ≡ false)
+        × (W.has_failed sink.new ≡ false)) }
 
     // A setup is blamed only where one is named, for its first refusal, and then the program is not read.
-    ensures setup_refused { IfErr result (BlamesSetup (option_map S.left setup.old) (option_map S.left setup.new)) }
+    ensures setup_refused { IfErr result (BlamesSetup (option_map S.left setup.old)
+        (option_map S.left setup.new)) }
     ensures setup_first { IfErr result (OnSetup (program.new ≡ program.old)) }
-    ensures setup_unread { OfNamed (λ old new. (S.has_failed old ≡ false) × (S.has_failed new ≡ true))
+    ensures setup_unread { OfNamed (λ old new. (S.has_failed old ≡ false)
+        × (S.has_failed new ≡ true))
         setup.old setup.new → IsErrOf result OrderFault.SetupRead }
     ensures setup_read { IsErrOf result OrderFault.SetupRead
         → OfNamed (IsUnread S.left S.has_failed) setup.old setup.new }
 
     // A program is blamed only for its first refusal under the setup's frames.
-    ensures refused { IfErr result (BlamesUnder (option_map S.left setup.old) (R.left program.old) (R.left program.new)) }
+    ensures refused { IfErr result (BlamesUnder (option_map S.left setup.old) (R.left program.old)
+        (R.left program.new)) }
     ensures unread { R.has_failed program.old ≡ false → R.has_failed program.new ≡ true
         → IsErrOf result (OrderFault.Check CheckFault.Read) }
     ensures read { IsErrOf result (OrderFault.Check CheckFault.Read)
@@ -78,9 +87,12 @@ pub fn check_under_setup<S: Source, R: Source, W: Sink>(
     // A sink is blamed where it has failed, and only there; but for that nothing was written.
     ensures unwritten { W.has_failed sink.old ≡ false → W.has_failed sink.new ≡ true
         → IsErrOf result (OrderFault.Check CheckFault.Write) }
-    ensures write { IsErrOf result (OrderFault.Check CheckFault.Write) → W.has_failed sink.new ≡ true }
-    ensures front { IsErrOf result (OrderFault.Check CheckFault.Write) → Under (option_map S.left setup.old)
-        (λ frames. IfSome (R.left program.old) (λ input. PrintsFront frames input (W.taken sink.old) (W.taken sink.new))) }
+    ensures write { IsErrOf result (OrderFault.Check CheckFault.Write)
+        → W.has_failed sink.new ≡ true }
+    ensures front { IsErrOf result (OrderFault.Check CheckFault.Write)
+        → Under (option_map S.left setup.old)
+        (λ frames. IfSome (R.left program.old) (λ input. PrintsFront frames input (W.taken sink.old)
+            (W.taken sink.new))) }
     ensures silent { IfErr result (UnlessUnwritten (sink.new ≡ sink.old)) }
 {
     match setup {

@@ -25,7 +25,8 @@ impl Lines {
     fn push(&mut self, command: &Command) -> Result<(), AllocError>
         requires standard { is_event_kind (kind_of command.now) ≡ false }
         requires lengths { HasVolumeLengths command.now }
-        ensures text { OnOk result (self.new.text.items ≡ self.old.text.items ++ line_under self.old.number command.now) }
+        ensures text { OnOk result (self.new.text.items ≡ self.old.text.items
+            ++ line_under self.old.number command.now) }
         ensures number { OnOk result (self.new.number ≡ number_behind self.old.number) }
     {
         write_command(&mut self.text, Tag::Std(self.number), command)?;

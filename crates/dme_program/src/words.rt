@@ -78,7 +78,8 @@ fn whole_command<'a>(alloc: Global) -> Result<Command<'a>, AllocError>
 
 /// A copy of a value, where there is one.
 fn copied(alloc: Global, value: Option<&str>) -> Result<Option<String>, AllocError>
-    ensures { IfOk result (λ copy. option_map string_bytes copy ≡ option_map (λ v. v.now) value.entry) }
+    ensures { IfOk result (λ copy. option_map string_bytes copy
+        ≡ option_map (λ v. v.now) value.entry) }
 {
     match value {
         Some(text) => Ok(Some(String::from_str(alloc, text)?)),
@@ -120,7 +121,8 @@ fn refusal_of(error: Error) -> WordsFault
 /// What `clap`'s answer asks for. Words that it takes are refused only for want of memory, in copying a value.
 fn answered(alloc: Global, answer: Result<ArgMatches, Error>) -> Result<Order, WordsFault>
     requires { IfOk answer (λ matches. subcommand_name_of matches ≡ Some (codes "check")) }
-    ensures order { IfOk answer.entry (λ matches. IfOk result (IsOrderOf (subcommand_rows_of matches))) }
+    ensures order { IfOk answer.entry (λ matches. IfOk result
+        (IsOrderOf (subcommand_rows_of matches))) }
     ensures taken { OnOk answer.entry (IfErr result (λ fault. fault ≡ WordsFault.Memory)) }
     ensures refused { IfErr answer.entry (λ error. IsErrAnd result (IsCalled error)) }
 {

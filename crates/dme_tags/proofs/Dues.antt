@@ -1,5 +1,6 @@
 -- Which mark is taken in and which refusal is due, by what is held under the tag.
-use Rattle.std.proofs.Common.{◌≡◌, ◌↔◌, ◌⊎◌, inl, inr, Bool, true, false, cond, not, ◌&&◌, ℕ, List, [], ◌∷◌, Option, Some, None, Result, Ok, Err, refl, sym, ◌∙◌, ap, subst}
+use Rattle.std.proofs.Common.{◌≡◌, ◌↔◌, ◌⊎◌, inl, inr, Bool, true, false, cond, not, ◌&&◌, ℕ, List, [], ◌∷◌, Option, Some, None, Result, Ok,
+  Err, refl, sym, ◌∙◌, ap, subst}
 use Rattle.std.specs.Prelude.{IsOk, IsErrOf, IfOk, IfErr}
 use Rattle.std.proofs.lemmas.Bool.{false≢true, and_parts}
 use Rattle.fixed_um.specs.declared.lengths.Point.{Point}
@@ -8,7 +9,8 @@ use Rattle.dme_line.specs.declared.tags.Tag.TheVariants.{Std, Event}
 use Rattle.dme_line.specs.declared.commands.Kind.{Kind}
 use Rattle.dme_line.specs.declared.commands.Kind.TheVariants as kind
 use Rattle.protocol_model.specs.Replies.{Mark, tag_is}
-use Rattle.protocol_model.specs.Open.{Verdict, Becomes, Breaks, Closes, Counts, Refused, Effect, Heard, asks_data, is_failed, heard_in, judged, judged_ack, judged_given, judged_done, judged_error, put_before, settled}
+use Rattle.protocol_model.specs.Open.{Verdict, Becomes, Breaks, Closes, Counts, Refused, Effect, Heard, asks_data, is_failed, heard_in,
+  judged, judged_ack, judged_given, judged_done, judged_error, put_before, settled}
 use Rattle.protocol_model.specs.Ends.{held_kind}
 use Rattle.protocol_model.specs.declared.held.Held.{Held}
 use Rattle.protocol_model.specs.declared.held.Stage.{Stage}
@@ -70,12 +72,16 @@ refusal_is : (front : Bool) (hs : List Held) (t : Tag) (m : Mark)
 refusal_is front [] t m = refl
 refusal_is front (h ∷ hs) t m = go (refusal_is (front && is_failed h.stage) hs t m) (tag_is h.tag t)
   where
-    go : refusal_in (heard_in (front && is_failed h.stage) hs t m) ≡ refusal_under (standing_in t hs) ((front && is_failed h.stage) && all_failed (ahead_of t hs)) m
-        → (b : Bool) → refusal_in (cond b (settled h hs (judged front h.kind h.stage m)) (put_before h (heard_in (front && is_failed h.stage) hs t m)))
+    go : refusal_in (heard_in (front && is_failed h.stage) hs t m)
+        ≡ refusal_under (standing_in t hs) ((front && is_failed h.stage) && all_failed (ahead_of t hs)) m
+        → (b : Bool) → refusal_in (cond b (settled h hs (judged front h.kind h.stage m))
+        (put_before h (heard_in (front && is_failed h.stage) hs t m)))
         ≡ refusal_under (cond b (Some (h.kind, h.stage)) (standing_in t hs)) (front && all_failed (cond b [] (h ∷ ahead_of t hs))) m
-    go deeper true = settled_refusal h hs (judged front h.kind h.stage m) ∙ ap (λ (b : Bool). refusal_of (judged b h.kind h.stage m)) (sym (and_true front))
+    go deeper true = settled_refusal h hs (judged front h.kind h.stage m)
+        ∙ ap (λ (b : Bool). refusal_of (judged b h.kind h.stage m)) (sym (and_true front))
     go deeper false = put_refusal h (heard_in (front && is_failed h.stage) hs t m)
-        ∙ (deeper ∙ ap (λ (b : Bool). refusal_under (standing_in t hs) b m) (and_assoc front (is_failed h.stage) (all_failed (ahead_of t hs))))
+        ∙ (deeper ∙ ap (λ (b : Bool). refusal_under (standing_in t hs) b m)
+        (and_assoc front (is_failed h.stage) (all_failed (ahead_of t hs))))
 
 standard_refusal : (o : Opened) (r : Heard) → refusal_heard (heard_standard o r) ≡ refusal_in r
 standard_refusal o (Ok r) = refl
@@ -92,7 +98,8 @@ refusal_due o (Event n) m = event_refusal o (heard_in true o.event (Event n) m) 
 pub next_only : (t : Tag) (o : Opened) → is_next t o ≡ true → IsNext t o
 next_only (Std n) o e = go o.failed e
   where
-    go : (f : Bool) → (not f && all_failed (ahead_of (Std n) o.standard)) ≡ true → (f ≡ false) × (all_failed (ahead_of (Std n) o.standard) ≡ true)
+    go : (f : Bool) → (not f && all_failed (ahead_of (Std n) o.standard)) ≡ true → (f ≡ false)
+        × (all_failed (ahead_of (Std n) o.standard) ≡ true)
     go true h = absurd (false≢true h)
     go false h = (refl, h)
 next_only (Event n) o e = e
@@ -115,10 +122,13 @@ refused_said : (a : Answer) (c : Option Cause) → IsRefused a c → IsSaid (ref
 refused_said a None h = h
 refused_said a (Some why) h = ap refusal_heard h
 
-pub fits_err : (T : Type 0) (o : Opened) (t : Tag) (m : Mark) (f : TagFault) → IsRefused (heard o t m) (cause_of f) → Fits {T = T} (Err f) (refusal_under (standing t o) (is_next t o) m)
-fits_err T o t m f h = subst (λ (due : Option Cause). IsSaid due (cause_of f)) (refusal_due o t m) (refused_said (heard o t m) (cause_of f) h)
+pub fits_err : (T : Type 0) (o : Opened) (t : Tag) (m : Mark) (f : TagFault) → IsRefused (heard o t m) (cause_of f)
+    → Fits {T = T} (Err f) (refusal_under (standing t o) (is_next t o) m)
+fits_err T o t m f h = subst (λ (due : Option Cause). IsSaid due (cause_of f)) (refusal_due o t m)
+    (refused_said (heard o t m) (cause_of f) h)
 
-pub fits_ok : (T : Type 0) (o n : Opened) (t : Tag) (m : Mark) (e : Effect) (x : T) → heard o t m ≡ Ok (n, e) → Fits {T = T} (Ok x) (refusal_under (standing t o) (is_next t o) m)
+pub fits_ok : (T : Type 0) (o n : Opened) (t : Tag) (m : Mark) (e : Effect) (x : T) → heard o t m ≡ Ok (n, e)
+    → Fits {T = T} (Ok x) (refusal_under (standing t o) (is_next t o) m)
 fits_ok T o n t m e x h = sym (refusal_due o t m) ∙ ap refusal_heard h
 
 -- ---- points
@@ -147,7 +157,8 @@ data_none true (Stage.Given q) p e = absurd (cc)
 data_none true Stage.Failed p e = absurd (cc)
 data_none false s p e = absurd (cc)
 
-data_second : (d : Bool) (s : Stage) (p : Point) → refusal_of (judged_given d s p) ≡ Some cause.SecondData → (d ≡ true) × ((q : Point) × (s ≡ Stage.Given q))
+data_second : (d : Bool) (s : Stage) (p : Point) → refusal_of (judged_given d s p) ≡ Some cause.SecondData → (d ≡ true)
+    × ((q : Point) × (s ≡ Stage.Given q))
 data_second true Stage.Sent p e = absurd (cc)
 data_second true Stage.Received p e = absurd (cc)
 data_second true (Stage.Given q) p e = (refl, (q, refl))
@@ -191,7 +202,8 @@ ok_exactly (Err f) due h = (λ no. absurd (false≢true no), λ none. absurd (go
     go None said none = said
     go (Some why) said none = none_some why due said none
 
-pub err_exactly : {T : Type 0} (r : Result T TagFault) (due : Option Cause) (why : Cause) (f : TagFault) → cause_of f ≡ Some why → Fits r due → IsErrOf r f ↔ (due ≡ Some why)
+pub err_exactly : {T : Type 0} (r : Result T TagFault) (due : Option Cause) (why : Cause) (f : TagFault) → cause_of f ≡ Some why
+    → Fits r due → IsErrOf r f ↔ (due ≡ Some why)
 err_exactly {T} (Ok x) due why f is h = (λ e. absurd (go e), λ e. absurd (none_some why due e h))
   where
     go : ◌≡◌ {A = Result T TagFault} (Ok x) (Err f) → ⊥
@@ -230,7 +242,8 @@ held_kind_is : (t : Tag) (hs : List Held) → held_kind t hs ≡ kind_part (stan
 held_kind_is t [] = refl
 held_kind_is t (h ∷ hs) = go (held_kind_is t hs) (tag_is h.tag t)
   where
-    go : held_kind t hs ≡ kind_part (standing_in t hs) → (b : Bool) → cond b (Some h.kind) (held_kind t hs) ≡ kind_part (cond b (Some (h.kind, h.stage)) (standing_in t hs))
+    go : held_kind t hs ≡ kind_part (standing_in t hs) → (b : Bool)
+        → cond b (Some h.kind) (held_kind t hs) ≡ kind_part (cond b (Some (h.kind, h.stage)) (standing_in t hs))
     go deeper true = refl
     go deeper false = deeper
 
@@ -285,7 +298,8 @@ unknown_due : (s : Standing) (front : Bool) (m : Mark) → (refusal_under s fron
 unknown_due None front m = (λ _. refl, λ _. refl)
 unknown_due (Some (k, s)) front m = (λ e. absurd (unknown_judged front k s m e), λ e. absurd (cc))
 
-unknown_kind : (o : Opened) (t : Tag) (m : Mark) → (refusal_under (standing t o) (is_next t o) m ≡ Some cause.UnknownTag) ↔ (kind_under t o ≡ None)
+unknown_kind : (o : Opened) (t : Tag) (m : Mark) → (refusal_under (standing t o) (is_next t o) m ≡ Some cause.UnknownTag)
+    ↔ (kind_under t o ≡ None)
 unknown_kind o t m = compose (unknown_due (standing t o) (is_next t o) m)
     (λ e. kind_under_is t o ∙ ap kind_part e, λ e. nothing_stands (standing t o) (sym (kind_under_is t o) ∙ e))
 
@@ -297,26 +311,33 @@ awaits_due None b p = (λ e. absurd (cc), λ e. absurd (go e.0))
     go e = cc
 awaits_due (Some (k, s)) b p = (only, all)
   where
-    only : refusal_of (judged_given (b && asks_data k) s p) ≡ None → (◌≡◌ {A = Standing} (Some (k, s)) (OfTouch Stage.Received)) × (b ≡ true)
+    only : refusal_of (judged_given (b && asks_data k) s p) ≡ None → (◌≡◌ {A = Standing} (Some (k, s)) (OfTouch Stage.Received))
+        × (b ≡ true)
     only e = let both = data_none (b && asks_data k) s p e in let parts = and_parts b (asks_data k) both.0 in
         (ap (λ (x : Stage). Some (k, x)) both.1 ∙ ap (λ (x : Kind). Some (x, Stage.Received)) (touch_only k parts.1), parts.0)
 
     all : (◌≡◌ {A = Standing} (Some (k, s)) (OfTouch Stage.Received)) × (b ≡ true) → refusal_of (judged_given (b && asks_data k) s p) ≡ None
-    all e = ap (λ (x : Standing). refusal_under x b (Mark.Given p)) e.0 ∙ ap (λ (x : Bool). refusal_under (OfTouch Stage.Received) x (Mark.Given p)) e.1
+    all e = ap (λ (x : Standing). refusal_under x b (Mark.Given p)) e.0
+        ∙ ap (λ (x : Bool). refusal_under (OfTouch Stage.Received) x (Mark.Given p)) e.1
 
-second_due : (s : Standing) (b : Bool) (p : Point) → (refusal_under s b (Mark.Given p) ≡ Some cause.SecondData) ↔ (((q : Point) × (s ≡ OfTouch (Stage.Given q))) × (b ≡ true))
+second_due : (s : Standing) (b : Bool) (p : Point) → (refusal_under s b (Mark.Given p) ≡ Some cause.SecondData)
+    ↔ (((q : Point) × (s ≡ OfTouch (Stage.Given q))) × (b ≡ true))
 second_due None b p = (λ e. absurd (cc), λ e. absurd (go e.0.0 e.0.1))
   where
     go : (q : Point) → ◌≡◌ {A = Standing} None (OfTouch (Stage.Given q)) → ⊥
     go q e = cc
 second_due (Some (k, s)) b p = (only, all)
   where
-    only : refusal_of (judged_given (b && asks_data k) s p) ≡ Some cause.SecondData → ((q : Point) × (◌≡◌ {A = Standing} (Some (k, s)) (OfTouch (Stage.Given q)))) × (b ≡ true)
+    only : refusal_of (judged_given (b && asks_data k) s p) ≡ Some cause.SecondData
+        → ((q : Point) × (◌≡◌ {A = Standing} (Some (k, s)) (OfTouch (Stage.Given q)))) × (b ≡ true)
     only e = let both = data_second (b && asks_data k) s p e in let parts = and_parts b (asks_data k) both.0 in
-        ((both.1.0, ap (λ (x : Stage). Some (k, x)) both.1.1 ∙ ap (λ (x : Kind). Some (x, Stage.Given both.1.0)) (touch_only k parts.1)), parts.0)
+        ((both.1.0, ap (λ (x : Stage). Some (k, x)) both.1.1 ∙ ap (λ (x : Kind). Some (x, Stage.Given both.1.0)) (touch_only k parts.1)),
+            parts.0)
 
-    all : ((q : Point) × (◌≡◌ {A = Standing} (Some (k, s)) (OfTouch (Stage.Given q)))) × (b ≡ true) → refusal_of (judged_given (b && asks_data k) s p) ≡ Some cause.SecondData
-    all e = ap (λ (x : Standing). refusal_under x b (Mark.Given p)) e.0.1 ∙ ap (λ (x : Bool). refusal_under (OfTouch (Stage.Given e.0.0)) x (Mark.Given p)) e.1
+    all : ((q : Point) × (◌≡◌ {A = Standing} (Some (k, s)) (OfTouch (Stage.Given q)))) × (b ≡ true)
+        → refusal_of (judged_given (b && asks_data k) s p) ≡ Some cause.SecondData
+    all e = ap (λ (x : Standing). refusal_under x b (Mark.Given p)) e.0.1
+        ∙ ap (λ (x : Bool). refusal_under (OfTouch (Stage.Given e.0.0)) x (Mark.Given p)) e.1
 
 data_named : (s : Standing) (b : Bool) (p : Point) (why : Cause) → refusal_under s b (Mark.Given p) ≡ Some why
     → (fault_for (Some why) ≡ fault.UnknownTag) ⊎ (fault_for (Some why) ≡ fault.OutOfOrder) ⊎ (fault_for (Some why) ≡ fault.SecondData)
@@ -336,19 +357,24 @@ data_named (Some (k, s)) b p why e = go (b && asks_data k) s e
 abbrev pub Agrees : {T : Type 0} → Opened → Tag → Mark → Result T TagFault → Type 0
 Agrees o t m r = Fits r (refusal_under (standing t o) (is_next t o) m)
 
-pub unknown_exactly : {T : Type 0} (o : Opened) (t : Tag) (m : Mark) (r : Result T TagFault) → Agrees o t m r → IsErrOf r fault.UnknownTag ↔ (kind_under t o ≡ None)
+pub unknown_exactly : {T : Type 0} (o : Opened) (t : Tag) (m : Mark) (r : Result T TagFault) → Agrees o t m r → IsErrOf r fault.UnknownTag
+    ↔ (kind_under t o ≡ None)
 unknown_exactly o t m r h = compose (err_exactly r _ cause.UnknownTag fault.UnknownTag refl h) (unknown_kind o t m)
 
-pub point_exactly : {T : Type 0} (o : Opened) (t : Tag) (p : Point) (r : Result T TagFault) → Agrees o t (Mark.Given p) r → IsOk r ↔ AwaitsPoint t o
-point_exactly o t p r h = compose (ok_exactly r _ h) (compose (awaits_due (standing t o) (is_next t o) p) (next_iff t o (standing t o ≡ OfTouch Stage.Received)))
+pub point_exactly : {T : Type 0} (o : Opened) (t : Tag) (p : Point) (r : Result T TagFault) → Agrees o t (Mark.Given p) r → IsOk r
+    ↔ AwaitsPoint t o
+point_exactly o t p r h = compose (ok_exactly r _ h) (compose (awaits_due (standing t o) (is_next t o) p)
+    (next_iff t o (standing t o ≡ OfTouch Stage.Received)))
 
-pub second_exactly : {T : Type 0} (o : Opened) (t : Tag) (p : Point) (r : Result T TagFault) → Agrees o t (Mark.Given p) r → IsErrOf r fault.SecondData ↔ HasPoint t o
+pub second_exactly : {T : Type 0} (o : Opened) (t : Tag) (p : Point) (r : Result T TagFault) → Agrees o t (Mark.Given p) r
+    → IsErrOf r fault.SecondData ↔ HasPoint t o
 second_exactly o t p r h = compose (err_exactly r _ cause.SecondData fault.SecondData refl h)
     (compose (second_due (standing t o) (is_next t o) p) (next_iff t o ((q : Point) × (standing t o ≡ OfTouch (Stage.Given q)))))
 
 pub point_named : {T : Type 0} (o : Opened) (t : Tag) (p : Point) (r : Result T TagFault) → Agrees o t (Mark.Given p) r
     → IfErr r (λ f. (f ≡ fault.UnknownTag) ⊎ (f ≡ fault.OutOfOrder) ⊎ (f ≡ fault.SecondData))
-point_named o t p r h = named_by r _ (λ f. (f ≡ fault.UnknownTag) ⊎ (f ≡ fault.OutOfOrder) ⊎ (f ≡ fault.SecondData)) h (data_named (standing t o) (is_next t o) p)
+point_named o t p r h = named_by r _ (λ f. (f ≡ fault.UnknownTag) ⊎ (f ≡ fault.OutOfOrder)
+    ⊎ (f ≡ fault.SecondData)) h (data_named (standing t o) (is_next t o) p)
 
 agrees : (T : Type 0) (o n : Opened) (t : Tag) (m : Mark) (e : T → Effect) (r : Result T TagFault) → IfOk r (λ x. heard o t m ≡ Ok (n, e x))
     → IfErr r (λ f. IsRefused (heard o t m) (cause_of f)) → Agrees o t m r
@@ -356,9 +382,11 @@ agrees T o n t m e (Ok x) ok refused = fits_ok T o n t m (e x) x ok
 agrees T o n t m e (Err f) ok refused = fits_err T o t m f refused
 
 -- from what is known of the list of one sort of tags
-pub agrees_standard : {T : Type 0} (o : Opened) (failed : Bool) (hs gs : List Held) (t : Tag) (n : ℕ) (m : Mark) (e : T → Effect) (r : Result T TagFault)
+pub agrees_standard : {T : Type 0} (o : Opened) (failed : Bool) (hs gs : List Held) (t : Tag) (n : ℕ) (m : Mark) (e : T
+    → Effect) (r : Result T TagFault)
     → t ≡ Std n → failed ≡ o.failed → hs ≡ o.standard
-    → IfOk r (λ x. heard_in (not failed) hs t m ≡ Ok (gs, e x)) → IfErr r (λ f. IsRefused (heard_in (not failed) hs t m) (cause_of f)) → Agrees o t m r
+    → IfOk r (λ x. heard_in (not failed) hs t m ≡ Ok (gs, e x)) → IfErr r (λ f. IsRefused (heard_in (not failed) hs t m) (cause_of f))
+    → Agrees o t m r
 agrees_standard {T} o failed hs gs t n m e (Ok x) is bad held ok refused =
     subst (λ (u : Tag). Agrees o u m (Ok x)) (sym is)
     (sym (refusal_due o (Std n) m) ∙ (standard_refusal o (heard_in (not o.failed) o.standard (Std n) m)
@@ -366,7 +394,8 @@ agrees_standard {T} o failed hs gs t n m e (Ok x) is bad held ok refused =
     ∙ (ap (λ (l : List Held). refusal_in (heard_in (not failed) l (Std n) m)) (sym held)
     ∙ (ap (λ (u : Tag). refusal_in (heard_in (not failed) hs u m)) (sym is) ∙ ap refusal_in ok)))))
 agrees_standard {T} o failed hs gs t n m e (Err f) is bad held ok refused =
-    fits_err T o t m f (refused_standard o hs t n m (cause_of f) is held (subst (λ (b : Bool). IsRefused (heard_in (not b) hs t m) (cause_of f)) bad refused))
+    fits_err T o t m f (refused_standard o hs t n m (cause_of f) is held
+        (subst (λ (b : Bool). IsRefused (heard_in (not b) hs t m) (cause_of f)) bad refused))
 
 pub agrees_event : {T : Type 0} (o : Opened) (hs gs : List Held) (t : Tag) (n : ℕ) (m : Mark) (e : T → Effect) (r : Result T TagFault)
     → t ≡ Event n → hs ≡ o.event

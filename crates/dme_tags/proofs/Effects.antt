@@ -14,7 +14,8 @@ on_event : (o : Opened) (h : Heard) → effect_heard (heard_event o h) ≡ effec
 on_event o (Ok (hs, effect)) = refl
 on_event o (Err cause) = refl
 
-pub standard_effect : (o : Opened) (n : ℕ) (m : Mark) (effect : Option Effect) → effect_heard (heard_in (not o.failed) o.standard (Std n) m) ≡ effect
+pub standard_effect : (o : Opened) (n : ℕ) (m : Mark) (effect : Option Effect)
+    → effect_heard (heard_in (not o.failed) o.standard (Std n) m) ≡ effect
     → effect_heard (heard o (Std n) m) ≡ effect
 standard_effect o n m effect is = on_standard o (heard_in (not o.failed) o.standard (Std n) m) ∙ is
 

@@ -1,12 +1,14 @@
 -- Which end of a command is due, and which refusal.
-use Rattle.std.proofs.Common.{◌≡◌, ◌↔◌, ◌⊎◌, inl, inr, ℕ, Bool, true, false, cond, not, ◌&&◌, List, [], ◌∷◌, Option, Some, None, Result, Ok, Err, refl, sym, ◌∙◌, ap, subst}
+use Rattle.std.proofs.Common.{◌≡◌, ◌↔◌, ◌⊎◌, inl, inr, ℕ, Bool, true, false, cond, not, ◌&&◌, List, [], ◌∷◌, Option, Some, None, Result, Ok,
+  Err, refl, sym, ◌∙◌, ap, subst}
 use Rattle.std.specs.Prelude.{IsOk, IsErrOf, IfOk, IfErr}
 use Rattle.fixed_um.specs.declared.lengths.Point.{Point}
 use Rattle.dme_line.specs.declared.tags.Tag.{Tag}
 use Rattle.dme_line.specs.declared.tags.Tag.TheVariants.{Std, Event}
 use Rattle.dme_line.specs.declared.commands.Kind.{Kind}
 use Rattle.protocol_model.specs.Replies.{Mark, tag_is}
-use Rattle.protocol_model.specs.Open.{Verdict, Becomes, Breaks, Closes, Counts, Refused, Effect, Heard, asks_data, is_failed, heard_in, judged, judged_done, put_before, settled}
+use Rattle.protocol_model.specs.Open.{Verdict, Becomes, Breaks, Closes, Counts, Refused, Effect, Heard, asks_data, is_failed, heard_in,
+  judged, judged_done, put_before, settled}
 use Rattle.protocol_model.specs.declared.held.Held.{Held}
 use Rattle.protocol_model.specs.declared.held.Stage.{Stage}
 use Rattle.protocol_model.specs.declared.states.Cause.{Cause}
@@ -21,7 +23,9 @@ use Rattle.dme_tags.specs.declared.endings.Ended.{Ended}
 use Rattle.dme_tags.specs.declared.endings.Ended.TheVariants as ended
 use Rattle.dme_tags.proofs.Refusals.{refused_standard, refused_event}
 use Rattle.dme_tags.proofs.Effects.{standard_effect, event_effect}
-use Rattle.dme_tags.proofs.Dues.{Standing, OfTouch, Agrees, IsSaid, and_assoc, and_true, compose, err_exactly, fault_for, fits_err, named_by, next_all, next_iff, next_only, none_some, ok_exactly, refusal_of, refusal_under, touch_only, agrees_standard, agrees_event, unknown_exactly}
+use Rattle.dme_tags.proofs.Dues.{Standing, OfTouch, Agrees, IsSaid, and_assoc, and_true, compose, err_exactly, fault_for, fits_err,
+  named_by, next_all, next_iff, next_only, none_some, ok_exactly, refusal_of, refusal_under, touch_only, agrees_standard, agrees_event,
+  unknown_exactly}
 
 -- ---- the effect of a mark
 
@@ -52,12 +56,16 @@ effect_is : (front : Bool) (hs : List Held) (t : Tag) (m : Mark)
 effect_is front [] t m = refl
 effect_is front (h ∷ hs) t m = go (effect_is (front && is_failed h.stage) hs t m) (tag_is h.tag t)
   where
-    go : effect_heard (heard_in (front && is_failed h.stage) hs t m) ≡ effect_under (standing_in t hs) ((front && is_failed h.stage) && all_failed (ahead_of t hs)) m
-        → (b : Bool) → effect_heard (cond b (settled h hs (judged front h.kind h.stage m)) (put_before h (heard_in (front && is_failed h.stage) hs t m)))
+    go : effect_heard (heard_in (front && is_failed h.stage) hs t m)
+        ≡ effect_under (standing_in t hs) ((front && is_failed h.stage) && all_failed (ahead_of t hs)) m
+        → (b : Bool) → effect_heard (cond b (settled h hs (judged front h.kind h.stage m))
+        (put_before h (heard_in (front && is_failed h.stage) hs t m)))
         ≡ effect_under (cond b (Some (h.kind, h.stage)) (standing_in t hs)) (front && all_failed (cond b [] (h ∷ ahead_of t hs))) m
-    go deeper true = settled_effect h hs (judged front h.kind h.stage m) ∙ ap (λ (b : Bool). effect_of_verdict h.kind (judged b h.kind h.stage m)) (sym (and_true front))
+    go deeper true = settled_effect h hs (judged front h.kind h.stage m)
+        ∙ ap (λ (b : Bool). effect_of_verdict h.kind (judged b h.kind h.stage m)) (sym (and_true front))
     go deeper false = put_effect h (heard_in (front && is_failed h.stage) hs t m)
-        ∙ (deeper ∙ ap (λ (b : Bool). effect_under (standing_in t hs) b m) (and_assoc front (is_failed h.stage) (all_failed (ahead_of t hs))))
+        ∙ (deeper ∙ ap (λ (b : Bool). effect_under (standing_in t hs) b m)
+        (and_assoc front (is_failed h.stage) (all_failed (ahead_of t hs))))
 
 effect_due : (o : Opened) (t : Tag) (m : Mark) → effect_heard (heard o t m) ≡ effect_under (standing t o) (is_next t o) m
 effect_due o (Std n) m = standard_effect o n m _ (effect_is (not o.failed) o.standard (Std n) m)
@@ -90,7 +98,8 @@ plain_only (Some (j, s)) b k e = go b (asks_data j) refl s e
     go true true is (Stage.Given q) e = absurd (cc)
     go true true is Stage.Failed e = absurd (cc)
     go true false is Stage.Sent e = absurd (cc)
-    go true false is Stage.Received e = let same : j ≡ k = cc in (ap (λ (x : Kind). Some (x, Stage.Received)) same, ap asks_data (sym same) ∙ is, refl)
+    go true false is Stage.Received e = let same : j ≡ k = cc in
+        (ap (λ (x : Kind). Some (x, Stage.Received)) same, ap asks_data (sym same) ∙ is, refl)
     go true false is (Stage.Given q) e = absurd (cc)
     go true false is Stage.Failed e = absurd (cc)
     go false a is Stage.Sent e = absurd (cc)
@@ -98,8 +107,10 @@ plain_only (Some (j, s)) b k e = go b (asks_data j) refl s e
     go false a is (Stage.Given q) e = absurd (cc)
     go false a is Stage.Failed e = absurd (cc)
 
-plain_all : (s : Standing) (b : Bool) (k : Kind) → (s ≡ Some (k, Stage.Received)) × (asks_data k ≡ false) × (b ≡ true) → effect_under s b Mark.Done ≡ Some (Effect.Count k None)
-plain_all s b k h = ap (λ (x : Standing). effect_under x b Mark.Done) h.0 ∙ (ap (λ (a : Bool). effect_of_verdict k (judged_done b a Stage.Received)) h.1
+plain_all : (s : Standing) (b : Bool) (k : Kind) → (s ≡ Some (k, Stage.Received)) × (asks_data k ≡ false) × (b ≡ true)
+    → effect_under s b Mark.Done ≡ Some (Effect.Count k None)
+plain_all s b k h = ap (λ (x : Standing). effect_under x b Mark.Done) h.0
+    ∙ (ap (λ (a : Bool). effect_of_verdict k (judged_done b a Stage.Received)) h.1
     ∙ ap (λ (x : Bool). effect_of_verdict k (judged_done x false Stage.Received)) h.2)
 
 -- a command with its point
@@ -112,19 +123,23 @@ given_only (Some (j, s)) b k p e = go b (asks_data j) s e
         → (◌≡◌ {A = Standing} (Some (j, s)) (Some (k, Stage.Given p))) × (b ≡ true)
     go true true Stage.Sent e = absurd (cc)
     go true true Stage.Received e = absurd (cc)
-    go true true (Stage.Given q) e = let same : j ≡ k = cc in let at : q ≡ p = cc in (ap (λ (x : Kind). Some (x, Stage.Given q)) same ∙ ap (λ (x : Point). Some (k, Stage.Given x)) at, refl)
+    go true true (Stage.Given q) e = let same : j ≡ k = cc in let at : q ≡ p = cc
+        in (ap (λ (x : Kind). Some (x, Stage.Given q)) same ∙ ap (λ (x : Point). Some (k, Stage.Given x)) at, refl)
     go true true Stage.Failed e = absurd (cc)
     go true false Stage.Sent e = absurd (cc)
     go true false Stage.Received e = absurd (cc)
-    go true false (Stage.Given q) e = let same : j ≡ k = cc in let at : q ≡ p = cc in (ap (λ (x : Kind). Some (x, Stage.Given q)) same ∙ ap (λ (x : Point). Some (k, Stage.Given x)) at, refl)
+    go true false (Stage.Given q) e = let same : j ≡ k = cc in let at : q ≡ p = cc
+        in (ap (λ (x : Kind). Some (x, Stage.Given q)) same ∙ ap (λ (x : Point). Some (k, Stage.Given x)) at, refl)
     go true false Stage.Failed e = absurd (cc)
     go false a Stage.Sent e = absurd (cc)
     go false a Stage.Received e = absurd (cc)
     go false a (Stage.Given q) e = absurd (cc)
     go false a Stage.Failed e = absurd (cc)
 
-given_all : (s : Standing) (b : Bool) (k : Kind) (p : Point) → (s ≡ Some (k, Stage.Given p)) × (b ≡ true) → effect_under s b Mark.Done ≡ Some (Effect.Count k (Some p))
-given_all s b k p h = ap (λ (x : Standing). effect_under x b Mark.Done) h.0 ∙ (ap (λ (x : Bool). effect_under (Some (k, Stage.Given p)) x Mark.Done) h.1 ∙ go (asks_data k))
+given_all : (s : Standing) (b : Bool) (k : Kind) (p : Point) → (s ≡ Some (k, Stage.Given p)) × (b ≡ true)
+    → effect_under s b Mark.Done ≡ Some (Effect.Count k (Some p))
+given_all s b k p h = ap (λ (x : Standing). effect_under x b Mark.Done) h.0
+    ∙ (ap (λ (x : Bool). effect_under (Some (k, Stage.Given p)) x Mark.Done) h.1 ∙ go (asks_data k))
   where
     go : (a : Bool) → effect_of_verdict k (judged_done true a (Stage.Given p)) ≡ Some (Effect.Count k (Some p))
     go true = refl
@@ -135,7 +150,8 @@ closed_only : (s : Standing) (b : Bool) → effect_under s b Mark.Done ≡ Some 
 closed_only None b e = absurd (cc)
 closed_only (Some (j, s)) b e = go b (asks_data j) s e
   where
-    go : (b a : Bool) (s : Stage) → effect_of_verdict j (judged_done b a s) ≡ Some Effect.Quiet → (k : Kind) × (◌≡◌ {A = Standing} (Some (j, s)) (Some (k, Stage.Failed)))
+    go : (b a : Bool) (s : Stage) → effect_of_verdict j (judged_done b a s) ≡ Some Effect.Quiet → (k : Kind)
+        × (◌≡◌ {A = Standing} (Some (j, s)) (Some (k, Stage.Failed)))
     go true true Stage.Sent e = absurd (cc)
     go true true Stage.Received e = absurd (cc)
     go true true (Stage.Given q) e = absurd (cc)
@@ -165,7 +181,8 @@ pointless_due s b = (only s, all)
     only None e = absurd (cc)
     only (Some (k, s)) e = go b (asks_data k) refl s e
       where
-        go : (b a : Bool) → asks_data k ≡ a → (s : Stage) → refusal_of (judged_done b a s) ≡ Some cause.NoData → (◌≡◌ {A = Standing} (Some (k, s)) (OfTouch Stage.Received)) × (b ≡ true)
+        go : (b a : Bool) → asks_data k ≡ a → (s : Stage) → refusal_of (judged_done b a s) ≡ Some cause.NoData
+            → (◌≡◌ {A = Standing} (Some (k, s)) (OfTouch Stage.Received)) × (b ≡ true)
         go true true is Stage.Sent e = absurd (cc)
         go true true is Stage.Received e = (ap (λ (x : Kind). Some (x, Stage.Received)) (touch_only k is), refl)
         go true true is (Stage.Given q) e = absurd (cc)
@@ -180,7 +197,8 @@ pointless_due s b = (only s, all)
         go false a is Stage.Failed e = absurd (cc)
 
     all : (s ≡ OfTouch Stage.Received) × (b ≡ true) → refusal_under s b Mark.Done ≡ Some cause.NoData
-    all h = ap (λ (x : Standing). refusal_under x b Mark.Done) h.0 ∙ ap (λ (x : Bool). refusal_under (OfTouch Stage.Received) x Mark.Done) h.1
+    all h = ap (λ (x : Standing). refusal_under x b Mark.Done) h.0
+        ∙ ap (λ (x : Bool). refusal_under (OfTouch Stage.Received) x Mark.Done) h.1
 
 done_named : (s : Standing) (b : Bool) (why : Cause) → refusal_under s b Mark.Done ≡ Some why
     → (fault_for (Some why) ≡ fault.UnknownTag) ⊎ (fault_for (Some why) ≡ fault.OutOfOrder) ⊎ (fault_for (Some why) ≡ fault.NoData)
@@ -214,7 +232,8 @@ ends_agrees o t (Err f) h = h
 
 ended_is : (x : Ended) (k : Kind) (given : Option Point) → effect_of x ≡ Effect.Count k given → x ≡ ended.Counted k given
 ended_is (ended.Counted j other) k given e =
-    let same : j ≡ k = cc in let at : other ≡ given = cc in ap (λ (i : Kind). ended.Counted i other) same ∙ ap (λ (q : Option Point). ended.Counted k q) at
+    let same : j ≡ k = cc in let at : other ≡ given = cc in ap (λ (i : Kind). ended.Counted i other) same
+        ∙ ap (λ (q : Option Point). ended.Counted k q) at
 ended_is ended.Closed k given e = absurd (cc)
 
 closed_is : (x : Ended) → effect_of x ≡ Effect.Quiet → x ≡ ended.Closed
@@ -226,21 +245,25 @@ said_where_none due None h none = h
 said_where_none due (Some why) h none = none_some why due h none
 
 -- this end exactly where this effect is due
-end_exactly : (o : Opened) (t : Tag) (r : Result Ended TagFault) (x : Ended) → ((y : Ended) → effect_of y ≡ effect_of x → y ≡ x) → Ends o t r
+end_exactly : (o : Opened) (t : Tag) (r : Result Ended TagFault) (x : Ended) → ((y : Ended) → effect_of y ≡ effect_of x → y ≡ x)
+    → Ends o t r
     → (r ≡ Ok x) ↔ (effect_under (standing t o) (is_next t o) Mark.Done ≡ Some (effect_of x))
-end_exactly o t (Ok y) x only h = (λ e. h ∙ ap (λ (z : Ended). Some (effect_of z)) (same e), λ e. ap (λ (z : Ended). Ok z) (only y (effects (sym h ∙ e))))
+end_exactly o t (Ok y) x only h = (λ e. h ∙ ap (λ (z : Ended). Some (effect_of z)) (same e),
+    λ e. ap (λ (z : Ended). Ok z) (only y (effects (sym h ∙ e))))
   where
     same : ◌≡◌ {A = Result Ended TagFault} (Ok y) (Ok x) → y ≡ x
     same e = cc
 
     effects : ◌≡◌ {A = Option Effect} (Some (effect_of y)) (Some (effect_of x)) → effect_of y ≡ effect_of x
     effects e = cc
-end_exactly o t (Err f) x only h = (λ e. absurd (apart e), λ e. absurd (said_where_none _ (cause_of f) h (effect_taken (standing t o) (is_next t o) Mark.Done (effect_of x) e)))
+end_exactly o t (Err f) x only h = (λ e. absurd (apart e), λ e. absurd
+    (said_where_none _ (cause_of f) h (effect_taken (standing t o) (is_next t o) Mark.Done (effect_of x) e)))
   where
     apart : ◌≡◌ {A = Result Ended TagFault} (Err f) (Ok x) → ⊥
     apart e = cc
 
-pub counted_exactly : (o : Opened) (t : Tag) (r : Result Ended TagFault) → Ends o t r → (k : Kind) (given : Option Point) → (r ≡ Ok (ended.Counted k given)) ↔ CountsAs t o k given
+pub counted_exactly : (o : Opened) (t : Tag) (r : Result Ended TagFault) → Ends o t r → (k : Kind) (given : Option Point)
+    → (r ≡ Ok (ended.Counted k given)) ↔ CountsAs t o k given
 counted_exactly o t r h k None = compose (end_exactly o t r (ended.Counted k None) (λ y. ended_is y k None) h) (
   λ e. let c = plain_only (standing t o) (is_next t o) k e in (c.0, c.1, next_only t o c.2),
   λ c. plain_all (standing t o) (is_next t o) k (c.0, c.1, next_all t o c.2),
@@ -260,13 +283,15 @@ no_data_exactly o t r h = compose (err_exactly r _ cause.NoData fault.NoData ref
 
 pub end_named : (o : Opened) (t : Tag) (r : Result Ended TagFault) → Ends o t r
     → IfErr r (λ f. (f ≡ fault.UnknownTag) ⊎ (f ≡ fault.OutOfOrder) ⊎ (f ≡ fault.NoData))
-end_named o t r h = named_by r _ (λ f. (f ≡ fault.UnknownTag) ⊎ (f ≡ fault.OutOfOrder) ⊎ (f ≡ fault.NoData)) (ends_agrees o t r h) (done_named (standing t o) (is_next t o))
+end_named o t r h = named_by r _ (λ f. (f ≡ fault.UnknownTag) ⊎ (f ≡ fault.OutOfOrder)
+    ⊎ (f ≡ fault.NoData)) (ends_agrees o t r h) (done_named (standing t o) (is_next t o))
 
 pub end_agrees : (o : Opened) (t : Tag) (r : Result Ended TagFault) → Ends o t r → Agrees o t Mark.Done r
 end_agrees o t r h = ends_agrees o t r h
 
 -- from what is known of the list of one sort of tags
-pub ends_standard : (o : Opened) (failed : Bool) (hs : List Held) (t : Tag) (n : ℕ) (r : Result Ended TagFault) → t ≡ Std n → failed ≡ o.failed → hs ≡ o.standard
+pub ends_standard : (o : Opened) (failed : Bool) (hs : List Held) (t : Tag) (n : ℕ) (r : Result Ended TagFault) → t ≡ Std n
+    → failed ≡ o.failed → hs ≡ o.standard
     → IfOk r (λ x. effect_heard (heard_in (not failed) hs t Mark.Done) ≡ Some (effect_of x))
     → IfErr r (λ f. IsRefused (heard_in (not failed) hs t Mark.Done) (cause_of f)) → Ends o t r
 ends_standard o failed hs t n (Ok x) is bad held ok refused =
@@ -276,7 +301,8 @@ ends_standard o failed hs t n (Ok x) is bad held ok refused =
     ∙ (ap (λ (l : List Held). effect_heard (heard_in (not failed) l (Std n) Mark.Done)) (sym held)
     ∙ (ap (λ (u : Tag). effect_heard (heard_in (not failed) hs u Mark.Done)) (sym is) ∙ ok))))
 ends_standard o failed hs t n (Err f) is bad held ok refused =
-    fits_err Ended o t Mark.Done f (refused_standard o hs t n Mark.Done (cause_of f) is held (subst (λ (b : Bool). IsRefused (heard_in (not b) hs t Mark.Done) (cause_of f)) bad refused))
+    fits_err Ended o t Mark.Done f (refused_standard o hs t n Mark.Done (cause_of f) is held
+        (subst (λ (b : Bool). IsRefused (heard_in (not b) hs t Mark.Done) (cause_of f)) bad refused))
 
 pub ends_event : (o : Opened) (hs : List Held) (t : Tag) (n : ℕ) (r : Result Ended TagFault) → t ≡ Event n → hs ≡ o.event
     → IfOk r (λ x. effect_heard (heard_in true hs t Mark.Done) ≡ Some (effect_of x))
@@ -286,18 +312,22 @@ ends_event o hs t n (Ok x) is held ok refused =
     (sym (effect_is true o.event (Event n) Mark.Done)
     ∙ (ap (λ (l : List Held). effect_heard (heard_in true l (Event n) Mark.Done)) (sym held)
     ∙ (ap (λ (u : Tag). effect_heard (heard_in true hs u Mark.Done)) (sym is) ∙ ok)))
-ends_event o hs t n (Err f) is held ok refused = fits_err Ended o t Mark.Done f (refused_event o hs t n Mark.Done (cause_of f) is held refused)
+ends_event o hs t n (Err f) is held ok refused = fits_err Ended o t Mark.Done f
+    (refused_event o hs t n Mark.Done (cause_of f) is held refused)
 
 -- the same where the list is known too
-effects_in : (front : Bool) (hs gs : List Held) (t : Tag) (r : Result Ended TagFault) → IfOk r (λ x. heard_in front hs t Mark.Done ≡ Ok (gs, effect_of x))
+effects_in : (front : Bool) (hs gs : List Held) (t : Tag) (r : Result Ended TagFault)
+    → IfOk r (λ x. heard_in front hs t Mark.Done ≡ Ok (gs, effect_of x))
     → IfOk r (λ x. effect_heard (heard_in front hs t Mark.Done) ≡ Some (effect_of x))
 effects_in front hs gs t (Ok x) ok = ap effect_heard ok
 effects_in front hs gs t (Err f) ok = tt
 
-pub finishes_standard : (o : Opened) (failed : Bool) (hs gs : List Held) (t : Tag) (n : ℕ) (r : Result Ended TagFault) → t ≡ Std n → failed ≡ o.failed → hs ≡ o.standard
+pub finishes_standard : (o : Opened) (failed : Bool) (hs gs : List Held) (t : Tag) (n : ℕ) (r : Result Ended TagFault) → t ≡ Std n
+    → failed ≡ o.failed → hs ≡ o.standard
     → IfOk r (λ x. heard_in (not failed) hs t Mark.Done ≡ Ok (gs, effect_of x))
     → IfErr r (λ f. IsRefused (heard_in (not failed) hs t Mark.Done) (cause_of f)) → Ends o t r
-finishes_standard o failed hs gs t n r is bad held ok refused = ends_standard o failed hs t n r is bad held (effects_in (not failed) hs gs t r ok) refused
+finishes_standard o failed hs gs t n r is bad held ok refused =
+    ends_standard o failed hs t n r is bad held (effects_in (not failed) hs gs t r ok) refused
 
 pub finishes_event : (o : Opened) (hs gs : List Held) (t : Tag) (n : ℕ) (r : Result Ended TagFault) → t ≡ Event n → hs ≡ o.event
     → IfOk r (λ x. heard_in true hs t Mark.Done ≡ Ok (gs, effect_of x))
@@ -316,7 +346,8 @@ unread_due s b = (only s, λ h. ap (λ (x : Standing). refusal_under x b Mark.Ac
     only (Some (k, Stage.Given q)) e = absurd (cc)
     only (Some (k, Stage.Failed)) e = absurd (cc)
 
-ack_named : (s : Standing) (b : Bool) (why : Cause) → refusal_under s b Mark.Ack ≡ Some why → (fault_for (Some why) ≡ fault.UnknownTag) ⊎ (fault_for (Some why) ≡ fault.OutOfOrder)
+ack_named : (s : Standing) (b : Bool) (why : Cause) → refusal_under s b Mark.Ack ≡ Some why → (fault_for (Some why) ≡ fault.UnknownTag)
+    ⊎ (fault_for (Some why) ≡ fault.OutOfOrder)
 ack_named None b why e = inl (ap fault_for (sym e))
 ack_named (Some (k, Stage.Sent)) b why e = absurd (cc)
 ack_named (Some (k, Stage.Received)) b why e = inr (ap fault_for (sym e))
@@ -333,22 +364,29 @@ error_named (Some (k, Stage.Failed)) b why e = absurd (cc)
 pub unread_exactly : {T : Type 0} (o : Opened) (t : Tag) (r : Result T TagFault) → Agrees o t Mark.Ack r → IsOk r ↔ IsUnread t o
 unread_exactly o t r h = compose (ok_exactly r _ h) (unread_due (standing t o) (is_next t o))
 
-pub receipt_named : {T : Type 0} (o : Opened) (t : Tag) (r : Result T TagFault) → Agrees o t Mark.Ack r → IfErr r (λ f. (f ≡ fault.UnknownTag) ⊎ (f ≡ fault.OutOfOrder))
+pub receipt_named : {T : Type 0} (o : Opened) (t : Tag) (r : Result T TagFault) → Agrees o t Mark.Ack r
+    → IfErr r (λ f. (f ≡ fault.UnknownTag) ⊎ (f ≡ fault.OutOfOrder))
 receipt_named o t r h = named_by r _ (λ f. (f ≡ fault.UnknownTag) ⊎ (f ≡ fault.OutOfOrder)) h (ack_named (standing t o) (is_next t o))
 
-pub error_named_by : {T : Type 0} (o : Opened) (t : Tag) (r : Result T TagFault) → Agrees o t Mark.Error r → IfErr r (λ f. f ≡ fault.UnknownTag)
+pub error_named_by : {T : Type 0} (o : Opened) (t : Tag) (r : Result T TagFault) → Agrees o t Mark.Error r
+    → IfErr r (λ f. f ≡ fault.UnknownTag)
 error_named_by o t r h = named_by r _ (λ f. f ≡ fault.UnknownTag) h (error_named (standing t o) (is_next t o))
 
-pub refused_unknown : (T : Type 0) (o : Opened) (t : Tag) (m : Mark) (f : TagFault) → IsRefused (heard o t m) (cause_of f) → IsErrOf {T = T} (Err f) fault.UnknownTag ↔ (kind_under t o ≡ None)
+pub refused_unknown : (T : Type 0) (o : Opened) (t : Tag) (m : Mark) (f : TagFault) → IsRefused (heard o t m) (cause_of f)
+    → IsErrOf {T = T} (Err f) fault.UnknownTag ↔ (kind_under t o ≡ None)
 refused_unknown T o t m f h = unknown_exactly {T = T} o t m (Err f) (fits_err T o t m f h)
 
 pub refused_error : (o : Opened) (t : Tag) (f : TagFault) → IsRefused (heard o t Mark.Error) (cause_of f) → f ≡ fault.UnknownTag
 refused_error o t f h = error_named_by {T = Bool} o t (Err f) (fits_err Bool o t Mark.Error f h)
 
-pub taken_standard : (T : Type 0) (x : T) (o : Opened) (hs gs : List Held) (t : Tag) (n : ℕ) (m : Mark) (e : Effect) → t ≡ Std n → hs ≡ o.standard
+pub taken_standard : (T : Type 0) (x : T) (o : Opened) (hs gs : List Held) (t : Tag) (n : ℕ) (m : Mark) (e : Effect) → t ≡ Std n
+    → hs ≡ o.standard
     → heard_in (not o.failed) hs t m ≡ Ok (gs, e) → IsErrOf {T = T} (Ok x) fault.UnknownTag ↔ (kind_under t o ≡ None)
-taken_standard T x o hs gs t n m e is held ok = unknown_exactly {T = T} o t m (Ok x) (agrees_standard {T = T} o o.failed hs gs t n m (λ _. e) (Ok x) is refl held ok tt)
+taken_standard T x o hs gs t n m e is held ok = unknown_exactly {T = T} o t m (Ok x)
+    (agrees_standard {T = T} o o.failed hs gs t n m (λ _. e) (Ok x) is refl held ok tt)
 
-pub taken_event : (T : Type 0) (x : T) (o : Opened) (hs gs : List Held) (t : Tag) (n : ℕ) (m : Mark) (e : Effect) → t ≡ Event n → hs ≡ o.event
+pub taken_event : (T : Type 0) (x : T) (o : Opened) (hs gs : List Held) (t : Tag) (n : ℕ) (m : Mark) (e : Effect) → t ≡ Event n
+    → hs ≡ o.event
     → heard_in true hs t m ≡ Ok (gs, e) → IsErrOf {T = T} (Ok x) fault.UnknownTag ↔ (kind_under t o ≡ None)
-taken_event T x o hs gs t n m e is held ok = unknown_exactly {T = T} o t m (Ok x) (agrees_event {T = T} o hs gs t n m (λ _. e) (Ok x) is held ok tt)
+taken_event T x o hs gs t n m e is held ok = unknown_exactly {T = T} o t m (Ok x)
+    (agrees_event {T = T} o hs gs t n m (λ _. e) (Ok x) is held ok tt)

@@ -1,5 +1,6 @@
 -- The marks that are taken in under a tag between its draw and its `%`.
-use Rattle.std.proofs.Common.{◌≡◌, ℕ, ◌-◌, Bool, true, false, cond, not, ◌&&◌, List, [], ◌∷◌, ◌++◌, Option, Some, None, Ok, Err, refl, sym, ◌∙◌, ap, subst}
+use Rattle.std.proofs.Common.{◌≡◌, ℕ, ◌-◌, Bool, true, false, cond, not, ◌&&◌, List, [], ◌∷◌, ◌++◌, Option, Some, None, Ok, Err, refl, sym,
+  ◌∙◌, ap, subst}
 use Rattle.std.proofs.lemmas.Bool.{true≢false}
 use Rattle.fixed_um.specs.declared.lengths.Point.{Point}
 use Rattle.dme_line.specs.Kinds.{is_event_kind}
@@ -7,7 +8,8 @@ use Rattle.dme_line.specs.declared.tags.Tag.{Tag}
 use Rattle.dme_line.specs.declared.tags.Tag.TheVariants.{Std, Event}
 use Rattle.dme_line.specs.declared.commands.Kind.{Kind}
 use Rattle.protocol_model.specs.Replies.{Mark, tag_is}
-use Rattle.protocol_model.specs.Open.{Verdict, Becomes, Breaks, Closes, Counts, Refused, Effect, Heard, asks_data, heard_in, is_failed, is_held, judged, judged_ack, judged_given, judged_done, judged_error}
+use Rattle.protocol_model.specs.Open.{Verdict, Becomes, Breaks, Closes, Counts, Refused, Effect, Heard, asks_data, heard_in, is_failed,
+  is_held, judged, judged_ack, judged_given, judged_done, judged_error}
 use Rattle.protocol_model.specs.Client.{held_now, next_number}
 use Rattle.protocol_model.specs.Language.{Placed, marks_of, IsRepliesFront, AreAtFront, Goes, Accepts}
 use Rattle.protocol_model.specs.declared.held.Held.{Held}
@@ -16,7 +18,8 @@ use Rattle.protocol_model.proofs.table.Basics.{if_true, if_false, tag_is-refl, t
 use Rattle.protocol_model.proofs.table.Drawing.{drawn}
 use Rattle.protocol_model.proofs.table.Speaking.{accepts_only}
 use Rattle.protocol_model.proofs.table.Walks.{heard_cases, staged, two}
-use Rattle.dme_tags.specs.Calls.{Call, Draw, Received, Data, Failed, Complete, BeginPlan, behind_answer, behind_draw, answered, placed, taken_under, until_end}
+use Rattle.dme_tags.specs.Calls.{Call, Draw, Received, Data, Failed, Complete, BeginPlan, behind_answer, behind_draw, answered, placed,
+  taken_under, until_end}
 use Rattle.dme_tags.specs.Opened.{Opened, Answer, heard, heard_standard, heard_event, failed_behind, is_next, next_tag, tagged, with_drawn}
 use Rattle.dme_tags.specs.Places.{ahead_of, all_failed}
 use Rattle.dme_tags.specs.Standing.{standing_in, standing}
@@ -49,7 +52,8 @@ kinds_same j k s r e = ap (λ (x : Standing). kind_or x j) e
 stages_same : (j k : Kind) (s r : Stage) → ◌≡◌ {A = Standing} (Some (j, s)) (Some (k, r)) → s ≡ r
 stages_same j k s r e = ap (λ (x : Standing). stage_or x s) e
 
-moved : (front : Bool) (hs gs : List Held) (t : Tag) (m : Mark) (e : Effect) (k : Kind) (s : Stage) → heard_in front hs t m ≡ two gs e → standing_in t hs ≡ Some (k, s)
+moved : (front : Bool) (hs gs : List Held) (t : Tag) (m : Mark) (e : Effect) (k : Kind) (s : Stage) → heard_in front hs t m ≡ two gs e
+    → standing_in t hs ≡ Some (k, s)
     → Stays (judged (front && all_failed (ahead_of t hs)) k s m) k (standing_in t gs)
 moved front [] gs t m e k s is st = absurd (cc)
 moved front (h ∷ hs) gs t m e k s is st =
@@ -62,7 +66,8 @@ moved front (h ∷ hs) gs t m e k s is st =
     (ap (λ (l : List Held). judged (front && all_failed l) k s m) (if_false {A = List Held} (tag_is h.tag t) [] (h ∷ ahead_of t hs) other)
     ∙ ap (λ (b : Bool). judged b k s m) (sym (and_assoc front (is_failed h.stage) (all_failed (ahead_of t hs)))))
     (ap (standing_in t) g ∙ if_false {A = Standing} (tag_is h.tag t) (Some (h.kind, h.stage)) (standing_in t rest) other)
-    (moved (front && is_failed h.stage) hs rest t m e k s later (sym (if_false {A = Standing} (tag_is h.tag t) (Some (h.kind, h.stage)) (standing_in t hs) other) ∙ st)))
+    (moved (front && is_failed h.stage) hs rest t m e k s later
+        (sym (if_false {A = Standing} (tag_is h.tag t) (Some (h.kind, h.stage)) (standing_in t hs) other) ∙ st)))
   where
     its : tag_is h.tag t ≡ true → ◌≡◌ {A = Standing} (Some (h.kind, h.stage)) (Some (k, s))
     its same = sym (if_true {A = Standing} (tag_is h.tag t) (Some (h.kind, h.stage)) (standing_in t hs) same) ∙ st
@@ -71,16 +76,19 @@ moved front (h ∷ hs) gs t m e k s is st =
     here same =
         ap (λ (l : List Held). judged (front && all_failed l) k s m) (if_true {A = List Held} (tag_is h.tag t) [] (h ∷ ahead_of t hs) same)
         ∙ (ap (λ (b : Bool). judged b k s m) (and_true front)
-        ∙ (ap (λ (x : Kind). judged front x s m) (sym (kinds_same _ _ _ _ (its same))) ∙ ap (λ (x : Stage). judged front h.kind x m) (sym (stages_same _ _ _ _ (its same)))))
+        ∙ (ap (λ (x : Kind). judged front x s m) (sym (kinds_same _ _ _ _ (its same)))
+        ∙ ap (λ (x : Stage). judged front h.kind x m) (sym (stages_same _ _ _ _ (its same)))))
 
     at : tag_is h.tag t ≡ true → (stage : Stage) → standing_in t (staged h stage ∷ hs) ≡ Some (k, stage)
-    at same stage = if_true {A = Standing} (tag_is h.tag t) (Some (h.kind, stage)) (standing_in t hs) same ∙ ap (λ (x : Kind). Some (x, stage)) (kinds_same _ _ _ _ (its same))
+    at same stage = if_true {A = Standing} (tag_is h.tag t) (Some (h.kind, stage)) (standing_in t hs) same
+        ∙ ap (λ (x : Kind). Some (x, stage)) (kinds_same _ _ _ _ (its same))
 
 -- what stands under another tag stays
 apart_from : (h : Held) (u t : Tag) → tag_is u t ≡ false → tag_is h.tag u ≡ true → tag_is h.tag t ≡ false
 apart_from h u t apart same = ap (λ (x : Tag). tag_is x t) (tag_is-true h.tag u same) ∙ apart
 
-left_alone : (front : Bool) (hs gs : List Held) (u t : Tag) (m : Mark) (e : Effect) → tag_is u t ≡ false → heard_in front hs u m ≡ two gs e → standing_in t gs ≡ standing_in t hs
+left_alone : (front : Bool) (hs gs : List Held) (u t : Tag) (m : Mark) (e : Effect) → tag_is u t ≡ false → heard_in front hs u m ≡ two gs e
+    → standing_in t gs ≡ standing_in t hs
 left_alone front [] gs u t m e apart is = absurd (cc)
 left_alone front (h ∷ hs) gs u t m e apart is =
     heard_cases front h hs u m gs e (standing_in t gs ≡ standing_in t (h ∷ hs)) is
@@ -89,7 +97,8 @@ left_alone front (h ∷ hs) gs u t m e apart is =
     (λ same v g f. ap (standing_in t) g ∙ sym (gone same))
     (λ given same v g f. ap (standing_in t) g ∙ sym (gone same))
     (λ rest other later g. ap (standing_in t) g
-    ∙ ap (λ (x : Standing). cond (tag_is h.tag t) (Some (h.kind, h.stage)) x) (left_alone (front && is_failed h.stage) hs rest u t m e apart later))
+    ∙ ap (λ (x : Standing). cond (tag_is h.tag t) (Some (h.kind, h.stage)) x)
+    (left_alone (front && is_failed h.stage) hs rest u t m e apart later))
   where
     gone : tag_is h.tag u ≡ true → standing_in t (h ∷ hs) ≡ standing_in t hs
     gone same = if_false {A = Standing} (tag_is h.tag t) (Some (h.kind, h.stage)) (standing_in t hs) (apart_from h u t apart same)
@@ -102,7 +111,8 @@ stays_behind : (t : Tag) (hs : List Held) (x : Held) (v : Kind × Stage) → sta
 stays_behind t [] x v e = absurd (cc)
 stays_behind t (h ∷ hs) x v e = go (stays_behind t hs x v) (tag_is h.tag t) e
   where
-    go : (standing_in t hs ≡ Some v → standing_in t (hs ++ x ∷ []) ≡ Some v) → (b : Bool) → cond b (Some (h.kind, h.stage)) (standing_in t hs) ≡ Some v
+    go : (standing_in t hs ≡ Some v → standing_in t (hs ++ x ∷ []) ≡ Some v) → (b : Bool)
+        → cond b (Some (h.kind, h.stage)) (standing_in t hs) ≡ Some v
         → cond b (Some (h.kind, h.stage)) (standing_in t (hs ++ x ∷ [])) ≡ Some v
     go deeper true e = e
     go deeper false e = deeper e
@@ -111,7 +121,8 @@ stands_last : (t : Tag) (k : Kind) (hs : List Held) → is_held t hs ≡ false �
 stands_last t k [] e = if_true {A = Standing} (tag_is t t) (Some (k, Stage.Sent)) None (tag_is-refl t)
 stands_last t k (h ∷ hs) e = go (stands_last t k hs) (tag_is h.tag t) e
   where
-    go : (is_held t hs ≡ false → standing_in t (hs ++ held_now t k ∷ []) ≡ Some (k, Stage.Sent)) → (b : Bool) → cond b true (is_held t hs) ≡ false
+    go : (is_held t hs ≡ false → standing_in t (hs ++ held_now t k ∷ []) ≡ Some (k, Stage.Sent)) → (b : Bool)
+        → cond b true (is_held t hs) ≡ false
         → cond b (Some (h.kind, h.stage)) (standing_in t (hs ++ held_now t k ∷ [])) ≡ Some (k, Stage.Sent)
     go deeper true e = absurd (true≢false e)
     go deeper false e = deeper e
@@ -143,7 +154,8 @@ standard_taken o next n m effect is = go (heard_in (not o.failed) o.standard (St
     go : (r : Heard) → heard_in (not o.failed) o.standard (Std n) m ≡ r → heard_standard o r ≡ Ok (next, effect) → IsStandard o next n m
     go (Ok (hs, e)) heard_is is =
         let same : record o { standard = hs; failed = failed_behind e o.failed } ≡ next = ap (λ (a : Answer). next_in a next) is in
-        record { hs = hs; e = e; is = heard_is; standard = sym (ap (λ (p : Opened). p.standard) same); event = sym (ap (λ (p : Opened). p.event) same) }
+        record { hs = hs; e = e; is = heard_is; standard = sym (ap (λ (p : Opened). p.standard) same);
+            event = sym (ap (λ (p : Opened). p.event) same) }
     go (Err c) heard_is is = absurd (cc)
 
 event_taken : (o next : Opened) (n : ℕ) (m : Mark) (effect : Effect) → heard o (Event n) m ≡ Ok (next, effect) → IsEvent o next n m
@@ -152,24 +164,31 @@ event_taken o next n m effect is = go (heard_in true o.event (Event n) m) refl i
     go : (r : Heard) → heard_in true o.event (Event n) m ≡ r → heard_event o r ≡ Ok (next, effect) → IsEvent o next n m
     go (Ok (hs, e)) heard_is is =
         let same : record o { event = hs } ≡ next = ap (λ (a : Answer). next_in a next) is in
-        record { hs = hs; e = e; is = heard_is; standard = sym (ap (λ (p : Opened). p.standard) same); event = sym (ap (λ (p : Opened). p.event) same) }
+        record { hs = hs; e = e; is = heard_is; standard = sym (ap (λ (p : Opened). p.standard) same);
+            event = sym (ap (λ (p : Opened). p.event) same) }
     go (Err c) heard_is is = absurd (cc)
 
-moved_on : (o next : Opened) (t : Tag) (m : Mark) (effect : Effect) (k : Kind) (s : Stage) → heard o t m ≡ Ok (next, effect) → standing t o ≡ Some (k, s)
+moved_on : (o next : Opened) (t : Tag) (m : Mark) (effect : Effect) (k : Kind) (s : Stage) → heard o t m ≡ Ok (next, effect)
+    → standing t o ≡ Some (k, s)
     → Stays (judged (is_next t o) k s m) k (standing t next)
 moved_on o next (Std n) m effect k s is st =
     let x : IsStandard o next n m = standard_taken o next n m effect is in
-    subst (λ (l : List Held). Stays (judged (is_next (Std n) o) k s m) k (standing_in (Std n) l)) (sym x.standard) (moved (not o.failed) o.standard x.hs (Std n) m x.e k s x.is st)
+    subst (λ (l : List Held). Stays (judged (is_next (Std n) o) k s m) k (standing_in (Std n) l)) (sym x.standard)
+        (moved (not o.failed) o.standard x.hs (Std n) m x.e k s x.is st)
 moved_on o next (Event n) m effect k s is st =
     let x : IsEvent o next n m = event_taken o next n m effect is in
-    subst (λ (l : List Held). Stays (judged (is_next (Event n) o) k s m) k (standing_in (Event n) l)) (sym x.event) (moved true o.event x.hs (Event n) m x.e k s x.is st)
+    subst (λ (l : List Held). Stays (judged (is_next (Event n) o) k s m) k (standing_in (Event n) l)) (sym x.event)
+        (moved true o.event x.hs (Event n) m x.e k s x.is st)
 
-alone : (o next : Opened) (u t : Tag) (m : Mark) (effect : Effect) → tag_is u t ≡ false → heard o u m ≡ Ok (next, effect) → standing t next ≡ standing t o
+alone : (o next : Opened) (u t : Tag) (m : Mark) (effect : Effect) → tag_is u t ≡ false → heard o u m ≡ Ok (next, effect)
+    → standing t next ≡ standing t o
 alone o next (Std n) (Std j) m effect apart is =
     let x : IsStandard o next n m = standard_taken o next n m effect is in
     ap (standing_in (Std j)) x.standard ∙ left_alone (not o.failed) o.standard x.hs (Std n) (Std j) m x.e apart x.is
-alone o next (Std n) (Event j) m effect apart is = let x : IsStandard o next n m = standard_taken o next n m effect is in ap (standing_in (Event j)) x.event
-alone o next (Event n) (Std j) m effect apart is = let x : IsEvent o next n m = event_taken o next n m effect is in ap (standing_in (Std j)) x.standard
+alone o next (Std n) (Event j) m effect apart is = let x : IsStandard o next n m = standard_taken o next n m effect is
+    in ap (standing_in (Event j)) x.event
+alone o next (Event n) (Std j) m effect apart is = let x : IsEvent o next n m = event_taken o next n m effect is
+    in ap (standing_in (Std j)) x.standard
 alone o next (Event n) (Event j) m effect apart is =
     let x : IsEvent o next n m = event_taken o next n m effect is in
     ap (standing_in (Event j)) x.event ∙ left_alone true o.event x.hs (Event n) (Event j) m x.e apart x.is
@@ -224,10 +243,12 @@ goes_to_end k st Closes stays = refl
 goes_to_end k st (Counts given) stays = refl
 goes_to_end k st (Refused why) stays = stays
 
-accepted : (k : Kind) (st : Standing) (s : Stage) (front : Bool) (m : Mark) (later : List Placed) → ((r : Stage) → st ≡ Some (k, r) → Accepts k r later)
+accepted : (k : Kind) (st : Standing) (s : Stage) (front : Bool) (m : Mark) (later : List Placed)
+    → ((r : Stage) → st ≡ Some (k, r) → Accepts k r later)
     → Stays (judged front k s m) k st → Accepts k s ((front, m) ∷ until_end m later)
 accepted k st s front Mark.Ack later ih stays = goes_further k st later (judged_ack s) ih (further_ack s) stays
-accepted k st s front (Mark.Given p) later ih stays = goes_further k st later (judged_given (front && asks_data k) s p) ih (further_data (front && asks_data k) s p) stays
+accepted k st s front (Mark.Given p) later ih stays = goes_further k st later (judged_given (front && asks_data k) s p) ih
+    (further_data (front && asks_data k) s p) stays
 accepted k st s front Mark.Error later ih stays = goes_further k st later (judged_error s) ih (further_error s) stays
 accepted k st s front Mark.Done later ih stays = goes_to_end k st (judged_done front (asks_data k) s) stays
 
@@ -245,7 +266,8 @@ marked k s t u m o rest ih st = go (tag_is u t) refl (heard o u m) refl
     go false apart (Ok (next, effect)) is = ih s next (alone o next u t m effect apart is ∙ st)
     go false apart (Err c) is = ih s o st
 
-drawn_keeps : (o : Opened) (t : Tag) (kind : Kind) (v : Kind × Stage) (tag : Option Tag) → standing t o ≡ Some v → standing t (behind_draw o kind tag) ≡ Some v
+drawn_keeps : (o : Opened) (t : Tag) (kind : Kind) (v : Kind × Stage) (tag : Option Tag) → standing t o ≡ Some v
+    → standing t (behind_draw o kind tag) ≡ Some v
 drawn_keeps o t kind v None e = e
 drawn_keeps o t kind v (Some u) e = drawn_behind o t u kind v e
 
@@ -253,11 +275,14 @@ plan_keeps : (o : Opened) (t : Tag) → standing t (record o { failed = false })
 plan_keeps o (Std n) = refl
 plan_keeps o (Event n) = refl
 
-follows : (k : Kind) (s : Stage) (t : Tag) (o : Opened) (calls : List Call) → standing t o ≡ Some (k, s) → Accepts k s (taken_under t o calls)
+follows : (k : Kind) (s : Stage) (t : Tag) (o : Opened) (calls : List Call) → standing t o ≡ Some (k, s)
+    → Accepts k s (taken_under t o calls)
 follows k s t o [] e = tt
-follows k s t o (Draw kind ∷ calls) e = follows k s t (behind_draw o kind (next_tag o kind)) calls (drawn_keeps o t kind (k, s) (next_tag o kind) e)
+follows k s t o (Draw kind ∷ calls) e = follows k s t (behind_draw o kind (next_tag o kind)) calls
+    (drawn_keeps o t kind (k, s) (next_tag o kind) e)
 follows k s t o (Received u ∷ calls) e = marked k s t u Mark.Ack o (λ p. taken_under t p calls) (λ r p f. follows k r t p calls f) e
-follows k s t o (Data u point ∷ calls) e = marked k s t u (Mark.Given point) o (λ p. taken_under t p calls) (λ r p f. follows k r t p calls f) e
+follows k s t o (Data u point ∷ calls) e = marked k s t u (Mark.Given point) o (λ p. taken_under t p calls)
+    (λ r p f. follows k r t p calls f) e
 follows k s t o (Failed u ∷ calls) e = marked k s t u Mark.Error o (λ p. taken_under t p calls) (λ r p f. follows k r t p calls f) e
 follows k s t o (Complete u ∷ calls) e = marked k s t u Mark.Done o (λ p. taken_under t p calls) (λ r p f. follows k r t p calls f) e
 follows k s t o (BeginPlan ∷ calls) e = follows k s t (record o { failed = false }) calls (plan_keeps o t ∙ e)
@@ -285,20 +310,26 @@ event_number (Some n) t is = let same : Event n ≡ t = cc in (n, sym same)
 begun : (o : Opened) (kind : Kind) (t : Tag) → next_tag o kind ≡ Some t → standing t (with_drawn o t kind) ≡ Some (kind, Stage.Sent)
 begun o kind t is = go (is_event_kind kind) is
   where
-    go : (b : Bool) → cond b (tagged Event (next_number Event o.event o.event_drawn)) (tagged Std (next_number Std o.standard o.drawn)) ≡ Some t
+    go : (b : Bool) → cond b (tagged Event (next_number Event o.event o.event_drawn)) (tagged Std (next_number Std o.standard o.drawn))
+        ≡ Some t
         → standing t (with_drawn o t kind) ≡ Some (kind, Stage.Sent)
     go true is =
         let n = event_number (next_number Event o.event o.event_drawn) t is in
         subst (λ (u : Tag). standing u (with_drawn o u kind) ≡ Some (kind, Stage.Sent)) (sym n.1)
-        (stands_last (Event n.0) kind o.event (subst (λ (u : Tag). is_held u o.event ≡ false) n.1 (tag_drawn Event o.event o.event_drawn t is)))
+        (stands_last (Event n.0) kind o.event (subst (λ (u : Tag). is_held u o.event ≡ false) n.1
+            (tag_drawn Event o.event o.event_drawn t is)))
     go false is =
         let n = standard_number (next_number Std o.standard o.drawn) t is in
         subst (λ (u : Tag). standing u (with_drawn o u kind) ≡ Some (kind, Stage.Sent)) (sym n.1)
-        (stands_last (Std n.0) kind o.standard (subst (λ (u : Tag). is_held u o.standard ≡ false) n.1 (tag_drawn Std o.standard o.drawn t is)))
+        (stands_last (Std n.0) kind o.standard (subst (λ (u : Tag). is_held u o.standard ≡ false) n.1
+            (tag_drawn Std o.standard o.drawn t is)))
 
 pub in_language : (o : Opened) (kind : Kind) (t : Tag) (calls : List Call) → next_tag o kind ≡ Some t
     → IsRepliesFront (asks_data kind) (marks_of (taken_under t (with_drawn o t kind) calls))
-in_language o kind t calls is = (accepts_only kind (taken_under t (with_drawn o t kind) calls) (follows kind Stage.Sent t (with_drawn o t kind) calls (begun o kind t is))).0
+in_language o kind t calls is = (accepts_only kind (taken_under t (with_drawn o t kind) calls)
+    (follows kind Stage.Sent t (with_drawn o t kind) calls (begun o kind t is))).0
 
-pub at_front : (o : Opened) (kind : Kind) (t : Tag) (calls : List Call) → next_tag o kind ≡ Some t → AreAtFront false (taken_under t (with_drawn o t kind) calls)
-at_front o kind t calls is = (accepts_only kind (taken_under t (with_drawn o t kind) calls) (follows kind Stage.Sent t (with_drawn o t kind) calls (begun o kind t is))).1
+pub at_front : (o : Opened) (kind : Kind) (t : Tag) (calls : List Call) → next_tag o kind ≡ Some t
+    → AreAtFront false (taken_under t (with_drawn o t kind) calls)
+at_front o kind t calls is = (accepts_only kind (taken_under t (with_drawn o t kind) calls)
+    (follows kind Stage.Sent t (with_drawn o t kind) calls (begun o kind t is))).1

@@ -1,5 +1,6 @@
 -- The numbers that are passed over are held, and a tag that is drawn is free.
-use Rattle.std.proofs.Common.{◌≡◌, ◌↔◌, ◌⊎◌, inl, inr, ℕ, zero, suc, ◌+◌, ◌-◌, ◌<◌, ◌≤◌, Bool, true, false, cond, List, Option, Some, None, Result, Ok, Err, refl, sym, ◌∙◌, ap, subst, arith, eqb}
+use Rattle.std.proofs.Common.{◌≡◌, ◌↔◌, ◌⊎◌, inl, inr, ℕ, zero, suc, ◌+◌, ◌-◌, ◌<◌, ◌≤◌, Bool, true, false, cond, List, Option, Some, None,
+  Result, Ok, Err, refl, sym, ◌∙◌, ap, subst, arith, eqb}
 use Rattle.std.specs.Prelude.{IsErrOf, IfOk, OnErr, IfErr}
 use Rattle.std.proofs.lemmas.Bool.{true≢false, eqb-true, eqb-false}
 use Rattle.dme_line.specs.Kinds.{is_event_kind}
@@ -16,7 +17,8 @@ use Rattle.dme_tags.specs.declared.faults.TagFault.TheVariants as fault
 
 passed_by : (sort : ℕ → Tag) (hs : List Held) (n left m i : ℕ) (b : Bool) → is_held (sort n) hs ≡ b
     → (elim b as (λ x. Option ℕ) [ true ↦ first_free sort hs (suc n) left | false ↦ Some n ]) ≡ Some m
-    → (first_free sort hs (suc n) left ≡ Some m → suc n ≤ i → i < m → is_held (sort i) hs ≡ true) → n ≤ i → i < m → is_held (sort i) hs ≡ true
+    → (first_free sort hs (suc n) left ≡ Some m → suc n ≤ i → i < m → is_held (sort i) hs ≡ true) → n ≤ i → i < m
+    → is_held (sort i) hs ≡ true
 passed_by sort hs n left m i true e is deeper from below = go (eqb n i) refl
   where
     go : (b : Bool) → eqb n i ≡ b → is_held (sort i) hs ≡ true
@@ -27,11 +29,14 @@ passed_by sort hs n left m i false e is deeper from below = let same : n ≡ m =
     go : n ≡ m → ⊥
     go same = omega arith
 
-first_passed : (sort : ℕ → Tag) (hs : List Held) (n left m i : ℕ) → first_free sort hs n left ≡ Some m → n ≤ i → i < m → is_held (sort i) hs ≡ true
+first_passed : (sort : ℕ → Tag) (hs : List Held) (n left m i : ℕ) → first_free sort hs n left ≡ Some m → n ≤ i → i < m
+    → is_held (sort i) hs ≡ true
 first_passed sort hs n zero m i is from below = absurd (cc)
-first_passed sort hs n (suc left) m i is from below = passed_by sort hs n left m i (is_held (sort n) hs) refl is (first_passed sort hs (suc n) left m i) from below
+first_passed sort hs n (suc left) m i is from below = passed_by sort hs n left m i (is_held (sort n) hs) refl is
+    (first_passed sort hs (suc n) left m i) from below
 
-next_passed_of : (sort : ℕ → Tag) (hs : List Held) (d left all m i : ℕ) → all ≤ d + left → or_else (first_free sort hs (suc d) left) (first_free sort hs 1 all) ≡ Some m
+next_passed_of : (sort : ℕ → Tag) (hs : List Held) (d left all m i : ℕ) → all ≤ d + left
+    → or_else (first_free sort hs (suc d) left) (first_free sort hs 1 all) ≡ Some m
     → ((d < i) × (i < m)) ⊎ ((m ≤ d) × (((d < i) × (i ≤ all)) ⊎ ((1 ≤ i) × (i < m)))) → is_held (sort i) hs ≡ true
 next_passed_of sort hs d left all m i enough is between = go (first_free sort hs (suc d) left) refl is between
   where
@@ -58,7 +63,8 @@ standard_passed o t (Some m) e is =
     let same : Std m ≡ t = cc in
     subst (λ (u : Tag). ArePassedOver u o) same (λ i between. next_passed Std o.standard o.drawn m i e between)
 
-event_passed : (o : Opened) (t : Tag) (r : Option ℕ) → next_number Event o.event o.event_drawn ≡ r → tagged Event r ≡ Some t → ArePassedOver t o
+event_passed : (o : Opened) (t : Tag) (r : Option ℕ) → next_number Event o.event o.event_drawn ≡ r → tagged Event r ≡ Some t
+    → ArePassedOver t o
 event_passed o t None e is = absurd (cc)
 event_passed o t (Some m) e is =
     let same : Event m ≡ t = cc in
@@ -67,7 +73,8 @@ event_passed o t (Some m) e is =
 pub passed_over : (o : Opened) (kind : Kind) (t : Tag) → next_tag o kind ≡ Some t → ArePassedOver t o
 passed_over o kind t is = go (is_event_kind kind) is
   where
-    go : (b : Bool) → cond b (tagged Event (next_number Event o.event o.event_drawn)) (tagged Std (next_number Std o.standard o.drawn)) ≡ Some t → ArePassedOver t o
+    go : (b : Bool) → cond b (tagged Event (next_number Event o.event o.event_drawn)) (tagged Std (next_number Std o.standard o.drawn))
+        ≡ Some t → ArePassedOver t o
     go true is = event_passed o t (next_number Event o.event o.event_drawn) refl is
     go false is = standard_passed o t (next_number Std o.standard o.drawn) refl is
 
@@ -78,13 +85,15 @@ record IsFree (sort : ℕ → Tag) (hs : List Held) (m : ℕ) : Type 0 where
   from : 1 ≤ m
   below : m ≤ 9999
 
-number_free : (sort : ℕ → Tag) (hs : List Held) (d left all m : ℕ) → left ≡ 9999 - d → all ≡ 9999 → or_else (first_free sort hs (suc d) left) (first_free sort hs 1 all) ≡ Some m → IsFree sort hs m
+number_free : (sort : ℕ → Tag) (hs : List Held) (d left all m : ℕ) → left ≡ 9999 - d → all ≡ 9999
+    → or_else (first_free sort hs (suc d) left) (first_free sort hs 1 all) ≡ Some m → IsFree sort hs m
 number_free sort hs d left all m l a is = go (first_free sort hs (suc d) left) refl is
   where
     go : (r : Option ℕ) → first_free sort hs (suc d) left ≡ r → or_else r (first_free sort hs 1 all) ≡ Some m → IsFree sort hs m
     go (Some k) e is = let f : IsFound sort hs (suc d) left m = found sort hs (suc d) left m (e ∙ is) in
         record { free = f.free; from = omega (arith, f.from); below = omega (arith, f.from, f.below, l) }
-    go None e is = let f : IsFound sort hs 1 all m = found sort hs 1 all m is in record { free = f.free; from = f.from; below = omega (arith, f.below, a) }
+    go None e is = let f : IsFound sort hs 1 all m = found sort hs 1 all m is
+        in record { free = f.free; from = f.from; below = omega (arith, f.below, a) }
 
 not_spent : (o : Opened) (kind : Kind) (t : Tag) → next_tag o kind ≡ Some t → IsSpentFor kind o → ⊥
 not_spent o kind t is spent = go (is_event_kind kind) refl is
@@ -102,11 +111,13 @@ not_spent o kind t is spent = go (is_event_kind kind) refl is
         let below : m ≤ 99999 = omega (arith, f.below) in
         true≢false (sym (spent (Std m) (record { numbered = (f.from, below); sort = sym e }) f.below) ∙ f.free)
 
-    go : (b : Bool) → is_event_kind kind ≡ b → cond b (tagged Event (next_number Event o.event o.event_drawn)) (tagged Std (next_number Std o.standard o.drawn)) ≡ Some t → ⊥
+    go : (b : Bool) → is_event_kind kind ≡ b → cond b (tagged Event (next_number Event o.event o.event_drawn))
+        (tagged Std (next_number Std o.standard o.drawn)) ≡ Some t → ⊥
     go true e is = event e (next_number Event o.event o.event_drawn) refl is
     go false e is = standard e (next_number Std o.standard o.drawn) refl is
 
-pub spent_exactly : (o : Opened) (kind : Kind) (r : Result Tag TagFault) → IfOk r (λ t. next_tag o kind ≡ Some t) → OnErr r (IsSpentFor kind o)
+pub spent_exactly : (o : Opened) (kind : Kind) (r : Result Tag TagFault) → IfOk r (λ t. next_tag o kind ≡ Some t)
+    → OnErr r (IsSpentFor kind o)
     → IfErr r (λ f. f ≡ fault.TagsSpent) → IsErrOf r fault.TagsSpent ↔ IsSpentFor kind o
 spent_exactly o kind (Ok t) ok spent named = (λ e. absurd (apart e), λ s. absurd (not_spent o kind t ok s))
   where

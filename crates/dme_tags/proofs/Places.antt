@@ -1,5 +1,6 @@
 -- What a mark does at the place of its command.
-use Rattle.std.proofs.Common.{◌≡◌, ℕ, suc, ◌<◌, Bool, true, false, cond, ◌&&◌, not, Option, Some, None, List, [], ◌∷◌, ◌++◌, length, get_or, take, drop, set, Ok, Err, ◌+◌, refl, sym, ◌∙◌, ap, arith, add-one}
+use Rattle.std.proofs.Common.{◌≡◌, ℕ, suc, ◌<◌, Bool, true, false, cond, ◌&&◌, not, Option, Some, None, List, [], ◌∷◌, ◌++◌, length, get_or,
+  take, drop, set, Ok, Err, ◌+◌, refl, sym, ◌∙◌, ap, arith, add-one}
 use Rattle.std.specs.List.{count_by, remove}
 use Rattle.std.proofs.lemmas.Bool.{true≢false}
 use Rattle.std.proofs.lemmas.List.Recursion.{is_count_by}
@@ -36,7 +37,8 @@ and_assoc false b c = refl
 reaches : (front : Bool) (gs : List Held) (h : Held) (hs : List Held) (t : Tag) (m : Mark) → is_held t gs ≡ false → tag_is h.tag t ≡ true
     → heard_in front (gs ++ h ∷ hs) t m ≡ behind gs (settled h hs (judged (front && all_failed gs) h.kind h.stage m))
 reaches front [] h hs t m first same =
-    ap (λ (b : Bool). cond b (settled h hs (judged front h.kind h.stage m)) (put_before h (heard_in (front && is_failed h.stage) hs t m))) same
+    ap (λ (b : Bool). cond b (settled h hs (judged front h.kind h.stage m)) (put_before h (heard_in (front && is_failed h.stage) hs t m)))
+        same
     ∙ all_behind (settled h hs (judged front h.kind h.stage m))
     ∙ ap (λ (b : Bool). behind [] (settled h hs (judged b h.kind h.stage m))) (sym (and_true front))
   where
@@ -46,22 +48,27 @@ reaches front [] h hs t m first same =
 reaches front (g ∷ gs) h hs t m first same = go (reaches (front && is_failed g.stage) gs h hs t m) (tag_is g.tag t) first
   where
     go : (is_held t gs ≡ false → tag_is h.tag t ≡ true
-        → heard_in (front && is_failed g.stage) (gs ++ h ∷ hs) t m ≡ behind gs (settled h hs (judged ((front && is_failed g.stage) && all_failed gs) h.kind h.stage m)))
+        → heard_in (front && is_failed g.stage) (gs ++ h ∷ hs) t m
+        ≡ behind gs (settled h hs (judged ((front && is_failed g.stage) && all_failed gs) h.kind h.stage m)))
         → (b : Bool) → cond b true (is_held t gs) ≡ false
-        → cond b (settled g (gs ++ h ∷ hs) (judged front g.kind g.stage m)) (put_before g (heard_in (front && is_failed g.stage) (gs ++ h ∷ hs) t m))
+        → cond b (settled g (gs ++ h ∷ hs) (judged front g.kind g.stage m))
+        (put_before g (heard_in (front && is_failed g.stage) (gs ++ h ∷ hs) t m))
         ≡ behind (g ∷ gs) (settled h hs (judged (front && (is_failed g.stage && all_failed gs)) h.kind h.stage m))
     go deeper true f = absurd (true≢false f)
     go deeper false f =
         ap (put_before g) (deeper f same)
-        ∙ ap (λ (b : Bool). put_before g (behind gs (settled h hs (judged b h.kind h.stage m)))) (and_assoc front (is_failed g.stage) (all_failed gs))
+        ∙ ap (λ (b : Bool). put_before g (behind gs (settled h hs (judged b h.kind h.stage m))))
+        (and_assoc front (is_failed g.stage) (all_failed gs))
         ∙ put_behind g gs (settled h hs (judged (front && (is_failed g.stage && all_failed gs)) h.kind h.stage m))
 
 pub nobody : (front : Bool) (hs : List Held) (t : Tag) (m : Mark) → is_held t hs ≡ false → heard_in front hs t m ≡ Err UnknownTag
 nobody front [] t m none = refl
 nobody front (h ∷ hs) t m none = go (nobody (front && is_failed h.stage) hs t m) (tag_is h.tag t) none
   where
-    go : (is_held t hs ≡ false → heard_in (front && is_failed h.stage) hs t m ≡ Err UnknownTag) → (b : Bool) → cond b true (is_held t hs) ≡ false
-        → cond b (settled h hs (judged front h.kind h.stage m)) (put_before h (heard_in (front && is_failed h.stage) hs t m)) ≡ Err UnknownTag
+    go : (is_held t hs ≡ false → heard_in (front && is_failed h.stage) hs t m ≡ Err UnknownTag) → (b : Bool)
+        → cond b true (is_held t hs) ≡ false
+        → cond b (settled h hs (judged front h.kind h.stage m)) (put_before h (heard_in (front && is_failed h.stage) hs t m))
+        ≡ Err UnknownTag
     go deeper true f = absurd (true≢false f)
     go deeper false f = ap (put_before h) (deeper f)
 
@@ -83,7 +90,8 @@ held_behind t (g ∷ gs) h hs same = go (held_behind t gs h hs same) (tag_is g.t
     go deeper true = refl
     go deeper false = deeper
 
-kind_behind : (t : Tag) (gs : List Held) (h : Held) (hs : List Held) → is_held t gs ≡ false → tag_is h.tag t ≡ true → held_kind t (gs ++ h ∷ hs) ≡ Some h.kind
+kind_behind : (t : Tag) (gs : List Held) (h : Held) (hs : List Held) → is_held t gs ≡ false → tag_is h.tag t ≡ true
+    → held_kind t (gs ++ h ∷ hs) ≡ Some h.kind
 kind_behind t [] h hs first same = ap (λ (b : Bool). cond b (Some h.kind) (held_kind t hs)) same
 kind_behind t (g ∷ gs) h hs first same = go (λ f. kind_behind t gs h hs f same) (tag_is g.tag t) first
   where
@@ -102,7 +110,8 @@ pub no_kind : (t : Tag) (hs : List Held) → is_held t hs ≡ false → held_kin
 no_kind t [] none = refl
 no_kind t (h ∷ hs) none = go (no_kind t hs) (tag_is h.tag t) none
   where
-    go : (is_held t hs ≡ false → held_kind t hs ≡ None) → (b : Bool) → cond b true (is_held t hs) ≡ false → cond b (Some h.kind) (held_kind t hs) ≡ None
+    go : (is_held t hs ≡ false → held_kind t hs ≡ None) → (b : Bool) → cond b true (is_held t hs) ≡ false
+        → cond b (Some h.kind) (held_kind t hs) ≡ None
     go deeper true f = absurd (true≢false f)
     go deeper false f = deeper f
 
@@ -110,7 +119,8 @@ no_kind t (h ∷ hs) none = go (no_kind t hs) (tag_is h.tag t) none
 abbrev pub settled_at : Bool → List Held → ℕ → Held → Mark → Heard
 settled_at b hs i h m = settled h (drop (suc i) hs) (judged b h.kind h.stage m)
 
-heard_at : (front : Bool) (hs : List Held) (t : Tag) (m : Mark) (i : ℕ) (h : Held) (b : Bool) → IsAt t hs i h → b ≡ (front && all_failed (take i hs))
+heard_at : (front : Bool) (hs : List Held) (t : Tag) (m : Mark) (i : ℕ) (h : Held) (b : Bool) → IsAt t hs i h
+    → b ≡ (front && all_failed (take i hs))
     → heard_in front hs t m ≡ behind (take i hs) (settled_at b hs i h m)
 heard_at front hs t m i h b at is =
     ap (λ (gs : List Held). heard_in front gs t m) at.here ∙ reaches front (take i hs) h (drop (suc i) hs) t m at.first at.its_tag
@@ -118,13 +128,16 @@ heard_at front hs t m i h b at is =
 
 -- it is changed
 pub changed_at : (front : Bool) (hs : List Held) (t : Tag) (m : Mark) (i : ℕ) (h g : Held) (effect : Effect) (b : Bool) → IsAt t hs i h
-    → b ≡ (front && all_failed (take i hs)) → settled_at b hs i h m ≡ Ok (g ∷ drop (suc i) hs, effect) → heard_in front hs t m ≡ Ok (set hs i g, effect)
+    → b ≡ (front && all_failed (take i hs)) → settled_at b hs i h m ≡ Ok (g ∷ drop (suc i) hs, effect)
+    → heard_in front hs t m ≡ Ok (set hs i g, effect)
 changed_at front hs t m i h g effect b at front_is is =
-    heard_at front hs t m i h b at front_is ∙ ap (behind (take i hs)) is ∙ ap (λ (gs : List Held). Ok (gs, effect)) (sym (set_split hs i g at.within))
+    heard_at front hs t m i h b at front_is ∙ ap (behind (take i hs)) is
+        ∙ ap (λ (gs : List Held). Ok (gs, effect)) (sym (set_split hs i g at.within))
 
 -- it is ended
 pub ended_at : (front : Bool) (hs : List Held) (t : Tag) (m : Mark) (i : ℕ) (h : Held) (effect : Effect) (b : Bool) → IsAt t hs i h
-    → b ≡ (front && all_failed (take i hs)) → settled_at b hs i h m ≡ Ok (drop (suc i) hs, effect) → heard_in front hs t m ≡ Ok (remove hs i, effect)
+    → b ≡ (front && all_failed (take i hs)) → settled_at b hs i h m ≡ Ok (drop (suc i) hs, effect)
+    → heard_in front hs t m ≡ Ok (remove hs i, effect)
 ended_at front hs t m i h effect b at front_is is = heard_at front hs t m i h b at front_is ∙ ap (behind (take i hs)) is
 
 -- the mark has no place
@@ -134,10 +147,12 @@ refused_at front hs t m i h None b at front_is is = is
 refused_at front hs t m i h (Some cause) b at front_is is = heard_at front hs t m i h b at front_is ∙ ap (behind (take i hs)) is
 
 -- it has failed
-failing : (b : Bool) (h : Held) (hs : List Held) → settled h hs (judged b h.kind h.stage Mark.Error) ≡ Ok (record h { stage = Stage.Failed } ∷ hs, failure_of (not (is_failed h.stage)))
+failing : (b : Bool) (h : Held) (hs : List Held) → settled h hs (judged b h.kind h.stage Mark.Error)
+    ≡ Ok (record h { stage = Stage.Failed } ∷ hs, failure_of (not (is_failed h.stage)))
 failing b h hs = go h.stage
   where
-    go : (s : Stage) → settled h hs (judged b h.kind s Mark.Error) ≡ Ok (record h { stage = Stage.Failed } ∷ hs, failure_of (not (is_failed s)))
+    go : (s : Stage) → settled h hs (judged b h.kind s Mark.Error)
+        ≡ Ok (record h { stage = Stage.Failed } ∷ hs, failure_of (not (is_failed s)))
     go Stage.Sent = refl
     go Stage.Received = refl
     go (Stage.Given p) = refl
@@ -146,10 +161,12 @@ failing b h hs = go h.stage
 pub failed_at : (front : Bool) (hs : List Held) (t : Tag) (i : ℕ) (h : Held) → IsAt t hs i h
     → heard_in front hs t Mark.Error ≡ Ok (set hs i (record h { stage = Stage.Failed }), failure_of (not (is_failed h.stage)))
 failed_at front hs t i h at =
-    changed_at front hs t Mark.Error i h (record h { stage = Stage.Failed }) (failure_of (not (is_failed h.stage))) (front && all_failed (take i hs)) at refl
+    changed_at front hs t Mark.Error i h (record h { stage = Stage.Failed }) (failure_of (not (is_failed h.stage))) (front
+        && all_failed (take i hs)) at refl
     (failing (front && all_failed (take i hs)) h (drop (suc i) hs))
 
-ahead_behind : (t : Tag) (gs : List Held) (h : Held) (hs : List Held) → is_held t gs ≡ false → tag_is h.tag t ≡ true → ahead_of t (gs ++ h ∷ hs) ≡ gs
+ahead_behind : (t : Tag) (gs : List Held) (h : Held) (hs : List Held) → is_held t gs ≡ false → tag_is h.tag t ≡ true
+    → ahead_of t (gs ++ h ∷ hs) ≡ gs
 ahead_behind t [] h hs first same = ap (λ (b : Bool). cond b [] (h ∷ ahead_of t hs)) same
 ahead_behind t (g ∷ gs) h hs first same = go (λ f. ahead_behind t gs h hs f same) (tag_is g.tag t) first
   where
@@ -166,7 +183,8 @@ both_true true b e = (refl, e)
 both_true false b e = absurd (true≢false (sym e))
 
 -- at the front: each earlier one has failed
-pub front_at : (front : Bool) (hs : List Held) (t : Tag) (i : ℕ) (h : Held) (b : Bool) → IsAt t hs i h → b ≡ (front && all_failed (take i hs)) → b ≡ true
+pub front_at : (front : Bool) (hs : List Held) (t : Tag) (i : ℕ) (h : Held) (b : Bool) → IsAt t hs i h
+    → b ≡ (front && all_failed (take i hs)) → b ≡ true
     → (front ≡ true) × (all_failed (ahead_of t hs) ≡ true)
 front_at front hs t i h b at is e =
     let both : (front ≡ true) × (all_failed (take i hs) ≡ true) = both_true front (all_failed (take i hs)) (sym is ∙ e) in
@@ -178,21 +196,25 @@ unheld_push : (t : Tag) (gs : List Held) (h : Held) → is_held t gs ≡ false �
 unheld_push t [] h none other = ap (λ (b : Bool). cond b true false) other
 unheld_push t (g ∷ gs) h none other = go (unheld_push t gs h) (tag_is g.tag t) none
   where
-    go : (is_held t gs ≡ false → tag_is h.tag t ≡ false → is_held t (gs ++ h ∷ []) ≡ false) → (b : Bool) → cond b true (is_held t gs) ≡ false
+    go : (is_held t gs ≡ false → tag_is h.tag t ≡ false → is_held t (gs ++ h ∷ []) ≡ false) → (b : Bool)
+        → cond b true (is_held t gs) ≡ false
         → cond b true (is_held t (gs ++ h ∷ [])) ≡ false
     go deeper true f = absurd (true≢false f)
     go deeper false f = deeper f other
 
-pub not_yet : (t : Tag) (hs : List Held) (i : ℕ) (h : Held) → i < length hs → h ≡ get_or hs i h → is_held t (take i hs) ≡ false → tag_is h.tag t ≡ false
+pub not_yet : (t : Tag) (hs : List Held) (i : ℕ) (h : Held) → i < length hs → h ≡ get_or hs i h → is_held t (take i hs) ≡ false
+    → tag_is h.tag t ≡ false
     → is_held t (take (i + 1) hs) ≡ false
 not_yet t hs i h within is first other =
     ap (is_held t) (take_more hs i h within ∙ ap (λ (g : Held). take i hs ++ g ∷ []) (sym is)) ∙ unheld_push t (take i hs) h first other
 
-pub place_at : (t : Tag) (hs : List Held) (i : ℕ) (h : Held) → i < length hs → h ≡ get_or hs i h → is_held t (take i hs) ≡ false → tag_is h.tag t ≡ true
+pub place_at : (t : Tag) (hs : List Held) (i : ℕ) (h : Held) → i < length hs → h ≡ get_or hs i h → is_held t (take i hs) ≡ false
+    → tag_is h.tag t ≡ true
     → IsAt t hs i h
 place_at t hs i h within is first same = record {
   within = within;
-  here = sym (take-append-drop i hs) ∙ ap (λ (gs : List Held). take i hs ++ gs) (drop_more hs i h within ∙ ap (λ (g : Held). g ∷ drop (i + 1) hs) (sym is) ∙ ap (λ (k : ℕ). h ∷ drop k hs) (add-one i));
+  here = sym (take-append-drop i hs) ∙ ap (λ (gs : List Held). take i hs ++ gs) (drop_more hs i h within
+      ∙ ap (λ (g : Held). g ∷ drop (i + 1) hs) (sym is) ∙ ap (λ (k : ℕ). h ∷ drop k hs) (add-one i));
   its_tag = same;
   first = first;
 }

@@ -14,11 +14,13 @@ pub refused_standard : (o : Opened) (hs : List Held) (t : Tag) (n : ℕ) (m : Ma
 refused_standard o hs t n m None is held r = r
 refused_standard o hs t n m (Some cause) is held r =
     ap (λ (u : Tag). heard o u m) is
-    ∙ ap (heard_standard o) (ap (λ (gs : List Held). heard_in (not o.failed) gs (Std n) m) (sym held) ∙ ap (λ (u : Tag). heard_in (not o.failed) hs u m) (sym is) ∙ r)
+    ∙ ap (heard_standard o) (ap (λ (gs : List Held). heard_in (not o.failed) gs (Std n) m) (sym held)
+    ∙ ap (λ (u : Tag). heard_in (not o.failed) hs u m) (sym is) ∙ r)
 
 pub refused_event : (o : Opened) (hs : List Held) (t : Tag) (n : ℕ) (m : Mark) (cause : Option Cause) → t ≡ Event n → hs ≡ o.event
     → IsRefused (heard_in true hs t m) cause → IsRefused (heard o t m) cause
 refused_event o hs t n m None is held r = r
 refused_event o hs t n m (Some cause) is held r =
     ap (λ (u : Tag). heard o u m) is
-    ∙ ap (heard_event o) (ap (λ (gs : List Held). heard_in true gs (Event n) m) (sym held) ∙ ap (λ (u : Tag). heard_in true hs u m) (sym is) ∙ r)
+    ∙ ap (heard_event o) (ap (λ (gs : List Held). heard_in true gs (Event n) m) (sym held) ∙ ap (λ (u : Tag). heard_in true hs u m) (sym is)
+    ∙ r)

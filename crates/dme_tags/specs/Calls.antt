@@ -7,7 +7,8 @@ use Rattle.protocol_model.specs.Replies.{Mark, tag_is}
 use Rattle.protocol_model.specs.Language.{Placed}
 use Rattle.dme_tags.specs.Opened.{Opened, Answer, heard, is_next, next_tag, with_drawn}
 
--- a call that did not want for memory: a tag is drawn for a command of this kind; `&`, a point, `!` or `%` is read under a tag; a plan begins
+-- a call that did not want for memory: a tag is drawn for a command of this kind; `&`, a point, `!` or `%` is read under a tag; a plan
+-- begins
 pub data Call : Type 0 where
   Draw : Kind → Call
   Received : Tag → Call

@@ -61,7 +61,8 @@ fn first_free(commands: &[Held], sort: Sort, from: u32) -> Option<u32>
     ensures free { result ≡ first_free (numbered sort) commands.now from (10000 - from) }
     ensures within { IfSome result (λ n. (from ≤ n) × (n ≤ 9999)) }
     ensures fresh { IfSome result (λ n. is_held (numbered sort n) commands.now ≡ false) }
-    ensures spent { IfNone result ((n : ℕ) → from ≤ n → n ≤ 9999 → is_held (numbered sort n) commands.now ≡ true) }
+    ensures spent { IfNone result ((n : ℕ) → from ≤ n → n ≤ 9999
+        → is_held (numbered sort n) commands.now ≡ true) }
 {
     for number in from..TAGS + 1 {
         if !is_held(commands, sort.tag(number)) {
@@ -89,10 +90,12 @@ fn next_number(commands: &[Held], sort: Sort, drawn: u32) -> Option<u32>
 /// The tag that is drawn next behind the one with this number.
 pub(crate) fn next_tag(commands: &[Held], sort: Sort, drawn: u32) -> Result<Tag, TagFault>
     requires { drawn ≤ 9999 }
-    ensures next { IfOk result (λ tag. tagged (numbered sort) (next_number (numbered sort) commands.now drawn) ≡ Some tag) }
+    ensures next { IfOk result (λ tag. tagged (numbered sort)
+        (next_number (numbered sort) commands.now drawn) ≡ Some tag) }
     ensures within { IfOk result (λ tag. IsNumbered tag × (number_of tag ≤ 9999)) }
     ensures sort { IfOk result (λ tag. is_event_tag tag ≡ is_event_sort sort) }
-    ensures spent { OnErr result (tagged (numbered sort) (next_number (numbered sort) commands.now drawn) ≡ None) }
+    ensures spent { OnErr result (tagged (numbered sort)
+        (next_number (numbered sort) commands.now drawn) ≡ None) }
     ensures fresh { IfOk result (λ tag. is_held tag commands.now ≡ false) }
     ensures all_held { OnErr result (AreSpent sort commands.now) }
     ensures named { IfErr result (λ fault. fault ≡ TagFault.TagsSpent) }

@@ -18,11 +18,15 @@ use dme_line::{Kind, Tag};
 /// tally the effect; where they refuse it, so does the client, for the same cause.
 #[tactic(auto, using(crate::proofs::Tables::taken, crate::proofs::Tables::kept, crate::proofs::Tables::refused))]
 pub fn client_hears_the_same()
-    ensures taken { (c : Client) (o next : Opened) (tag : Tag) (m : Mark) (effect : Effect) → IsTableOf c.table o
-        → heard o tag m ≡ Ok (next, effect) → heard_on c.program.features c.table tag m ≡ Ok (table_behind c next tag effect) }
-    ensures kept { (c : Client) (o next : Opened) (tag : Tag) (m : Mark) (effect : Effect) → IsTableOf c.table o
+    ensures taken { (c : Client) (o next : Opened) (tag : Tag) (m : Mark) (effect : Effect)
+        → IsTableOf c.table o
+        → heard o tag m ≡ Ok (next, effect) → heard_on c.program.features c.table tag m
+        ≡ Ok (table_behind c next tag effect) }
+    ensures kept { (c : Client) (o next : Opened) (tag : Tag) (m : Mark) (effect : Effect)
+        → IsTableOf c.table o
         → heard o tag m ≡ Ok (next, effect) → IsTableOf (table_behind c next tag effect) next }
-    ensures refused { (c : Client) (o : Opened) (tag : Tag) (m : Mark) (cause : Cause) → IsTableOf c.table o
+    ensures refused { (c : Client) (o : Opened) (tag : Tag) (m : Mark) (cause : Cause)
+        → IsTableOf c.table o
         → heard o tag m ≡ Err cause → heard_on c.program.features c.table tag m ≡ Err cause }
 {}
 
@@ -30,13 +34,18 @@ pub fn client_hears_the_same()
 /// event tag.
 #[tactic(auto, using(crate::proofs::Tables::no_event))]
 pub fn client_draws_the_same()
-    ensures standard { (o : Opened) (kind : Kind) (tag : Tag) → is_event_kind kind ≡ false → next_tag o kind ≡ Some tag
-        → (next_number Std o.standard o.drawn ≡ Some (number_of tag)) × (tag ≡ Std (number_of tag)) }
-    ensures no_standard { (o : Opened) (kind : Kind) → is_event_kind kind ≡ false → next_tag o kind ≡ None
+    ensures standard { (o : Opened) (kind : Kind) (tag : Tag) → is_event_kind kind ≡ false
+        → next_tag o kind ≡ Some tag
+        → (next_number Std o.standard o.drawn ≡ Some (number_of tag))
+        × (tag ≡ Std (number_of tag)) }
+    ensures no_standard { (o : Opened) (kind : Kind) → is_event_kind kind ≡ false
+        → next_tag o kind ≡ None
         → next_number Std o.standard o.drawn ≡ None }
     ensures event { (o : Opened) (tag : Tag) → next_tag o Kind.AbortE ≡ Some tag
-        → (next_number Event o.event o.event_drawn ≡ Some (number_of tag)) × (tag ≡ Event (number_of tag)) }
-    ensures no_event { (o : Opened) → next_tag o Kind.AbortE ≡ None → next_number Event o.event o.event_drawn ≡ None }
+        → (next_number Event o.event o.event_drawn ≡ Some (number_of tag))
+        × (tag ≡ Event (number_of tag)) }
+    ensures no_event { (o : Opened) → next_tag o Kind.AbortE ≡ None
+        → next_number Event o.event o.event_drawn ≡ None }
 {}
 
 /// The marks that calls take in under a tag, from its draw up to its `%`, are the first marks of a reply to its command, whatever other
@@ -44,9 +53,12 @@ pub fn client_draws_the_same()
 /// it is next.
 #[tactic(auto, using(crate::proofs::Followed::in_language, crate::proofs::Followed::at_front))]
 pub fn marks_of_a_command_are_its_replies()
-    ensures in_language { (o : Opened) (kind : Kind) (tag : Tag) (calls : List Call) → next_tag o kind ≡ Some tag
-        → IsRepliesFront (asks_data kind) (marks_of (taken_under tag (with_drawn o tag kind) calls)) }
-    ensures at_front { (o : Opened) (kind : Kind) (tag : Tag) (calls : List Call) → next_tag o kind ≡ Some tag
+    ensures in_language { (o : Opened) (kind : Kind) (tag : Tag) (calls : List Call)
+        → next_tag o kind ≡ Some tag
+        → IsRepliesFront (asks_data kind) (marks_of
+        (taken_under tag (with_drawn o tag kind) calls)) }
+    ensures at_front { (o : Opened) (kind : Kind) (tag : Tag) (calls : List Call)
+        → next_tag o kind ≡ Some tag
         → AreAtFront false (taken_under tag (with_drawn o tag kind) calls) }
 {}
 
@@ -54,5 +66,6 @@ pub fn marks_of_a_command_are_its_replies()
 /// where 1 comes again behind 9999.
 #[tactic(auto, using(crate::proofs::Passing::passed_over))]
 pub fn numbers_passed_over_are_held()
-    ensures { (o : Opened) (kind : Kind) (tag : Tag) → next_tag o kind ≡ Some tag → ArePassedOver tag o }
+    ensures { (o : Opened) (kind : Kind) (tag : Tag) → next_tag o kind ≡ Some tag
+        → ArePassedOver tag o }
 {}

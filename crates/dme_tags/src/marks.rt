@@ -42,9 +42,11 @@ fn is_failed(stage: Stage) -> bool
 /// What a command becomes under whose tag `&` is read.
 fn acknowledged(held: Held) -> Result<Held, TagFault>
     ensures ok { IfOk result (λ h. (front : Bool) (hs : List Held)
-        → settled held hs (judged front held.kind held.stage Mark.Ack) ≡ Ok (h ∷ hs, Effect.Quiet)) }
+        → settled held hs (judged front held.kind held.stage Mark.Ack)
+        ≡ Ok (h ∷ hs, Effect.Quiet)) }
     ensures refused { IfErr result (λ fault. (front : Bool) (hs : List Held)
-        → IsRefused (settled held hs (judged front held.kind held.stage Mark.Ack)) (cause_of fault)) }
+        → IsRefused (settled held hs (judged front held.kind held.stage Mark.Ack))
+        (cause_of fault)) }
 {
     match held.stage {
         Stage::Sent => Ok(Held {
@@ -58,9 +60,11 @@ fn acknowledged(held: Held) -> Result<Held, TagFault>
 /// What a command becomes under whose tag a point is read.
 fn given(held: Held, front: bool, point: Point) -> Result<Held, TagFault>
     ensures ok { IfOk result (λ h. (hs : List Held)
-        → settled held hs (judged front held.kind held.stage (Mark.Given point)) ≡ Ok (h ∷ hs, Effect.Quiet)) }
+        → settled held hs (judged front held.kind held.stage (Mark.Given point))
+        ≡ Ok (h ∷ hs, Effect.Quiet)) }
     ensures refused { IfErr result (λ fault. (hs : List Held)
-        → IsRefused (settled held hs (judged front held.kind held.stage (Mark.Given point))) (cause_of fault)) }
+        → IsRefused (settled held hs (judged front held.kind held.stage (Mark.Given point)))
+        (cause_of fault)) }
 {
     if !front || !asks_data(held.kind) {
         return Err(TagFault::OutOfOrder);
@@ -78,9 +82,11 @@ fn given(held: Held, front: bool, point: Point) -> Result<Held, TagFault>
 /// How a command ends under whose tag `%` is read.
 fn ended(held: Held, front: bool) -> Result<Ended, TagFault>
     ensures ok { IfOk result (λ ended. (hs : List Held)
-        → settled held hs (judged front held.kind held.stage Mark.Done) ≡ Ok (hs, effect_of ended)) }
+        → settled held hs (judged front held.kind held.stage Mark.Done)
+        ≡ Ok (hs, effect_of ended)) }
     ensures refused { IfErr result (λ fault. (hs : List Held)
-        → IsRefused (settled held hs (judged front held.kind held.stage Mark.Done)) (cause_of fault)) }
+        → IsRefused (settled held hs (judged front held.kind held.stage Mark.Done))
+        (cause_of fault)) }
     ensures counted { IfOk result (λ ended. is_counted ended ≡ true → front ≡ true) }
 {
     let Held { kind, stage, .. } = held;
@@ -147,7 +153,8 @@ pub(crate) fn give(
     tag: Tag,
     point: Point,
 ) -> Result<(), TagFault>
-    ensures ok { OnOk result (heard_in front commands.old.items tag (Mark.Given point) ≡ Ok (commands.new.items, Effect.Quiet)) }
+    ensures ok { OnOk result (heard_in front commands.old.items tag (Mark.Given point)
+        ≡ Ok (commands.new.items, Effect.Quiet)) }
     ensures refused { IfErr result (λ fault.
         IsRefused (heard_in front commands.old.items tag (Mark.Given point)) (cause_of fault)) }
     ensures err { OnErr result (commands.new.items ≡ commands.old.items) }
@@ -161,7 +168,8 @@ pub(crate) fn give(
 /// `!` is read. Answers whether the command fails now: a further one changes nothing.
 pub(crate) fn fail(commands: &mut Vec<Held>, tag: Tag) -> Result<bool, TagFault>
     ensures ok { IfOk result (λ now. (front : Bool)
-        → heard_in front commands.old.items tag Mark.Error ≡ Ok (commands.new.items, failure_of now)) }
+        → heard_in front commands.old.items tag Mark.Error
+        ≡ Ok (commands.new.items, failure_of now)) }
     ensures refused { IfErr result (λ fault. (front : Bool)
         → IsRefused (heard_in front commands.old.items tag Mark.Error) (cause_of fault)) }
     ensures err { OnErr result (commands.new.items ≡ commands.old.items) }
@@ -176,7 +184,8 @@ pub(crate) fn fail(commands: &mut Vec<Held>, tag: Tag) -> Result<bool, TagFault>
 
 /// How a command would end if its `%` was read now. Nothing changes.
 pub(crate) fn end_of(commands: &[Held], front: bool, tag: Tag) -> Result<Ended, TagFault>
-    ensures ok { IfOk result (λ ended. effect_heard (heard_in front commands.now tag Mark.Done) ≡ Some (effect_of ended)) }
+    ensures ok { IfOk result (λ ended. effect_heard (heard_in front commands.now tag Mark.Done)
+        ≡ Some (effect_of ended)) }
     ensures refused { IfErr result (λ fault.
         IsRefused (heard_in front commands.now tag Mark.Done) (cause_of fault)) }
 {
@@ -188,7 +197,8 @@ pub(crate) fn end_of(commands: &[Held], front: bool, tag: Tag) -> Result<Ended, 
 /// `%` is read: the command is no longer held. `front` as for a point.
 pub(crate) fn end(commands: &mut Vec<Held>, front: bool, tag: Tag) -> Result<Ended, TagFault>
     ensures ok { IfOk result (λ ended.
-        heard_in front commands.old.items tag Mark.Done ≡ Ok (commands.new.items, effect_of ended)) }
+        heard_in front commands.old.items tag Mark.Done
+            ≡ Ok (commands.new.items, effect_of ended)) }
     ensures refused { IfErr result (λ fault.
         IsRefused (heard_in front commands.old.items tag Mark.Done) (cause_of fault)) }
     ensures in_order { IfOk result (λ ended. is_counted ended ≡ true

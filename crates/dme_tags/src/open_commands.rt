@@ -103,7 +103,8 @@ impl Open {
         ensures next { IfOk result (λ tag. next_tag self.old kind ≡ Some tag) }
         ensures held { IfOk result (λ tag. self.new ≡ with_drawn self.old tag kind) }
         ensures spent { IsErrOf result TagFault.TagsSpent ↔ (next_tag self.old kind ≡ None) }
-        ensures named { IfErr result (λ fault. (fault ≡ TagFault.TagsSpent) ⊎ (fault ≡ TagFault.Memory)) }
+        ensures named { IfErr result (λ fault. (fault ≡ TagFault.TagsSpent)
+            ⊎ (fault ≡ TagFault.Memory)) }
         ensures unchanged { OnErr result (self.new ≡ self.old) }
         ensures tag { IfOk result (λ tag. IsTagOf kind tag × (number_of tag ≤ 9999)) }
         ensures fresh { IfOk result (λ tag. is_held tag (held_beside tag self.old) ≡ false) }
@@ -145,9 +146,11 @@ impl Open {
     pub fn received(&mut self, tag: Tag) -> Result<(), TagFault>
         ensures due { IsOk result ↔ IsUnread tag self.old }
         ensures unknown { IsErrOf result TagFault.UnknownTag ↔ (kind_under tag self.old ≡ None) }
-        ensures named { IfErr result (λ fault. (fault ≡ TagFault.UnknownTag) ⊎ (fault ≡ TagFault.OutOfOrder)) }
+        ensures named { IfErr result (λ fault. (fault ≡ TagFault.UnknownTag)
+            ⊎ (fault ≡ TagFault.OutOfOrder)) }
         ensures ok { OnOk result (heard self.old tag Mark.Ack ≡ Ok (self.new, Effect.Quiet)) }
-        ensures refused { IfErr result (λ fault. IsRefused (heard self.old tag Mark.Ack) (cause_of fault)) }
+        ensures refused { IfErr result (λ fault. IsRefused (heard self.old tag Mark.Ack)
+            (cause_of fault)) }
         ensures unchanged { OnErr result (self.new ≡ self.old) }
     {
         match tag {
@@ -164,10 +167,13 @@ impl Open {
         ensures due { IsOk result ↔ AwaitsPoint tag self.old }
         ensures unknown { IsErrOf result TagFault.UnknownTag ↔ (kind_under tag self.old ≡ None) }
         ensures second { IsErrOf result TagFault.SecondData ↔ HasPoint tag self.old }
-        ensures named { IfErr result (λ fault. (fault ≡ TagFault.UnknownTag) ⊎ (fault ≡ TagFault.OutOfOrder)
+        ensures named { IfErr result (λ fault. (fault ≡ TagFault.UnknownTag)
+            ⊎ (fault ≡ TagFault.OutOfOrder)
             ⊎ (fault ≡ TagFault.SecondData)) }
-        ensures ok { OnOk result (heard self.old tag (Mark.Given point) ≡ Ok (self.new, Effect.Quiet)) }
-        ensures refused { IfErr result (λ fault. IsRefused (heard self.old tag (Mark.Given point)) (cause_of fault)) }
+        ensures ok { OnOk result (heard self.old tag (Mark.Given point)
+            ≡ Ok (self.new, Effect.Quiet)) }
+        ensures refused { IfErr result (λ fault. IsRefused (heard self.old tag (Mark.Given point))
+            (cause_of fault)) }
         ensures unchanged { OnErr result (self.new ≡ self.old) }
     {
         match tag {
@@ -184,7 +190,8 @@ impl Open {
         ensures named { IfErr result (λ fault. fault ≡ TagFault.UnknownTag) }
         ensures ok { OnOk result ((heard self.old tag Mark.Error ≡ Ok (self.new, Effect.Failure))
             ⊎ (heard self.old tag Mark.Error ≡ Ok (self.new, Effect.Quiet))) }
-        ensures refused { IfErr result (λ fault. IsRefused (heard self.old tag Mark.Error) (cause_of fault)) }
+        ensures refused { IfErr result (λ fault. IsRefused (heard self.old tag Mark.Error)
+            (cause_of fault)) }
         ensures unchanged { OnErr result (self.new ≡ self.old) }
     {
         match tag {
@@ -208,10 +215,13 @@ impl Open {
         ensures closed { (result ≡ Ok Ended.Closed) ↔ HasFailed tag self.now }
         ensures unknown { IsErrOf result TagFault.UnknownTag ↔ (kind_under tag self.now ≡ None) }
         ensures no_data { IsErrOf result TagFault.NoData ↔ AwaitsPoint tag self.now }
-        ensures named { IfErr result (λ fault. (fault ≡ TagFault.UnknownTag) ⊎ (fault ≡ TagFault.OutOfOrder)
+        ensures named { IfErr result (λ fault. (fault ≡ TagFault.UnknownTag)
+            ⊎ (fault ≡ TagFault.OutOfOrder)
             ⊎ (fault ≡ TagFault.NoData)) }
-        ensures ok { IfOk result (λ ended. effect_heard (heard self.now tag Mark.Done) ≡ Some (effect_of ended)) }
-        ensures refused { IfErr result (λ fault. IsRefused (heard self.now tag Mark.Done) (cause_of fault)) }
+        ensures ok { IfOk result (λ ended. effect_heard (heard self.now tag Mark.Done)
+            ≡ Some (effect_of ended)) }
+        ensures refused { IfErr result (λ fault. IsRefused (heard self.now tag Mark.Done)
+            (cause_of fault)) }
     {
         match tag {
             Tag::Std(_) => end_of(&self.standard, !self.failed, tag),
@@ -231,10 +241,13 @@ impl Open {
         ensures closed { (result ≡ Ok Ended.Closed) ↔ HasFailed tag self.old }
         ensures unknown { IsErrOf result TagFault.UnknownTag ↔ (kind_under tag self.old ≡ None) }
         ensures no_data { IsErrOf result TagFault.NoData ↔ AwaitsPoint tag self.old }
-        ensures named { IfErr result (λ fault. (fault ≡ TagFault.UnknownTag) ⊎ (fault ≡ TagFault.OutOfOrder)
+        ensures named { IfErr result (λ fault. (fault ≡ TagFault.UnknownTag)
+            ⊎ (fault ≡ TagFault.OutOfOrder)
             ⊎ (fault ≡ TagFault.NoData)) }
-        ensures ok { IfOk result (λ ended. heard self.old tag Mark.Done ≡ Ok (self.new, effect_of ended)) }
-        ensures refused { IfErr result (λ fault. IsRefused (heard self.old tag Mark.Done) (cause_of fault)) }
+        ensures ok { IfOk result (λ ended. heard self.old tag Mark.Done
+            ≡ Ok (self.new, effect_of ended)) }
+        ensures refused { IfErr result (λ fault. IsRefused (heard self.old tag Mark.Done)
+            (cause_of fault)) }
         ensures unchanged { OnErr result (self.new ≡ self.old) }
         ensures in_order { IfOk result (λ ended. is_counted ended ≡ true → IsNext tag self.old) }
     {

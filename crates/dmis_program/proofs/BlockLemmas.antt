@@ -16,7 +16,8 @@ block_ends n (Tool name ∷ steps) more h = block_ends n steps more h
 block_ends n (Recall offset ∷ steps) more h = block_ends n steps more h
 block_ends n (End ∷ steps) more h = refl
 
-features_front : (o : Option ℕ) (before more : List Step) → AreBlocks o before → features_of (before ++ more) ≡ features_of before ++ features_of more
+features_front : (o : Option ℕ) (before more : List Step) → AreBlocks o before
+    → features_of (before ++ more) ≡ features_of before ++ features_of more
 features_front None [] more h = refl
 features_front None (Goto target ∷ before) more h = features_front None before more h
 features_front None (Begin label ∷ before) more h = rw (block_ends 0 before more h, features_front (Some 0) before more h) refl
@@ -50,5 +51,8 @@ inner_features (Tool name ∷ inner) more h = inner_features inner more h
 inner_features (Recall offset ∷ inner) more h = inner_features inner more h
 inner_features (End ∷ inner) more h = absurd h
 
-pub block_is_feature : (before inner behind : List Step) (label : List ℕ) → AreBlocks None before → StayInside inner → features_of (before ++ (Begin label ∷ (inner ++ (End ∷ behind)))) ≡ features_of before ++ (record { label = label; touches = touches_of inner } ∷ features_of behind)
-block_is_feature before inner behind label h g = features_front None before (Begin label ∷ (inner ++ (End ∷ behind))) h ∙ rw (inner_touches inner behind g, inner_features inner behind g) refl
+pub block_is_feature : (before inner behind : List Step) (label : List ℕ) → AreBlocks None before → StayInside inner
+    → features_of (before ++ (Begin label ∷ (inner ++ (End ∷ behind)))) ≡ features_of before
+    ++ (record { label = label; touches = touches_of inner } ∷ features_of behind)
+block_is_feature before inner behind label h g = features_front None before (Begin label ∷ (inner ++ (End ∷ behind))) h
+    ∙ rw (inner_touches inner behind g, inner_features inner behind g) refl

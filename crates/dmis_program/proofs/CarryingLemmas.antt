@@ -1,5 +1,6 @@
 -- Carrying the selections forward gives what looking back for them gives.
-use Rattle.std.proofs.Common.{◌≡◌, ℕ, suc, Bool, true, false, List, [], ◌∷◌, ◌++◌, length, Result, Ok, Err, Option, Some, None, refl, ap, sym, ◌∙◌, arith, subst, append_assoc, append-nil, length-append, cond, nat_le, is_none}
+use Rattle.std.proofs.Common.{◌≡◌, ℕ, suc, Bool, true, false, List, [], ◌∷◌, ◌++◌, length, Result, Ok, Err, Option, Some, None, refl, ap,
+  sym, ◌∙◌, arith, subst, append_assoc, append-nil, length-append, cond, nat_le, is_none}
 use Rattle.std.specs.Prelude.{IfOk}
 use Rattle.std.specs.Str.Lines.{lines}
 use Rattle.dmis_text.specs.Reading.{text_reading}
@@ -9,10 +10,13 @@ use Rattle.fixed_um.specs.declared.lengths.Point.{Point}
 use Rattle.dmis_program.specs.Outcomes.{◌>>=◌}
 use Rattle.dmis_program.specs.Keywords.{keyword_of}
 use Rattle.dmis_program.specs.Offsets.{offset_of, AreInVolume}
-use Rattle.dmis_program.specs.LookBack.{Context, context_at, saying, or_else, tool_said, frame_said, bound_said, nearest, frame_at, bound_count, touched_with as touched_since, touched, part_at}
+use Rattle.dmis_program.specs.LookBack.{Context, context_at, saying, or_else, tool_said, frame_said, bound_said, nearest, frame_at,
+  bound_count, touched_with as touched_since, touched, part_at}
 use Rattle.dmis_program.specs.Judging.{judged, word_refusal, refused_by, is_too_few, settled}
-use Rattle.dmis_program.specs.Meaning.{Meaning, meaning_with, meant, meaning_of, program_of, closes, ended, steps_of, touch_with, touch_steps, recall_steps, steps_from, with_front, continued}
-use Rattle.dmis_program.specs.Carrying.{Carried, no_statement, context_of, count_wanted, counted, changed, touched_with as carry_touch, recalled_at, touches_left, next, ran, run}
+use Rattle.dmis_program.specs.Meaning.{Meaning, meaning_with, meant, meaning_of, program_of, closes, ended, steps_of, touch_with,
+  touch_steps, recall_steps, steps_from, with_front, continued}
+use Rattle.dmis_program.specs.Carrying.{Carried, no_statement, context_of, count_wanted, counted, changed, touched_with as carry_touch,
+  recalled_at, touches_left, next, ran, run}
 use Rattle.dmis_program.specs.Programs.{IsProgram}
 use Rattle.dmis_program.specs.Sound.{MayFollow, IsAllowed, IsSound}
 use Rattle.dmis_program.proofs.JudgingLemmas.{judged_if}
@@ -28,8 +32,10 @@ use Rattle.dmis_program.specs.declared.features.Touch as touch
 use Rattle.dmis_program.specs.declared.reading.Block.{Block}
 
 -- two contexts are one where their parts are
-same_context : (c d : Context) → c.number ≡ d.number → c.tool ≡ d.tool → c.frame ≡ d.frame → c.wanted ≡ d.wanted → c.touched ≡ d.touched → c ≡ d
-same_context c d number tool frame wanted touched = λ i. record { number = number i; tool = tool i; frame = frame i; wanted = wanted i; touched = touched i }
+same_context : (c d : Context) → c.number ≡ d.number → c.tool ≡ d.tool → c.frame ≡ d.frame → c.wanted ≡ d.wanted → c.touched ≡ d.touched
+    → c ≡ d
+same_context c d number tool frame wanted touched = λ i. record { number = number i; tool = tool i; frame = frame i; wanted = wanted i;
+    touched = touched i }
 
 -- the parts of what is carried, as they stand above
 record Stands (frames : List (List ℕ × Point)) (above : List Statement) (c : Carried) : Type 0 where
@@ -39,7 +45,8 @@ record Stands (frames : List (List ℕ × Point)) (above : List Statement) (c : 
   wanted : count_wanted c.open_block ≡ bound_count (nearest bound_said above)
   touched : length c.touches ≡ touched above
 
-context_is : (frames : List (List ℕ × Point)) (above : List Statement) (c : Carried) → Stands frames above c → context_of c ≡ context_at frames above
+context_is : (frames : List (List ℕ × Point)) (above : List Statement) (c : Carried) → Stands frames above c
+    → context_of c ≡ context_at frames above
 context_is frames above c h = same_context (context_of c) (context_at frames above) h.number h.tool h.frame h.wanted h.touched
 
 -- what a statement that is not refused says, it says by itself
@@ -47,7 +54,8 @@ unless_is : (b : Bool) (e : Refusal) (s t : Said) → cond b (Err e) (Ok s) ≡ 
 unless_is true e s t h = absurd cc
 unless_is false e s t h = cc
 
-settled_is : (frames : List (List ℕ × Point)) (tool : Option (List ℕ)) (wanted : Option ℕ) (count : ℕ) (s t : Said) → settled frames tool wanted count s ≡ Ok t → s ≡ t
+settled_is : (frames : List (List ℕ × Point)) (tool : Option (List ℕ)) (wanted : Option ℕ) (count : ℕ) (s t : Said)
+    → settled frames tool wanted count s ≡ Ok t → s ≡ t
 settled_is frames tool wanted count (said.Goes target) t h = cc
 settled_is frames tool wanted count (said.Begins name n) t h = cc
 settled_is frames tool wanted count (said.Touches target direction) t h = unless_is (is_none tool) _ (said.Touches target direction) t h
@@ -57,18 +65,22 @@ settled_is frames tool wanted count (said.Recalls name) t h = unless_is (is_none
 settled_is frames tool wanted count said.Closes t h = cc
 settled_is frames tool wanted count said.Passes t h = cc
 
-settling_is : (frames : List (List ℕ × Point)) (tool : Option (List ℕ)) (wanted : Option ℕ) (count : ℕ) (r : Result Said Refusal) (t : Said) → (r >>= settled frames tool wanted count) ≡ Ok t → r ≡ Ok t
+settling_is : (frames : List (List ℕ × Point)) (tool : Option (List ℕ)) (wanted : Option ℕ) (count : ℕ) (r : Result Said Refusal) (t : Said)
+    → (r >>= settled frames tool wanted count) ≡ Ok t → r ≡ Ok t
 settling_is frames tool wanted count (Ok s) t h = ap (λ (x : Said). Ok x) (settled_is frames tool wanted count s t h)
 settling_is frames tool wanted count (Err e) t h = absurd cc
 
-reached : (b : Bool) (e : Refusal) (o : Option Refusal) (r : Result Said Refusal) (t : Said) → cond b (Err e) (refused_by o r) ≡ Ok t → r ≡ Ok t
+reached : (b : Bool) (e : Refusal) (o : Option Refusal) (r : Result Said Refusal) (t : Said) → cond b (Err e) (refused_by o r) ≡ Ok t
+    → r ≡ Ok t
 reached true e o r t h = absurd cc
 reached false e (Some x) r t h = absurd cc
 reached false e None r t h = h
 
 said_is : (frames : List (List ℕ × Point)) (c : Context) (s : Statement) (t : Said) → judged frames c s ≡ Ok t → saying s ≡ Ok t
 unfolding judged
-said_is frames c s t h = settling_is frames c.tool c.wanted c.touched (saying s) t (reached (nat_le 10000 c.number) TooLarge (word_refusal c (keyword_of s.word) s.params) (saying s >>= settled frames c.tool c.wanted c.touched) t h)
+said_is frames c s t h = settling_is frames c.tool c.wanted c.touched (saying s) t
+    (reached (nat_le 10000 c.number) TooLarge (word_refusal c (keyword_of s.word) s.params)
+    (saying s >>= settled frames c.tool c.wanted c.touched) t h)
 
 -- the same parts after a statement, by what it says
 record StandsBehind (frames : List (List ℕ × Point)) (r : Result Said Refusal) (above : List Statement) (c : Carried) : Type 0 where
@@ -78,7 +90,8 @@ record StandsBehind (frames : List (List ℕ × Point)) (r : Result Said Refusal
   wanted : count_wanted c.open_block ≡ bound_count (or_else (bound_said r) (nearest bound_said above))
   touched : length c.touches ≡ touched_since r (touched above)
 
-stands_behind : (frames : List (List ℕ × Point)) (above : List Statement) (s : Statement) (c : Carried) → StandsBehind frames (saying s) above c → Stands frames (s ∷ above) c
+stands_behind : (frames : List (List ℕ × Point)) (above : List Statement) (s : Statement) (c : Carried)
+    → StandsBehind frames (saying s) above c → Stands frames (s ∷ above) c
 stands_behind frames above s c h = record { number = h.number; tool = h.tool; frame = h.frame; wanted = h.wanted; touched = h.touched }
 
 idle_count : (block : Option Block) (touches : List touch.Touch) → block ≡ None → (block ≡ None → touches ≡ []) → length touches ≡ 0
@@ -88,26 +101,42 @@ left_count : (block : Option Block) (b : Block) (touches : List touch.Touch) →
 left_count None b touches e = absurd cc
 left_count (Some d) b touches e = refl
 
-behind_said : (frames : List (List ℕ × Point)) (above : List Statement) (c : Carried) (t : Said) → Stands frames above c → (c.open_block ≡ None → c.touches ≡ []) → IsAllowed frames c.tool c.open_block (length c.touches) t → StandsBehind frames (Ok t) above (changed frames (counted c) t)
-behind_said frames above c (said.Goes target) h idle may = record { number = omega (arith, h.number); tool = h.tool; frame = h.frame; wanted = h.wanted; touched = h.touched }
-behind_said frames above c (said.Begins name n) h idle may = record { number = omega (arith, h.number); tool = h.tool; frame = h.frame; wanted = refl; touched = idle_count c.open_block c.touches may.0 idle }
+behind_said : (frames : List (List ℕ × Point)) (above : List Statement) (c : Carried) (t : Said) → Stands frames above c
+    → (c.open_block ≡ None → c.touches ≡ []) → IsAllowed frames c.tool c.open_block (length c.touches) t
+    → StandsBehind frames (Ok t) above (changed frames (counted c) t)
+behind_said frames above c (said.Goes target) h idle may = record { number = omega (arith, h.number); tool = h.tool; frame = h.frame;
+    wanted = h.wanted; touched = h.touched }
+behind_said frames above c (said.Begins name n) h idle may =
+    record { number = omega (arith, h.number); tool = h.tool; frame = h.frame; wanted = refl;
+    touched = idle_count c.open_block c.touches may.0 idle }
 behind_said frames above c (said.Touches target direction) h idle may =
-    subst (λ (o : Option (List ℕ)). StandsBehind frames (Ok (said.Touches target direction)) above (carry_touch (counted c) o target direction)) (sym may.2.1)
-    record { number = omega (arith, h.number); tool = h.tool; frame = h.frame; wanted = h.wanted; touched = omega (arith, length-append c.touches (touch_with may.2.0 c.frame target direction ∷ []), h.touched) }
-behind_said frames above c said.Ends h idle may = record { number = omega (arith, h.number); tool = h.tool; frame = h.frame; wanted = refl; touched = left_count c.open_block may.0 c.touches may.1 }
-behind_said frames above c (said.Selects name) h idle may = record { number = omega (arith, h.number); tool = refl; frame = h.frame; wanted = h.wanted; touched = h.touched }
+    subst (λ (o : Option (List ℕ)). StandsBehind frames (Ok (said.Touches target direction)) above
+        (carry_touch (counted c) o target direction)) (sym may.2.1)
+    record { number = omega (arith, h.number); tool = h.tool; frame = h.frame; wanted = h.wanted;
+        touched = omega (arith, length-append c.touches (touch_with may.2.0 c.frame target direction ∷ []), h.touched) }
+behind_said frames above c said.Ends h idle may = record { number = omega (arith, h.number); tool = h.tool; frame = h.frame; wanted = refl;
+    touched = left_count c.open_block may.0 c.touches may.1 }
+behind_said frames above c (said.Selects name) h idle may =
+    record { number = omega (arith, h.number); tool = refl; frame = h.frame; wanted = h.wanted; touched = h.touched }
 behind_said frames above c (said.Recalls name) h idle may =
     subst (λ (o : Option Point). StandsBehind frames (Ok (said.Recalls name)) above (recalled_at (counted c) o)) (sym may.1)
     record { number = omega (arith, h.number); tool = h.tool; frame = ap part_at (sym may.1); wanted = h.wanted; touched = h.touched }
-behind_said frames above c said.Closes h idle may = record { number = omega (arith, h.number); tool = h.tool; frame = h.frame; wanted = h.wanted; touched = h.touched }
-behind_said frames above c said.Passes h idle may = record { number = omega (arith, h.number); tool = h.tool; frame = h.frame; wanted = h.wanted; touched = h.touched }
+behind_said frames above c said.Closes h idle may = record { number = omega (arith, h.number); tool = h.tool; frame = h.frame;
+    wanted = h.wanted; touched = h.touched }
+behind_said frames above c said.Passes h idle may = record { number = omega (arith, h.number); tool = h.tool; frame = h.frame;
+    wanted = h.wanted; touched = h.touched }
 
-stands_said : (frames : List (List ℕ × Point)) (above : List Statement) (c : Carried) (s : Statement) (t : Said) → Stands frames above c → IsSound c → saying s ≡ Ok t → IsAllowed frames c.tool c.open_block (length c.touches) t → Stands frames (s ∷ above) (changed frames (counted c) t)
+stands_said : (frames : List (List ℕ × Point)) (above : List Statement) (c : Carried) (s : Statement) (t : Said) → Stands frames above c
+    → IsSound c → saying s ≡ Ok t → IsAllowed frames c.tool c.open_block (length c.touches) t
+    → Stands frames (s ∷ above) (changed frames (counted c) t)
 stands_said frames above c s t h sound e may =
-    stands_behind frames above s (changed frames (counted c) t) (subst (λ (r : Result Said Refusal). StandsBehind frames r above (changed frames (counted c) t)) (sym e) (behind_said frames above c t h sound.idle may))
+    stands_behind frames above s (changed frames (counted c) t)
+        (subst (λ (r : Result Said Refusal). StandsBehind frames r above (changed frames (counted c) t)) (sym e)
+        (behind_said frames above c t h sound.idle may))
 
 -- the steps after a statement
-touch_steps_are : (c : Carried) (o : Option (List ℕ)) (target : Point) (direction : Option Direction) → (carry_touch (counted c) o target direction).steps ≡ c.steps ++ touch_steps o c.frame target direction
+touch_steps_are : (c : Carried) (o : Option (List ℕ)) (target : Point) (direction : Option Direction)
+    → (carry_touch (counted c) o target direction).steps ≡ c.steps ++ touch_steps o c.frame target direction
 touch_steps_are c None target direction = sym (append-nil c.steps)
 touch_steps_are c (Some tool) target direction = refl
 
@@ -115,7 +144,8 @@ recall_steps_are : (c : Carried) (o : Option Point) → (recalled_at (counted c)
 recall_steps_are c None = sym (append-nil c.steps)
 recall_steps_are c (Some offset) = refl
 
-steps_are : (frames : List (List ℕ × Point)) (c : Carried) (t : Said) → (changed frames (counted c) t).steps ≡ c.steps ++ steps_of frames (context_of c) t
+steps_are : (frames : List (List ℕ × Point)) (c : Carried) (t : Said)
+    → (changed frames (counted c) t).steps ≡ c.steps ++ steps_of frames (context_of c) t
 steps_are frames c (said.Goes target) = refl
 steps_are frames c (said.Begins name n) = refl
 steps_are frames c (said.Touches target direction) = touch_steps_are c c.tool target direction
@@ -139,44 +169,71 @@ whole_front front steps (Ok more) = ap (λ (all : List Step). Ok (meaning_with a
 whole_front front steps (Err e) = refl
 
 -- where a program closes, all that was carried is its meaning
-closed_is : (c : Carried) → IsSound c → c.open_block ≡ None → ◌≡◌ {A = Result Meaning (Refusal × ℕ)} (Ok (record { features = c.done; steps = c.steps })) (Ok (meaning_with (c.steps ++ [])))
+closed_is : (c : Carried) → IsSound c → c.open_block ≡ None
+    → ◌≡◌ {A = Result Meaning (Refusal × ℕ)} (Ok (record { features = c.done; steps = c.steps })) (Ok (meaning_with (c.steps ++ [])))
 closed_is c h out = rw (append-nil c.steps, done_is c h out) refl
 
 -- a statement's part of a run, and of the meaning
 abbrev RunsAs : List (List ℕ × Point) → Option TextFault → ℕ → List Statement → List Statement → Carried → Type 0
-RunsAs frames fault lines statements above c = run frames fault lines statements c ≡ whole c.steps (steps_from frames fault lines above statements)
+RunsAs frames fault lines statements above c = run frames fault lines statements c
+    ≡ whole c.steps (steps_from frames fault lines above statements)
 
-goes_on : (frames : List (List ℕ × Point)) (fault : Option TextFault) (lines : ℕ) (statements above : List Statement) (c : Carried) (s : Statement) (t : Said) → IsSound c → context_of c ≡ context_at frames above → closes t ≡ false → RunsAs frames fault lines statements (s ∷ above) (changed frames (counted c) t) → ran s.line (Ok (closes t, changed frames (counted c) t)) (run frames fault lines statements) ≡ whole c.steps (continued s.line (Ok t) (steps_of frames (context_at frames above)) (steps_from frames fault lines (s ∷ above) statements))
+goes_on : (frames : List (List ℕ × Point)) (fault : Option TextFault) (lines : ℕ) (statements above : List Statement) (c : Carried)
+    (s : Statement) (t : Said) → IsSound c → context_of c ≡ context_at frames above → closes t ≡ false
+    → RunsAs frames fault lines statements (s ∷ above) (changed frames (counted c) t)
+    → ran s.line (Ok (closes t, changed frames (counted c) t)) (run frames fault lines statements)
+    ≡ whole c.steps (continued s.line (Ok t) (steps_of frames (context_at frames above))
+    (steps_from frames fault lines (s ∷ above) statements))
 goes_on frames fault lines statements above c s t sound same open_end behind =
-    rw (open_end, behind, steps_are frames c t, ← same) (whole_front c.steps (steps_of frames (context_of c) t) (steps_from frames fault lines (s ∷ above) statements))
+    rw (open_end, behind, steps_are frames c t, ← same) (whole_front c.steps (steps_of frames (context_of c) t)
+        (steps_from frames fault lines (s ∷ above) statements))
 
-by_judgement : (frames : List (List ℕ × Point)) (fault : Option TextFault) (lines : ℕ) (statements above : List Statement) (c : Carried) (s : Statement) (r : Result Said Refusal) → IsSound c → context_of c ≡ context_at frames above → IfOk r (MayFollow frames c) → ((t : Said) → r ≡ Ok t → RunsAs frames fault lines statements (s ∷ above) (changed frames (counted c) t)) → ran s.line (r >>= λ t. Ok (closes t, changed frames (counted c) t)) (run frames fault lines statements) ≡ whole c.steps (continued s.line r (steps_of frames (context_at frames above)) (steps_from frames fault lines (s ∷ above) statements))
+by_judgement : (frames : List (List ℕ × Point)) (fault : Option TextFault) (lines : ℕ) (statements above : List Statement) (c : Carried)
+    (s : Statement) (r : Result Said Refusal) → IsSound c → context_of c ≡ context_at frames above → IfOk r (MayFollow frames c)
+    → ((t : Said) → r ≡ Ok t → RunsAs frames fault lines statements (s ∷ above) (changed frames (counted c) t))
+    → ran s.line (r >>= λ t. Ok (closes t, changed frames (counted c) t)) (run frames fault lines statements)
+    ≡ whole c.steps (continued s.line r (steps_of frames (context_at frames above)) (steps_from frames fault lines (s ∷ above) statements))
 by_judgement frames fault lines statements above c s (Err e) sound same may behind = refl
-by_judgement frames fault lines statements above c s (Ok (said.Goes target)) sound same may behind = goes_on frames fault lines statements above c s (said.Goes target) sound same refl (behind (said.Goes target) refl)
-by_judgement frames fault lines statements above c s (Ok (said.Begins name n)) sound same may behind = goes_on frames fault lines statements above c s (said.Begins name n) sound same refl (behind (said.Begins name n) refl)
-by_judgement frames fault lines statements above c s (Ok (said.Touches target direction)) sound same may behind = goes_on frames fault lines statements above c s (said.Touches target direction) sound same refl (behind (said.Touches target direction) refl)
-by_judgement frames fault lines statements above c s (Ok said.Ends) sound same may behind = goes_on frames fault lines statements above c s said.Ends sound same refl (behind said.Ends refl)
-by_judgement frames fault lines statements above c s (Ok (said.Selects name)) sound same may behind = goes_on frames fault lines statements above c s (said.Selects name) sound same refl (behind (said.Selects name) refl)
-by_judgement frames fault lines statements above c s (Ok (said.Recalls name)) sound same may behind = goes_on frames fault lines statements above c s (said.Recalls name) sound same refl (behind (said.Recalls name) refl)
+by_judgement frames fault lines statements above c s (Ok (said.Goes target)) sound same may behind =
+    goes_on frames fault lines statements above c s (said.Goes target) sound same refl (behind (said.Goes target) refl)
+by_judgement frames fault lines statements above c s (Ok (said.Begins name n)) sound same may behind =
+    goes_on frames fault lines statements above c s (said.Begins name n) sound same refl (behind (said.Begins name n) refl)
+by_judgement frames fault lines statements above c s (Ok (said.Touches target direction)) sound same may behind =
+    goes_on frames fault lines statements above c s (said.Touches target direction) sound same refl
+    (behind (said.Touches target direction) refl)
+by_judgement frames fault lines statements above c s (Ok said.Ends) sound same may behind =
+    goes_on frames fault lines statements above c s said.Ends sound same refl (behind said.Ends refl)
+by_judgement frames fault lines statements above c s (Ok (said.Selects name)) sound same may behind =
+    goes_on frames fault lines statements above c s (said.Selects name) sound same refl (behind (said.Selects name) refl)
+by_judgement frames fault lines statements above c s (Ok (said.Recalls name)) sound same may behind =
+    goes_on frames fault lines statements above c s (said.Recalls name) sound same refl (behind (said.Recalls name) refl)
 by_judgement frames fault lines statements above c s (Ok said.Closes) sound same may behind = closed_is c sound may.1
-by_judgement frames fault lines statements above c s (Ok said.Passes) sound same may behind = goes_on frames fault lines statements above c s said.Passes sound same refl (behind said.Passes refl)
+by_judgement frames fault lines statements above c s (Ok said.Passes) sound same may behind =
+    goes_on frames fault lines statements above c s said.Passes sound same refl (behind said.Passes refl)
 
-may_follow : (frames : List (List ℕ × Point)) (c : Carried) (s : Statement) (t : Said) → judged frames (context_of c) s ≡ Ok t → MayFollow frames c t
+may_follow : (frames : List (List ℕ × Point)) (c : Carried) (s : Statement) (t : Said) → judged frames (context_of c) s ≡ Ok t
+    → MayFollow frames c t
 may_follow frames c s t e = rw e at (judged_if frames c s)
 
-run_is : (frames : List (List ℕ × Point)) (fault : Option TextFault) (lines : ℕ) (statements above : List Statement) (c : Carried) → AreInVolume frames → IsSound c → Stands frames above c → RunsAs frames fault lines statements above c
+run_is : (frames : List (List ℕ × Point)) (fault : Option TextFault) (lines : ℕ) (statements above : List Statement) (c : Carried)
+    → AreInVolume frames → IsSound c → Stands frames above c → RunsAs frames fault lines statements above c
 run_is frames fault lines [] above c volume sound stands = rw stands.number refl
 run_is frames fault lines (s ∷ statements) above c volume sound stands =
     let same = context_is frames above c stands in
-    subst (λ (k : Context). ran s.line (judged frames (context_of c) s >>= λ t. Ok (closes t, changed frames (counted c) t)) (run frames fault lines statements) ≡ whole c.steps (continued s.line (judged frames k s) (steps_of frames (context_at frames above)) (steps_from frames fault lines (s ∷ above) statements))) same
+    subst (λ (k : Context). ran s.line (judged frames (context_of c) s >>= λ t. Ok (closes t, changed frames (counted c) t))
+        (run frames fault lines statements) ≡ whole c.steps (continued s.line (judged frames k s)
+        (steps_of frames (context_at frames above)) (steps_from frames fault lines (s ∷ above) statements))) same
     (by_judgement frames fault lines statements above c s (judged frames (context_of c) s) sound same (judged_if frames c s) (λ t e.
     let may = may_follow frames c s t e in
-    run_is frames fault lines statements (s ∷ above) (changed frames (counted c) t) volume (sound_after frames c t volume sound may) (stands_said frames above c s t stands sound (said_is frames (context_of c) s t e) may.1)))
+    run_is frames fault lines statements (s ∷ above) (changed frames (counted c) t) volume (sound_after frames c t volume sound may)
+        (stands_said frames above c s t stands sound (said_is frames (context_of c) s t e) may.1)))
 
 -- from the first statement on the code gives the meaning
-pub run_from_start : (frames : List (List ℕ × Point)) (fault : Option TextFault) (lines : ℕ) (statements : List Statement) → AreInVolume frames → run frames fault lines statements no_statement ≡ meant (steps_from frames fault lines [] statements)
+pub run_from_start : (frames : List (List ℕ × Point)) (fault : Option TextFault) (lines : ℕ) (statements : List Statement)
+    → AreInVolume frames → run frames fault lines statements no_statement ≡ meant (steps_from frames fault lines [] statements)
 run_from_start frames fault lines statements volume =
-    run_is frames fault lines statements [] no_statement volume sound_at_start record { number = refl; tool = refl; frame = refl; wanted = refl; touched = refl }
+    run_is frames fault lines statements [] no_statement volume sound_at_start record { number = refl; tool = refl; frame = refl;
+        wanted = refl; touched = refl }
     ∙ whole_none (steps_from frames fault lines [] statements)
 
 -- each statement keeps what holds, and the closing one leaves a program
@@ -204,7 +261,9 @@ closes_same frames c (said.Recalls name) e = absurd cc
 closes_same frames c said.Closes e = refl
 closes_same frames c said.Passes e = absurd cc
 
-keeps_said : (frames : List (List ℕ × Point)) (c : Carried) (r : Result Said Refusal) (closed : Bool) (d : Carried) → AreInVolume frames → IsSound c → IfOk r (MayFollow frames c) → ◌>>=◌ {B = Bool × Carried} r (λ t. Ok (closes t, changed frames (counted c) t)) ≡ Ok (closed, d) → KeepsSound closed d
+keeps_said : (frames : List (List ℕ × Point)) (c : Carried) (r : Result Said Refusal) (closed : Bool) (d : Carried) → AreInVolume frames
+    → IsSound c → IfOk r (MayFollow frames c) → ◌>>=◌ {B = Bool × Carried} r (λ t. Ok (closes t, changed frames (counted c) t))
+    ≡ Ok (closed, d) → KeepsSound closed d
 keeps_said frames c (Err e) closed d volume sound may h = absurd cc
 keeps_said frames c (Ok t) closed d volume sound may h =
     let after = sound_after frames c t volume sound may in
@@ -213,26 +272,37 @@ keeps_said frames c (Ok t) closed d volume sound may h =
     let ends : closes t ≡ closed = ap (λ (p : Bool × Carried). p.0) both in
     record {
       sound = subst IsSound same after;
-      program = λ e. subst (λ (k : Carried). IsProgram (record { features = k.done; steps = k.steps })) same (program_is (changed frames (counted c) t) after (rw (closes_same frames c t (ends ∙ e)) (closes_out frames c t (ends ∙ e) may)));
+      program = λ e. subst (λ (k : Carried). IsProgram (record { features = k.done; steps = k.steps })) same
+          (program_is (changed frames (counted c) t) after (rw (closes_same frames c t (ends ∙ e)) (closes_out frames c t (ends ∙ e) may)));
     }
 
-pub keeps_sound : (frames : List (List ℕ × Point)) (c : Carried) (s : Statement) (closed : Bool) (d : Carried) → AreInVolume frames → IsSound c → next frames c s ≡ Ok (closed, d) → KeepsSound closed d
-keeps_sound frames c s closed d volume sound h = keeps_said frames c (judged frames (context_of c) s) closed d volume sound (judged_if frames c s) h
+pub keeps_sound : (frames : List (List ℕ × Point)) (c : Carried) (s : Statement) (closed : Bool) (d : Carried) → AreInVolume frames
+    → IsSound c → next frames c s ≡ Ok (closed, d) → KeepsSound closed d
+keeps_sound frames c s closed d volume sound h = keeps_said frames c (judged frames (context_of c) s) closed d volume sound
+    (judged_if frames c s) h
 
 -- a text from its first statement on
-pub starts : (frames : List (List ℕ × Point)) (text : List ℕ) (left : List Statement) (fault : Option TextFault) (n : ℕ) (c : Carried) → AreInVolume frames → c ≡ no_statement → left ≡ (text_reading text).statements → fault ≡ (text_reading text).fault → n ≡ length (lines text) → run frames fault n left c ≡ program_of frames text
+pub starts : (frames : List (List ℕ × Point)) (text : List ℕ) (left : List Statement) (fault : Option TextFault) (n : ℕ) (c : Carried)
+    → AreInVolume frames → c ≡ no_statement → left ≡ (text_reading text).statements → fault ≡ (text_reading text).fault
+    → n ≡ length (lines text) → run frames fault n left c ≡ program_of frames text
 unfolding meaning_of
-starts frames text left fault n c volume e f g h = rw (e, f, g, h) (run_from_start frames (text_reading text).fault (length (lines text)) (text_reading text).statements volume)
+starts frames text left fault n c volume e f g h = rw (e, f, g, h)
+    (run_from_start frames (text_reading text).fault (length (lines text)) (text_reading text).statements volume)
 
 -- one statement more, by what the code gives at it
-pub goes_past : (frames : List (List ℕ × Point)) (fault : Option TextFault) (n : ℕ) (s : Statement) (all left : List Statement) (c d : Carried) → all ≡ s ∷ left → next frames c s ≡ Ok (false, d) → run frames fault n left d ≡ run frames fault n all c
+pub goes_past : (frames : List (List ℕ × Point)) (fault : Option TextFault) (n : ℕ) (s : Statement) (all left : List Statement)
+    (c d : Carried) → all ≡ s ∷ left → next frames c s ≡ Ok (false, d) → run frames fault n left d ≡ run frames fault n all c
 goes_past frames fault n s all left c d split e = rw (split, e) refl
 
-pub closes_at : (frames : List (List ℕ × Point)) (fault : Option TextFault) (n : ℕ) (s : Statement) (all left : List Statement) (c d : Carried) → all ≡ s ∷ left → next frames c s ≡ Ok (true, d) → run frames fault n all c ≡ Ok (record { features = d.done; steps = d.steps })
+pub closes_at : (frames : List (List ℕ × Point)) (fault : Option TextFault) (n : ℕ) (s : Statement) (all left : List Statement)
+    (c d : Carried) → all ≡ s ∷ left → next frames c s ≡ Ok (true, d)
+    → run frames fault n all c ≡ Ok (record { features = d.done; steps = d.steps })
 closes_at frames fault n s all left c d split e = rw (split, e) refl
 
-pub refused_at_statement : (frames : List (List ℕ × Point)) (fault : Option TextFault) (n : ℕ) (s : Statement) (all left : List Statement) (c : Carried) (refusal : Refusal) → all ≡ s ∷ left → next frames c s ≡ Err refusal → run frames fault n all c ≡ Err (refusal, s.line)
+pub refused_at_statement : (frames : List (List ℕ × Point)) (fault : Option TextFault) (n : ℕ) (s : Statement) (all left : List Statement)
+    (c : Carried) (refusal : Refusal) → all ≡ s ∷ left → next frames c s ≡ Err refusal → run frames fault n all c ≡ Err (refusal, s.line)
 refused_at_statement frames fault n s all left c refusal split e = rw (split, e) refl
 
-pub ends_at : (frames : List (List ℕ × Point)) (fault : Option TextFault) (n : ℕ) (all : List Statement) (c : Carried) → all ≡ [] → run frames fault n all c ≡ Err (ended fault c.number n)
+pub ends_at : (frames : List (List ℕ × Point)) (fault : Option TextFault) (n : ℕ) (all : List Statement) (c : Carried) → all ≡ []
+    → run frames fault n all c ≡ Err (ended fault c.number n)
 ends_at frames fault n all c e = rw e refl

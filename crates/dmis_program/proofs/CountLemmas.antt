@@ -1,5 +1,6 @@
 -- Digits that write a count.
-use Rattle.std.proofs.Common.{◌≡◌, ℕ, ◌+◌, ◌-◌, ◌*◌, ◌<◌, ◌≤◌, true, false, List, [], ◌∷◌, get_or, drop, length, refl, sym, arith, add-one, Some, None}
+use Rattle.std.proofs.Common.{◌≡◌, ℕ, ◌+◌, ◌-◌, ◌*◌, ◌<◌, ◌≤◌, true, false, List, [], ◌∷◌, get_or, drop, length, refl, sym, arith, add-one,
+  Some, None}
 use Rattle.std.specs.Char.{digit_value, is_ascii_digit}
 use Rattle.std.specs.Str.Parse.{digits_value, digits_value_after}
 use Rattle.std.specs.List.{list_all}
@@ -31,13 +32,16 @@ pub record OneDigit (value : ℕ) (digits : List ℕ) (i c : ℕ) : Type 0 where
   pub rest : list_all is_ascii_digit (drop (i + 1) digits) ≡ true
   pub grows : value * 10 + (c - 48) ≤ digits_value 10 digits
 
-pub one_digit : (value : ℕ) (digits : List ℕ) (i : ℕ) → i < length digits → digits_value_after 10 value (drop i digits) ≡ digits_value 10 digits → list_all is_ascii_digit (drop i digits) ≡ true → OneDigit value digits i (get_or digits i 0)
+pub one_digit : (value : ℕ) (digits : List ℕ) (i : ℕ) → i < length digits
+    → digits_value_after 10 value (drop i digits) ≡ digits_value 10 digits → list_all is_ascii_digit (drop i digits) ≡ true
+    → OneDigit value digits i (get_or digits i 0)
 one_digit value digits i within e all =
     let step : drop i digits ≡ get_or digits i 0 ∷ drop (i + 1) digits = rw (add-one, drop-cons digits i 0) refl in
     let all2 = and_parts (is_ascii_digit (get_or digits i 0)) (list_all is_ascii_digit (drop (i + 1) digits)) (rw step at all) in
     let more2 = rw step at e in
     let digit = is_digit (get_or digits i 0) all2.0 in
-    let more : digits_value_after 10 (value * 10 + (get_or digits i 0 - 48)) (drop (i + 1) digits) ≡ digits_value 10 digits = rw (sym digit.value) more2 in
+    let more : digits_value_after 10 (value * 10 + (get_or digits i 0 - 48)) (drop (i + 1) digits) ≡ digits_value 10 digits =
+        rw (sym digit.value) more2 in
     record {
       low = digit.low;
       high = digit.high;
@@ -55,7 +59,8 @@ pub past_count : (text : List ℕ) → list_all is_ascii_digit text ≡ true →
 unfolding count_of
 past_count text h past = rw h (grind (arith, nat_tests))
 
-pub counted : (text : List ℕ) (n : ℕ) → list_all is_ascii_digit text ≡ true → digits_value 10 text ≡ n → n ≤ 10000 → 0 < n → Some n ≡ count_of text
+pub counted : (text : List ℕ) (n : ℕ) → list_all is_ascii_digit text ≡ true → digits_value 10 text ≡ n → n ≤ 10000 → 0 < n
+    → Some n ≡ count_of text
 unfolding count_of
 counted text n h e few some = rw (h, e) (grind (arith, nat_tests))
 
@@ -64,5 +69,6 @@ unfolding count_of
 zero_count text n h e none = rw (h, e) (grind (arith, nat_tests))
 
 -- behind the last digit
-pub all_counted : (value : ℕ) (digits : List ℕ) (i : ℕ) → length digits ≤ i → digits_value_after 10 value (drop i digits) ≡ digits_value 10 digits → digits_value 10 digits ≡ value
+pub all_counted : (value : ℕ) (digits : List ℕ) (i : ℕ) → length digits ≤ i
+    → digits_value_after 10 value (drop i digits) ≡ digits_value 10 digits → digits_value 10 digits ≡ value
 all_counted value digits i past e = sym (rw (drop_all i digits past) at e)

@@ -1,5 +1,6 @@
 -- A name stands between its mark and a `)`.
-use Rattle.std.proofs.Common.{◌≡◌, ℕ, ◌+◌, ◌-◌, ◌<◌, Bool, true, false, cond, List, [], ◌∷◌, ◌++◌, length, take, drop, get_or, Option, Some, None, refl, ap, sym, ◌∙◌, arith, length-append, codes}
+use Rattle.std.proofs.Common.{◌≡◌, ℕ, ◌+◌, ◌-◌, ◌<◌, Bool, true, false, cond, List, [], ◌∷◌, ◌++◌, length, take, drop, get_or, Option, Some,
+  None, refl, ap, sym, ◌∙◌, arith, length-append, codes}
 use Rattle.std.specs.Prelude.{option_and_then, ◌==◌}
 use Rattle.std.specs.Bool.{Decides}
 use Rattle.std.proofs.lemmas.Bool.Decides.{Decides-eqb}
@@ -26,13 +27,15 @@ closed_at inner =
     let e : length (inner ++ 41 ∷ []) - 1 ≡ length inner = omega (arith, length-append inner (41 ∷ [])) in
     rw (e, get_or_push inner 41 0 (length inner) refl, take-append_seam inner (41 ∷ [])) refl
 
-closing : (b : Bool) (text inner : List ℕ) → (get_or text (length text - 1) 0 == 41) ≡ b → 0 < length text → cond b (Some (take (length text - 1) text)) None ≡ Some inner → text ≡ inner ++ 41 ∷ []
+closing : (b : Bool) (text inner : List ℕ) → (get_or text (length text - 1) 0 == 41) ≡ b → 0 < length text
+    → cond b (Some (take (length text - 1) text)) None ≡ Some inner → text ≡ inner ++ 41 ∷ []
 closing false text inner t some h = absurd cc
 closing true text inner t some h =
     let front : take (length text - 1) text ≡ inner = cc in
     let last : get_or text (length text - 1) 0 ≡ 41 = eqb-true (get_or text (length text - 1) 0) 41 t in
     let all : length text - 1 + 1 ≡ length text = omega arith in
-    sym (take-length text) ∙ ap (λ (n : ℕ). take n text) (sym all) ∙ take_more text (length text - 1) 0 (omega arith) ∙ rw (front, last) refl
+    sym (take-length text) ∙ ap (λ (n : ℕ). take n text) (sym all) ∙ take_more text (length text - 1) 0 (omega arith)
+        ∙ rw (front, last) refl
 
 closed_parts : (text inner : List ℕ) → before_close text ≡ Some inner → text ≡ inner ++ 41 ∷ []
 closed_parts [] inner h = absurd cc
@@ -53,16 +56,20 @@ named_inner : (b : Bool) (text name : List ℕ) → cond b (Some (folded text)) 
 named_inner true text name h = (refl, cc)
 named_inner false text name h = absurd cc
 
-from_inner : (front text name : List ℕ) (o : Option (List ℕ)) → before_close (drop (length front) text) ≡ o → begins front text ≡ true → option_and_then name_of o ≡ Some name → IsWritten front text name
+from_inner : (front text name : List ℕ) (o : Option (List ℕ)) → before_close (drop (length front) text) ≡ o → begins front text ≡ true
+    → option_and_then name_of o ≡ Some name → IsWritten front text name
 from_inner front text name None e h g = absurd cc
 from_inner front text name (Some inner) e h g =
     let found = named_inner (is_name_text inner) inner name g in
-    record { inner = inner; parts = begins_parts front text h ∙ ap (λ (rest : List ℕ). front ++ rest) (closed_parts (drop (length front) text) inner e); named = found.0; is = found.1 }
+    record { inner = inner; parts = begins_parts front text h ∙ ap (λ (rest : List ℕ). front ++ rest)
+        (closed_parts (drop (length front) text) inner e); named = found.0; is = found.1 }
 
-from_front : (front text name : List ℕ) (b : Bool) → begins front text ≡ b → cond b (option_and_then name_of (before_close (drop (length front) text))) None ≡ Some name → IsWritten front text name
+from_front : (front text name : List ℕ) (b : Bool) → begins front text ≡ b
+    → cond b (option_and_then name_of (before_close (drop (length front) text))) None ≡ Some name → IsWritten front text name
 from_front front text name true e h = from_inner front text name (before_close (drop (length front) text)) refl e h
 from_front front text name false e h = absurd cc
 
-pub only : (front text name : List ℕ) → name_within front text ≡ Some name → (inner : List ℕ) × (text ≡ front ++ (inner ++ codes ")")) × (is_name_text inner ≡ true) × (name ≡ folded inner)
+pub only : (front text name : List ℕ) → name_within front text ≡ Some name → (inner : List ℕ) × (text ≡ front ++ (inner ++ codes ")"))
+    × (is_name_text inner ≡ true) × (name ≡ folded inner)
 unfolding name_within
 only front text name h = let w = from_front front text name (begins front text) refl h in (w.inner, w.parts, w.named, w.is)

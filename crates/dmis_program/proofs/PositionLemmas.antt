@@ -1,5 +1,6 @@
 -- What fixed_um's readers answer, as the functions of the definitions give it.
-use Rattle.std.proofs.Common.{◌≡◌, ℕ, Bool, true, false, List, ℤ, pos, Result, Ok, Err, Option, Some, None, refl, ap, sym, ◌∙◌, inl, inr, ◌&&◌}
+use Rattle.std.proofs.Common.{◌≡◌, ℕ, Bool, true, false, List, ℤ, pos, Result, Ok, Err, Option, Some, None, refl, ap, sym, ◌∙◌, inl, inr,
+  ◌&&◌}
 use Rattle.std.specs.Ordering.{int_eq}
 use Rattle.std.proofs.lemmas.Bool.{and_parts}
 use Rattle.std.proofs.lemmas.Bool.Decides.{Decides-int_eq}
@@ -15,9 +16,11 @@ use Rattle.dmis_program.specs.Positions.{length_of, component_of, direction_of, 
 use Rattle.dmis_program.specs.declared.faults.Refusal.{Refusal}
 use Rattle.dmis_program.specs.declared.faults.Refusal.TheVariants.{BadNumeral, ZeroVector}
 
-pub length_of-is : (text : List ℕ) (limit : ℤ) (r : Result ℤ NumeralFault) → limit ≡ pos volume_limit → Reads 3 (unsigned_abs limit) text r → length_of text ≡ numeral_refused r
+pub length_of-is : (text : List ℕ) (limit : ℤ) (r : Result ℤ NumeralFault) → limit ≡ pos volume_limit → Reads 3 (unsigned_abs limit) text r
+    → length_of text ≡ numeral_refused r
 unfolding length_of
-length_of-is text limit r e h = ap (λ (n : ℤ). numeral_refused {A = ℤ} (value_of 3 (unsigned_abs n) text)) (sym e) ∙ ap (numeral_refused {A = ℤ}) (value_of-is 3 (unsigned_abs limit) text r h)
+length_of-is text limit r e h = ap (λ (n : ℤ). numeral_refused {A = ℤ} (value_of 3 (unsigned_abs n) text)) (sym e)
+    ∙ ap (numeral_refused {A = ℤ}) (value_of-is 3 (unsigned_abs limit) text r h)
 
 pub component_of-is : (text : List ℕ) (r : Result ℤ NumeralFault) → Reads 6 component_limit text r → component_of text ≡ numeral_refused r
 unfolding component_of
@@ -41,10 +44,14 @@ not_zero_is d h =
     let q = and_parts (int_eq d.j (pos 0)) (int_eq d.k (pos 0)) p.1 in
     h.not_zero ((Decides-int_eq d.i (pos 0)).0 p.0) ((Decides-int_eq d.j (pos 0)).0 q.0) ((Decides-int_eq d.k (pos 0)).0 q.1))
 
-pub direction_of-is : (i j k : List ℕ) (r : Result (Option Direction) NumeralFault) → ReadsDirection i j k r → direction_of i j k ≡ read_direction r
+pub direction_of-is : (i j k : List ℕ) (r : Result (Option Direction) NumeralFault) → ReadsDirection i j k r
+    → direction_of i j k ≡ read_direction r
 unfolding direction_of
-direction_of-is i j k (Ok (Some d)) h = rw (component_of-is i (Ok d.i) h.0, component_of-is j (Ok d.j) h.1, component_of-is k (Ok d.k) h.2, not_zero_is d h.3) refl
-direction_of-is i j k (Ok None) h = rw (component_of-is i (Ok (pos 0)) h.0, component_of-is j (Ok (pos 0)) h.1, component_of-is k (Ok (pos 0)) h.2) refl
+direction_of-is i j k (Ok (Some d)) h = rw (component_of-is i (Ok d.i) h.0, component_of-is j (Ok d.j) h.1, component_of-is k (Ok d.k) h.2,
+    not_zero_is d h.3) refl
+direction_of-is i j k (Ok None) h = rw (component_of-is i (Ok (pos 0)) h.0, component_of-is j (Ok (pos 0)) h.1,
+    component_of-is k (Ok (pos 0)) h.2) refl
 direction_of-is i j k (Err e) (inl h) = rw (component_of-is i (Err e) h) refl
 direction_of-is i j k (Err e) (inr (inl h)) = rw (component_of-is i (Ok h.0) h.1, component_of-is j (Err e) h.2) refl
-direction_of-is i j k (Err e) (inr (inr h)) = rw (component_of-is i (Ok h.0) h.2, component_of-is j (Ok h.1) h.3, component_of-is k (Err e) h.4) refl
+direction_of-is i j k (Err e) (inr (inr h)) = rw (component_of-is i (Ok h.0) h.2, component_of-is j (Ok h.1) h.3,
+    component_of-is k (Err e) h.4) refl

@@ -1,5 +1,6 @@
 -- What follows for the features of steps that stand in blocks.
-use Rattle.std.proofs.Common.{◌≡◌, ℕ, ◌+◌, ◌≤◌, List, [], ◌∷◌, ◌++◌, length, Option, Some, None, refl, ap, sym, ◌∙◌, arith, append-nil, subst}
+use Rattle.std.proofs.Common.{◌≡◌, ℕ, ◌+◌, ◌≤◌, List, [], ◌∷◌, ◌++◌, length, Option, Some, None, refl, ap, sym, ◌∙◌, arith, append-nil,
+  subst}
 use Rattle.std.specs.List.{AllByRecursion}
 use Rattle.fixed_um.specs.declared.frames.Frame.TheVariants.{Machine}
 use Rattle.dmis_program.specs.Meaning.{features_of, block_touches}
@@ -15,7 +16,8 @@ abbrev before : Option ℕ → List Step → List touch.Touch
 before None steps = []
 before (Some n) steps = block_touches steps
 
-pub touches_are : (o : Option ℕ) (steps : List Step) → AreBlocks o steps → touches_of steps ≡ before o steps ++ feature_touches (features_of steps)
+pub touches_are : (o : Option ℕ) (steps : List Step) → AreBlocks o steps
+    → touches_of steps ≡ before o steps ++ feature_touches (features_of steps)
 touches_are None [] h = refl
 touches_are None (Goto target ∷ steps) h = touches_are None steps h
 touches_are None (Begin label ∷ steps) h = touches_are (Some 0) steps h
@@ -59,11 +61,13 @@ block_few (Tool name ∷ steps) = omega (arith, block_few steps)
 block_few (Recall offset ∷ steps) = omega (arith, block_few steps)
 block_few (End ∷ steps) = omega arith
 
-pub features_are : (o : Option ℕ) (steps : List Step) → AreBlocks o steps → AllByRecursion IsStep steps → length steps ≤ 10000 → AllByRecursion IsFeature (features_of steps)
+pub features_are : (o : Option ℕ) (steps : List Step) → AreBlocks o steps → AllByRecursion IsStep steps → length steps ≤ 10000
+    → AllByRecursion IsFeature (features_of steps)
 features_are None [] h all few = tt
 features_are None (Goto target ∷ steps) h all few = features_are None steps h all.1 (omega arith)
 features_are None (Begin label ∷ steps) h all few =
-    (record { label = all.0; some = omega (arith, block_some 0 steps h); few = omega (arith, block_few steps); touches = block_all steps all.1 }, features_are (Some 0) steps h all.1 (omega arith))
+    (record { label = all.0; some = omega (arith, block_some 0 steps h); few = omega (arith, block_few steps);
+        touches = block_all steps all.1 }, features_are (Some 0) steps h all.1 (omega arith))
 features_are None (Touch t ∷ steps) h all few = absurd h
 features_are None (Tool name ∷ steps) h all few = features_are None steps h all.1 (omega arith)
 features_are None (Recall offset ∷ steps) h all few = features_are None steps h all.1 (omega arith)

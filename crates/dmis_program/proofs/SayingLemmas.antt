@@ -1,5 +1,6 @@
 -- What a statement says by itself is within the limits, and tells the statement's keyword.
-use Rattle.std.proofs.Common.{◌≡◌, ℕ, ◌≤◌, Bool, true, false, cond, List, [], ◌∷◌, ℤ, pos, Result, Ok, Err, Option, Some, None, refl, ◌&&◌, nat_le, codes, drop, length}
+use Rattle.std.proofs.Common.{◌≡◌, ℕ, ◌≤◌, Bool, true, false, cond, List, [], ◌∷◌, ℤ, pos, Result, Ok, Err, Option, Some, None, refl, ◌&&◌,
+  nat_le, codes, drop, length}
 use Rattle.std.specs.Prelude.{option_and_then, IfOk, IfSome, unsigned_abs}
 use Rattle.std.specs.List.{list_any, list_all}
 use Rattle.std.specs.Char.{is_ascii_digit}
@@ -20,7 +21,8 @@ use Rattle.dmis_text.specs.declared.elements.Statement.{Statement}
 use Rattle.dmis_program.specs.Outcomes.{◌>>=◌, numeral_refused}
 use Rattle.dmis_program.specs.Positions.{length_of, component_of, position_of, direction_of, is_zero_direction}
 use Rattle.dmis_program.specs.Parameters.{is_letters, begins, before_close, name_of, name_within, count_of, within_count, without_cart}
-use Rattle.dmis_program.specs.Sayings.{goes, begun, begins_block, touches_at, touches, without_parameters, selected, selects, recalled, recalls_frame, recalls, units, mode, said_by, is_badly_formed, said_of}
+use Rattle.dmis_program.specs.Sayings.{goes, begun, begins_block, touches_at, touches, without_parameters, selected, selects, recalled,
+  recalls_frame, recalls, units, mode, said_by, is_badly_formed, said_of}
 use Rattle.dmis_program.specs.Sound.{SaidBy}
 use Rattle.dmis_program.specs.declared.faults.Refusal.{Refusal}
 use Rattle.dmis_program.specs.declared.faults.Refusal.TheVariants.{BadArguments}
@@ -29,17 +31,20 @@ use Rattle.dmis_program.specs.declared.keywords.Keyword.TheVariants as word
 use Rattle.dmis_program.specs.declared.sayings.Said.TheVariants.{Ends, Closes, Passes}
 
 -- one step and then the next
-pub bind_if : {A B : Type 0} (P : A → Type 0) (Q : B → Type 0) (r : Result A Refusal) (f : A → Result B Refusal) → IfOk r P → ((x : A) → P x → IfOk (f x) Q) → IfOk (r >>= f) Q
+pub bind_if : {A B : Type 0} (P : A → Type 0) (Q : B → Type 0) (r : Result A Refusal) (f : A → Result B Refusal) → IfOk r P
+    → ((x : A) → P x → IfOk (f x) Q) → IfOk (r >>= f) Q
 bind_if P Q (Ok x) f h g = g x h
 bind_if P Q (Err e) f h g = tt
 
 -- a refusal or another step
-pub unless_if : {A : Type 0} (P : A → Type 0) (b : Bool) (e : Refusal) (r : Result A Refusal) → (b ≡ false → IfOk r P) → IfOk (cond b (Err e) r) P
+pub unless_if : {A : Type 0} (P : A → Type 0) (b : Bool) (e : Refusal) (r : Result A Refusal) → (b ≡ false → IfOk r P)
+    → IfOk (cond b (Err e) r) P
 unless_if P true e r h = tt
 unless_if P false e r h = h refl
 
 -- numerals
-refused_within : (scale limit : ℕ) (text : List ℕ) (r : Result ℤ NumeralFault) → Reads scale limit text r → IfOk (numeral_refused r) (λ a. unsigned_abs a ≤ limit)
+refused_within : (scale limit : ℕ) (text : List ℕ) (r : Result ℤ NumeralFault) → Reads scale limit text r
+    → IfOk (numeral_refused r) (λ a. unsigned_abs a ≤ limit)
 refused_within scale limit text (Ok a) h = h.1
 refused_within scale limit text (Err e) h = tt
 
@@ -60,7 +65,8 @@ position_within x y z =
 
 some_component : (d : Direction) → is_zero_direction d ≡ false → d.i ≡ pos 0 → d.j ≡ pos 0 → d.k ≡ pos 0 → ⊥
 some_component d h p q r =
-    let zero : is_zero_direction d ≡ true = and_from _ _ ((Decides-int_eq d.i (pos 0)).1 p) (and_from _ _ ((Decides-int_eq d.j (pos 0)).1 q) ((Decides-int_eq d.k (pos 0)).1 r)) in
+    let zero : is_zero_direction d ≡ true = and_from _ _ ((Decides-int_eq d.i (pos 0)).1 p)
+        (and_from _ _ ((Decides-int_eq d.j (pos 0)).1 q) ((Decides-int_eq d.k (pos 0)).1 r)) in
     absurd cc
 
 direction_is : (i j k : List ℕ) → IfOk (direction_of i j k) IsDirection
@@ -70,7 +76,8 @@ direction_is i j k =
     bind_if (λ b. unsigned_abs b ≤ component_limit) IsDirection (component_of j) _ (component_within j) (λ b q.
     bind_if (λ c. unsigned_abs c ≤ component_limit) IsDirection (component_of k) _ (component_within k) (λ c r.
     let d : Direction = record { i = a; j = b; k = c } in
-    unless_if IsDirection (is_zero_direction d) _ (Ok d) (λ h. record { i_within = p; j_within = q; k_within = r; not_zero = some_component d h }))))
+    unless_if IsDirection (is_zero_direction d) _ (Ok d) (λ h. record { i_within = p; j_within = q; k_within = r;
+        not_zero = some_component d h }))))
 
 -- names
 name_if : (b : Bool) (text : List ℕ) → is_name_text text ≡ b → IfSome (cond b (Some (folded text)) None) IsName
@@ -109,18 +116,21 @@ goes_if : (params : List (List ℕ)) → IfOk (goes params) (SaidBy word.Goto)
 goes_if (x ∷ (y ∷ (z ∷ []))) = bind_if IsInVolume (SaidBy word.Goto) (position_of x y z) _ (position_within x y z) (λ p h. h)
 goes_if _ = tt
 
-begun_if : (b : Bool) (name : Option (List ℕ)) (count : Option ℕ) → IfSome name IsName → IfSome count IsCount → IfOk (begun b name count) (SaidBy word.Meas)
+begun_if : (b : Bool) (name : Option (List ℕ)) (count : Option ℕ) → IfSome name IsName → IfSome count IsCount
+    → IfOk (begun b name count) (SaidBy word.Meas)
 begun_if true (Some name) (Some count) h g = (refl, h, g.0)
 begun_if true (Some name) None h g = tt
 begun_if true None count h g = tt
 begun_if false name count h g = tt
 
 begins_if : (params : List (List ℕ)) → IfOk (begins_block params) (SaidBy word.Meas)
-begins_if (kind ∷ (feature ∷ (count ∷ []))) = begun_if (is_letters kind) (name_within (codes "F(") feature) (count_of count) (name_within_is (codes "F(") feature) (count_within count)
+begins_if (kind ∷ (feature ∷ (count ∷ []))) = begun_if (is_letters kind) (name_within (codes "F(") feature) (count_of count)
+    (name_within_is (codes "F(") feature) (count_within count)
 begins_if _ = tt
 
 touches_at_if : (params : List (List ℕ)) → IfOk (touches_at params) (SaidBy word.Ptmeas)
-touches_at_if (x ∷ (y ∷ (z ∷ []))) = bind_if IsInVolume (SaidBy word.Ptmeas) (position_of x y z) _ (position_within x y z) (λ p h. (refl, h, tt))
+touches_at_if (x ∷ (y ∷ (z ∷ []))) = bind_if IsInVolume (SaidBy word.Ptmeas) (position_of x y z) _ (position_within x y z)
+    (λ p h. (refl, h, tt))
 touches_at_if (x ∷ (y ∷ (z ∷ (i ∷ (j ∷ (k ∷ [])))))) =
     bind_if IsInVolume (SaidBy word.Ptmeas) (position_of x y z) _ (position_within x y z) (λ p h.
     bind_if IsDirection (SaidBy word.Ptmeas) (direction_of i j k) _ (direction_is i j k) (λ d g. (refl, h, g)))
@@ -148,7 +158,8 @@ selected_if None (Some name) h g = g
 selected_if None None h g = tt
 
 selects_if : (params : List (List ℕ)) → IfOk (selects params) (SaidBy word.Snslct)
-selects_if (first ∷ []) = selected_if (name_within (codes "S(") first) (name_within (codes "SA(") first) (name_within_is (codes "S(") first) (name_within_is (codes "SA(") first)
+selects_if (first ∷ []) = selected_if (name_within (codes "S(") first) (name_within (codes "SA(") first) (name_within_is (codes "S(") first)
+    (name_within_is (codes "SA(") first)
 selects_if _ = tt
 
 recalled_if : (name : Option (List ℕ)) → IfOk (recalled name) (SaidBy word.Recall)
@@ -197,4 +208,5 @@ said_by_if word.Unknown params = tt
 
 pub said_of_if : (keyword : Keyword) (s : Statement) → IfOk (said_of keyword s) (SaidBy keyword)
 unfolding said_of
-said_of_if keyword s = unless_if (SaidBy keyword) (is_badly_formed keyword s) _ (said_by keyword s.params) (λ _. said_by_if keyword s.params)
+said_of_if keyword s = unless_if (SaidBy keyword) (is_badly_formed keyword s) _ (said_by keyword s.params)
+    (λ _. said_by_if keyword s.params)

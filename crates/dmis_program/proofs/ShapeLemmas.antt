@@ -1,5 +1,6 @@
 -- An accepted program keeps its shape, and recalls stored frames alone.
-use Rattle.std.proofs.Common.{◌≡◌, ℕ, Bool, true, false, cond, List, [], ◌∷◌, ◌++◌, length, Result, Ok, Err, Option, Some, None, refl, ap, ◌∙◌}
+use Rattle.std.proofs.Common.{◌≡◌, ℕ, Bool, true, false, cond, List, [], ◌∷◌, ◌++◌, length, Result, Ok, Err, Option, Some, None, refl, ap,
+  ◌∙◌}
 use Rattle.std.specs.Prelude.{IfOk}
 use Rattle.std.specs.List.{AllByRecursion}
 use Rattle.std.specs.Str.Lines.{lines}
@@ -12,7 +13,8 @@ use Rattle.dmis_text.specs.declared.reading.TextFault.{TextFault}
 use Rattle.dmis_program.specs.Offsets.{offset_of, AreInVolume}
 use Rattle.dmis_program.specs.LookBack.{context_at, frame_said, nearest, frame_at, part_at}
 use Rattle.dmis_program.specs.Judging.{judged}
-use Rattle.dmis_program.specs.Meaning.{Meaning, meant, meaning_of, program_of, closes, steps_of, touch_steps, recall_steps, with_front, continued, steps_from}
+use Rattle.dmis_program.specs.Meaning.{Meaning, meant, meaning_of, program_of, closes, steps_of, touch_steps, recall_steps, with_front,
+  continued, steps_from}
 use Rattle.dmis_program.specs.Programs.{IsProgram, FrameIsStored, StepIsStored}
 use Rattle.dmis_program.specs.Carrying.{Carried, no_statement, next, ran, run}
 use Rattle.dmis_program.specs.Sound.{IsSound}
@@ -24,23 +26,32 @@ use Rattle.dmis_program.specs.declared.sayings.Said.TheVariants as said
 use Rattle.dmis_program.specs.declared.steps.Step.{Step}
 
 -- what a run gives is a program
-ran_program : (frames : List (List ℕ × Point)) (c : Carried) (s : Statement) (r : Result (Bool × Carried) Refusal) (behind : Carried → Result Meaning (Refusal × ℕ)) → AreInVolume frames → next frames c s ≡ r → IsSound c → ((d : Carried) → IsSound d → IfOk (behind d) IsProgram) → IfOk (ran s.line r behind) IsProgram
+ran_program : (frames : List (List ℕ × Point)) (c : Carried) (s : Statement) (r : Result (Bool × Carried) Refusal) (behind : Carried
+    → Result Meaning (Refusal × ℕ)) → AreInVolume frames → next frames c s ≡ r → IsSound c
+    → ((d : Carried) → IsSound d → IfOk (behind d) IsProgram) → IfOk (ran s.line r behind) IsProgram
 ran_program frames c s (Err refusal) behind volume e sound h = tt
 ran_program frames c s (Ok (true, d)) behind volume e sound h = (keeps_sound frames c s true d volume sound e).program refl
 ran_program frames c s (Ok (false, d)) behind volume e sound h = h d (keeps_sound frames c s false d volume sound e).sound
 
-run_program : (frames : List (List ℕ × Point)) (fault : Option TextFault) (n : ℕ) (statements : List Statement) (c : Carried) → AreInVolume frames → IsSound c → IfOk (run frames fault n statements c) IsProgram
+run_program : (frames : List (List ℕ × Point)) (fault : Option TextFault) (n : ℕ) (statements : List Statement) (c : Carried)
+    → AreInVolume frames → IsSound c → IfOk (run frames fault n statements c) IsProgram
 run_program frames fault n [] c volume sound = tt
-run_program frames fault n (s ∷ statements) c volume sound = ran_program frames c s (next frames c s) (run frames fault n statements) volume refl sound (λ d h. run_program frames fault n statements d volume h)
+run_program frames fault n (s ∷ statements) c volume sound =
+    ran_program frames c s (next frames c s) (run frames fault n statements) volume refl sound
+    (λ d h. run_program frames fault n statements d volume h)
 
-pub program_shape : (frames : List (List ℕ × Point)) (text : List ℕ) (m : Meaning) → AreInVolume frames → program_of frames text ≡ Ok m → IsProgram m
+pub program_shape : (frames : List (List ℕ × Point)) (text : List ℕ) (m : Meaning) → AreInVolume frames → program_of frames text ≡ Ok m
+    → IsProgram m
 program_shape frames text m volume e =
-    let given = run_program frames (text_reading text).fault (length (lines text)) (text_reading text).statements no_statement volume sound_at_start in
-    let same = starts frames text (text_reading text).statements (text_reading text).fault (length (lines text)) no_statement volume refl refl refl refl ∙ e in
+    let given = run_program frames (text_reading text).fault (length (lines text)) (text_reading text).statements no_statement volume
+        sound_at_start in
+    let same = starts frames text (text_reading text).statements (text_reading text).fault (length (lines text)) no_statement volume refl
+        refl refl refl ∙ e in
     rw same at given
 
 -- a stored frame or the machine's
-part_stored : (frames : List (List ℕ × Point)) (name : List ℕ) (o : Option Point) → offset_of frames name ≡ o → FrameIsStored frames (part_at o)
+part_stored : (frames : List (List ℕ × Point)) (name : List ℕ) (o : Option Point) → offset_of frames name ≡ o
+    → FrameIsStored frames (part_at o)
 part_stored frames name None e = tt
 part_stored frames name (Some offset) e = (name, e)
 
@@ -48,51 +59,70 @@ frame_stored : (frames : List (List ℕ × Point)) (o : Option (List ℕ)) → F
 frame_stored frames None = tt
 frame_stored frames (Some name) = part_stored frames name (offset_of frames name) refl
 
-touch_stored : (frames : List (List ℕ × Point)) (tool : Option (List ℕ)) (frame : Frame) (target : Point) (direction : Option Direction) → FrameIsStored frames frame → AllByRecursion (StepIsStored frames) (touch_steps tool frame target direction)
+touch_stored : (frames : List (List ℕ × Point)) (tool : Option (List ℕ)) (frame : Frame) (target : Point) (direction : Option Direction)
+    → FrameIsStored frames frame → AllByRecursion (StepIsStored frames) (touch_steps tool frame target direction)
 touch_stored frames None frame target direction h = tt
 touch_stored frames (Some tool) frame target direction h = (h, tt)
 
-recall_stored : (frames : List (List ℕ × Point)) (name : List ℕ) (o : Option Point) → offset_of frames name ≡ o → AllByRecursion (StepIsStored frames) (recall_steps o)
+recall_stored : (frames : List (List ℕ × Point)) (name : List ℕ) (o : Option Point) → offset_of frames name ≡ o
+    → AllByRecursion (StepIsStored frames) (recall_steps o)
 recall_stored frames name None e = tt
 recall_stored frames name (Some offset) e = ((name, e), tt)
 
-steps_stored : (frames : List (List ℕ × Point)) (above : List Statement) (s : Said) → AllByRecursion (StepIsStored frames) (steps_of frames (context_at frames above) s)
+steps_stored : (frames : List (List ℕ × Point)) (above : List Statement) (s : Said)
+    → AllByRecursion (StepIsStored frames) (steps_of frames (context_at frames above) s)
 steps_stored frames above (said.Goes target) = (tt, tt)
 steps_stored frames above (said.Begins name count) = (tt, tt)
-steps_stored frames above (said.Touches target direction) = touch_stored frames (context_at frames above).tool (context_at frames above).frame target direction (frame_stored frames (nearest frame_said above))
+steps_stored frames above (said.Touches target direction) =
+    touch_stored frames (context_at frames above).tool (context_at frames above).frame target direction
+    (frame_stored frames (nearest frame_said above))
 steps_stored frames above said.Ends = (tt, tt)
 steps_stored frames above (said.Selects name) = (tt, tt)
 steps_stored frames above (said.Recalls name) = recall_stored frames name (offset_of frames name) refl
 steps_stored frames above said.Closes = tt
 steps_stored frames above said.Passes = tt
 
-all_joined : (frames : List (List ℕ × Point)) (front more : List Step) → AllByRecursion (StepIsStored frames) front → AllByRecursion (StepIsStored frames) more → AllByRecursion (StepIsStored frames) (front ++ more)
+all_joined : (frames : List (List ℕ × Point)) (front more : List Step) → AllByRecursion (StepIsStored frames) front
+    → AllByRecursion (StepIsStored frames) more → AllByRecursion (StepIsStored frames) (front ++ more)
 all_joined frames [] more h g = g
 all_joined frames (step ∷ front) more h g = (h.0, all_joined frames front more h.1 g)
 
-front_stored : (frames : List (List ℕ × Point)) (front : List Step) (r : Result (List Step) (Refusal × ℕ)) → AllByRecursion (StepIsStored frames) front → IfOk r (AllByRecursion (StepIsStored frames)) → IfOk (with_front front r) (AllByRecursion (StepIsStored frames))
+front_stored : (frames : List (List ℕ × Point)) (front : List Step) (r : Result (List Step) (Refusal × ℕ))
+    → AllByRecursion (StepIsStored frames) front → IfOk r (AllByRecursion (StepIsStored frames))
+    → IfOk (with_front front r) (AllByRecursion (StepIsStored frames))
 front_stored frames front (Ok more) h g = all_joined frames front more h g
 front_stored frames front (Err e) h g = tt
 
-unless_closed : (frames : List (List ℕ × Point)) (b : Bool) (r : Result (List Step) (Refusal × ℕ)) → IfOk r (AllByRecursion (StepIsStored frames)) → IfOk (cond b (Ok []) r) (AllByRecursion (StepIsStored frames))
+unless_closed : (frames : List (List ℕ × Point)) (b : Bool) (r : Result (List Step) (Refusal × ℕ))
+    → IfOk r (AllByRecursion (StepIsStored frames)) → IfOk (cond b (Ok []) r) (AllByRecursion (StepIsStored frames))
 unless_closed frames true r h = tt
 unless_closed frames false r h = h
 
-continued_stored : (frames : List (List ℕ × Point)) (above : List Statement) (line : ℕ) (r : Result Said Refusal) (behind : Result (List Step) (Refusal × ℕ)) → IfOk behind (AllByRecursion (StepIsStored frames)) → IfOk (continued line r (steps_of frames (context_at frames above)) behind) (AllByRecursion (StepIsStored frames))
+continued_stored : (frames : List (List ℕ × Point)) (above : List Statement) (line : ℕ) (r : Result Said Refusal)
+    (behind : Result (List Step) (Refusal × ℕ)) → IfOk behind (AllByRecursion (StepIsStored frames))
+    → IfOk (continued line r (steps_of frames (context_at frames above)) behind) (AllByRecursion (StepIsStored frames))
 continued_stored frames above line (Err refusal) behind h = tt
-continued_stored frames above line (Ok s) behind h = unless_closed frames (closes s) (with_front (steps_of frames (context_at frames above) s) behind) (front_stored frames (steps_of frames (context_at frames above) s) behind (steps_stored frames above s) h)
+continued_stored frames above line (Ok s) behind h = unless_closed frames (closes s)
+    (with_front (steps_of frames (context_at frames above) s) behind)
+    (front_stored frames (steps_of frames (context_at frames above) s) behind (steps_stored frames above s) h)
 
-all_stored : (frames : List (List ℕ × Point)) (fault : Option TextFault) (n : ℕ) (above statements : List Statement) → IfOk (steps_from frames fault n above statements) (AllByRecursion (StepIsStored frames))
+all_stored : (frames : List (List ℕ × Point)) (fault : Option TextFault) (n : ℕ) (above statements : List Statement)
+    → IfOk (steps_from frames fault n above statements) (AllByRecursion (StepIsStored frames))
 all_stored frames fault n above [] = tt
-all_stored frames fault n above (s ∷ statements) = continued_stored frames above s.line (judged frames (context_at frames above) s) (steps_from frames fault n (s ∷ above) statements) (all_stored frames fault n (s ∷ above) statements)
+all_stored frames fault n above (s ∷ statements) = continued_stored frames above s.line (judged frames (context_at frames above) s)
+    (steps_from frames fault n (s ∷ above) statements) (all_stored frames fault n (s ∷ above) statements)
 
 same_meaning : {m k : Meaning} → ◌≡◌ {A = Result Meaning (Refusal × ℕ)} (Ok m) (Ok k) → m ≡ k
 same_meaning e = cc
 
-meant_stored : (frames : List (List ℕ × Point)) (r : Result (List Step) (Refusal × ℕ)) (m : Meaning) → IfOk r (AllByRecursion (StepIsStored frames)) → meant r ≡ Ok m → AllByRecursion (StepIsStored frames) m.steps
+meant_stored : (frames : List (List ℕ × Point)) (r : Result (List Step) (Refusal × ℕ)) (m : Meaning)
+    → IfOk r (AllByRecursion (StepIsStored frames)) → meant r ≡ Ok m → AllByRecursion (StepIsStored frames) m.steps
 meant_stored frames (Ok steps) m h e = rw (ap (λ (k : Meaning). k.steps) (same_meaning e)) at h
 meant_stored frames (Err f) m h e = absurd cc
 
-pub program_stored : (frames : List (List ℕ × Point)) (text : List ℕ) (m : Meaning) → program_of frames text ≡ Ok m → AllByRecursion (StepIsStored frames) m.steps
+pub program_stored : (frames : List (List ℕ × Point)) (text : List ℕ) (m : Meaning) → program_of frames text ≡ Ok m
+    → AllByRecursion (StepIsStored frames) m.steps
 unfolding meaning_of
-program_stored frames text m e = meant_stored frames (steps_from frames (text_reading text).fault (length (lines text)) [] (text_reading text).statements) m (all_stored frames (text_reading text).fault (length (lines text)) [] (text_reading text).statements) e
+program_stored frames text m e = meant_stored frames (steps_from frames (text_reading text).fault (length (lines text)) []
+    (text_reading text).statements) m (all_stored frames (text_reading text).fault (length (lines text)) [] (text_reading text).statements)
+    e

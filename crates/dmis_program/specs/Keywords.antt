@@ -3,7 +3,8 @@ use Rattle.std.specs.Prelude.{ℕ, Bool, List, [], ◌∷◌, codes, if◌then�
 use Rattle.std.specs.List.{list_any}
 use Rattle.std.specs.Str.{bytes_eq}
 use Rattle.dmis_program.specs.declared.keywords.Keyword.{Keyword}
-use Rattle.dmis_program.specs.declared.keywords.Keyword.TheVariants.{Dmismn, Goto, Meas, Ptmeas, Endmes, Snslct, Recall, Endfil, Units, Mode, Definition, Passed, Unknown}
+use Rattle.dmis_program.specs.declared.keywords.Keyword.TheVariants.{Dmismn, Goto, Meas, Ptmeas, Endmes, Snslct, Recall, Endfil, Units,
+  Mode, Definition, Passed, Unknown}
 
 -- whether a text is one of these
 abbrev pub is_among : List ℕ → List (List ℕ) → Bool
@@ -15,7 +16,8 @@ definitions = codes "FEAT" ∷ (codes "TOL" ∷ (codes "SNSDEF" ∷ []))
 
 -- the other words that command nothing
 abbrev pub passed : List (List ℕ)
-passed = codes "FILNAM" ∷ (codes "FEDRAT" ∷ (codes "ACLRAT" ∷ (codes "SNSET" ∷ (codes "FINPOS" ∷ (codes "PRCOMP" ∷ (codes "WKPLAN" ∷ (codes "TEXT" ∷ (codes "DISPLY" ∷ (codes "OUTPUT" ∷ [])))))))))
+passed = codes "FILNAM" ∷ (codes "FEDRAT" ∷ (codes "ACLRAT"
+    ∷ (codes "SNSET" ∷ (codes "FINPOS" ∷ (codes "PRCOMP" ∷ (codes "WKPLAN" ∷ (codes "TEXT" ∷ (codes "DISPLY" ∷ (codes "OUTPUT" ∷ [])))))))))
 
 -- what a word is
 unfoldable pub keyword_of : List ℕ → Keyword

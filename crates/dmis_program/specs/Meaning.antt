@@ -70,7 +70,8 @@ continued line (Ok said) steps behind = if closes said then Ok [] else with_fron
 -- the steps of the statements from here on, or the first refusal with its line, by those above
 abbrev pub steps_from : List (List ℕ × Point) → Option TextFault → ℕ → List Statement → List Statement → Result (List Step) (Refusal × ℕ)
 steps_from frames fault lines above [] = Err (ended fault (length above) lines)
-steps_from frames fault lines above (s ∷ statements) = continued s.line (judged frames (context_at frames above) s) (steps_of frames (context_at frames above)) (steps_from frames fault lines (s ∷ above) statements)
+steps_from frames fault lines above (s ∷ statements) = continued s.line (judged frames (context_at frames above) s)
+    (steps_of frames (context_at frames above)) (steps_from frames fault lines (s ∷ above) statements)
 
 -- the touches up to the end of the block
 abbrev pub touches_with : Step → List touch.Touch → List touch.Touch

@@ -12,7 +12,8 @@ use Rattle.dmis_program.specs.declared.steps.Step.{Step}
 -- no refusal is due at any of the statements, and none is the end of the program; those above the first are given nearest first
 abbrev pub AreRead : List (List ℕ × Point) → List Statement → List Statement → Type 0
 AreRead frames above [] = Unit {0}
-AreRead frames above (s ∷ statements) = ((said : Said) × (judged frames (context_at frames above) s ≡ Ok said) × (closes said ≡ false)) × AreRead frames (s ∷ above) statements
+AreRead frames above (s ∷ statements) = ((said : Said) × (judged frames (context_at frames above) s ≡ Ok said) × (closes said ≡ false))
+    × AreRead frames (s ∷ above) statements
 
 -- what stands above the statement behind them, nearest first
 abbrev pub above_behind : List Statement → List Statement → List Statement
@@ -27,4 +28,5 @@ steps_said steps (Err refusal) = []
 -- the steps of each statement in order, by the statements above it
 abbrev pub steps_along : List (List ℕ × Point) → List Statement → List Statement → List Step
 steps_along frames above [] = []
-steps_along frames above (s ∷ statements) = steps_said (steps_of frames (context_at frames above)) (judged frames (context_at frames above) s) ++ steps_along frames (s ∷ above) statements
+steps_along frames above (s ∷ statements) = steps_said (steps_of frames (context_at frames above))
+    (judged frames (context_at frames above) s) ++ steps_along frames (s ∷ above) statements

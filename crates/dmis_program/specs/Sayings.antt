@@ -1,5 +1,6 @@
 -- What one statement says by itself, or why it is refused for itself.
-use Rattle.std.specs.Prelude.{ℕ, Bool, true, false, not, ◌&&◌, ◌||◌, List, [], ◌∷◌, codes, Option, Some, None, Result, Ok, Err, is_some, if◌then◌else◌}
+use Rattle.std.specs.Prelude.{ℕ, Bool, true, false, not, ◌&&◌, ◌||◌, List, [], ◌∷◌, codes, Option, Some, None, Result, Ok, Err, is_some,
+  if◌then◌else◌}
 use Rattle.std.specs.List.{list_any}
 use Rattle.std.specs.Str.{bytes_eq}
 use Rattle.dmis_text.specs.Statements.{has_open_text}
@@ -31,7 +32,8 @@ begins_block _ = Err BadArguments
 -- `x,y,z` and `x,y,z,i,j,k`: a touch at a target, from a direction
 abbrev pub touches_at : List (List ℕ) → Result Said Refusal
 touches_at (x ∷ (y ∷ (z ∷ []))) = position_of x y z >>= λ target. Ok (Touches target None)
-touches_at (x ∷ (y ∷ (z ∷ (i ∷ (j ∷ (k ∷ [])))))) = position_of x y z >>= λ target. (direction_of i j k >>= λ direction. Ok (Touches target (Some direction)))
+touches_at (x ∷ (y ∷ (z ∷ (i ∷ (j ∷ (k ∷ [])))))) = position_of x y z >>= λ target.
+    (direction_of i j k >>= λ direction. Ok (Touches target (Some direction)))
 touches_at _ = Err BadArguments
 
 -- the same behind `PTMEAS/CART`

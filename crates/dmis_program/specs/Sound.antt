@@ -34,7 +34,8 @@ SaidBy keyword Passes = Unit {0}
 abbrev pub IsAllowed : List (List ℕ × Point) → Option (List ℕ) → Option Block → ℕ → Said → Type 0
 IsAllowed frames tool block count (Goes target) = IsInVolume target
 IsAllowed frames tool block count (Begins name wanted) = (block ≡ None) × IsName name × (1 ≤ wanted)
-IsAllowed frames tool block count (Touches target direction) = IsInVolume target × IfSome direction IsDirection × ((name : List ℕ) × (tool ≡ Some name)) × ((b : Block) × (block ≡ Some b))
+IsAllowed frames tool block count (Touches target direction) = IsInVolume target × IfSome direction IsDirection
+    × ((name : List ℕ) × (tool ≡ Some name)) × ((b : Block) × (block ≡ Some b))
 IsAllowed frames tool block count Ends = (b : Block) × (block ≡ Some b) × (b.wanted ≤ count)
 IsAllowed frames tool block count (Selects name) = IsName name
 IsAllowed frames tool block count (Recalls name) = (offset : Point) × (offset_of frames name ≡ Some offset)

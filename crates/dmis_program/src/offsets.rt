@@ -52,7 +52,8 @@ impl Frames {
     pub fn add(&mut self, name: Name, point: Point) -> Result<bool, AllocError>
         requires { IsInVolume point }
         ensures is_new { IfOk result (λ added. IsTrue added ↔ (offset_of self.old name ≡ None)) }
-        ensures added { IfOk result (λ added. self.new ≡ (if added then self.old ++ (name, point) ∷ [] else self.old)) }
+        ensures added { IfOk result (λ added. self.new
+            ≡ (if added then self.old ++ (name, point) ∷ [] else self.old)) }
         ensures err { OnErr result (self.new ≡ self.old) }
     {
         if self.get(&name).is_some() {

@@ -39,9 +39,12 @@ impl Model for Program {
 
 /// The next statement of a text, or none at its end.
 fn next_statement(statements: &mut Statements<'_>) -> Result<Option<Statement>, ProgramFault>
-    ensures statement { IfOk result (λ given. IfSome given (λ s. statements.old.left ≡ s ∷ statements.new.left)) }
-    ensures end { IfOk result (λ given. IfNone given ((statements.old.left ≡ []) × (statements.old.fault ≡ None) × (statements.new ≡ statements.old))) }
-    ensures due { IfErr result (λ fault. (text : TextFault) × (fault ≡ text_refused text) × IsDue statements.old text) }
+    ensures statement { IfOk result (λ given. IfSome given
+        (λ s. statements.old.left ≡ s ∷ statements.new.left)) }
+    ensures end { IfOk result (λ given. IfNone given ((statements.old.left ≡ [])
+        × (statements.old.fault ≡ None) × (statements.new ≡ statements.old))) }
+    ensures due { IfErr result (λ fault. (text : TextFault) × (fault ≡ text_refused text)
+        × IsDue statements.old text) }
     ensures fault { statements.new.fault ≡ statements.old.fault }
     ensures lines { statements.new.lines ≡ statements.old.lines }
 {
@@ -68,7 +71,8 @@ impl Program {
     /// is refused before the statement that reaches it. Without an `ENDFIL` the text is truncated, at its last line.
     pub fn read(alloc: Global, bytes: &[u8], frames: &Frames) -> Result<Program, ProgramFault>
         ensures meaning { GivesProgram result (program_of frames.now bytes.now) }
-        ensures stored { IfOk result (λ program. AllByRecursion (StepIsStored frames.now) program.steps) }
+        ensures stored { IfOk result (λ program. AllByRecursion (StepIsStored frames.now)
+            program.steps) }
     {
         // Opens the frames: that their zero points are in the volume holds from here on.
         let _known = &frames.entries;

@@ -1,5 +1,6 @@
 -- Blanks at the ends of a list of bytes, and the `$` that continues a line.
-use Rattle.std.proofs.Common.{◌≡◌, ℕ, zero, suc, ◌+◌, ◌-◌, ◌<◌, ◌≤◌, Bool, true, false, ◌&&◌, ◌||◌, cond, eqb, List, [], ◌∷◌, ◌++◌, length, take, drop, get_or, refl, sym, ap, ◌∙◌, arith, length-append, append_assoc}
+use Rattle.std.proofs.Common.{◌≡◌, ℕ, zero, suc, ◌+◌, ◌-◌, ◌<◌, ◌≤◌, Bool, true, false, ◌&&◌, ◌||◌, cond, eqb, List, [], ◌∷◌, ◌++◌, length,
+  take, drop, get_or, refl, sym, ap, ◌∙◌, arith, length-append, append_assoc}
 use Rattle.std.proofs.lemmas.Bool.{and_right, and_left, both_ways, ne_eqb}
 use Rattle.std.proofs.lemmas.List.Folds.{list_all_at}
 use Rattle.dmis_text.specs.Texts.{turned, inside_after, is_blank, all_blank, without_end_blanks, is_continued, without_mark}
@@ -12,7 +13,8 @@ before_tail c cs zero h p = absurd (omega arith)
 before_tail c cs (suc k) h p = let e : suc k - 1 ≡ k = omega arith in rw e h
 
 -- what stands up to the last byte that is not blank, by its place
-pub kept_cut : (xs : List ℕ) (n : ℕ) → n ≤ length xs → all_blank (drop n xs) ≡ true → (0 < n → is_blank (get_or xs (n - 1) 0) ≡ false) → take n xs ≡ without_end_blanks xs
+pub kept_cut : (xs : List ℕ) (n : ℕ) → n ≤ length xs → all_blank (drop n xs) ≡ true → (0 < n → is_blank (get_or xs (n - 1) 0) ≡ false)
+    → take n xs ≡ without_end_blanks xs
 kept_cut [] zero within blanks last = refl
 kept_cut [] (suc m) within blanks last = refl
 kept_cut (c ∷ cs) zero within blanks last = rw blanks
@@ -44,7 +46,8 @@ pub kept_last : (xs front : List ℕ) (c : ℕ) → without_end_blanks xs ≡ fr
 kept_last [] front c e = absurd (omega (arith, ap length e, length-append front (c ∷ [])))
 kept_last (x ∷ xs) front c e = go (λ (ys : List ℕ) h. kept_last xs ys c h) front (all_blank (x ∷ xs)) refl e
   where
-    go : ((ys : List ℕ) → without_end_blanks xs ≡ ys ++ c ∷ [] → is_blank c ≡ false) → (front : List ℕ) (t : Bool) → all_blank (x ∷ xs) ≡ t → cond t [] (x ∷ without_end_blanks xs) ≡ front ++ c ∷ [] → is_blank c ≡ false
+    go : ((ys : List ℕ) → without_end_blanks xs ≡ ys ++ c ∷ [] → is_blank c ≡ false) → (front : List ℕ) (t : Bool) → all_blank (x ∷ xs) ≡ t
+        → cond t [] (x ∷ without_end_blanks xs) ≡ front ++ c ∷ [] → is_blank c ≡ false
     go rest front true h e = absurd (omega (arith, ap length e, length-append front (c ∷ [])))
     go rest [] false h e =
         let first : x ≡ c = cc in
@@ -57,24 +60,30 @@ not_all_blank : (front blanks : List ℕ) (c : ℕ) → is_blank c ≡ false →
 not_all_blank [] blanks c h = and_left (is_blank c) (all_blank blanks) h
 not_all_blank (x ∷ xs) blanks c h = and_right (is_blank x) (all_blank (xs ++ c ∷ blanks)) (not_all_blank xs blanks c h)
 
-is_continued_last : (front blanks : List ℕ) (c : ℕ) → is_blank c ≡ false → all_blank blanks ≡ true → is_continued (front ++ c ∷ blanks) ≡ eqb c 36
+is_continued_last : (front blanks : List ℕ) (c : ℕ) → is_blank c ≡ false → all_blank blanks ≡ true
+    → is_continued (front ++ c ∷ blanks) ≡ eqb c 36
 is_continued_last [] blanks c h b = rw b
 is_continued_last (x ∷ xs) blanks c h b = rw (not_all_blank xs blanks c h) (is_continued_last xs blanks c h b)
 
-without_mark_last : (front blanks : List ℕ) (c : ℕ) → is_blank c ≡ false → all_blank blanks ≡ true → without_mark (front ++ c ∷ blanks) ≡ front ++ blanks
+without_mark_last : (front blanks : List ℕ) (c : ℕ) → is_blank c ≡ false → all_blank blanks ≡ true
+    → without_mark (front ++ c ∷ blanks) ≡ front ++ blanks
 without_mark_last [] blanks c h b = rw b
-without_mark_last (x ∷ xs) blanks c h b = rw (not_all_blank xs blanks c h) (ap (λ (ys : List ℕ). x ∷ ys) (without_mark_last xs blanks c h b))
+without_mark_last (x ∷ xs) blanks c h b = rw (not_all_blank xs blanks c h)
+    (ap (λ (ys : List ℕ). x ∷ ys) (without_mark_last xs blanks c h b))
 
 -- a line whose last byte that is not blank is `$` goes on, and loses that byte alone
 pub role_continued : (front blanks : List ℕ) → all_blank blanks ≡ true → content_role (front ++ 36 ∷ blanks) ≡ Continued (front ++ blanks)
-role_continued front blanks b = rw (not_all_blank front blanks 36 refl, is_continued_last front blanks 36 refl b, without_mark_last front blanks 36 refl b)
+role_continued front blanks b = rw (not_all_blank front blanks 36 refl, is_continued_last front blanks 36 refl b,
+    without_mark_last front blanks 36 refl b)
 
 -- a line whose last byte that is not blank is another ends its statement
-pub role_last : (front blanks : List ℕ) (c : ℕ) → is_blank c ≡ false → (c ≡ 36 → ⊥) → all_blank blanks ≡ true → content_role (front ++ c ∷ blanks) ≡ Last (front ++ c ∷ blanks)
+pub role_last : (front blanks : List ℕ) (c : ℕ) → is_blank c ≡ false → (c ≡ 36 → ⊥) → all_blank blanks ≡ true
+    → content_role (front ++ c ∷ blanks) ≡ Last (front ++ c ∷ blanks)
 role_last front blanks c h other b = rw (not_all_blank front blanks c h, is_continued_last front blanks c h b, ne_eqb c 36 other)
 
 -- a `$` turns nothing
-pub inside_after_mark : (inside : Bool) (front blanks : List ℕ) → inside_after inside (front ++ 36 ∷ blanks) ≡ inside_after inside (front ++ blanks)
+pub inside_after_mark : (inside : Bool) (front blanks : List ℕ)
+    → inside_after inside (front ++ 36 ∷ blanks) ≡ inside_after inside (front ++ blanks)
 inside_after_mark inside [] blanks = refl
 inside_after_mark inside (x ∷ xs) blanks = inside_after_mark (turned inside x) xs blanks
 

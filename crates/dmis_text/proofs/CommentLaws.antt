@@ -1,5 +1,6 @@
 -- What stands before a comment, and which bytes may stand, place by place.
-use Rattle.std.proofs.Common.{◌≡◌, ℕ, zero, suc, ◌<◌, Bool, true, false, ◌&&◌, ◌||◌, cond, leb, List, [], ◌∷◌, ◌++◌, length, take, drop, refl, sym, ap, ◌∙◌, inl, inr, arith}
+use Rattle.std.proofs.Common.{◌≡◌, ℕ, zero, suc, ◌<◌, Bool, true, false, ◌&&◌, ◌||◌, cond, leb, List, [], ◌∷◌, ◌++◌, length, take, drop,
+  refl, sym, ap, ◌∙◌, inl, inr, arith}
 use Rattle.std.specs.Prelude.{◌↔◌, ◌⊎◌, slice_index}
 use Rattle.std.specs.List.{list_all}
 use Rattle.std.proofs.lemmas.Bool.{and_parts, and_from, le-leb, lt-leb}
@@ -13,7 +14,8 @@ nothing_before inside [] e = refl
 nothing_before inside (c ∷ cs) e = rw e
 
 -- what fits is what stands before the comment
-content_only : (inside : Bool) (content comment : List ℕ) → ((k : ℕ) → k < length content → begins_comment (inside_after inside (take k (content ++ comment))) (drop k (content ++ comment)) ≡ false)
+content_only : (inside : Bool) (content comment : List ℕ) → ((k : ℕ) → k < length content
+    → begins_comment (inside_after inside (take k (content ++ comment))) (drop k (content ++ comment)) ≡ false)
     → (comment ≡ []) ⊎ (begins_comment (inside_after inside content) comment ≡ true) → content ≡ before_comment inside (content ++ comment)
 content_only inside [] comment none (inl e) = rw e
 content_only inside [] comment none (inr e) = sym (nothing_before inside comment e)
@@ -32,9 +34,12 @@ content_there inside (c ∷ cs) = go (content_there (turned inside c) cs) (begin
     at_more content e h zero l = e
     at_more content e h (suc k) l = h k (omega arith)
 
-    go : IsContent (turned inside c) cs (before_comment (turned inside c) cs) → (t : Bool) → begins_comment inside (c ∷ cs) ≡ t → IsContent inside (c ∷ cs) (before_comment inside (c ∷ cs))
-    go rest true e = rw (nothing_before inside (c ∷ cs) e) (record { comment = c ∷ cs; parts = refl; none = λ k h. absurd (omega arith); ends = inr e })
-    go rest false e = rw e (record { comment = rest.comment; parts = ap (λ (xs : List ℕ). c ∷ xs) rest.parts; none = at_more (before_comment (turned inside c) cs) e rest.none; ends = rest.ends })
+    go : IsContent (turned inside c) cs (before_comment (turned inside c) cs) → (t : Bool) → begins_comment inside (c ∷ cs) ≡ t
+        → IsContent inside (c ∷ cs) (before_comment inside (c ∷ cs))
+    go rest true e = rw (nothing_before inside (c ∷ cs) e) (record { comment = c ∷ cs; parts = refl; none = λ k h. absurd (omega arith);
+        ends = inr e })
+    go rest false e = rw e (record { comment = rest.comment; parts = ap (λ (xs : List ℕ). c ∷ xs) rest.parts;
+        none = at_more (before_comment (turned inside c) cs) e rest.none; ends = rest.ends })
 
 -- the content of a line is what stands before its comment, and nothing else
 pub content_is : (inside : Bool) (line content : List ℕ) → IsContent inside line content ↔ (content ≡ before_comment inside line)
@@ -44,14 +49,17 @@ content_is inside line content = (
 )
 
 -- each byte of a list passes
-all_pass : (bytes : List ℕ) → list_all (may_stand true) bytes ≡ true → (k : ℕ) → k < length bytes → may_stand true (slice_index bytes k) ≡ true
+all_pass : (bytes : List ℕ) → list_all (may_stand true) bytes ≡ true → (k : ℕ) → k < length bytes
+    → may_stand true (slice_index bytes k) ≡ true
 all_pass [] h k l = absurd (omega arith)
 all_pass (c ∷ cs) h zero l = (and_parts (may_stand true c) (list_all (may_stand true) cs) h).0
 all_pass (c ∷ cs) h (suc k) l = all_pass cs (and_parts (may_stand true c) (list_all (may_stand true) cs) h).1 k (omega arith)
 
-pass_all : (bytes : List ℕ) → ((k : ℕ) → k < length bytes → may_stand true (slice_index bytes k) ≡ true) → list_all (may_stand true) bytes ≡ true
+pass_all : (bytes : List ℕ) → ((k : ℕ) → k < length bytes → may_stand true (slice_index bytes k) ≡ true)
+    → list_all (may_stand true) bytes ≡ true
 pass_all [] h = refl
-pass_all (c ∷ cs) h = and_from (may_stand true c) (list_all (may_stand true) cs) (h 0 (omega arith)) (pass_all cs (λ k l. h (suc k) (omega arith)))
+pass_all (c ∷ cs) h = and_from (may_stand true c) (list_all (may_stand true) cs) (h 0 (omega arith))
+    (pass_all cs (λ k l. h (suc k) (omega arith)))
 
 stands_or : (t : Bool) (c : ℕ) → may_stand (t || true) c ≡ may_stand true c
 stands_or true c = refl
@@ -64,7 +72,8 @@ stands_at false c = refl
 leb_suc : (n k : ℕ) → leb (suc n) (suc k) ≡ leb n k
 leb_suc n k = grind (arith, nat_tests)
 
-in_comment : (inside : Bool) (line : List ℕ) (k : ℕ) → may_stand true (slice_index line k) ≡ may_stand (inside_after inside (take k line) || leb 0 k) (slice_index line k)
+in_comment : (inside : Bool) (line : List ℕ) (k : ℕ) → may_stand true (slice_index line k)
+    ≡ may_stand (inside_after inside (take k line) || leb 0 k) (slice_index line k)
 in_comment inside line k = rw (le-leb 0 k (omega arith)) (sym (stands_or (inside_after inside (take k line)) (slice_index line k)))
 
 at_first : (inside : Bool) (n c : ℕ) (cs : List ℕ) → may_stand inside c ≡ may_stand (inside || leb (suc n) 0) c
@@ -75,12 +84,14 @@ each_stands inside [] h = λ k l. absurd (omega arith)
 each_stands inside (c ∷ cs) h = go (λ g. each_stands (turned inside c) cs g) (begins_comment inside (c ∷ cs)) refl h
   where
     later : may_stand inside c ≡ true → EachStands (turned inside c) cs → (k : ℕ) → k < length (c ∷ cs)
-        → may_stand (inside_after inside (take k (c ∷ cs)) || leb (suc (length (before_comment (turned inside c) cs))) k) (slice_index (c ∷ cs) k) ≡ true
+        → may_stand (inside_after inside (take k (c ∷ cs)) || leb (suc (length (before_comment (turned inside c) cs))) k)
+        (slice_index (c ∷ cs) k) ≡ true
     later first rest zero l = sym (at_first inside (length (before_comment (turned inside c) cs)) c cs) ∙ first
     later first rest (suc k) l = rw (leb_suc (length (before_comment (turned inside c) cs)) k) (rest k (omega arith))
 
     go : (is_clean (turned inside c) cs ≡ true → EachStands (turned inside c) cs) → (t : Bool) → begins_comment inside (c ∷ cs) ≡ t
-        → cond t (list_all (may_stand true) (c ∷ cs)) (may_stand inside c && is_clean (turned inside c) cs) ≡ true → EachStands inside (c ∷ cs)
+        → cond t (list_all (may_stand true) (c ∷ cs)) (may_stand inside c && is_clean (turned inside c) cs) ≡ true
+        → EachStands inside (c ∷ cs)
     go rest true e h = λ k l. rw e (sym (in_comment inside (c ∷ cs) k) ∙ all_pass (c ∷ cs) h k l)
     go rest false e h =
         let both = and_parts (may_stand inside c) (is_clean (turned inside c) cs) h in
@@ -90,7 +101,8 @@ pub stands_each : (inside : Bool) (line : List ℕ) → EachStands inside line �
 stands_each inside [] h = refl
 stands_each inside (c ∷ cs) h = go (λ g. stands_each (turned inside c) cs g) (begins_comment inside (c ∷ cs)) refl
   where
-    go : (EachStands (turned inside c) cs → is_clean (turned inside c) cs ≡ true) → (t : Bool) → begins_comment inside (c ∷ cs) ≡ t → is_clean inside (c ∷ cs) ≡ true
+    go : (EachStands (turned inside c) cs → is_clean (turned inside c) cs ≡ true) → (t : Bool) → begins_comment inside (c ∷ cs) ≡ t
+        → is_clean inside (c ∷ cs) ≡ true
     go rest true e = rw e (pass_all (c ∷ cs) (λ k l. in_comment inside (c ∷ cs) k ∙ rw e at (h k l)))
     go rest false e = rw e (and_from (may_stand inside c) (is_clean (turned inside c) cs)
         (at_first inside (length (before_comment (turned inside c) cs)) c cs ∙ rw e at (h 0 (omega arith)))

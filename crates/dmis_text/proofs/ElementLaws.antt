@@ -1,5 +1,6 @@
 -- Folding, trimming and open texts.
-use Rattle.std.proofs.Common.{◌≡◌, ℕ, zero, suc, ◌-◌, Bool, true, false, eqb, List, [], ◌∷◌, ◌++◌, length, take, drop, get_or, map, refl, sym, ap, ◌∙◌, arith, length-append}
+use Rattle.std.proofs.Common.{◌≡◌, ℕ, zero, suc, ◌-◌, Bool, true, false, eqb, List, [], ◌∷◌, ◌++◌, length, take, drop, get_or, map, refl,
+  sym, ap, ◌∙◌, arith, length-append}
 use Rattle.std.specs.Prelude.{◌↔◌, slice_index, if◌then◌else◌}
 use Rattle.std.specs.Char.{to_ascii_uppercase}
 use Rattle.std.proofs.lemmas.Bool.{and_parts, and_from, false≢true, ne_eqb}
@@ -25,7 +26,8 @@ nothing_folded true = refl
 nothing_folded false = refl
 
 -- a byte in a text stays, and any other is folded
-pub folded_at : (inside : Bool) (bytes : List ℕ) (k : ℕ) → slice_index (folded inside bytes) k ≡ (if inside_after inside (take k bytes) then slice_index bytes k else to_ascii_uppercase (slice_index bytes k))
+pub folded_at : (inside : Bool) (bytes : List ℕ) (k : ℕ) → slice_index (folded inside bytes) k
+    ≡ (if inside_after inside (take k bytes) then slice_index bytes k else to_ascii_uppercase (slice_index bytes k))
 folded_at inside [] k = nothing_folded (inside_after inside (take k []))
 folded_at inside (c ∷ cs) zero = refl
 folded_at inside (c ∷ cs) (suc k) = folded_at (turned inside c) cs k
@@ -40,7 +42,8 @@ turned-folded false c = rw (quote_kept c)
 
 inside_after-folded : (inside : Bool) (bytes : List ℕ) → inside_after inside (folded inside bytes) ≡ inside_after inside bytes
 inside_after-folded inside [] = refl
-inside_after-folded inside (c ∷ cs) = ap (λ (t : Bool). inside_after t (folded (turned inside c) cs)) (turned-folded inside c) ∙ inside_after-folded (turned inside c) cs
+inside_after-folded inside (c ∷ cs) = ap (λ (t : Bool). inside_after t (folded (turned inside c) cs)) (turned-folded inside c)
+    ∙ inside_after-folded (turned inside c) cs
 
 not_quote : (c : ℕ) → is_blank c ≡ true → c ≡ 39 → ⊥
 not_quote c h e = false≢true (rw e at h)
@@ -56,38 +59,48 @@ inside_after_blanks inside (c ∷ cs) h =
     turned_blank c h = rw (ne_eqb c 39 (λ e. not_quote c h e))
 
 -- what is taken away in front are blanks
-front_blanks : (bytes : List ℕ) → (before : List ℕ) × (bytes ≡ before ++ without_front_blanks bytes) × (all_blank before ≡ true) × (is_blank (slice_index (without_front_blanks bytes) 0) ≡ false)
+front_blanks : (bytes : List ℕ) → (before : List ℕ) × (bytes ≡ before ++ without_front_blanks bytes) × (all_blank before ≡ true)
+    × (is_blank (slice_index (without_front_blanks bytes) 0) ≡ false)
 front_blanks [] = ([], refl, refl, refl)
 front_blanks (c ∷ cs) = go (front_blanks cs) (is_blank c) refl
   where
-    go : (before : List ℕ) × (cs ≡ before ++ without_front_blanks cs) × (all_blank before ≡ true) × (is_blank (slice_index (without_front_blanks cs) 0) ≡ false)
+    go : (before : List ℕ) × (cs ≡ before ++ without_front_blanks cs) × (all_blank before ≡ true)
+        × (is_blank (slice_index (without_front_blanks cs) 0) ≡ false)
         → (t : Bool) → is_blank c ≡ t
-        → (before : List ℕ) × (c ∷ cs ≡ before ++ without_front_blanks (c ∷ cs)) × (all_blank before ≡ true) × (is_blank (slice_index (without_front_blanks (c ∷ cs)) 0) ≡ false)
+        → (before : List ℕ) × (c ∷ cs ≡ before ++ without_front_blanks (c ∷ cs)) × (all_blank before ≡ true)
+        × (is_blank (slice_index (without_front_blanks (c ∷ cs)) 0) ≡ false)
     go rest true e = rw e (c ∷ rest.0, ap (λ (xs : List ℕ). c ∷ xs) rest.1, and_from (is_blank c) (all_blank rest.0) e rest.2, rest.3)
     go rest false e = rw e ([], refl, refl, e)
 
 -- the last byte of a list with one more in front
-last_of_more : (c : ℕ) (cs : List ℕ) → (cs ≡ [] → is_blank c ≡ false) → is_blank (slice_index cs (length cs - 1)) ≡ false → is_blank (slice_index (c ∷ cs) (length (c ∷ cs) - 1)) ≡ false
+last_of_more : (c : ℕ) (cs : List ℕ) → (cs ≡ [] → is_blank c ≡ false) → is_blank (slice_index cs (length cs - 1)) ≡ false
+    → is_blank (slice_index (c ∷ cs) (length (c ∷ cs) - 1)) ≡ false
 last_of_more c [] alone last = alone refl
 last_of_more c (d ∷ ds) alone last = let e : length (c ∷ d ∷ ds) - 1 ≡ suc (length (d ∷ ds) - 1) = omega arith in rw e last
 
 -- and behind
-end_blanks : (bytes : List ℕ) → (behind : List ℕ) × (bytes ≡ without_end_blanks bytes ++ behind) × (all_blank behind ≡ true) × (is_blank (slice_index (without_end_blanks bytes) (length (without_end_blanks bytes) - 1)) ≡ false)
+end_blanks : (bytes : List ℕ) → (behind : List ℕ) × (bytes ≡ without_end_blanks bytes ++ behind) × (all_blank behind ≡ true)
+    × (is_blank (slice_index (without_end_blanks bytes) (length (without_end_blanks bytes) - 1)) ≡ false)
 end_blanks [] = ([], refl, refl, refl)
 end_blanks (c ∷ cs) = go (end_blanks cs) (all_blank (c ∷ cs)) refl
   where
-    alone : (behind : List ℕ) → cs ≡ without_end_blanks cs ++ behind → all_blank behind ≡ true → all_blank (c ∷ cs) ≡ false → without_end_blanks cs ≡ [] → is_blank c ≡ false
+    alone : (behind : List ℕ) → cs ≡ without_end_blanks cs ++ behind → all_blank behind ≡ true → all_blank (c ∷ cs) ≡ false
+        → without_end_blanks cs ≡ [] → is_blank c ≡ false
     alone behind parts blank some none =
         let blanks : all_blank cs ≡ true = rw (parts ∙ ap (λ (xs : List ℕ). xs ++ behind) none) blank in
         first_not_blank c cs some blanks
 
-    go : (behind : List ℕ) × (cs ≡ without_end_blanks cs ++ behind) × (all_blank behind ≡ true) × (is_blank (slice_index (without_end_blanks cs) (length (without_end_blanks cs) - 1)) ≡ false)
+    go : (behind : List ℕ) × (cs ≡ without_end_blanks cs ++ behind) × (all_blank behind ≡ true)
+        × (is_blank (slice_index (without_end_blanks cs) (length (without_end_blanks cs) - 1)) ≡ false)
         → (t : Bool) → all_blank (c ∷ cs) ≡ t
-        → (behind : List ℕ) × (c ∷ cs ≡ without_end_blanks (c ∷ cs) ++ behind) × (all_blank behind ≡ true) × (is_blank (slice_index (without_end_blanks (c ∷ cs)) (length (without_end_blanks (c ∷ cs)) - 1)) ≡ false)
+        → (behind : List ℕ) × (c ∷ cs ≡ without_end_blanks (c ∷ cs) ++ behind) × (all_blank behind ≡ true)
+        × (is_blank (slice_index (without_end_blanks (c ∷ cs)) (length (without_end_blanks (c ∷ cs)) - 1)) ≡ false)
     go rest true e = rw e (c ∷ cs, refl, e, refl)
-    go rest false e = rw e (rest.0, ap (λ (xs : List ℕ). c ∷ xs) rest.1, rest.2, last_of_more c (without_end_blanks cs) (alone rest.0 rest.1 rest.2 e) rest.3)
+    go rest false e = rw e (rest.0, ap (λ (xs : List ℕ). c ∷ xs) rest.1, rest.2,
+        last_of_more c (without_end_blanks cs) (alone rest.0 rest.1 rest.2 e) rest.3)
 
-first_of_front : (bytes kept behind : List ℕ) → bytes ≡ kept ++ behind → is_blank (slice_index bytes 0) ≡ false → is_blank (slice_index kept 0) ≡ false
+first_of_front : (bytes kept behind : List ℕ) → bytes ≡ kept ++ behind → is_blank (slice_index bytes 0) ≡ false
+    → is_blank (slice_index kept 0) ≡ false
 first_of_front bytes [] behind e h = refl
 first_of_front bytes (k ∷ ks) behind e h = rw e at h
 
@@ -111,15 +124,18 @@ past_blanks (c ∷ cs) rest h =
     let both = and_parts (is_blank c) (all_blank cs) h in
     rw both.0 (past_blanks cs rest both.1)
 
-trimmed_only : (kept behind : List ℕ) → all_blank behind ≡ true → is_blank (slice_index kept 0) ≡ false → is_blank (slice_index kept (length kept - 1)) ≡ false → kept ≡ without_end_blanks (without_front_blanks (kept ++ behind))
+trimmed_only : (kept behind : List ℕ) → all_blank behind ≡ true → is_blank (slice_index kept 0) ≡ false
+    → is_blank (slice_index kept (length kept - 1)) ≡ false → kept ≡ without_end_blanks (without_front_blanks (kept ++ behind))
 trimmed_only [] behind blank first last =
     let none : without_front_blanks behind ≡ [] = ap without_front_blanks (sym (append-nil behind)) ∙ past_blanks behind [] blank in
     rw none
 trimmed_only (k ∷ ks) behind blank first last =
     let kept = k ∷ ks in
-    let at_end : is_blank (get_or (kept ++ behind) (length kept - 1) 0) ≡ false = rw (get_or_append_left kept behind 0 (length kept - 1) (omega arith)) last in
+    let at_end : is_blank (get_or (kept ++ behind) (length kept - 1) 0) ≡ false =
+        rw (get_or_append_left kept behind 0 (length kept - 1) (omega arith)) last in
     let blanks : all_blank (drop (length kept) (kept ++ behind)) ≡ true = rw (drop_at kept behind (length kept) refl) blank in
-    rw first (sym (take_at kept behind (length kept) refl) ∙ kept_cut (kept ++ behind) (length kept) (omega (arith, length-append kept behind)) blanks (λ _. at_end))
+    rw first (sym (take_at kept behind (length kept) refl) ∙ kept_cut (kept ++ behind) (length kept)
+        (omega (arith, length-append kept behind)) blanks (λ _. at_end))
 
 -- bytes without blanks at both ends, and no others
 pub trimmed_is : (bytes kept : List ℕ) → IsTrimmed bytes kept ↔ (kept ≡ without_end_blanks (without_front_blanks bytes))
@@ -138,20 +154,25 @@ open_element bytes =
     ∙ ap (λ (b : Bool). inside_after b (kept ++ t.behind)) (inside_after_blanks false t.before t.blank_before)
     ∙ inside_after-append false kept t.behind ∙ inside_after_blanks (inside_after false kept) t.behind t.blank_behind)
 
-open_behind_cut : (mark : ℕ) (text front behind : List ℕ) → turned false mark ≡ false → IsCut mark text front behind → inside_after false text ≡ inside_after false behind
+open_behind_cut : (mark : ℕ) (text front behind : List ℕ) → turned false mark ≡ false → IsCut mark text front behind
+    → inside_after false text ≡ inside_after false behind
 open_behind_cut mark text front behind plain cut =
     ap (inside_after false) cut.parts ∙ inside_after-append false front (mark ∷ behind)
     ∙ ap (λ (b : Bool). inside_after b (mark ∷ behind)) cut.closed ∙ ap (λ (b : Bool). inside_after b behind) plain
 
-open_pieces : (text word : List ℕ) (parts : List (List ℕ)) → IsSplit text parts → inside_after false (last_element word (map element_of parts)) ≡ inside_after false text
+open_pieces : (text word : List ℕ) (parts : List (List ℕ)) → IsSplit text parts
+    → inside_after false (last_element word (map element_of parts)) ≡ inside_after false text
 open_pieces text word [] h = absurd h
 open_pieces text word (piece ∷ []) h = open_element piece ∙ ap (inside_after false) (sym h.0)
-open_pieces text word (piece ∷ next ∷ more) h = open_pieces h.0 (element_of piece) (next ∷ more) h.2 ∙ sym (open_behind_cut 44 text piece h.0 refl h.1)
+open_pieces text word (piece ∷ next ∷ more) h = open_pieces h.0 (element_of piece) (next ∷ more) h.2
+    ∙ sym (open_behind_cut 44 text piece h.0 refl h.1)
 
 open_says : (line : ℕ) (text : List ℕ) (s : Statement) → Says line text s → has_open_text s ≡ inside_after false text
 open_says line text _ (word_alone none) = open_element text
-open_says line text _ (with_params word behind params cut none split) = open_pieces behind (element_of word) params split ∙ sym (open_behind_cut 47 text word behind refl cut)
-open_says line text _ (with_label head behind label word params cut named split) = open_pieces behind (element_of word) params split ∙ sym (open_behind_cut 47 text head behind refl cut)
+open_says line text _ (with_params word behind params cut none split) = open_pieces behind (element_of word) params split
+    ∙ sym (open_behind_cut 47 text word behind refl cut)
+open_says line text _ (with_label head behind label word params cut named split) = open_pieces behind (element_of word) params split
+    ∙ sym (open_behind_cut 47 text head behind refl cut)
 
 -- a statement has an open text where its joined text has one
 pub open_is : (line : ℕ) (text : List ℕ) → has_open_text (statement_of line text) ≡ inside_after false text

@@ -1,5 +1,6 @@
 -- Lines are read as they were written.
-use Rattle.std.proofs.Common.{◌≡◌, ℕ, zero, suc, ◌+◌, ◌-◌, Bool, true, false, not, cond, eqb, List, [], ◌∷◌, ◌++◌, length, refl, ap, ◌∙◌, arith, length-append, append_assoc}
+use Rattle.std.proofs.Common.{◌≡◌, ℕ, zero, suc, ◌+◌, ◌-◌, Bool, true, false, not, cond, eqb, List, [], ◌∷◌, ◌++◌, length, refl, ap, ◌∙◌,
+  arith, length-append, append_assoc}
 use Rattle.std.specs.Prelude.{slice_index}
 use Rattle.std.specs.List.{list_all, slice_split, onto_first, join_with_byte, flat_map}
 use Rattle.std.specs.Str.Lines.{lines, lines_of_parts, strip_carriage_return}
@@ -11,7 +12,8 @@ use Rattle.dmis_text.specs.Contents.{lacks, is_line}
 use Rattle.dmis_text.proofs.LineEnds.{lines_of_more}
 
 -- a list free of the byte is a part of its own before it
-part_before : (bytes rest : List ℕ) → lacks 10 bytes ≡ true → slice_split (λ b. eqb b 10) (bytes ++ 10 ∷ rest) ≡ bytes ∷ slice_split (λ b. eqb b 10) rest
+part_before : (bytes rest : List ℕ) → lacks 10 bytes ≡ true
+    → slice_split (λ b. eqb b 10) (bytes ++ 10 ∷ rest) ≡ bytes ∷ slice_split (λ b. eqb b 10) rest
 part_before [] rest h = refl
 part_before (c ∷ cs) rest h =
     let both = and_parts (not (eqb c 10)) (lacks 10 cs) h in
@@ -44,11 +46,13 @@ lines_written [] h = refl
 lines_written (l ∷ ls) h =
     let both = and_parts (is_line l) (list_all is_line ls) h in
     let free = and_parts (lacks 13 l) (lacks 10 l) both.0 in
-    rw (append_assoc l (10 ∷ []) (flat_map (λ (l : List ℕ). l ++ 10 ∷ []) ls), first_line l (flat_map (λ (l : List ℕ). l ++ 10 ∷ []) ls) free.1, strip_none l free.0)
+    rw (append_assoc l (10 ∷ []) (flat_map (λ (l : List ℕ). l ++ 10 ∷ []) ls),
+        first_line l (flat_map (λ (l : List ℕ). l ++ 10 ∷ []) ls) free.1, strip_none l free.0)
     (ap (λ (xs : List (List ℕ)). l ∷ xs) (lines_written ls both.1))
 
 -- or with CR and LF
-pub lines_written_with_return : (ls : List (List ℕ)) → list_all is_line ls ≡ true → lines (flat_map (λ (l : List ℕ). l ++ 13 ∷ 10 ∷ []) ls) ≡ ls
+pub lines_written_with_return : (ls : List (List ℕ)) → list_all is_line ls ≡ true
+    → lines (flat_map (λ (l : List ℕ). l ++ 13 ∷ 10 ∷ []) ls) ≡ ls
 lines_written_with_return [] h = refl
 lines_written_with_return (l ∷ ls) h =
     let both = and_parts (is_line l) (list_all is_line ls) h in
@@ -59,7 +63,8 @@ lines_written_with_return (l ∷ ls) h =
     (ap (λ (xs : List (List ℕ)). l ∷ xs) (lines_written_with_return ls both.1))
 
 -- the parts of a list that lacks a byte lack it
-onto_lacks : (c : ℕ) (parts : List (List ℕ)) → not (eqb c 13) ≡ true → list_all (lacks 13) parts ≡ true → list_all (lacks 13) (onto_first c parts) ≡ true
+onto_lacks : (c : ℕ) (parts : List (List ℕ)) → not (eqb c 13) ≡ true → list_all (lacks 13) parts ≡ true
+    → list_all (lacks 13) (onto_first c parts) ≡ true
 onto_lacks c [] e h = rw e
 onto_lacks c (p ∷ ps) e h = rw e h
 
@@ -81,7 +86,8 @@ lines_of_all (p ∷ ps) h =
     let both = and_parts (lacks 13 p) (list_all (lacks 13) ps) h in
     lines_of_more p (ps ++ [] ∷ []) (length ps) (length_push ps []) ∙ rw (strip_none p both.0, lines_of_all ps both.1)
 
-onto_append : (c : ℕ) (parts more : List (List ℕ)) (n : ℕ) → length parts ≡ n + 1 → onto_first c (parts ++ more) ≡ onto_first c parts ++ more
+onto_append : (c : ℕ) (parts more : List (List ℕ)) (n : ℕ) → length parts ≡ n + 1
+    → onto_first c (parts ++ more) ≡ onto_first c parts ++ more
 onto_append c [] more n h = absurd (omega (arith, h))
 onto_append c (p ∷ ps) more n h = refl
 
@@ -97,4 +103,5 @@ split_ended (c ∷ cs) = go (split_ended cs) (eqb c 10)
 
 -- the lines of a text without CR, joined by LF, are the text
 pub lines_joined : (text : List ℕ) → lacks 13 text ≡ true → join_with_byte 10 (lines (text ++ 10 ∷ [])) ≡ text
-lines_joined text h = rw (split_ended text, lines_of_all (slice_split (λ b. eqb b 10) text) (parts_lack text h)) (join_with_byte-slice_split 10 text)
+lines_joined text h = rw (split_ended text, lines_of_all (slice_split (λ b. eqb b 10) text) (parts_lack text h))
+    (join_with_byte-slice_split 10 text)

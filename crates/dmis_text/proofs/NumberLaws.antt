@@ -47,18 +47,22 @@ start_before None n h = omega arith
 start_before (Some begun) n h = omega arith
 
 -- statements that are numbered from a later line on are so from an earlier one on
-earlier : (from later to : ℕ) (statements : List Statement) → from ≤ later → AreNumbered later to statements → AreNumbered from to statements
+earlier : (from later to : ℕ) (statements : List Statement) → from ≤ later → AreNumbered later to statements
+    → AreNumbered from to statements
 earlier from later to [] le h = tt
 earlier from later to (s ∷ ss) le h = (omega (arith, h.0), h.1, h.2)
 
-fault_earlier : (from later to : ℕ) (fault : Option TextFault) → from ≤ later → IfSome fault (IsFaultWithin later to) → IfSome fault (IsFaultWithin from to)
+fault_earlier : (from later to : ℕ) (fault : Option TextFault) → from ≤ later → IfSome fault (IsFaultWithin later to)
+    → IfSome fault (IsFaultWithin from to)
 fault_earlier from later to None le h = tt
 fault_earlier from later to (Some (LineTooLong n)) le h = (omega (arith, h.0), h.1)
 fault_earlier from later to (Some (BadByte n)) le h = (omega (arith, h.0), h.1)
 fault_earlier from later to (Some Memory) le h = h
 
-by_role : (from to n : ℕ) (begun : Option Begun) (role : Role) (rest : Option Begun → Reading) → HasBegunBefore begun n → from ≤ start_of begun n → n < to
-    → ((later : ℕ) (next : Option Begun) → HasBegunBefore next (n + 1) → later ≤ start_of next (n + 1) → IsNumbered later to (rest next)) → IsNumbered from to (read_line role begun n rest)
+by_role : (from to n : ℕ) (begun : Option Begun) (role : Role) (rest : Option Begun → Reading) → HasBegunBefore begun n
+    → from ≤ start_of begun n → n < to
+    → ((later : ℕ) (next : Option Begun) → HasBegunBefore next (n + 1) → later ≤ start_of next (n + 1) → IsNumbered later to (rest next))
+    → IsNumbered from to (read_line role begun n rest)
 by_role from to n begun TooLong rest h low within ih = let start = start_before begun n h in (tt, (omega (arith, start), within))
 by_role from to n begun Damaged rest h low within ih = let start = start_before begun n h in (tt, (omega (arith, start), within))
 by_role from to n None Dropped rest h low within ih = ih from None tt (omega arith)
@@ -69,13 +73,15 @@ by_role from to n begun (Continued part) rest h low within ih =
     ih from (Some (grown begun n part)) (omega (arith, start, line)) (omega (arith, line))
 by_role from to n begun (Last part) rest h low within ih =
     let start = start_before begun n h in
-    let line : (finished (grown begun n part)).line ≡ start_of begun n = line-statement_of (grown begun n part).line (grown begun n part).text ∙ line-grown begun n part in
+    let line : (finished (grown begun n part)).line ≡ start_of begun n =
+        line-statement_of (grown begun n part).line (grown begun n part).text ∙ line-grown begun n part in
     let behind = ih (n + 1) None tt (omega arith) in (
       (omega (arith, line), omega (arith, line, start), earlier _ (n + 1) to (rest None).statements (omega (arith, line, start)) behind.0),
       fault_earlier from (n + 1) to (rest None).fault (omega (arith, start)) behind.1,
     )
 
-at_end : (from to n : ℕ) (begun : Option Begun) → HasBegunBefore begun n → from ≤ start_of begun n → n ≤ to → IsNumbered from to (ended begun)
+at_end : (from to n : ℕ) (begun : Option Begun) → HasBegunBefore begun n → from ≤ start_of begun n → n ≤ to
+    → IsNumbered from to (ended begun)
 at_end from to n None h low within = (tt, tt)
 at_end from to n (Some begun) h low within = (go (all_blank begun.text), tt)
   where
@@ -83,7 +89,8 @@ at_end from to n (Some begun) h low within = (go (all_blank begun.text), tt)
     go true = tt
     go false = let line = line-statement_of begun.line begun.text in (omega (arith, line), omega (arith, line), tt)
 
-numbered : (from to n : ℕ) (begun : Option Begun) (lines : List (List ℕ)) → HasBegunBefore begun n → from ≤ start_of begun n → n + length lines ≤ to → IsNumbered from to (reading_with begun n lines)
+numbered : (from to n : ℕ) (begun : Option Begun) (lines : List (List ℕ)) → HasBegunBefore begun n → from ≤ start_of begun n
+    → n + length lines ≤ to → IsNumbered from to (reading_with begun n lines)
 numbered from to n begun [] h low within = at_end from to n begun h low (omega arith)
 numbered from to n begun (line ∷ lines) h low within =
     by_role from to n begun (line_role (is_open begun) line) (λ next. reading_with next (n + 1) lines) h low (omega arith)

@@ -1,5 +1,6 @@
 -- A part more of a statement that goes on.
-use Rattle.std.proofs.Common.{◌≡◌, ℕ, ◌+◌, ◌-◌, ◌<◌, ◌≤◌, Bool, true, false, cond, List, [], ◌∷◌, ◌++◌, length, Option, Some, None, refl, sym, ap, ◌∙◌, arith, rules, append_assoc}
+use Rattle.std.proofs.Common.{◌≡◌, ℕ, ◌+◌, ◌-◌, ◌<◌, ◌≤◌, Bool, true, false, cond, List, [], ◌∷◌, ◌++◌, length, Option, Some, None, refl,
+  sym, ap, ◌∙◌, arith, rules, append_assoc}
 use Rattle.std.specs.Prelude.{IfNone}
 use Rattle.std.specs.Option.{unwrap_or}
 use Rattle.dmis_text.specs.Texts.{inside_after}
@@ -7,12 +8,14 @@ use Rattle.dmis_text.specs.Begun.{begun_of, is_open, grown}
 use Rattle.dmis_text.proofs.Comments.{inside_after-append}
 
 -- a part more in the code's form
-pub grown_as : (first : Option ℕ) (text : List ℕ) (line : ℕ) (part : List ℕ) → IfNone first (text ≡ []) → grown (begun_of first text) line part ≡ record { line = unwrap_or first line; text = text ++ part }
+pub grown_as : (first : Option ℕ) (text : List ℕ) (line : ℕ) (part : List ℕ) → IfNone first (text ≡ [])
+    → grown (begun_of first text) line part ≡ record { line = unwrap_or first line; text = text ++ part }
 grown_as None text line part none = rw none
 grown_as (Some first) text line part none = refl
 
 -- whether a text is open behind it
-pub open_behind : (first : Option ℕ) (text part : List ℕ) → IfNone first (text ≡ []) → inside_after (is_open (begun_of first text)) part ≡ inside_after false (text ++ part)
+pub open_behind : (first : Option ℕ) (text part : List ℕ) → IfNone first (text ≡ [])
+    → inside_after (is_open (begun_of first text)) part ≡ inside_after false (text ++ part)
 open_behind None text part none = rw none
 open_behind (Some first) text part none = sym (inside_after-append false text part)
 

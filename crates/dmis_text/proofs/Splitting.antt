@@ -1,5 +1,6 @@
 -- Pieces as repeated cuts.
-use Rattle.std.proofs.Common.{◌≡◌, ℕ, Bool, true, false, not, ◌&&◌, cond, eqb, List, [], ◌∷◌, ◌++◌, Option, Some, None, refl, ap, ◌∙◌, append_assoc}
+use Rattle.std.proofs.Common.{◌≡◌, ℕ, Bool, true, false, not, ◌&&◌, cond, eqb, List, [], ◌∷◌, ◌++◌, Option, Some, None, refl, ap, ◌∙◌,
+  append_assoc}
 use Rattle.std.specs.Option.{option_map}
 use Rattle.std.specs.List.{onto_first}
 use Rattle.dmis_text.specs.Texts.{turned}
@@ -16,7 +17,8 @@ abbrev pieces_at : List ℕ → Option (List ℕ × List ℕ) → List (List ℕ
 pieces_at bytes None = bytes ∷ []
 pieces_at bytes (Some p) = p.0 ∷ pieces false p.1
 
-onto_cut : (c : ℕ) (cs : List ℕ) (o : Option (List ℕ × List ℕ)) → onto_first c (pieces_at cs o) ≡ pieces_at (c ∷ cs) (option_map (onto_front c) o)
+onto_cut : (c : ℕ) (cs : List ℕ) (o : Option (List ℕ × List ℕ))
+    → onto_first c (pieces_at cs o) ≡ pieces_at (c ∷ cs) (option_map (onto_front c) o)
 onto_cut c cs None = refl
 onto_cut c cs (Some p) = refl
 
@@ -24,7 +26,8 @@ pieces_by_cut : (inside : Bool) (bytes : List ℕ) → pieces inside bytes ≡ p
 pieces_by_cut inside [] = refl
 pieces_by_cut inside (c ∷ cs) = go (pieces_by_cut (turned inside c) cs) (not inside && eqb c 44) refl
   where
-    go : pieces (turned inside c) cs ≡ pieces_at cs (cut_at 44 (turned inside c) cs) → (t : Bool) → (not inside && eqb c 44) ≡ t → pieces inside (c ∷ cs) ≡ pieces_at (c ∷ cs) (cut_at 44 inside (c ∷ cs))
+    go : pieces (turned inside c) cs ≡ pieces_at cs (cut_at 44 (turned inside c) cs) → (t : Bool) → (not inside && eqb c 44) ≡ t
+        → pieces inside (c ∷ cs) ≡ pieces_at (c ∷ cs) (cut_at 44 inside (c ∷ cs))
     go rest true e = rw e
     go rest false e = rw (e, rest) (onto_cut c cs (cut_at 44 (turned inside c) cs))
 
@@ -33,7 +36,8 @@ pub pieces_none : (bytes : List ℕ) → cut_at 44 false bytes ≡ None → piec
 pieces_none bytes e = pieces_by_cut false bytes ∙ ap (pieces_at bytes) e
 
 -- else the first piece ends at the first one
-pub pieces_some : (bytes front behind : List ℕ) → cut_at 44 false bytes ≡ Some (front, behind) → pieces false bytes ≡ front ∷ pieces false behind
+pub pieces_some : (bytes front behind : List ℕ) → cut_at 44 false bytes ≡ Some (front, behind)
+    → pieces false bytes ≡ front ∷ pieces false behind
 pieces_some bytes front behind e = pieces_by_cut false bytes ∙ ap (pieces_at bytes) e
 
 -- the last element of a statement with parameters

@@ -1,5 +1,6 @@
 -- Cuts and pieces are what their relations say, and nothing else is.
-use Rattle.std.proofs.Common.{◌≡◌, ◌≢◌, ℕ, zero, suc, ◌+◌, ◌<◌, Bool, true, false, not, ◌&&◌, cond, eqb, List, [], ◌∷◌, ◌++◌, length, take, map, Option, Some, None, refl, sym, ap, ◌∙◌, arith, length-append}
+use Rattle.std.proofs.Common.{◌≡◌, ◌≢◌, ℕ, zero, suc, ◌+◌, ◌<◌, Bool, true, false, not, ◌&&◌, cond, eqb, List, [], ◌∷◌, ◌++◌, length, take,
+  map, Option, Some, None, refl, sym, ap, ◌∙◌, arith, length-append}
 use Rattle.std.specs.Prelude.{◌↔◌, slice_index}
 use Rattle.std.specs.Option.{option_map}
 use Rattle.std.proofs.lemmas.Bool.{eqb-true, eqb-false, ne_eqb, eq-eqb, false≢true}
@@ -37,11 +38,14 @@ uncut inside mark [] h = refl
 uncut inside mark (c ∷ cs) h = rw (none_first inside mark c cs h, uncut (turned inside c) mark cs (none_behind inside mark c cs h))
 
 -- and with one behind bytes without one it is there
-cut_there : (inside : Bool) (mark : ℕ) (front behind : List ℕ) → NoneFrom inside mark front → inside_after inside front ≡ false → cut_at mark inside (front ++ mark ∷ behind) ≡ Some (front, behind)
+cut_there : (inside : Bool) (mark : ℕ) (front behind : List ℕ) → NoneFrom inside mark front → inside_after inside front ≡ false
+    → cut_at mark inside (front ++ mark ∷ behind) ≡ Some (front, behind)
 cut_there inside mark [] behind h closed = rw (closed, eq-eqb mark mark refl)
-cut_there inside mark (c ∷ cs) behind h closed = rw (none_first inside mark c cs h, cut_there (turned inside c) mark cs behind (none_behind inside mark c cs h) closed)
+cut_there inside mark (c ∷ cs) behind h closed = rw (none_first inside mark c cs h,
+    cut_there (turned inside c) mark cs behind (none_behind inside mark c cs h) closed)
 
-none_from_front : (inside : Bool) (mark c : ℕ) (cs : List ℕ) → (not inside && eqb c mark) ≡ false → NoneFrom (turned inside c) mark cs → NoneFrom inside mark (c ∷ cs)
+none_from_front : (inside : Bool) (mark c : ℕ) (cs : List ℕ) → (not inside && eqb c mark) ≡ false → NoneFrom (turned inside c) mark cs
+    → NoneFrom inside mark (c ∷ cs)
 none_from_front inside mark c cs e h zero within closed = first inside closed e
   where
     first : (inside : Bool) → inside ≡ false → (not inside && eqb c mark) ≡ false → c ≢ mark
@@ -56,11 +60,13 @@ CutFrom inside mark text front behind = (text ≡ front ++ mark ∷ behind) × (
 none_in_nothing : (inside : Bool) (mark : ℕ) → NoneFrom inside mark []
 none_in_nothing inside mark = λ k within closed e. omega arith
 
-cut_found : (inside : Bool) (mark : ℕ) (text front behind : List ℕ) → cut_at mark inside text ≡ Some (front, behind) → CutFrom inside mark text front behind
+cut_found : (inside : Bool) (mark : ℕ) (text front behind : List ℕ) → cut_at mark inside text ≡ Some (front, behind)
+    → CutFrom inside mark text front behind
 cut_found inside mark [] front behind e = cc
 cut_found inside mark (c ∷ cs) front behind e = go (λ f b h. cut_found (turned inside c) mark cs f b h) (not inside && eqb c mark) refl e
   where
-    later : (o : Option (List ℕ × List ℕ)) → ((f b : List ℕ) → o ≡ Some (f, b) → CutFrom (turned inside c) mark cs f b) → (not inside && eqb c mark) ≡ false
+    later : (o : Option (List ℕ × List ℕ)) → ((f b : List ℕ) → o ≡ Some (f, b) → CutFrom (turned inside c) mark cs f b)
+        → (not inside && eqb c mark) ≡ false
         → option_map (onto_front c) o ≡ Some (front, behind) → CutFrom inside mark (c ∷ cs) front behind
     later None rest other e = cc
     later (Some p) rest other e =
@@ -68,8 +74,10 @@ cut_found inside mark (c ∷ cs) front behind e = go (λ f b h. cut_found (turne
         let more = rest p.0 p.1 refl in
         rw (← same.0, ← same.1) (ap (λ (xs : List ℕ). c ∷ xs) more.0, more.1, none_from_front inside mark c p.0 other more.2)
 
-    go : ((f b : List ℕ) → cut_at mark (turned inside c) cs ≡ Some (f, b) → CutFrom (turned inside c) mark cs f b) → (t : Bool) → (not inside && eqb c mark) ≡ t
-        → cond t (Some ([], cs)) (option_map (onto_front c) (cut_at mark (turned inside c) cs)) ≡ Some (front, behind) → CutFrom inside mark (c ∷ cs) front behind
+    go : ((f b : List ℕ) → cut_at mark (turned inside c) cs ≡ Some (f, b) → CutFrom (turned inside c) mark cs f b) → (t : Bool)
+        → (not inside && eqb c mark) ≡ t
+        → cond t (Some ([], cs)) (option_map (onto_front c) (cut_at mark (turned inside c) cs)) ≡ Some (front, behind)
+        → CutFrom inside mark (c ∷ cs) front behind
     go rest true here e =
         let same = some_pair_parts [] front cs behind e in
         let at = test_true inside c mark here in
@@ -102,7 +110,8 @@ pub uncut_is : (mark : ℕ) (text : List ℕ) → NoneOutside mark text ↔ (cut
 uncut_is mark text = (λ h. uncut false mark text h, λ e. none_found false mark text e)
 
 -- one piece more in front of a split
-split_more : (text piece behind : List ℕ) (parts : List (List ℕ)) → IsCut 44 text piece behind → IsSplit behind parts → IsSplit text (piece ∷ parts)
+split_more : (text piece behind : List ℕ) (parts : List (List ℕ)) → IsCut 44 text piece behind → IsSplit behind parts
+    → IsSplit text (piece ∷ parts)
 split_more text piece behind [] cut h = absurd h
 split_more text piece behind (next ∷ parts) cut h = (behind, cut, h)
 
@@ -114,17 +123,20 @@ split_within : (n : ℕ) (text : List ℕ) → length text < n → IsSplit text 
 split_within zero text h = absurd (omega arith)
 split_within (suc n) text h = go (λ t l. split_within n t l) (cut_at 44 false text) refl
   where
-    go : ((t : List ℕ) → length t < n → IsSplit t (pieces false t)) → (o : Option (List ℕ × List ℕ)) → cut_at 44 false text ≡ o → IsSplit text (pieces false text)
+    go : ((t : List ℕ) → length t < n → IsSplit t (pieces false t)) → (o : Option (List ℕ × List ℕ)) → cut_at 44 false text ≡ o
+        → IsSplit text (pieces false text)
     go rest None e = rw (pieces_none text e) (refl, (uncut_is 44 text).1 e)
     go rest (Some p) e =
         let cut = (cut_is 44 text p.0 p.1).1 e in
-        rw (pieces_some text p.0 p.1 e) (split_more text p.0 p.1 (pieces false p.1) cut (rest p.1 (omega (arith, shorter_behind 44 text p.0 p.1 cut))))
+        rw (pieces_some text p.0 p.1 e) (split_more text p.0 p.1 (pieces false p.1) cut
+            (rest p.1 (omega (arith, shorter_behind 44 text p.0 p.1 cut))))
 
 -- and there is no other
 one_split : (text : List ℕ) (parts : List (List ℕ)) → IsSplit text parts → parts ≡ pieces false text
 one_split text [] h = absurd h
 one_split text (piece ∷ []) h = rw (pieces_none text ((uncut_is 44 text).0 (rw h.0 h.1)), ← h.0)
-one_split text (piece ∷ next ∷ more) h = ap (λ (ps : List (List ℕ)). piece ∷ ps) (one_split h.0 (next ∷ more) h.2) ∙ sym (pieces_some text piece h.0 ((cut_is 44 text piece h.0).0 h.1))
+one_split text (piece ∷ next ∷ more) h = ap (λ (ps : List (List ℕ)). piece ∷ ps) (one_split h.0 (next ∷ more) h.2)
+    ∙ sym (pieces_some text piece h.0 ((cut_is 44 text piece h.0).0 h.1))
 
 -- a text is split at the commas outside texts, and in no other way
 pub split_is : (text : List ℕ) (parts : List (List ℕ)) → IsSplit text parts ↔ (parts ≡ pieces false text)
@@ -134,9 +146,12 @@ split_is text parts = (one_split text parts, λ e. rw e (split_within (length te
 says_statement : (line : ℕ) (text : List ℕ) → Says line text (statement_of line text)
 says_statement line text = go (cut_at 47 false text) refl
   where
-    headed_by : (head behind : List ℕ) → IsCut 47 text head behind → (o : Option (List ℕ × List ℕ)) → cut_at 61 false head ≡ o → Says line text (headed line (map element_of (pieces false behind)) head o)
-    headed_by head behind cut None e = with_params head behind (pieces false behind) cut ((uncut_is 61 head).1 e) ((split_is behind (pieces false behind)).1 refl)
-    headed_by head behind cut (Some p) e = with_label head behind p.0 p.1 (pieces false behind) cut ((cut_is 61 head p.0 p.1).1 e) ((split_is behind (pieces false behind)).1 refl)
+    headed_by : (head behind : List ℕ) → IsCut 47 text head behind → (o : Option (List ℕ × List ℕ)) → cut_at 61 false head ≡ o
+        → Says line text (headed line (map element_of (pieces false behind)) head o)
+    headed_by head behind cut None e = with_params head behind (pieces false behind) cut ((uncut_is 61 head).1 e)
+        ((split_is behind (pieces false behind)).1 refl)
+    headed_by head behind cut (Some p) e = with_label head behind p.0 p.1 (pieces false behind) cut ((cut_is 61 head p.0 p.1).1 e)
+        ((split_is behind (pieces false behind)).1 refl)
 
     go : (o : Option (List ℕ × List ℕ)) → cut_at 47 false text ≡ o → Says line text (statement_of line text)
     go None e = rw e (word_alone ((uncut_is 47 text).1 e))
@@ -145,8 +160,10 @@ says_statement line text = go (cut_at 47 false text) refl
 -- and nothing else
 one_statement : (line : ℕ) (text : List ℕ) (s : Statement) → Says line text s → s ≡ statement_of line text
 one_statement line text _ (word_alone none) = rw ((uncut_is 47 text).0 none)
-one_statement line text _ (with_params word behind params cut none split) = rw ((cut_is 47 text word behind).0 cut, (uncut_is 61 word).0 none, one_split behind params split)
-one_statement line text _ (with_label head behind label word params cut named split) = rw ((cut_is 47 text head behind).0 cut, (cut_is 61 head label word).0 named, one_split behind params split)
+one_statement line text _ (with_params word behind params cut none split) =
+    rw ((cut_is 47 text word behind).0 cut, (uncut_is 61 word).0 none, one_split behind params split)
+one_statement line text _ (with_label head behind label word params cut named split) =
+    rw ((cut_is 47 text head behind).0 cut, (cut_is 61 head label word).0 named, one_split behind params split)
 
 pub says_is : (line : ℕ) (text : List ℕ) (s : Statement) → Says line text s ↔ (s ≡ statement_of line text)
 says_is line text s = (one_statement line text s, λ e. rw e (says_statement line text))

@@ -12,7 +12,8 @@ onto_front c p = (c ∷ p.0, p.1)
 -- the bytes before and behind the first mark outside texts
 abbrev pub cut_at : ℕ → Bool → List ℕ → Option (List ℕ × List ℕ)
 cut_at mark inside [] = None
-cut_at mark inside (c ∷ cs) = if not inside && (c == mark) then Some ([], cs) else option_map (onto_front c) (cut_at mark (turned inside c) cs)
+cut_at mark inside (c ∷ cs) = if not inside && (c == mark) then Some ([], cs) else option_map (onto_front c)
+    (cut_at mark (turned inside c) cs)
 
 -- the pieces between the commas outside texts, at least one
 abbrev pub pieces : Bool → List ℕ → List (List ℕ)

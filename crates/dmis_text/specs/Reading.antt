@@ -18,11 +18,13 @@ pub data Role : Type 0 where
 
 -- the role by what stands before the comment: blanks alone count for nothing, a `$` at the end goes on and is left out
 abbrev pub content_role : List ℕ → Role
-content_role content = if all_blank content then Dropped else (if is_continued content then Continued (without_mark content) else Last content)
+content_role content = if all_blank content then Dropped else
+    (if is_continued content then Continued (without_mark content) else Last content)
 
 -- the role of a line, without its end, that begins inside a text or outside: its length is looked at before its bytes
 abbrev pub line_role : Bool → List ℕ → Role
-line_role inside line = if nat_lt 4096 (length line) then TooLong else (if is_clean inside line then content_role (before_comment inside line) else Damaged)
+line_role inside line = if nat_lt 4096 (length line) then TooLong else
+    (if is_clean inside line then content_role (before_comment inside line) else Damaged)
 
 -- what a text gives: statements, and the refusal that ends them
 pub record Reading : Type 0 where

@@ -25,5 +25,6 @@ pub data Says (line : ℕ) (text : List ℕ) : Statement → Type 0 where
   word_alone : NoneOutside 47 text → Says line text (record { line = line; label = None; word = element_of text; params = [] })
   with_params : (word behind : List ℕ) (params : List (List ℕ)) → IsCut 47 text word behind → NoneOutside 61 word → IsSplit behind params
       → Says line text (record { line = line; label = None; word = element_of word; params = map element_of params })
-  with_label : (head behind label word : List ℕ) (params : List (List ℕ)) → IsCut 47 text head behind → IsCut 61 head label word → IsSplit behind params
+  with_label : (head behind label word : List ℕ) (params : List (List ℕ)) → IsCut 47 text head behind → IsCut 61 head label word
+      → IsSplit behind params
       → Says line text (record { line = line; label = Some (element_of label); word = element_of word; params = map element_of params })

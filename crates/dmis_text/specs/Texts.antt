@@ -38,7 +38,8 @@ may_stand free c = (c == 9) || ((nat_le 32 c && nat_le c 126) || (free && nat_le
 -- whether each byte of a line may stand in its place
 abbrev pub is_clean : Bool → List ℕ → Bool
 is_clean inside [] = true
-is_clean inside (c ∷ cs) = if begins_comment inside (c ∷ cs) then list_all (may_stand true) (c ∷ cs) else may_stand inside c && is_clean (turned inside c) cs
+is_clean inside (c ∷ cs) = if begins_comment inside (c ∷ cs) then list_all (may_stand true) (c ∷ cs) else may_stand inside c
+    && is_clean (turned inside c) cs
 
 -- whether the last byte that is not blank is `$`
 abbrev pub is_continued : List ℕ → Bool

@@ -38,10 +38,12 @@ pub fn lines_are_content_and_comment()
 /// What stands before a comment counts for nothing where it is blank, goes on where a `$` is its last byte that is not,
 /// losing that byte alone, and else ends its statement.
 pub fn a_dollar_at_the_end_continues()
-    ensures dropped { (content : List ℕ) → all_blank content ≡ true → content_role content ≡ Dropped }
+    ensures dropped { (content : List ℕ) → all_blank content ≡ true
+        → content_role content ≡ Dropped }
     ensures continued { (front blanks : List ℕ) → all_blank blanks ≡ true
         → content_role (front ++ 36 ∷ blanks) ≡ Continued (front ++ blanks) }
-    ensures last { (front blanks : List ℕ) (c : ℕ) → is_blank c ≡ false → c ≢ 36 → all_blank blanks ≡ true
+    ensures last { (front blanks : List ℕ) (c : ℕ) → is_blank c ≡ false → c ≢ 36
+        → all_blank blanks ≡ true
         → content_role (front ++ c ∷ blanks) ≡ Last (front ++ c ∷ blanks) }
 {}
 
@@ -61,8 +63,10 @@ pub fn each_text_says_one_statement()
 /// other byte.
 pub fn texts_stay_as_written()
     ensures folded { (inside : Bool) (bytes : List ℕ) (k : ℕ) → slice_index (folded inside bytes) k
-        ≡ (if inside_after inside (take k bytes) then slice_index bytes k else to_ascii_uppercase (slice_index bytes k)) }
-    ensures length { (inside : Bool) (bytes : List ℕ) → length (folded inside bytes) ≡ length bytes }
+        ≡ (if inside_after inside (take k bytes) then slice_index bytes k else to_ascii_uppercase
+            (slice_index bytes k)) }
+    ensures length { (inside : Bool) (bytes : List ℕ)
+        → length (folded inside bytes) ≡ length bytes }
     ensures trimmed { (bytes kept : List ℕ)
         → IsTrimmed bytes kept ↔ (kept ≡ without_end_blanks (without_front_blanks bytes)) }
 {}

@@ -26,7 +26,8 @@ fn line_feed(bytes: &[u8]) -> Option<usize>
 /// lack its end, and a CR there is a byte of the line.
 #[tactic(auto, using(crate::proofs::LineEnds::cuts))]
 pub fn cut_line(bytes: &[u8]) -> Option<(&[u8], &[u8])>
-    ensures cut { MatchOption result (bytes.now ≡ []) (λ p. lines bytes.now ≡ p.0.now ∷ lines p.1.now) }
+    ensures cut { MatchOption result (bytes.now ≡ [])
+        (λ p. lines bytes.now ≡ p.0.now ∷ lines p.1.now) }
     ensures shorter { IfSome result (λ p. length p.1.now < length bytes.now) }
 {
     if bytes.is_empty() {

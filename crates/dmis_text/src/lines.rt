@@ -31,7 +31,8 @@ pub(crate) enum Look<'a> {
 /// What stands before the comment, and whether a text is open behind it; none where a byte may not stand in its place.
 #[tactic(auto, using(crate::proofs::Comments::steps))]
 fn content_of(line: &[u8], mut inside: bool) -> Option<(&[u8], bool)>
-    ensures clean { MatchOption result (is_clean inside line.now ≡ false) (λ _. is_clean inside line.now ≡ true) }
+    ensures clean { MatchOption result (is_clean inside line.now ≡ false)
+        (λ _. is_clean inside line.now ≡ true) }
     ensures content { IfSome result (λ p. p.0.now ≡ before_comment inside line.now) }
     ensures flag { IfSome result (λ p. p.1 ≡ inside_after inside p.0.now) }
 {

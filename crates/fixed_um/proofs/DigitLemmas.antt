@@ -1,5 +1,6 @@
 -- Digits and the numbers that they write.
-use Rattle.std.proofs.Common.{◌≡◌, ℕ, zero, suc, ◌+◌, ◌-◌, ◌*◌, ◌^◌, ◌<◌, ◌≤◌, Bool, true, false, cond, List, [], ◌∷◌, ◌++◌, length, get_or, take, drop, refl, ap, sym, ◌∙◌, arith, add-one}
+use Rattle.std.proofs.Common.{◌≡◌, ℕ, zero, suc, ◌+◌, ◌-◌, ◌*◌, ◌^◌, ◌<◌, ◌≤◌, Bool, true, false, cond, List, [], ◌∷◌, ◌++◌, length, get_or,
+  take, drop, refl, ap, sym, ◌∙◌, arith, add-one}
 use Rattle.std.specs.Char.{digit_value, is_ascii_digit}
 use Rattle.std.specs.Str.Parse.{AllDigits, digits_value, digits_value_after}
 use Rattle.std.specs.List.{list_all, prefix_len}
@@ -15,7 +16,8 @@ pub digits_value_after-ge : (n : ℕ) (ds : List ℕ) → n ≤ digits_value_aft
 digits_value_after-ge n [] = omega arith
 digits_value_after-ge n (d ∷ ds) = omega (arith, digits_value_after-ge (n * 10 + digit_value d) ds)
 
-pub digits_value_after-append : (n : ℕ) (xs ys : List ℕ) → digits_value_after 10 n (xs ++ ys) ≡ digits_value_after 10 (digits_value_after 10 n xs) ys
+pub digits_value_after-append : (n : ℕ) (xs ys : List ℕ) → digits_value_after 10 n (xs ++ ys)
+    ≡ digits_value_after 10 (digits_value_after 10 n xs) ys
 digits_value_after-append n [] ys = refl
 digits_value_after-append n (x ∷ xs) ys = digits_value_after-append (n * 10 + digit_value x) xs ys
 
@@ -33,14 +35,17 @@ pub record OneDigit (value front : ℕ) (digits : List ℕ) (i c : ℕ) : Type 0
   pub more : digits_value_after 10 (value * 10 + digit_value c) (drop (i + 1) digits) ≡ digits_value_after 10 front digits
   pub rest : AllDigits 10 (drop (i + 1) digits)
 
-pub one_digit : (value front : ℕ) (digits : List ℕ) (i : ℕ) → i < length digits → digits_value_after 10 value (drop i digits) ≡ digits_value_after 10 front digits → AllDigits 10 (drop i digits) → OneDigit value front digits i (get_or digits i 0)
+pub one_digit : (value front : ℕ) (digits : List ℕ) (i : ℕ) → i < length digits
+    → digits_value_after 10 value (drop i digits) ≡ digits_value_after 10 front digits → AllDigits 10 (drop i digits)
+    → OneDigit value front digits i (get_or digits i 0)
 one_digit value front digits i within e all =
     let step : drop i digits ≡ get_or digits i 0 ∷ drop (i + 1) digits = rw (add-one, drop-cons digits i 0) refl in
     let all2 = rw step at all in
     record { is_digit = all2.0; more = rw step at e; rest = all2.1 }
 
 -- at a digit of a number below 10 ^ 30 the value so far, ten times and with the digit, is below it too
-pub one_digit_fits : (value front : ℕ) (digits : List ℕ) (i c : ℕ) → OneDigit value front digits i c → digits_value_after 10 front digits < 10 ^ 30 → value * 10 + (c - 48) < 10 ^ 30
+pub one_digit_fits : (value front : ℕ) (digits : List ℕ) (i c : ℕ) → OneDigit value front digits i c
+    → digits_value_after 10 front digits < 10 ^ 30 → value * 10 + (c - 48) < 10 ^ 30
 one_digit_fits value front digits i c h fits =
     let ge = digits_value_after-ge (value * 10 + digit_value c) (drop (i + 1) digits) in
     let is = (value-digit c h.is_digit).2 in
@@ -67,7 +72,8 @@ one_more : (n : ℕ) → 1 + n ≡ suc n
 one_more n = omega arith
 
 -- the digits at the front of a text are digits
-front_step : (c : ℕ) (cs : List ℕ) (b : Bool) → is_ascii_digit c ≡ b → AllDigits 10 (digits_front cs) → AllDigits 10 (take (cond b (1 + prefix_len is_ascii_digit cs) 0) (c ∷ cs))
+front_step : (c : ℕ) (cs : List ℕ) (b : Bool) → is_ascii_digit c ≡ b → AllDigits 10 (digits_front cs)
+    → AllDigits 10 (take (cond b (1 + prefix_len is_ascii_digit cs) 0) (c ∷ cs))
 front_step c cs true e all = rw (one_more (prefix_len is_ascii_digit cs)) (digit-from_test c e, all)
 front_step c cs false e all = tt
 
@@ -83,8 +89,10 @@ digits_value-below k ds all short = digits_value_short (numerals_by_value (AllDi
 pub digits_value-parts : (xs ys : List ℕ) → digits_value_after 10 (digits_value_after 10 0 xs) ys ≡ digits_value 10 (xs ++ ys)
 digits_value-parts xs ys = sym (digits_value_after-append 0 xs ys)
 
-pub digits_value-both_below : (xs ys : List ℕ) → AllDigits 10 xs → AllDigits 10 ys → length (xs ++ ys) ≤ 30 → digits_value_after 10 (digits_value_after 10 0 xs) ys < 10 ^ 30
-digits_value-both_below xs ys p q short = rw (digits_value-parts xs ys) (digits_value-below 30 (xs ++ ys) (AllDigits-append xs ys p q) short)
+pub digits_value-both_below : (xs ys : List ℕ) → AllDigits 10 xs → AllDigits 10 ys → length (xs ++ ys) ≤ 30
+    → digits_value_after 10 (digits_value_after 10 0 xs) ys < 10 ^ 30
+digits_value-both_below xs ys p q short = rw (digits_value-parts xs ys)
+    (digits_value-below 30 (xs ++ ys) (AllDigits-append xs ys p q) short)
 
 pub digits_value-first_below : (xs ys : List ℕ) → AllDigits 10 xs → length (xs ++ ys) ≤ 30 → digits_value_after 10 0 xs < 10 ^ 30
 digits_value-first_below xs ys p short = digits_value-below 30 xs p (omega (arith, length-append xs ys))
@@ -110,4 +118,5 @@ short_number-below ds h = (short_number ds h).below
 pub short_number-digits : (ds : List ℕ) → is_short_number ds ≡ true → AllDigits 10 ds
 short_number-digits ds h = (short_number ds h).all
 
-pub ruleset numbers = (short_number-below, short_number-digits, digits_value-parts, digits_value-both_below, digits_value-first_below, AllDigits-front)
+pub ruleset numbers = (short_number-below, short_number-digits, digits_value-parts, digits_value-both_below, digits_value-first_below,
+    AllDigits-front)

@@ -1,5 +1,6 @@
 -- A folded name text is a name.
-use Rattle.std.proofs.Common.{◌≡◌, ℕ, suc, ◌-◌, ◌<◌, ◌≤◌, Bool, true, false, cond, ◌&&◌, List, [], ◌∷◌, length, map, refl, ap, sym, ◌∙◌, arith, nat_lt, nat_le, inl, inr, codes}
+use Rattle.std.proofs.Common.{◌≡◌, ℕ, suc, ◌-◌, ◌<◌, ◌≤◌, Bool, true, false, cond, ◌&&◌, List, [], ◌∷◌, length, map, refl, ap, sym, ◌∙◌,
+  arith, nat_lt, nat_le, inl, inr, codes}
 use Rattle.std.specs.List.{list_all}
 use Rattle.std.specs.Char.{to_ascii_uppercase}
 use Rattle.std.proofs.lemmas.Bool.{and_parts, and_from, cases_lt, lt-ltb, le-ltb, cond-true}
@@ -32,7 +33,8 @@ upper-upper b = grind (arith, nat_tests)
 
 all_name_bytes-folded : (text : List ℕ) → list_all is_name_byte text ≡ true → list_all is_name_byte (folded text) ≡ true
 all_name_bytes-folded [] h = refl
-all_name_bytes-folded (b ∷ bs) h = let p = and_parts (is_name_byte b) (list_all is_name_byte bs) h in and_from _ _ (name_byte-upper b p.0) (all_name_bytes-folded bs p.1)
+all_name_bytes-folded (b ∷ bs) h = let p = and_parts (is_name_byte b) (list_all is_name_byte bs) h
+    in and_from _ _ (name_byte-upper b p.0) (all_name_bytes-folded bs p.1)
 
 folded-folded : (text : List ℕ) → folded (folded text) ≡ folded text
 folded-folded [] = refl
@@ -46,4 +48,5 @@ pub name-from_folded : (text : List ℕ) → is_name_text text ≡ true → IsNa
 name-from_folded text h =
     let p = and_parts (nat_le 1 (length text)) (nat_le (length text) 64 && list_all is_name_byte text) h in
     let q = and_parts (nat_le (length text) 64) (list_all is_name_byte text) p.1 in
-    record { named = rw (length-folded text) (and_from _ _ p.0 (and_from _ _ q.0 (all_name_bytes-folded text q.1))); capitals = folded-folded text }
+    record { named = rw (length-folded text) (and_from _ _ p.0 (and_from _ _ q.0 (all_name_bytes-folded text q.1)));
+        capitals = folded-folded text }

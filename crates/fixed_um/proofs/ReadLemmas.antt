@@ -1,5 +1,6 @@
 -- A text is read in one way.
-use Rattle.std.proofs.Common.{◌≡◌, ℕ, zero, suc, ◌+◌, ◌*◌, ◌^◌, ◌<◌, ◌≤◌, List, length, Result, Ok, Err, Option, Some, None, refl, ap, sym, subst, ◌∙◌, arith, ℤ, pos}
+use Rattle.std.proofs.Common.{◌≡◌, ℕ, zero, suc, ◌+◌, ◌*◌, ◌^◌, ◌<◌, ◌≤◌, List, length, Result, Ok, Err, Option, Some, None, refl, ap, sym,
+  subst, ◌∙◌, arith, ℤ, pos}
 use Rattle.std.specs.Prelude.{unsigned_abs, IsTrue, ◌↔◌, ◌==◌, Bool, true, false}
 use Rattle.std.proofs.lemmas.Bool.{eqb-true, eq-eqb, both_ways}
 use Rattle.std.proofs.lemmas.Option.{same_Some}
@@ -18,7 +19,8 @@ pub one_value : (scale : ℕ) (text : List ℕ) (r s : ℤ) → StandsFor scale 
 one_value scale text r s f g =
     let same = one_numeral text g.numeral f.numeral g.spelled f.spelled in
     let value = subst (λ (n : Numeral). IsRounded (numerator scale n) (denominator n) s) same g.value in
-    one_rounded (numerator scale f.numeral) (denominator f.numeral) r s (omega (arith, one-le-pow (f.numeral.places + f.numeral.lowered) 10 (omega arith))) f.value value
+    one_rounded (numerator scale f.numeral) (denominator f.numeral) r s
+        (omega (arith, one-le-pow (f.numeral.places + f.numeral.lowered) 10 (omega arith))) f.value value
 
 -- a text of more than 30 digits stands for no number
 too_many : (scale : ℕ) (text : List ℕ) (r : ℤ) (n : Numeral) → StandsFor scale text r → IsNumeral text n → 30 < length n.digits → ⊥
@@ -26,7 +28,8 @@ too_many scale text r n f h many =
     let same = ap (λ (m : Numeral). length m.digits) (one_numeral text n f.numeral h f.spelled) in
     omega (arith, same, f.short, many)
 
-pub one_reading : (scale limit : ℕ) (text : List ℕ) (x y : Result ℤ NumeralFault) → Reads scale limit text x → Reads scale limit text y → x ≡ y
+pub one_reading : (scale limit : ℕ) (text : List ℕ) (x y : Result ℤ NumeralFault) → Reads scale limit text x → Reads scale limit text y
+    → x ≡ y
 one_reading scale limit text (Ok r) (Ok s) f g = ap (λ (z : ℤ). Ok z) (one_value scale text r s f.0 g.0)
 one_reading scale limit text (Ok r) (Err NotNumeral) f g = absurd (g f.0.numeral f.0.spelled)
 one_reading scale limit text (Ok r) (Err TooManyDigits) f g = absurd (too_many scale text r g.0 f.0 g.1 g.2)
@@ -49,9 +52,13 @@ one_reading scale limit text (Err TooLarge) (Err TooManyDigits) f g = absurd (to
 one_reading scale limit text (Err TooLarge) (Err TooLarge) f g = refl
 
 -- a numeral that was found, with its rounded magnitude, stands for the magnitude with its sign
-pub stands : (scale : ℕ) (text : List ℕ) (n : Numeral) (value m : ℕ) → IsNumeral text n → length n.digits ≤ 30 → value ≡ digits_value 10 n.digits → RoundsUp (value * 10 ^ (scale + n.raised)) (10 ^ (n.places + n.lowered)) m → StandsFor scale text (signed n.negative m)
+pub stands : (scale : ℕ) (text : List ℕ) (n : Numeral) (value m : ℕ) → IsNumeral text n → length n.digits ≤ 30
+    → value ≡ digits_value 10 n.digits → RoundsUp (value * 10 ^ (scale + n.raised)) (10 ^ (n.places + n.lowered)) m
+    → StandsFor scale text (signed n.negative m)
 stands scale text n value m spelled short is h =
-    record { numeral = n; spelled = spelled; short = short; value = subst (λ (v : ℕ). IsRounded (signed n.negative (v * 10 ^ (scale + n.raised))) (denominator n) (signed n.negative m)) is (rounded_signed n.negative (value * 10 ^ (scale + n.raised)) (10 ^ (n.places + n.lowered)) m h) }
+    record { numeral = n; spelled = spelled; short = short; value = subst
+        (λ (v : ℕ). IsRounded (signed n.negative (v * 10 ^ (scale + n.raised))) (denominator n) (signed n.negative m)) is
+        (rounded_signed n.negative (value * 10 ^ (scale + n.raised)) (10 ^ (n.places + n.lowered)) m h) }
 
 -- ---- zeros
 
@@ -59,13 +66,15 @@ stands scale text n value m spelled short is h =
 pub the_one : (text : List ℕ) (n m : Numeral) → numeral_of text ≡ Some n → IsNumeral text m → m ≡ n
 the_one text n m found h = same_Some m n (sym (numeral_only text m h) ∙ found)
 
-pub zero_here : (text : List ℕ) (n : Numeral) (value : ℕ) → numeral_of text ≡ Some n → length n.digits ≤ 30 → value ≡ digits_value 10 n.digits → (IsTrue (value == 0) ↔ IsZero text)
+pub zero_here : (text : List ℕ) (n : Numeral) (value : ℕ) → numeral_of text ≡ Some n → length n.digits ≤ 30
+    → value ≡ digits_value 10 n.digits → (IsTrue (value == 0) ↔ IsZero text)
 zero_here text n value found short is = (
   λ t. (n, numeral_found text n found, short, sym is ∙ eqb-true value 0 t),
   λ z. eq-eqb value 0 (is ∙ ap (λ (m : Numeral). digits_value 10 m.digits) (sym (the_one text n z.0 found z.1)) ∙ z.3),
 )
 
-pub zero_long : (text : List ℕ) (n : Numeral) (b : Bool) → numeral_of text ≡ Some n → (IsTrue b ↔ (length n.digits ≤ 30)) → b ≡ false → (IsTrue b ↔ IsZero text)
+pub zero_long : (text : List ℕ) (n : Numeral) (b : Bool) → numeral_of text ≡ Some n → (IsTrue b ↔ (length n.digits ≤ 30)) → b ≡ false
+    → (IsTrue b ↔ IsZero text)
 zero_long text n b found short is = (
   λ t. absurd (both_ways b is t),
   λ z. short.1 (let same = ap (λ (m : Numeral). length m.digits) (the_one text n z.0 found z.1) in omega (arith, same, z.2)),

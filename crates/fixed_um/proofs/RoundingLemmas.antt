@@ -1,5 +1,6 @@
 -- Rounded fractions: halves up without a sign is nearest and away from zero with one, and there is one nearest number.
-use Rattle.std.proofs.Common.{◌≡◌, ℕ, zero, suc, ◌+◌, ◌-◌, ◌*◌, ◌^◌, ◌<◌, ◌≤◌, Bool, true, false, ◌⊎◌, refl, ap, sym, subst, ◌∙◌, arith, inl, inr, ℤ, pos, negsuc, ◌*ℤ◌, ◌-ℤ◌, neg_ℤ}
+use Rattle.std.proofs.Common.{◌≡◌, ℕ, zero, suc, ◌+◌, ◌-◌, ◌*◌, ◌^◌, ◌<◌, ◌≤◌, Bool, true, false, ◌⊎◌, refl, ap, sym, subst, ◌∙◌, arith,
+  inl, inr, ℤ, pos, negsuc, ◌*ℤ◌, ◌-ℤ◌, neg_ℤ}
 use Rattle.std.specs.Prelude.{unsigned_abs, ◌<ℤ◌, ◌≤ℤ◌, ◌+ℤ◌, Option, Some, None, SomeIff, IfSome, IfNone}
 use Rattle.std.proofs.Math.Nat.{mul-le-mul_right, one-le-pow}
 use Rattle.std.proofs.lemmas.Nat.{pow-add}
@@ -21,11 +22,13 @@ abs-signed true zero = refl
 abs-signed true (suc m) = refl
 
 -- p is nearest to a in steps of b
-near_is : (negative : Bool) (a b p : ℕ) (r : ℤ) → r ≡ signed negative p → 2 * a < 2 * p + b → 2 * p ≤ 2 * a + b → 2 * unsigned_abs (r -ℤ signed negative a) ≤ b
+near_is : (negative : Bool) (a b p : ℕ) (r : ℤ) → r ≡ signed negative p → 2 * a < 2 * p + b → 2 * p ≤ 2 * a + b
+    → 2 * unsigned_abs (r -ℤ signed negative a) ≤ b
 near_is false a b p r e low high = omega (arith, ints)
 near_is true a b p r e low high = omega (arith, ints)
 
-half_is : (negative : Bool) (a b p : ℕ) (r : ℤ) → r ≡ signed negative p → 2 * a < 2 * p + b → 2 * unsigned_abs (r -ℤ signed negative a) ≡ b → unsigned_abs (signed negative a) ≤ unsigned_abs r
+half_is : (negative : Bool) (a b p : ℕ) (r : ℤ) → r ≡ signed negative p → 2 * a < 2 * p + b → 2 * unsigned_abs (r -ℤ signed negative a) ≡ b
+    → unsigned_abs (signed negative a) ≤ unsigned_abs r
 half_is false a b p r e low h = omega (arith, ints)
 half_is true a b p r e low h = omega (arith, ints)
 
@@ -54,7 +57,9 @@ rounds_scaled a b m c some h =
 abbrev Side : ℤ → ℤ → ℕ → Type 0
 Side p q b = (pos 0 ≤ℤ p) ⊎ ((q ≤ℤ pos 0) ⊎ ((p +ℤ pos (2 * b)) ≤ℤ q))
 
-not_both : (a p q : ℤ) (b : ℕ) → 0 < b → (p +ℤ pos b) ≤ℤ q → Side p q b → 2 * unsigned_abs (p -ℤ a) ≤ b → (2 * unsigned_abs (p -ℤ a) ≡ b → unsigned_abs a ≤ unsigned_abs p) → 2 * unsigned_abs (q -ℤ a) ≤ b → (2 * unsigned_abs (q -ℤ a) ≡ b → unsigned_abs a ≤ unsigned_abs q) → ⊥
+not_both : (a p q : ℤ) (b : ℕ) → 0 < b → (p +ℤ pos b) ≤ℤ q → Side p q b → 2 * unsigned_abs (p -ℤ a) ≤ b
+    → (2 * unsigned_abs (p -ℤ a) ≡ b → unsigned_abs a ≤ unsigned_abs p) → 2 * unsigned_abs (q -ℤ a) ≤ b
+    → (2 * unsigned_abs (q -ℤ a) ≡ b → unsigned_abs a ≤ unsigned_abs q) → ⊥
 not_both a p q b some gap side f half_p g half_q =
     let tie_p : 2 * unsigned_abs (p -ℤ a) ≡ b = omega (arith, ints) in
     let tie_q : 2 * unsigned_abs (q -ℤ a) ≡ b = omega (arith, ints) in
@@ -99,7 +104,8 @@ below a b r s some f g lt =
 -- one number is nearest
 pub one_rounded : (a : ℤ) (b : ℕ) (r s : ℤ) → 0 < b → IsRounded a b r → IsRounded a b s → r ≡ s
 one_rounded a b r s some f g =
-    by_lt_z r s (λ lt. absurd (below a b r s some f g lt)) (λ le. by_lt_z s r (λ lt. absurd (below a b s r some g f lt)) (λ ge. omega (arith, ints)))
+    by_lt_z r s (λ lt. absurd (below a b r s some f g lt)) (λ le. by_lt_z s r (λ lt. absurd (below a b s r some g f lt))
+        (λ ge. omega (arith, ints)))
 
 -- digits times and divided by powers of ten, by the difference of the two powers alone
 ten_pos : (n : ℕ) → 0 < 10 ^ n
@@ -114,12 +120,19 @@ pub rounds_up : (digits up down : ℕ) → down ≤ up → RoundsUp (digits * 10
 rounds_up digits up down le =
     let power : 10 ^ (up - down) * 10 ^ down ≡ 10 ^ up = sym (pow-add 10 (up - down) down) ∙ ap (λ (n : ℕ). 10 ^ n) (omega arith) in
     let same : digits * 10 ^ (up - down) * 10 ^ down ≡ digits * 10 ^ up = omega (arith, ap (λ (n : ℕ). digits * n) power) in
-    subst (λ (a : ℕ). RoundsUp a (10 ^ down) (digits * 10 ^ (up - down))) same (rounds_exact (digits * 10 ^ (up - down)) (10 ^ down) (ten_pos down))
+    subst (λ (a : ℕ). RoundsUp a (10 ^ down) (digits * 10 ^ (up - down))) same
+        (rounds_exact (digits * 10 ^ (up - down)) (10 ^ down) (ten_pos down))
 
-pub scaled_some : (digits up down : ℕ) (o : Option ℕ) → down ≤ up → SomeIff o (digits * 10 ^ (up - down) < 2 ^ 128) (digits * 10 ^ (up - down)) → IfSome o (λ m. RoundsUp (digits * 10 ^ up) (10 ^ down) m)
+pub scaled_some : (digits up down : ℕ) (o : Option ℕ) → down ≤ up
+    → SomeIff o (digits * 10 ^ (up - down) < 2 ^ 128) (digits * 10 ^ (up - down))
+    → IfSome o (λ m. RoundsUp (digits * 10 ^ up) (10 ^ down) m)
 scaled_some digits up down None le h = tt
-scaled_some digits up down (Some m) le h = subst (λ (n : ℕ). RoundsUp (digits * 10 ^ up) (10 ^ down) n) (sym h.1) (rounds_up digits up down le)
+scaled_some digits up down (Some m) le h = subst (λ (n : ℕ). RoundsUp (digits * 10 ^ up) (10 ^ down) n) (sym h.1)
+    (rounds_up digits up down le)
 
-pub scaled_none : (digits up down : ℕ) (o : Option ℕ) → down ≤ up → SomeIff o (digits * 10 ^ (up - down) < 2 ^ 128) (digits * 10 ^ (up - down)) → IfNone o ((m : ℕ) × RoundsUp (digits * 10 ^ up) (10 ^ down) m × (2 ^ 128 ≤ m))
+pub scaled_none : (digits up down : ℕ) (o : Option ℕ) → down ≤ up
+    → SomeIff o (digits * 10 ^ (up - down) < 2 ^ 128) (digits * 10 ^ (up - down))
+    → IfNone o ((m : ℕ) × RoundsUp (digits * 10 ^ up) (10 ^ down) m × (2 ^ 128 ≤ m))
 scaled_none digits up down (Some m) le h = tt
-scaled_none digits up down None le h = (digits * 10 ^ (up - down), rounds_up digits up down le, elim (cases_lt (digits * 10 ^ (up - down)) (2 ^ 128)) [ inl lt ↦ absurd (h lt) | inr ge ↦ ge ])
+scaled_none digits up down None le h = (digits * 10 ^ (up - down), rounds_up digits up down le,
+    elim (cases_lt (digits * 10 ^ (up - down)) (2 ^ 128)) [ inl lt ↦ absurd (h lt) | inr ge ↦ ge ])

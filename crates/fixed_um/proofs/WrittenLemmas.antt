@@ -1,5 +1,6 @@
 -- What is written is short, and reads back.
-use Rattle.std.proofs.Common.{◌≡◌, ℕ, zero, suc, ◌+◌, ◌-◌, ◌*◌, ◌/◌, ◌%◌, ◌^◌, ◌<◌, ◌≤◌, Bool, true, false, List, [], ◌∷◌, ◌++◌, length, refl, ap, sym, subst, ◌∙◌, arith, codes, append_assoc, append-nil, add-zero, length-append, ℤ, pos, negsuc, Ok, Some}
+use Rattle.std.proofs.Common.{◌≡◌, ℕ, zero, suc, ◌+◌, ◌-◌, ◌*◌, ◌/◌, ◌%◌, ◌^◌, ◌<◌, ◌≤◌, Bool, true, false, List, [], ◌∷◌, ◌++◌, length,
+  refl, ap, sym, subst, ◌∙◌, arith, codes, append_assoc, append-nil, add-zero, length-append, ℤ, pos, negsuc, Ok, Some}
 use Rattle.std.specs.Prelude.{unsigned_abs, decimal}
 use Rattle.std.specs.Char.{digit_value}
 use Rattle.std.specs.Str.Parse.{AllDigits, digits_value, digits_value_after}
@@ -7,7 +8,8 @@ use Rattle.std.proofs.lemmas.Fmt.{length-decimal-le, decimal_is_IsNumeral}
 use Rattle.std.proofs.lemmas.Bool.Decides.{nat_tests}
 use Rattle.fixed_um.specs.Limits.{wire_limit, component_limit}
 use Rattle.fixed_um.specs.Written.{minus_sign, last_digit, three_digits, six_digits, written, written_component}
-use Rattle.fixed_um.specs.Numerals.{Numeral, IsSign, none, minus, IsFraction, pointed, IsExponent, nothing, IsNumeral, StandsFor, Reads, ReadsDirection, signed}
+use Rattle.fixed_um.specs.Numerals.{Numeral, IsSign, none, minus, IsFraction, pointed, IsExponent, nothing, IsNumeral, StandsFor, Reads,
+  ReadsDirection, signed}
 use Rattle.fixed_um.specs.Shapes.{Direction, IsDirection}
 use Rattle.fixed_um.proofs.DigitLemmas.{AllDigits-append, digits_value_after-append, digits_value_after-ge}
 use Rattle.fixed_um.proofs.RoundingLemmas.{rounds_exact}
@@ -45,7 +47,8 @@ thousands : (n : ℕ) → n / 1000000 ≡ n / 1000 / 1000
 thousands n = omega arith
 
 six_digits-value : (v n : ℕ) → v ≡ n / 1000000 → digits_value_after 10 v (six_digits n) ≡ n
-six_digits-value v n e = digits_value_after-append v (three_digits (n / 1000)) (three_digits n) ∙ three_digits-value _ n (three_digits-value v (n / 1000) (e ∙ thousands n))
+six_digits-value v n e = digits_value_after-append v (three_digits (n / 1000)) (three_digits n)
+    ∙ three_digits-value _ n (three_digits-value v (n / 1000) (e ∙ thousands n))
 
 is_minus : ℤ → Bool
 is_minus (pos n) = false
@@ -62,11 +65,14 @@ signed_is (pos n) = refl
 signed_is (negsuc n) = refl
 
 -- a whole part and so many decimals, written with the sign of z, stand for z
-written_stands : (scale : ℕ) (z : ℤ) (whole : ℕ) (decimals : List ℕ) → whole < 10 ^ 7 → AllDigits 10 decimals → length decimals ≡ scale → scale ≤ 6 → digits_value_after 10 whole decimals ≡ unsigned_abs z → StandsFor scale (minus_sign z ++ (decimal whole ++ (codes "." ++ decimals))) z
+written_stands : (scale : ℕ) (z : ℤ) (whole : ℕ) (decimals : List ℕ) → whole < 10 ^ 7 → AllDigits 10 decimals → length decimals ≡ scale
+    → scale ≤ 6 → digits_value_after 10 whole decimals ≡ unsigned_abs z
+    → StandsFor scale (minus_sign z ++ (decimal whole ++ (codes "." ++ decimals))) z
 written_stands scale z whole decimals small all long few value =
     let text = minus_sign z ++ (decimal whole ++ (codes "." ++ decimals)) in
     let d = decimal_is_IsNumeral whole (omega arith) in
-    let n : Numeral = record { negative = is_minus z; digits = decimal whole ++ decimals; places = length decimals; raised = 0; lowered = 0 } in
+    let n : Numeral = record { negative = is_minus z; digits = decimal whole ++ decimals; places = length decimals; raised = 0;
+        lowered = 0 } in
     let short = whole-short whole small in
     let spelled : IsNumeral text n = record {
       sign = minus_sign z;
@@ -83,17 +89,24 @@ written_stands scale z whole decimals small all long few value =
       places_are = refl;
       some_digit = omega (arith, length-append (decimal whole) decimals, d.0.0);
     } in
-    let digits : unsigned_abs z ≡ digits_value 10 n.digits = sym (digits_value_after-append 0 (decimal whole) decimals ∙ ap (λ (v : ℕ). digits_value_after 10 v decimals) d.1 ∙ value) in
+    let digits : unsigned_abs z ≡ digits_value 10 n.digits = sym (digits_value_after-append 0 (decimal whole) decimals
+        ∙ ap (λ (v : ℕ). digits_value_after 10 v decimals) d.1 ∙ value) in
     let exact = rounds_exact (unsigned_abs z) (10 ^ scale) (omega (arith, one-le-pow scale 10 (omega arith))) in
-    subst (λ (r : ℤ). StandsFor scale text r) (signed_is z) (stands scale text n (unsigned_abs z) (unsigned_abs z) spelled (omega (arith, length-append (decimal whole) decimals, short, long, few)) digits (rw (long, add-zero) exact))
+    subst (λ (r : ℤ). StandsFor scale text r) (signed_is z) (stands scale text n (unsigned_abs z) (unsigned_abs z) spelled
+        (omega (arith, length-append (decimal whole) decimals, short, long, few)) digits (rw (long, add-zero) exact))
 
 pub written_reads_back : (limit : ℕ) (z : ℤ) → unsigned_abs z ≤ limit → limit ≤ wire_limit → Reads 3 limit (written z) (Ok z)
 unfolding written
-written_reads_back limit z within most = (written_stands 3 z (unsigned_abs z / 1000) (three_digits (unsigned_abs z)) (omega arith) (three_digits-digits (unsigned_abs z)) refl (omega arith) (three_digits-value (unsigned_abs z / 1000) (unsigned_abs z) refl), within)
+written_reads_back limit z within most = (written_stands 3 z (unsigned_abs z / 1000) (three_digits (unsigned_abs z)) (omega arith)
+    (three_digits-digits (unsigned_abs z)) refl (omega arith) (three_digits-value (unsigned_abs z / 1000) (unsigned_abs z) refl), within)
 
 pub component_reads_back : (z : ℤ) → unsigned_abs z ≤ component_limit → Reads 6 component_limit (written_component z) (Ok z)
 unfolding written_component
-component_reads_back z within = (written_stands 6 z (unsigned_abs z / 1000000) (six_digits (unsigned_abs z)) (omega arith) (AllDigits-append (three_digits (unsigned_abs z / 1000)) (three_digits (unsigned_abs z)) (three_digits-digits (unsigned_abs z / 1000)) (three_digits-digits (unsigned_abs z))) refl (omega arith) (six_digits-value (unsigned_abs z / 1000000) (unsigned_abs z) refl), within)
+component_reads_back z within = (written_stands 6 z (unsigned_abs z / 1000000) (six_digits (unsigned_abs z)) (omega arith)
+    (AllDigits-append (three_digits (unsigned_abs z / 1000)) (three_digits (unsigned_abs z)) (three_digits-digits (unsigned_abs z / 1000))
+    (three_digits-digits (unsigned_abs z))) refl (omega arith) (six_digits-value (unsigned_abs z / 1000000) (unsigned_abs z) refl), within)
 
-pub direction_reads_back : (d : Direction) → IsDirection d → ReadsDirection (written_component d.i) (written_component d.j) (written_component d.k) (Ok (Some d))
-direction_reads_back d h = (component_reads_back d.i h.i_within, component_reads_back d.j h.j_within, component_reads_back d.k h.k_within, h)
+pub direction_reads_back : (d : Direction) → IsDirection d → ReadsDirection (written_component d.i) (written_component d.j)
+    (written_component d.k) (Ok (Some d))
+direction_reads_back d h = (component_reads_back d.i h.i_within, component_reads_back d.j h.j_within, component_reads_back d.k h.k_within,
+    h)

@@ -1,5 +1,7 @@
--- The reading of a numeral as a function that computes, beside the relation: equal to it, slower than the code, and at hand for examples and models.
-use Rattle.std.specs.Prelude.{ℕ, ◌+◌, ◌*◌, ◌/◌, ◌^◌, Bool, false, ◌&&◌, length, List, Option, Some, None, Result, Ok, Err, ℤ, nat_lt, nat_le, ◌==◌, if◌then◌else◌}
+-- The reading of a numeral as a function that computes, beside the relation: equal to it, slower than the code, and at hand for examples
+-- and models.
+use Rattle.std.specs.Prelude.{ℕ, ◌+◌, ◌*◌, ◌/◌, ◌^◌, Bool, false, ◌&&◌, length, List, Option, Some, None, Result, Ok, Err, ℤ, nat_lt,
+  nat_le, ◌==◌, if◌then◌else◌}
 use Rattle.std.specs.Str.Parse.{digits_value}
 use Rattle.fixed_um.specs.Numerals.{Numeral, signed}
 use Rattle.fixed_um.specs.Scan.{numeral_of}
@@ -19,7 +21,8 @@ value_within limit negative magnitude = if nat_le magnitude limit then Ok (signe
 
 abbrev pub numeral_value : ℕ → ℕ → Option Numeral → Result ℤ NumeralFault
 numeral_value scale limit None = Err NotNumeral
-numeral_value scale limit (Some n) = if nat_le (length n.digits) 30 then value_within limit n.negative (magnitude_of scale n) else Err TooManyDigits
+numeral_value scale limit (Some n) = if nat_le (length n.digits) 30 then value_within limit n.negative (magnitude_of scale n) else Err
+    TooManyDigits
 
 -- the value of a text, or the fault that is due
 abbrev pub value_of : ℕ → ℕ → List ℕ → Result ℤ NumeralFault

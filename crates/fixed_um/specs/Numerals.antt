@@ -1,5 +1,7 @@
--- What a numeral says, and the whole number of micrometres or millionths that it stands for (this profile, for ISO 22093 and I++ DME alike).
-use Rattle.std.specs.Prelude.{◌≡◌, ℕ, ◌+◌, ◌*◌, ◌^◌, ◌<◌, ◌≤◌, Bool, true, false, ◌⊎◌, List, [], ◌∷◌, ◌++◌, length, ℤ, pos, ◌*ℤ◌, ◌-ℤ◌, neg_ℤ, unsigned_abs, codes, Result, Ok, Err, if◌then◌else◌}
+-- What a numeral says, and the whole number of micrometres or millionths that it stands for (this profile, for ISO 22093 and I++ DME
+-- alike).
+use Rattle.std.specs.Prelude.{◌≡◌, ℕ, ◌+◌, ◌*◌, ◌^◌, ◌<◌, ◌≤◌, Bool, true, false, ◌⊎◌, List, [], ◌∷◌, ◌++◌, length, ℤ, pos, ◌*ℤ◌, ◌-ℤ◌,
+  neg_ℤ, unsigned_abs, codes, Result, Ok, Err, if◌then◌else◌}
 use Rattle.std.specs.Prelude.{Option, Some, None}
 use Rattle.std.specs.Str.Parse.{digits_value, AllDigits}
 use Rattle.fixed_um.specs.Limits.{component_limit}
@@ -29,7 +31,9 @@ pub data IsFraction (text : List ℕ) : List ℕ → Type 0 where
 -- nothing, or E or e, a sign and one to three digits
 pub data IsExponent (text : List ℕ) : ℕ → ℕ → Type 0 where
   nothing : text ≡ [] → IsExponent text 0 0
-  given : (mark sign ds : List ℕ) (negative : Bool) → (mark ≡ codes "E") ⊎ (mark ≡ codes "e") → IsSign sign negative → AllDigits 10 ds → 1 ≤ length ds → length ds ≤ 3 → text ≡ mark ++ (sign ++ ds) → IsExponent text (if negative then 0 else digits_value 10 ds) (if negative then digits_value 10 ds else 0)
+  given : (mark sign ds : List ℕ) (negative : Bool) → (mark ≡ codes "E") ⊎ (mark ≡ codes "e") → IsSign sign negative → AllDigits 10 ds
+      → 1 ≤ length ds → length ds ≤ 3 → text ≡ mark ++ (sign ++ ds)
+      → IsExponent text (if negative then 0 else digits_value 10 ds) (if negative then digits_value 10 ds else 0)
 
 -- the text is a sign, digits, a fraction and an exponent, with at least one digit before the exponent, and says n
 pub record IsNumeral (text : List ℕ) (n : Numeral) : Type 0 where
@@ -79,9 +83,13 @@ Reads scale limit text (Err TooLarge) = (r : ℤ) × StandsFor scale text r × (
 
 -- three texts are the components of a direction, leftmost fault first; none where all round to zero
 abbrev pub ReadsDirection : List ℕ → List ℕ → List ℕ → Result (Option Direction) NumeralFault → Type 0
-ReadsDirection i j k (Ok (Some d)) = Reads 6 component_limit i (Ok d.i) × Reads 6 component_limit j (Ok d.j) × Reads 6 component_limit k (Ok d.k) × IsDirection d
-ReadsDirection i j k (Ok None) = Reads 6 component_limit i (Ok (pos 0)) × Reads 6 component_limit j (Ok (pos 0)) × Reads 6 component_limit k (Ok (pos 0))
-ReadsDirection i j k (Err e) = Reads 6 component_limit i (Err e) ⊎ (((x : ℤ) × Reads 6 component_limit i (Ok x) × Reads 6 component_limit j (Err e)) ⊎ ((x y : ℤ) × Reads 6 component_limit i (Ok x) × Reads 6 component_limit j (Ok y) × Reads 6 component_limit k (Err e)))
+ReadsDirection i j k (Ok (Some d)) = Reads 6 component_limit i (Ok d.i) × Reads 6 component_limit j (Ok d.j)
+    × Reads 6 component_limit k (Ok d.k) × IsDirection d
+ReadsDirection i j k (Ok None) = Reads 6 component_limit i (Ok (pos 0)) × Reads 6 component_limit j (Ok (pos 0))
+    × Reads 6 component_limit k (Ok (pos 0))
+ReadsDirection i j k (Err e) = Reads 6 component_limit i (Err e)
+    ⊎ (((x : ℤ) × Reads 6 component_limit i (Ok x) × Reads 6 component_limit j (Err e))
+    ⊎ ((x y : ℤ) × Reads 6 component_limit i (Ok x) × Reads 6 component_limit j (Ok y) × Reads 6 component_limit k (Err e)))
 
 -- the text is a numeral of at most 30 digits whose digits before the exponent are all 0
 abbrev pub IsZero : List ℕ → Type 0

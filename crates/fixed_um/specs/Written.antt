@@ -1,4 +1,5 @@
--- The written form of lengths and directions, in this profile: a minus below zero, no leading zeros but one before the point, exactly three or six decimals.
+-- The written form of lengths and directions, in this profile: a minus below zero, no leading zeros but one before the point, exactly three
+-- or six decimals.
 use Rattle.std.specs.Prelude.{ℕ, ◌+◌, ◌/◌, ◌%◌, List, [], ◌∷◌, ◌++◌, ℤ, pos, negsuc, unsigned_abs, codes, decimal}
 use Rattle.fixed_um.specs.Shapes.{Direction}
 use Rattle.fixed_um.specs.declared.lengths.Point.{Point}

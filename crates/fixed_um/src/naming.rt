@@ -51,7 +51,8 @@ fn folded(alloc: Global, text: &[u8]) -> Result<Vec<u8>, AllocError>
 impl Name {
     /// The name that a text writes, folded; `None` where the text is no name. Only want of memory is an `Err`.
     pub fn new(alloc: Global, text: &[u8]) -> Result<Option<Name>, AllocError>
-        ensures { IfOk result (λ name. name ≡ (if is_name_text text.now then Some (folded text.now) else None)) }
+        ensures { IfOk result (λ name. name ≡ (if is_name_text text.now then Some (folded text.now)
+            else None)) }
     {
         if !is_name_text(text) {
             return Ok(None);

@@ -26,7 +26,8 @@ pub enum NumeralFault {
 fn quotient(digits: u128, up: u32, down: u32) -> Option<u128>
     requires { digits < 10 ^ 30 }
     ensures value { IfSome result (λ m. RoundsUp (digits * 10 ^ up) (10 ^ down) m) }
-    ensures past { IfNone result ((m : ℕ) × RoundsUp (digits * 10 ^ up) (10 ^ down) m × (2 ^ 128 ≤ m)) }
+    ensures past { IfNone result ((m : ℕ) × RoundsUp (digits * 10 ^ up) (10 ^ down) m
+        × (2 ^ 128 ≤ m)) }
 {
     if up < down {
         return Some(scaled_down(digits, down - up));
@@ -38,7 +39,8 @@ fn quotient(digits: u128, up: u32, down: u32) -> Option<u128>
 fn magnitude(digits: u128, up: u32, down: u32, limit: u64) -> Option<u64>
     requires { digits < 10 ^ 30 }
     ensures within { IfSome result (λ m. (m ≤ limit) × RoundsUp (digits * 10 ^ up) (10 ^ down) m) }
-    ensures past { IfNone result ((m : ℕ) × RoundsUp (digits * 10 ^ up) (10 ^ down) m × (limit < m)) }
+    ensures past { IfNone result ((m : ℕ) × RoundsUp (digits * 10 ^ up) (10 ^ down) m
+        × (limit < m)) }
 {
     let Some(magnitude) = quotient(digits, up, down) else {
         return None;
@@ -120,11 +122,13 @@ pub fn is_zero(bytes: &[u8]) -> bool
 
 /// A text is read in one way.
 pub fn one_reading()
-    ensures { (scale limit : ℕ) (text : List ℕ) (x y : Result ℤ NumeralFault) → Reads scale limit text x → Reads scale limit text y → x ≡ y }
+    ensures { (scale limit : ℕ) (text : List ℕ) (x y : Result ℤ NumeralFault)
+        → Reads scale limit text x → Reads scale limit text y → x ≡ y }
 {}
 
 /// The reading of a text can be computed: the relation and the function agree.
 pub fn computed_reading()
-    ensures value { (scale limit : ℕ) (text : List ℕ) → Reads scale limit text (value_of scale limit text) }
+    ensures value { (scale limit : ℕ) (text : List ℕ)
+        → Reads scale limit text (value_of scale limit text) }
     ensures zero { (text : List ℕ) → IsTrue (is_zero_text text) ↔ IsZero text }
 {}

@@ -106,7 +106,8 @@ pub fn write_dir_reserved(out: &mut Vec<u8>, direction: Dir, between: &[u8])
 pub fn write_um(out: &mut Vec<u8>, value: Um) -> Result<(), AllocError>
     ensures ok { OnOk result (out.new.items ≡ out.old.items ++ written value) }
     ensures err { OnErr result (out.new.items ≡ out.old.items) }
-    ensures reads_back { (limit : ℕ) → unsigned_abs value ≤ limit → limit ≤ wire_limit → Reads 3 limit (written value) (Ok value) }
+    ensures reads_back { (limit : ℕ) → unsigned_abs value ≤ limit → limit ≤ wire_limit
+        → Reads 3 limit (written value) (Ok value) }
 {
     out.reserve(12)?;
     write_um_reserved(out, value);
@@ -124,7 +125,8 @@ fn room_with(between: &[u8]) -> Option<usize>
 /// Appends the three components of a direction with six decimals each, with any text between each two.
 /// Only want of memory is an `Err`, and then nothing is appended; it is the answer too where no memory has room for such a text.
 pub fn write_dir(out: &mut Vec<u8>, direction: Dir, between: &[u8]) -> Result<(), AllocError>
-    ensures ok { OnOk result (out.new.items ≡ out.old.items ++ written_direction direction between.now) }
+    ensures ok { OnOk result (out.new.items ≡ out.old.items
+        ++ written_direction direction between.now) }
     ensures err { OnErr result (out.new.items ≡ out.old.items) }
     ensures reads_back { IsDirection direction → ReadsDirection (written_component direction.i)
         (written_component direction.j) (written_component direction.k) (Ok (Some direction)) }

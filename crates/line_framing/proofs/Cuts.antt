@@ -1,5 +1,6 @@
 -- How bytes are cut into their content and what stands behind it: there is one such cut, and more bytes move it only at its end.
-use Rattle.std.proofs.Common.{◌≡◌, ℕ, ◌+◌, ◌≤◌, Bool, true, false, cond, List, [], ◌∷◌, ◌++◌, take, drop, refl, sym, ◌∙◌, ap, arith, zero, suc, append_assoc}
+use Rattle.std.proofs.Common.{◌≡◌, ℕ, ◌+◌, ◌≤◌, Bool, true, false, cond, List, [], ◌∷◌, ◌++◌, take, drop, refl, sym, ◌∙◌, ap, arith, zero,
+  suc, append_assoc}
 use Rattle.std.specs.List.{list_all, prefix_len}
 use Rattle.std.proofs.lemmas.Bool.{and_parts, and_from, false≢true}
 use Rattle.std.proofs.lemmas.List.{take-append-drop}
@@ -10,7 +11,8 @@ one_more : (n : ℕ) → 1 + n ≡ suc n
 one_more n = omega arith
 
 -- the longest front that passes a test passes it
-front_by : (p : ℕ → Bool) (x : ℕ) (xs : List ℕ) (b : Bool) → p x ≡ b → list_all p (take (prefix_len p xs) xs) ≡ true → list_all p (take (cond b (1 + prefix_len p xs) 0) (x ∷ xs)) ≡ true
+front_by : (p : ℕ → Bool) (x : ℕ) (xs : List ℕ) (b : Bool) → p x ≡ b → list_all p (take (prefix_len p xs) xs) ≡ true
+    → list_all p (take (cond b (1 + prefix_len p xs) 0) (x ∷ xs)) ≡ true
 front_by p x xs true e h = rw (one_more (prefix_len p xs)) (and_from _ _ e h)
 front_by p x xs false e h = refl
 
@@ -19,7 +21,9 @@ front_passes p [] = refl
 front_passes p (x ∷ xs) = front_by p x xs (p x) refl (front_passes p xs)
 
 -- what stands behind it begins with an element that does not pass
-stops_by : (p : ℕ → Bool) (x : ℕ) (xs : List ℕ) (b : Bool) → p x ≡ b → ((c : ℕ) (more : List ℕ) → drop (prefix_len p xs) xs ≡ c ∷ more → p c ≡ false) → (c : ℕ) (more : List ℕ) → drop (cond b (1 + prefix_len p xs) 0) (x ∷ xs) ≡ c ∷ more → p c ≡ false
+stops_by : (p : ℕ → Bool) (x : ℕ) (xs : List ℕ) (b : Bool) → p x ≡ b
+    → ((c : ℕ) (more : List ℕ) → drop (prefix_len p xs) xs ≡ c ∷ more → p c ≡ false) → (c : ℕ) (more : List ℕ)
+    → drop (cond b (1 + prefix_len p xs) 0) (x ∷ xs) ≡ c ∷ more → p c ≡ false
 stops_by p x xs true e h c more is = h c more (rw (one_more (prefix_len p xs)) at is)
 stops_by p x xs false e h c more is = let same : x ≡ c = cc in ap p (sym same) ∙ e
 
@@ -36,7 +40,9 @@ begins bytes = record {
 }
 
 -- and no more than one
-same_cut : (c a d b : List ℕ) → list_all is_content c ≡ true → list_all is_content d ≡ true → ((x : ℕ) (more : List ℕ) → a ≡ x ∷ more → is_content x ≡ false) → ((x : ℕ) (more : List ℕ) → b ≡ x ∷ more → is_content x ≡ false) → c ++ a ≡ d ++ b → (c ≡ d) × (a ≡ b)
+same_cut : (c a d b : List ℕ) → list_all is_content c ≡ true → list_all is_content d ≡ true
+    → ((x : ℕ) (more : List ℕ) → a ≡ x ∷ more → is_content x ≡ false) → ((x : ℕ) (more : List ℕ) → b ≡ x ∷ more → is_content x ≡ false)
+    → c ++ a ≡ d ++ b → (c ≡ d) × (a ≡ b)
 same_cut [] a [] b ec ed sa sb e = (refl, e)
 same_cut [] a (y ∷ d) b ec ed sa sb e = absurd (false≢true (sym (sa y (d ++ b) e) ∙ (and_parts _ _ ed).0))
 same_cut (x ∷ c) a [] b ec ed sa sb e = absurd (false≢true (sym (sb x (c ++ a) (sym e)) ∙ (and_parts _ _ ec).0))
@@ -58,7 +64,8 @@ cut_stays bytes c x a more h = record {
 }
 
 -- and more bytes never make the content shorter
-longer_by : (p : ℕ → Bool) (x : ℕ) (xs ys : List ℕ) (b : Bool) → p x ≡ b → prefix_len p xs ≤ prefix_len p (xs ++ ys) → cond b (1 + prefix_len p xs) 0 ≤ cond b (1 + prefix_len p (xs ++ ys)) 0
+longer_by : (p : ℕ → Bool) (x : ℕ) (xs ys : List ℕ) (b : Bool) → p x ≡ b → prefix_len p xs ≤ prefix_len p (xs ++ ys)
+    → cond b (1 + prefix_len p xs) 0 ≤ cond b (1 + prefix_len p (xs ++ ys)) 0
 longer_by p x xs ys true e h = omega (arith, h)
 longer_by p x xs ys false e h = omega arith
 
@@ -67,7 +74,9 @@ prefix_len-le-append p [] ys = omega arith
 prefix_len-le-append p (x ∷ xs) ys = longer_by p x xs ys (p x) refl (prefix_len-le-append p xs ys)
 
 -- a search may go on where it stopped
-gone_on_by : (p : ℕ → Bool) (x : ℕ) (xs : List ℕ) (b : Bool) (n : ℕ) → p x ≡ b → suc n ≤ cond b (1 + prefix_len p xs) 0 → (n ≤ prefix_len p xs → prefix_len p xs ≡ n + prefix_len p (drop n xs)) → cond b (1 + prefix_len p xs) 0 ≡ suc n + prefix_len p (drop n xs)
+gone_on_by : (p : ℕ → Bool) (x : ℕ) (xs : List ℕ) (b : Bool) (n : ℕ) → p x ≡ b → suc n ≤ cond b (1 + prefix_len p xs) 0
+    → (n ≤ prefix_len p xs → prefix_len p xs ≡ n + prefix_len p (drop n xs))
+    → cond b (1 + prefix_len p xs) 0 ≡ suc n + prefix_len p (drop n xs)
 gone_on_by p x xs true n e h next = let m : n ≤ prefix_len p xs = omega arith in omega (arith, next m)
 gone_on_by p x xs false n e h next = absurd (omega (arith, h))
 

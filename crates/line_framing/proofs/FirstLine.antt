@@ -1,5 +1,6 @@
 -- What stands at the front of bytes: one thing, and more bytes do not undo it.
-use Rattle.std.proofs.Common.{◌≡◌, ℕ, ◌<◌, ◌≤◌, Bool, true, false, cond, ◌&&◌, List, [], ◌∷◌, ◌++◌, length, refl, sym, ◌∙◌, ap, subst, arith, append_assoc, eqb, ltb, Some, None, Ok, Err}
+use Rattle.std.proofs.Common.{◌≡◌, ℕ, ◌<◌, ◌≤◌, Bool, true, false, cond, ◌&&◌, List, [], ◌∷◌, ◌++◌, length, refl, sym, ◌∙◌, ap, subst,
+  arith, append_assoc, eqb, ltb, Some, None, Ok, Err}
 use Rattle.std.proofs.lemmas.Bool.{and_parts, le-ltb, lt-ltb, ltb-true, ltb-false, eqb-true}
 use Rattle.std.proofs.lemmas.List.Folds.{length-prefix_len}
 use Rattle.line_framing.specs.Content.{is_content, IsLine}
@@ -32,7 +33,8 @@ short_verdict c a h = ap (λ (b : Bool). cond {A = Front} b (Err LineTooLong) (e
 
 pub first_line_at : (line more : List ℕ) → IsLine line → next_of (line ++ 13 ∷ 10 ∷ more) ≡ Ok (Some (line, more))
 first_line_at line more h =
-    next_is _ line (13 ∷ 10 ∷ more) (record { parts = refl; free = h.free; stop = λ c rest is. let same : c ≡ 13 = cc in ap is_content same })
+    next_is _ line (13 ∷ 10 ∷ more) (record { parts = refl; free = h.free; stop = λ c rest is. let same : c ≡ 13 = cc
+        in ap is_content same })
     ∙ short_verdict line (13 ∷ 10 ∷ more) h.short
 
 -- the line and the rest of what is found
@@ -47,11 +49,13 @@ rest_in (Ok (Some p)) = p.1
 rest_in (Err fault) = []
 
 -- equal findings have equal lines and rests
-pub same_found : (line rest other left : List ℕ) → ◌≡◌ {A = Front} (Ok (Some (line, rest))) (Ok (Some (other, left))) → (line ≡ other) × (rest ≡ left)
+pub same_found : (line rest other left : List ℕ) → ◌≡◌ {A = Front} (Ok (Some (line, rest))) (Ok (Some (other, left))) → (line ≡ other)
+    × (rest ≡ left)
 same_found line rest other left h = (ap line_in h, ap rest_in h)
 
 -- the three ways of a verdict
-ended_by : (c : List ℕ) (x y : ℕ) (m line rest : List ℕ) (b : Bool) → (eqb x 13 && eqb y 10) ≡ b → cond {A = Front} b (Ok (Some (c, m))) (Err BadByte) ≡ Ok (Some (line, rest)) → (c ≡ line) × (x ∷ y ∷ m ≡ 13 ∷ 10 ∷ rest)
+ended_by : (c : List ℕ) (x y : ℕ) (m line rest : List ℕ) (b : Bool) → (eqb x 13 && eqb y 10) ≡ b
+    → cond {A = Front} b (Ok (Some (c, m))) (Err BadByte) ≡ Ok (Some (line, rest)) → (c ≡ line) × (x ∷ y ∷ m ≡ 13 ∷ 10 ∷ rest)
 ended_by c x y m line rest true e h =
     let ex : x ≡ 13 = eqb-true x 13 (and_parts (eqb x 13) (eqb y 10) e).0 in
     let ey : y ≡ 10 = eqb-true y 10 (and_parts (eqb x 13) (eqb y 10) e).1 in
@@ -70,7 +74,8 @@ ending_found c [] line rest h = absurd (cc)
 ending_found c (x ∷ []) line rest h = absurd (waits_by c line rest (eqb x 13) h)
 ending_found c (x ∷ y ∷ m) line rest h = ended_by c x y m line rest (eqb x 13 && eqb y 10) refl h
 
-found_by : (c a line rest : List ℕ) (b : Bool) → ltb 65536 (length c) ≡ b → cond {A = Front} b (Err LineTooLong) (ending c a) ≡ Ok (Some (line, rest)) → (length c ≤ 65536) × (c ≡ line) × (a ≡ 13 ∷ 10 ∷ rest)
+found_by : (c a line rest : List ℕ) (b : Bool) → ltb 65536 (length c) ≡ b
+    → cond {A = Front} b (Err LineTooLong) (ending c a) ≡ Ok (Some (line, rest)) → (length c ≤ 65536) × (c ≡ line) × (a ≡ 13 ∷ 10 ∷ rest)
 found_by c a line rest true e h = absurd (cc)
 found_by c a line rest false e h =
     let parts = ending_found c a line rest h in
@@ -89,18 +94,22 @@ found bytes line rest h =
     }
 
 -- a line that is found stays the first one when bytes are appended
-pub found_stays : (bytes line rest more : List ℕ) → next_of bytes ≡ Ok (Some (line, rest)) → next_of (bytes ++ more) ≡ Ok (Some (line, rest ++ more))
+pub found_stays : (bytes line rest more : List ℕ) → next_of bytes ≡ Ok (Some (line, rest))
+    → next_of (bytes ++ more) ≡ Ok (Some (line, rest ++ more))
 found_stays bytes line rest more h =
     let f = found bytes line rest h in
-    let same : bytes ++ more ≡ line ++ 13 ∷ 10 ∷ (rest ++ more) = ap (λ (l : List ℕ). l ++ more) f.parts ∙ append_assoc line (13 ∷ 10 ∷ rest) more in
+    let same : bytes ++ more ≡ line ++ 13 ∷ 10 ∷ (rest ++ more) = ap (λ (l : List ℕ). l ++ more) f.parts
+        ∙ append_assoc line (13 ∷ 10 ∷ rest) more in
     ap next_of same ∙ first_line_at line (rest ++ more) f.is_line
 
 -- and a fault stays a fault
-bad_by : (c : List ℕ) (x : ℕ) (f : FramingFault) (b : Bool) → cond {A = Front} b (Ok None) (Err BadByte) ≡ Err f → (b ≡ false) × (f ≡ BadByte)
+bad_by : (c : List ℕ) (x : ℕ) (f : FramingFault) (b : Bool) → cond {A = Front} b (Ok None) (Err BadByte) ≡ Err f → (b ≡ false)
+    × (f ≡ BadByte)
 bad_by c x f true h = absurd (cc)
 bad_by c x f false h = let same : f ≡ BadByte = cc in (refl, same)
 
-unended_by : (c m : List ℕ) (f : FramingFault) (b : Bool) → cond {A = Front} b (Ok (Some (c, m))) (Err BadByte) ≡ Err f → (b ≡ false) × (f ≡ BadByte)
+unended_by : (c m : List ℕ) (f : FramingFault) (b : Bool) → cond {A = Front} b (Ok (Some (c, m))) (Err BadByte) ≡ Err f → (b ≡ false)
+    × (f ≡ BadByte)
 unended_by c m f true h = absurd (cc)
 unended_by c m f false h = let same : f ≡ BadByte = cc in (refl, same)
 
@@ -117,7 +126,8 @@ ending_stays c x [] more f h =
 ending_stays c x (y ∷ a) more f h =
     let bad = unended_by c a f (eqb x 13 && eqb y 10) h in
     let same : f ≡ BadByte = bad.1 in
-    let end : ending c (x ∷ y ∷ (a ++ more)) ≡ Err BadByte = ap (λ (b : Bool). cond {A = Front} b (Ok (Some (c, a ++ more))) (Err BadByte)) bad.0 in
+    let end : ending c (x ∷ y ∷ (a ++ more)) ≡ Err BadByte = ap (λ (b : Bool). cond {A = Front} b (Ok (Some (c, a ++ more))) (Err BadByte))
+        bad.0 in
     cc
 
 too_long : (bytes : List ℕ) → 65536 < content_len bytes → next_of bytes ≡ Err LineTooLong
@@ -125,15 +135,19 @@ too_long bytes h =
     ap (λ (b : Bool). cond {A = Front} b (Err LineTooLong) (ending (content_of bytes) (behind_content bytes)))
     (lt-ltb 65536 (length (content_of bytes)) (rw (length-prefix_len is_content bytes) h))
 
-stays_by : (bytes more : List ℕ) (f : FramingFault) (a : List ℕ) (b : Bool) → behind_content bytes ≡ a → ltb 65536 (length (content_of bytes)) ≡ b → cond {A = Front} b (Err LineTooLong) (ending (content_of bytes) a) ≡ Err f → next_of (bytes ++ more) ≡ Err f
+stays_by : (bytes more : List ℕ) (f : FramingFault) (a : List ℕ) (b : Bool) → behind_content bytes ≡ a
+    → ltb 65536 (length (content_of bytes)) ≡ b → cond {A = Front} b (Err LineTooLong) (ending (content_of bytes) a) ≡ Err f
+    → next_of (bytes ++ more) ≡ Err f
 stays_by bytes more f a true ea e h =
     let same : f ≡ LineTooLong = cc in
     let long : 65536 < content_len bytes = rw (length-prefix_len is_content bytes) at (ltb-true 65536 _ e) in
-    let end : next_of (bytes ++ more) ≡ Err LineTooLong = too_long (bytes ++ more) (omega (arith, long, prefix_len-le-append is_content bytes more)) in
+    let end : next_of (bytes ++ more) ≡ Err LineTooLong = too_long (bytes ++ more)
+        (omega (arith, long, prefix_len-le-append is_content bytes more)) in
     cc
 stays_by bytes more f [] false ea e h = absurd (cc)
 stays_by bytes more f (x ∷ a) false ea e h =
-    next_is (bytes ++ more) (content_of bytes) (x ∷ (a ++ more)) (cut_stays bytes (content_of bytes) x a more (subst (λ (l : List ℕ). BeginsWith bytes (content_of bytes) l) ea (begins bytes)))
+    next_is (bytes ++ more) (content_of bytes) (x ∷ (a ++ more))
+        (cut_stays bytes (content_of bytes) x a more (subst (λ (l : List ℕ). BeginsWith bytes (content_of bytes) l) ea (begins bytes)))
     ∙ (short_verdict (content_of bytes) (x ∷ (a ++ more)) (ltb-false 65536 _ e) ∙ ending_stays (content_of bytes) x a more f h)
 
 pub fault_stays : (bytes more : List ℕ) (f : FramingFault) → next_of bytes ≡ Err f → next_of (bytes ++ more) ≡ Err f

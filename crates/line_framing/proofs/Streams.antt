@@ -1,5 +1,6 @@
 -- Lists of lines as bytes: what is taken from them piece by piece is these lines.
-use Rattle.std.proofs.Common.{◌≡◌, ℕ, ◌<◌, ◌≤◌, Bool, true, false, cond, not, ◌&&◌, ◌||◌, List, [], ◌∷◌, ◌++◌, length, zero, suc, refl, sym, ◌∙◌, ap, subst, arith, append_assoc, length-append, eqb, Option, Some, None, Ok, Err, IfOk, IsNone}
+use Rattle.std.proofs.Common.{◌≡◌, ℕ, ◌<◌, ◌≤◌, Bool, true, false, cond, not, ◌&&◌, ◌||◌, List, [], ◌∷◌, ◌++◌, length, zero, suc, refl, sym,
+  ◌∙◌, ap, subst, arith, append_assoc, length-append, eqb, Option, Some, None, Ok, Err, IfOk, IsNone}
 use Rattle.std.proofs.lemmas.Bool.{true≢false, eqb-true, not-false}
 use Rattle.line_framing.specs.Content.{is_content, IsLine, AreLines, line_bytes}
 use Rattle.line_framing.specs.Next.{Front, content_of, behind_content, ending, next_of}
@@ -19,7 +20,8 @@ AreLines-append [] ys h g = g
 AreLines-append (x ∷ xs) ys h g = (h.0, AreLines-append xs ys h.1 g)
 
 -- where bytes and what is to come are lines, no fault stands at their front
-pub no_fault : (bytes more : List ℕ) (xs : List (List ℕ)) (fault : FramingFault) → AreLines xs → bytes ++ more ≡ line_bytes xs → next_of bytes ≡ Err fault → ⊥
+pub no_fault : (bytes more : List ℕ) (xs : List (List ℕ)) (fault : FramingFault) → AreLines xs → bytes ++ more ≡ line_bytes xs
+    → next_of bytes ≡ Err fault → ⊥
 no_fault bytes more [] fault h e next =
     let stays : next_of [] ≡ Err fault = ap next_of (sym e) ∙ fault_stays bytes more fault next in
     cc
@@ -29,7 +31,8 @@ no_fault bytes more (x ∷ xs) fault h e next =
     cc
 
 -- and the line that stands there is the first of them, with the others behind it
-pub takes_first : (bytes more : List ℕ) (xs : List (List ℕ)) (line left : List ℕ) → AreLines xs → bytes ++ more ≡ line_bytes xs → next_of bytes ≡ Ok (Some (line, left)) → TakesFirst xs line left more
+pub takes_first : (bytes more : List ℕ) (xs : List (List ℕ)) (line left : List ℕ) → AreLines xs → bytes ++ more ≡ line_bytes xs
+    → next_of bytes ≡ Ok (Some (line, left)) → TakesFirst xs line left more
 takes_first bytes more [] line left h e next =
     let stays : next_of [] ≡ Ok (Some (line, left ++ more)) = ap next_of (sym e) ∙ found_stays bytes line left more next in
     absurd (cc)
@@ -44,23 +47,31 @@ none_left [] h next = refl
 none_left (x ∷ xs) h next = let first = first_line_at x (line_bytes xs) h.0 in absurd (cc)
 
 -- the lines, the rest and its fault are determined by the bytes
-same_stream : (xs ys : List (List ℕ)) (rest left : List ℕ) → line_bytes xs ++ rest ≡ line_bytes ys ++ left → AreLines xs → AreLines ys → ((line more : List ℕ) → IsLine line → rest ≡ line ++ 13 ∷ 10 ∷ more → ⊥) → ((line more : List ℕ) → IsLine line → left ≡ line ++ 13 ∷ 10 ∷ more → ⊥) → (xs ≡ ys) × (rest ≡ left)
+same_stream : (xs ys : List (List ℕ)) (rest left : List ℕ) → line_bytes xs ++ rest ≡ line_bytes ys ++ left → AreLines xs → AreLines ys
+    → ((line more : List ℕ) → IsLine line → rest ≡ line ++ 13 ∷ 10 ∷ more → ⊥)
+    → ((line more : List ℕ) → IsLine line → left ≡ line ++ 13 ∷ 10 ∷ more → ⊥) → (xs ≡ ys) × (rest ≡ left)
 same_stream [] [] rest left e hx hy nx ny = (refl, e)
-same_stream [] (y ∷ ys) rest left e hx hy nx ny = absurd (nx y (line_bytes ys ++ left) hy.0 (e ∙ append_assoc y (13 ∷ 10 ∷ line_bytes ys) left))
-same_stream (x ∷ xs) [] rest left e hx hy nx ny = absurd (ny x (line_bytes xs ++ rest) hx.0 (sym e ∙ append_assoc x (13 ∷ 10 ∷ line_bytes xs) rest))
+same_stream [] (y ∷ ys) rest left e hx hy nx ny = absurd (nx y (line_bytes ys ++ left) hy.0 (e
+    ∙ append_assoc y (13 ∷ 10 ∷ line_bytes ys) left))
+same_stream (x ∷ xs) [] rest left e hx hy nx ny = absurd (ny x (line_bytes xs ++ rest) hx.0 (sym e
+    ∙ append_assoc x (13 ∷ 10 ∷ line_bytes xs) rest))
 same_stream (x ∷ xs) (y ∷ ys) rest left e hx hy nx ny =
-    let bytes : x ++ 13 ∷ 10 ∷ (line_bytes xs ++ rest) ≡ y ++ 13 ∷ 10 ∷ (line_bytes ys ++ left) = sym (append_assoc x (13 ∷ 10 ∷ line_bytes xs) rest) ∙ (e ∙ append_assoc y (13 ∷ 10 ∷ line_bytes ys) left) in
-    let one = same_found x (line_bytes xs ++ rest) y (line_bytes ys ++ left) (sym (first_line_at x (line_bytes xs ++ rest) hx.0) ∙ (ap next_of bytes ∙ first_line_at y (line_bytes ys ++ left) hy.0)) in
+    let bytes : x ++ 13 ∷ 10 ∷ (line_bytes xs ++ rest) ≡ y ++ 13 ∷ 10 ∷ (line_bytes ys ++ left) =
+        sym (append_assoc x (13 ∷ 10 ∷ line_bytes xs) rest) ∙ (e ∙ append_assoc y (13 ∷ 10 ∷ line_bytes ys) left) in
+    let one = same_found x (line_bytes xs ++ rest) y (line_bytes ys ++ left) (sym (first_line_at x (line_bytes xs ++ rest) hx.0)
+        ∙ (ap next_of bytes ∙ first_line_at y (line_bytes ys ++ left) hy.0)) in
     let others = same_stream xs ys rest left one.1 hx.1 hy.1 nx ny in
     (ap (λ (l : List ℕ). l ∷ xs) one.0 ∙ ap (λ (ls : List (List ℕ)). y ∷ ls) others.0, others.1)
 
-pub one_stream : (bytes : List ℕ) (xs ys : List (List ℕ)) (rest left : List ℕ) (fault other : Option FramingFault) → IsStream bytes xs rest fault → IsStream bytes ys left other → AreSame xs ys rest left fault other
+pub one_stream : (bytes : List ℕ) (xs ys : List (List ℕ)) (rest left : List ℕ) (fault other : Option FramingFault)
+    → IsStream bytes xs rest fault → IsStream bytes ys left other → AreSame xs ys rest left fault other
 one_stream bytes xs ys rest left fault other h g =
     let same = same_stream xs ys rest left (sym h.parts ∙ g.parts) h.whole g.whole h.no_more g.no_more in
     record { lines_are = same.0; rests_are = same.1; faults_are = h.faulty ∙ (ap fault_of same.1 ∙ sym g.faulty) }
 
 -- one line more in front
-pub stream_more : (bytes line left rest : List ℕ) (lines : List (List ℕ)) (fault : Option FramingFault) → next_of bytes ≡ Ok (Some (line, left)) → IsStream left lines rest fault → IsStream bytes (line ∷ lines) rest fault
+pub stream_more : (bytes line left rest : List ℕ) (lines : List (List ℕ)) (fault : Option FramingFault)
+    → next_of bytes ≡ Ok (Some (line, left)) → IsStream left lines rest fault → IsStream bytes (line ∷ lines) rest fault
 stream_more bytes line left rest lines fault next h =
     let f = found bytes line left next in
     record {
@@ -74,21 +85,31 @@ stream_more bytes line left rest lines fault next h =
 stop_is : (x : ℕ) → is_content x ≡ false → eqb x 13 ≡ false → eqb x 10 ≡ true
 stop_is x h e = not-false _ (sym (ap (λ (b : Bool). not b && not (eqb x 10)) e) ∙ h)
 
-bad_one : (c : List ℕ) (x : ℕ) (b : Bool) → eqb x 13 ≡ b → is_content x ≡ false → cond {A = Option FramingFault} (eqb x 10) (Some BadByte) None ≡ fault_in (cond {A = Front} b (Ok None) (Err BadByte))
-bad_one c x true e h = let same : x ≡ 13 = eqb-true x 13 e in ap (λ (y : ℕ). cond {A = Option FramingFault} (eqb y 10) (Some BadByte) None) same
+bad_one : (c : List ℕ) (x : ℕ) (b : Bool) → eqb x 13 ≡ b → is_content x ≡ false
+    → cond {A = Option FramingFault} (eqb x 10) (Some BadByte) None ≡ fault_in (cond {A = Front} b (Ok None) (Err BadByte))
+bad_one c x true e h = let same : x ≡ 13 = eqb-true x 13 e in
+    ap (λ (y : ℕ). cond {A = Option FramingFault} (eqb y 10) (Some BadByte) None) same
 bad_one c x false e h = ap (λ (b : Bool). cond {A = Option FramingFault} b (Some BadByte) None) (stop_is x h e)
 
-bad_two : (c : List ℕ) (x y : ℕ) (m : List ℕ) (b d : Bool) → eqb x 13 ≡ b → eqb y 10 ≡ d → is_content x ≡ false → IfOk (cond {A = Front} (b && d) (Ok (Some (c, m))) (Err BadByte)) IsNone → cond {A = Option FramingFault} (eqb x 10 || (b && not d)) (Some BadByte) None ≡ fault_in (cond {A = Front} (b && d) (Ok (Some (c, m))) (Err BadByte))
+bad_two : (c : List ℕ) (x y : ℕ) (m : List ℕ) (b d : Bool) → eqb x 13 ≡ b → eqb y 10 ≡ d → is_content x ≡ false
+    → IfOk (cond {A = Front} (b && d) (Ok (Some (c, m))) (Err BadByte)) IsNone
+    → cond {A = Option FramingFault} (eqb x 10 || (b && not d)) (Some BadByte) None
+    ≡ fault_in (cond {A = Front} (b && d) (Ok (Some (c, m))) (Err BadByte))
 bad_two c x y m true true e g h none = absurd (true≢false none)
-bad_two c x y m true false e g h none = let same : x ≡ 13 = eqb-true x 13 e in ap (λ (z : ℕ). cond {A = Option FramingFault} (eqb z 10 || true) (Some BadByte) None) same
+bad_two c x y m true false e g h none = let same : x ≡ 13 = eqb-true x 13 e
+    in ap (λ (z : ℕ). cond {A = Option FramingFault} (eqb z 10 || true) (Some BadByte) None) same
 bad_two c x y m false d e g h none = ap (λ (b : Bool). cond {A = Option FramingFault} (b || false) (Some BadByte) None) (stop_is x h e)
 
-bad_behind : (c a : List ℕ) → ((x : ℕ) (more : List ℕ) → a ≡ x ∷ more → is_content x ≡ false) → IfOk (ending c a) IsNone → cond {A = Option FramingFault} (is_bad_end a) (Some BadByte) None ≡ fault_in (ending c a)
+bad_behind : (c a : List ℕ) → ((x : ℕ) (more : List ℕ) → a ≡ x ∷ more → is_content x ≡ false) → IfOk (ending c a) IsNone
+    → cond {A = Option FramingFault} (is_bad_end a) (Some BadByte) None ≡ fault_in (ending c a)
 bad_behind c [] stop none = refl
 bad_behind c (x ∷ []) stop none = bad_one c x (eqb x 13) refl (stop x [] refl)
 bad_behind c (x ∷ y ∷ m) stop none = bad_two c x y m (eqb x 13) (eqb y 10) refl refl (stop x (y ∷ m) refl) none
 
-fault_by : (c a : List ℕ) (b : Bool) → ((x : ℕ) (more : List ℕ) → a ≡ x ∷ more → is_content x ≡ false) → IfOk (cond {A = Front} b (Err LineTooLong) (ending c a)) IsNone → cond {A = Option FramingFault} b (Some LineTooLong) (cond {A = Option FramingFault} (is_bad_end a) (Some BadByte) None) ≡ fault_in (cond {A = Front} b (Err LineTooLong) (ending c a))
+fault_by : (c a : List ℕ) (b : Bool) → ((x : ℕ) (more : List ℕ) → a ≡ x ∷ more → is_content x ≡ false)
+    → IfOk (cond {A = Front} b (Err LineTooLong) (ending c a)) IsNone
+    → cond {A = Option FramingFault} b (Some LineTooLong) (cond {A = Option FramingFault} (is_bad_end a) (Some BadByte) None)
+    ≡ fault_in (cond {A = Front} b (Err LineTooLong) (ending c a))
 fault_by c a true stop none = refl
 fault_by c a false stop none = bad_behind c a stop none
 
@@ -104,16 +125,20 @@ stream_end bytes none = record {
 }
 
 -- each list of bytes is a stream
-read_by : (bytes : List ℕ) (n : ℕ) (front : Front) → next_of bytes ≡ front → length bytes ≤ n → ((left : List ℕ) → length left < n → IsRead left) → IsRead bytes
+read_by : (bytes : List ℕ) (n : ℕ) (front : Front) → next_of bytes ≡ front → length bytes ≤ n
+    → ((left : List ℕ) → length left < n → IsRead left) → IsRead bytes
 read_by bytes n (Ok None) next short later =
-    record { lines = []; rest = bytes; fault = fault_in (next_of bytes); stream = stream_end bytes (subst (λ (r : Front). IfOk r IsNone) (sym next) refl) }
+    record { lines = []; rest = bytes; fault = fault_in (next_of bytes);
+        stream = stream_end bytes (subst (λ (r : Front). IfOk r IsNone) (sym next) refl) }
 read_by bytes n (Ok (Some (line, left))) next short later =
     let f = found bytes line left next in
     let count = ap length f.parts ∙ length-append line (13 ∷ 10 ∷ left) in
     let r = later left (omega (arith, count)) in
-    record { lines = line ∷ r.lines; rest = r.rest; fault = r.fault; stream = stream_more bytes line left r.rest r.lines r.fault next r.stream }
+    record { lines = line ∷ r.lines; rest = r.rest; fault = r.fault;
+        stream = stream_more bytes line left r.rest r.lines r.fault next r.stream }
 read_by bytes n (Err fault) next short later =
-    record { lines = []; rest = bytes; fault = fault_in (next_of bytes); stream = stream_end bytes (subst (λ (r : Front). IfOk r IsNone) (sym next) tt) }
+    record { lines = []; rest = bytes; fault = fault_in (next_of bytes);
+        stream = stream_end bytes (subst (λ (r : Front). IfOk r IsNone) (sym next) tt) }
 
 read_within : (n : ℕ) (bytes : List ℕ) → length bytes < n → IsRead bytes
 read_within zero bytes h = absurd (omega (arith, h))

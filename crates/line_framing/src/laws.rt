@@ -41,9 +41,11 @@ pub fn later_bytes_change_no_front()
 /// line is left.
 #[tactic(auto, using(crate::proofs::Streams::no_fault, crate::proofs::Streams::takes_first, crate::proofs::Streams::none_left))]
 pub fn written_lines_are_taken_in_order()
-    ensures fault { (bytes more : List ℕ) (lines : List (List ℕ)) (fault : FramingFault) → AreLines lines
+    ensures fault { (bytes more : List ℕ) (lines : List (List ℕ)) (fault : FramingFault)
+        → AreLines lines
         → bytes ++ more ≡ line_bytes lines → next_of bytes ≡ Err fault → ⊥ }
-    ensures line { (bytes more : List ℕ) (lines : List (List ℕ)) (line left : List ℕ) → AreLines lines
+    ensures line { (bytes more : List ℕ) (lines : List (List ℕ)) (line left : List ℕ)
+        → AreLines lines
         → bytes ++ more ≡ line_bytes lines → next_of bytes ≡ Ok (Some (line, left))
         → TakesFirst lines line left more }
     ensures none { (lines : List (List ℕ)) → AreLines lines → next_of (line_bytes lines) ≡ Ok None
@@ -60,7 +62,8 @@ pub fn joined_lines_have_joined_bytes()
 pub fn one_stream()
     ensures some { (bytes : List ℕ) → IsRead bytes }
     ensures one { (bytes : List ℕ) (lines others : List (List ℕ)) (rest left : List ℕ)
-        (fault other : Option FramingFault) → IsStream bytes lines rest fault → IsStream bytes others left other
+        (fault other : Option FramingFault) → IsStream bytes lines rest fault
+            → IsStream bytes others left other
         → AreSame lines others rest left fault other }
 {}
 

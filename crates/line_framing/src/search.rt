@@ -26,7 +26,8 @@ fn count_content(bytes: &[u8]) -> usize
 #[tactic(auto, using(crate::proofs::Buffers::search_goes_on))]
 pub(crate) fn content_end(bytes: &[u8], searched: usize) -> usize
     requires { searched ≤ length bytes.now }
-    ensures end { (start : ℕ) → start ≤ searched → searched ≤ start + content_len (drop start bytes.now)
+    ensures end { (start : ℕ) → start ≤ searched
+        → searched ≤ start + content_len (drop start bytes.now)
         → result ≡ start + content_len (drop start bytes.now) }
     ensures begun { searched ≤ result }
     ensures within { result ≤ length bytes.now }

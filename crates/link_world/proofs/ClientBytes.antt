@@ -1,5 +1,6 @@
 -- The bytes that come to the client in a world.
-use Rattle.std.proofs.Common.{◌≡◌, ℕ, ◌-◌, ◌<◌, Bool, true, false, not, ◌&&◌, List, length, take, drop, slice_index_or, slice_set, sym, ◌∙◌, ap, subst, arith}
+use Rattle.std.proofs.Common.{◌≡◌, ℕ, ◌-◌, ◌<◌, Bool, true, false, not, ◌&&◌, List, length, take, drop, slice_index_or, slice_set, sym, ◌∙◌,
+  ap, subst, arith}
 use Rattle.std.proofs.lemmas.Bool.{and_from}
 use Rattle.protocol_model.specs.Ends.{ClientEnd, end_fed}
 use Rattle.protocol_model.specs.World.{World, Link, no_link, link_of, with_link, client_link, has_some, can, happens, moved_down}
@@ -15,60 +16,83 @@ use Rattle.link_world.proofs.ClientWriting.{awake}
 use Rattle.link_world.proofs.ClientReading.{faulted_same}
 
 -- where it is on a connection it reads
-pub reads_on : (client : ClientEnd) (server : Serving) (cs : List Connection) (written : List ℕ) → IsReached (seen client server cs written) → client.client.on ≡ true → may_read client.client ≡ true
+pub reads_on : (client : ClientEnd) (server : Serving) (cs : List Connection) (written : List ℕ) → IsReached (seen client server cs written)
+    → client.client.on ≡ true → may_read client.client ≡ true
 reads_on client server cs written h on = and_from _ _ on (ap not (awake client server cs written h))
 
 pub off_no_bytes : (l : Linked) (count : ℕ) → l.world.client.client.on ≡ false → can (event.Down count) l.world ≡ false
-off_no_bytes l count off = ap (λ (b : Bool). b && (not (world.is_faulted l.world.client.client.state) && has_some count (client_link l.world).down)) off
+off_no_bytes l count off = ap (λ (b : Bool). b && (not (world.is_faulted l.world.client.client.state)
+    && has_some count (client_link l.world).down)) off
 
 -- the bytes of its connection
-here : (client : ClientEnd) (server : Serving) (cs : List Connection) (written : List ℕ) (at : ℕ) (c : Connection) → IsReached (seen client server cs written) → at ≡ length cs - 1 → 0 < length cs → c ≡ slice_index_or cs at c
+here : (client : ClientEnd) (server : Serving) (cs : List Connection) (written : List ℕ) (at : ℕ) (c : Connection)
+    → IsReached (seen client server cs written) → at ≡ length cs - 1 → 0 < length cs → c ≡ slice_index_or cs at c
     → link_of (links_of cs) client.client.last ≡ link_of_connection c
 here client server cs written at c h place some is =
     let same : length cs ≡ client.client.last = made client server cs written h in
     let number : at ≡ client.client.last - 1 = place ∙ ap (λ (n : ℕ). n - 1) same in
     ap (λ (n : ℕ). slice_index_or (links_of cs) n no_link) (sym number) ∙ links_get cs at c (omega (arith, place, some)) is
 
-down_may : (count : ℕ) (client : ClientEnd) (server : Serving) (cs : List Connection) (written : List ℕ) (at : ℕ) (c : Connection) → IsReached (seen client server cs written) → client.client.on ≡ true
-    → at ≡ length cs - 1 → 0 < length cs → c ≡ slice_index_or cs at c → (b : Bool) → has_some count c.down.waiting ≡ b → can (event.Down count) (seen client server cs written).world ≡ b
+down_may : (count : ℕ) (client : ClientEnd) (server : Serving) (cs : List Connection) (written : List ℕ) (at : ℕ) (c : Connection)
+    → IsReached (seen client server cs written) → client.client.on ≡ true
+    → at ≡ length cs - 1 → 0 < length cs → c ≡ slice_index_or cs at c → (b : Bool) → has_some count c.down.waiting ≡ b
+    → can (event.Down count) (seen client server cs written).world ≡ b
 down_may count client server cs written at c h on place some is b some_is =
     let link = here client server cs written at c h place some is in
-    let stays : not (world.is_faulted client.client.state) ≡ true = ap not (sym (faulted_same client.client.state) ∙ awake client server cs written h) in
-    ap (λ (x : Bool). x && (not (world.is_faulted client.client.state) && has_some count (link_of (links_of cs) client.client.last).down)) on
+    let stays : not (world.is_faulted client.client.state) ≡ true =
+        ap not (sym (faulted_same client.client.state) ∙ awake client server cs written h) in
+    ap (λ (x : Bool). x && (not (world.is_faulted client.client.state) && has_some count (link_of (links_of cs) client.client.last).down))
+        on
     ∙ (ap (λ (x : Bool). x && has_some count (link_of (links_of cs) client.client.last).down) stays
     ∙ (ap (λ (l : Link). has_some count l.down) link ∙ some_is))
 
-pub down_can : (l : Linked) (count : ℕ) (client : ClientEnd) (server : Serving) (cs : List Connection) (written : List ℕ) (at : ℕ) (c : Connection) (b : Bool) → l ≡ seen client server cs written → IsReached (seen client server cs written)
-    → client.client.on ≡ true → at ≡ length cs - 1 → 0 < length cs → c ≡ slice_index_or cs at c → has_some count c.down.waiting ≡ b → can (event.Down count) l.world ≡ b
+pub down_can : (l : Linked) (count : ℕ) (client : ClientEnd) (server : Serving) (cs : List Connection) (written : List ℕ) (at : ℕ)
+    (c : Connection) (b : Bool) → l ≡ seen client server cs written → IsReached (seen client server cs written)
+    → client.client.on ≡ true → at ≡ length cs - 1 → 0 < length cs → c ≡ slice_index_or cs at c → has_some count c.down.waiting ≡ b
+    → can (event.Down count) l.world ≡ b
 down_can l count client server cs written at c b view h on place some is some_is =
-    subst (λ (k : Linked). can (event.Down count) k.world ≡ b) (sym view) (down_may count client server cs written at c h on place some is b some_is)
+    subst (λ (k : Linked). can (event.Down count) k.world ≡ b) (sym view)
+        (down_may count client server cs written at c h on place some is b some_is)
 
 down_seen : (count : ℕ) (client after : ClientEnd) (server : Serving) (cs : List Connection) (written : List ℕ) (at : ℕ) (c d : Connection)
     → IsReached (seen client server cs written) → at ≡ length cs - 1 → 0 < length cs → c ≡ slice_index_or cs at c
     → after ≡ end_fed (take count c.down.waiting) client → d.up.waiting ≡ c.up.waiting → d.down.waiting ≡ drop count c.down.waiting
-    → seen after server (slice_set cs at d) written ≡ with_world (seen client server cs written) (moved_down count (seen client server cs written).world)
+    → seen after server (slice_set cs at d) written ≡ with_world (seen client server cs written)
+    (moved_down count (seen client server cs written).world)
 down_seen count client after server cs written at c d h place some is fed up down =
     let same : length cs ≡ client.client.last = made client server cs written h in
     let number : at ≡ client.client.last - 1 = place ∙ ap (λ (n : ℕ). n - 1) same in
     let link : link_of (links_of cs) client.client.last ≡ link_of_connection c = here client server cs written at c h place some is in
-    let bytes : d.down.waiting ≡ drop count (link_of (links_of cs) client.client.last).down = down ∙ ap (λ (l : Link). drop count l.down) (sym link) in
-    let links : links_of (slice_set cs at d) ≡ with_link (links_of cs) client.client.last (record (link_of (links_of cs) client.client.last) { down = drop count (link_of (links_of cs) client.client.last).down }) =
-    link_down cs at client.client.last c d (drop count (link_of (links_of cs) client.client.last).down) (omega (arith, place, some)) is number up bytes in
-    let read : after ≡ end_fed (take count (link_of (links_of cs) client.client.last).down) client = fed ∙ ap (λ (l : Link). end_fed (take count l.down) client) (sym link) in
+    let bytes : d.down.waiting ≡ drop count (link_of (links_of cs) client.client.last).down = down
+        ∙ ap (λ (l : Link). drop count l.down) (sym link) in
+    let links : links_of (slice_set cs at d) ≡ with_link (links_of cs) client.client.last
+        (record (link_of (links_of cs) client.client.last) { down = drop count (link_of (links_of cs) client.client.last).down }) =
+    link_down cs at client.client.last c d (drop count (link_of (links_of cs) client.client.last).down) (omega (arith, place, some)) is
+        number up bytes in
+    let read : after ≡ end_fed (take count (link_of (links_of cs) client.client.last).down) client = fed
+        ∙ ap (λ (l : Link). end_fed (take count l.down) client) (sym link) in
     ap (λ (x : ClientEnd). seen x server (slice_set cs at d) written) read
-    ∙ ap (λ (l : List Link). record { setup = server.setup; world = record { client = end_fed (take count (link_of (links_of cs) client.client.last).down) client; server = server.end; links = l; written = written } }) links
+    ∙ ap (λ (l : List Link). record { setup = server.setup; world = record
+    { client = end_fed (take count (link_of (links_of cs) client.client.last).down) client; server = server.end; links = l;
+    written = written } }) links
 
-pub down_is : (l : Linked) (count : ℕ) (client after : ClientEnd) (server : Serving) (cs : List Connection) (written : List ℕ) (at : ℕ) (c d : Connection)
-    → l ≡ seen client server cs written → IsReached (seen client server cs written) → at ≡ length cs - 1 → 0 < length cs → c ≡ slice_index_or cs at c
+pub down_is : (l : Linked) (count : ℕ) (client after : ClientEnd) (server : Serving) (cs : List Connection) (written : List ℕ) (at : ℕ)
+    (c d : Connection)
+    → l ≡ seen client server cs written → IsReached (seen client server cs written) → at ≡ length cs - 1 → 0 < length cs
+    → c ≡ slice_index_or cs at c
     → after ≡ end_fed (take count c.down.waiting) client → d.up.waiting ≡ c.up.waiting → d.down.waiting ≡ drop count c.down.waiting
     → seen after server (slice_set cs at d) written ≡ with_world l (moved_down count l.world)
 down_is l count client after server cs written at c d view h place some is fed up down =
-    down_seen count client after server cs written at c d h place some is fed up down ∙ ap (λ (k : Linked). with_world k (moved_down count k.world)) (sym view)
+    down_seen count client after server cs written at c d h place some is fed up down
+        ∙ ap (λ (k : Linked). with_world k (moved_down count k.world)) (sym view)
 
-pub down_reached : (count : ℕ) (client after : ClientEnd) (server : Serving) (cs : List Connection) (written : List ℕ) (at : ℕ) (c d : Connection)
-    → IsReached (seen client server cs written) → client.client.on ≡ true → at ≡ length cs - 1 → 0 < length cs → c ≡ slice_index_or cs at c → has_some count c.down.waiting ≡ true
+pub down_reached : (count : ℕ) (client after : ClientEnd) (server : Serving) (cs : List Connection) (written : List ℕ) (at : ℕ)
+    (c d : Connection)
+    → IsReached (seen client server cs written) → client.client.on ≡ true → at ≡ length cs - 1 → 0 < length cs → c ≡ slice_index_or cs at c
+    → has_some count c.down.waiting ≡ true
     → after ≡ end_fed (take count c.down.waiting) client → d.up.waiting ≡ c.up.waiting → d.down.waiting ≡ drop count c.down.waiting
     → IsReached (seen after server (slice_set cs at d) written)
 down_reached count client after server cs written at c d h on place some is some_is fed up down =
     reached_more (seen client server cs written) (seen after server (slice_set cs at d) written) (event.Down count) h
-    (down_may count client server cs written at c h on place some is true some_is) (λ readers are. down_seen count client after server cs written at c d h place some is fed up down)
+    (down_may count client server cs written at c h on place some is true some_is)
+        (λ readers are. down_seen count client after server cs written at c d h place some is fed up down)

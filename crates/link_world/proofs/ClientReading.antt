@@ -50,14 +50,18 @@ pub reads_can : (e : ClientEnd) → may_read e.client ≡ true → IsLineDue (ne
 reads_can e may due = let parts = may_is e may in and_from _ _ parts.0 (and_from _ _ parts.1 (any_line (next_of e.input.rest) due))
 
 -- it never meets what is no line
-no_fault_read : (client : ClientEnd) (server : Serving) (cs : List Connection) (written : List ℕ) → IsReached (seen client server cs written)
+no_fault_read : (client : ClientEnd) (server : Serving) (cs : List Connection) (written : List ℕ)
+    → IsReached (seen client server cs written)
     → client.client.on ≡ true → (why : FramingFault) → next_of client.input.rest ≡ Err why → ⊥
 no_fault_read client server cs written h on why is =
     let c : IsCarried (seen client server cs written).world = carried (seen client server cs written) h in
-    no_reply_fault c.down client.input.rest (client_link (seen client server cs written).world).down why c.wired.replies (c.wired.down_is on) is
+    no_reply_fault c.down client.input.rest (client_link (seen client server cs written).world).down why c.wired.replies
+        (c.wired.down_is on) is
 
-pub read_reached : (client after : ClientEnd) (server : Serving) (cs : List Connection) (written : List ℕ) → IsReached (seen client server cs written)
-    → reads_any client ≡ true → ((readers : Readers) → AreReaders readers → after ≡ end_read readers client) → IsReached (seen after server cs written)
+pub read_reached : (client after : ClientEnd) (server : Serving) (cs : List Connection) (written : List ℕ)
+    → IsReached (seen client server cs written)
+    → reads_any client ≡ true → ((readers : Readers) → AreReaders readers → after ≡ end_read readers client)
+    → IsReached (seen after server cs written)
 read_reached client after server cs written h may is =
     reached_more (seen client server cs written) (seen after server cs written) event.ClientReads h may
     (λ readers are. ap (λ (e : ClientEnd). seen e server cs written) (is readers are))
@@ -67,8 +71,10 @@ pub record NothingRead (client after : ClientEnd) : Type 0 where
   pub same : after ≡ client
   pub none : reads_any client ≡ false
 
-none_there : (readers : Readers) (client : ClientEnd) (f : Front) → f ≡ Ok None → record { client = front_read readers client.client f; input = left_by f client.input; out = client.out } ≡ client
-none_there readers client f e = ap (λ (x : Front). record { client = front_read readers client.client x; input = left_by x client.input; out = client.out }) e
+none_there : (readers : Readers) (client : ClientEnd) (f : Front) → f ≡ Ok None
+    → record { client = front_read readers client.client f; input = left_by f client.input; out = client.out } ≡ client
+none_there readers client f e = ap (λ (x : Front). record { client = front_read readers client.client x; input = left_by x client.input;
+    out = client.out }) e
 
 not_any : (e : ClientEnd) (f : Front) → next_of e.input.rest ≡ f → is_any f ≡ false → reads_any e ≡ false
 not_any e f is none = go (reads_any e) refl
@@ -77,12 +83,15 @@ not_any e f is none = go (reads_any e) refl
     go false x = refl
     go true x = absurd (false≢true (sym none ∙ (ap is_any (sym is) ∙ (and_parts _ _ (and_parts _ _ x).1).1)))
 
-pub nothing_read : (client after : ClientEnd) (server : Serving) (cs : List Connection) (written : List ℕ) → IsReached (seen client server cs written)
-    → may_read client.client ≡ true → (IsLineDue (next_of client.input.rest) → ⊥) → ((readers : Readers) → AreReaders readers → after ≡ end_read readers client) → NothingRead client after
+pub nothing_read : (client after : ClientEnd) (server : Serving) (cs : List Connection) (written : List ℕ)
+    → IsReached (seen client server cs written)
+    → may_read client.client ≡ true → (IsLineDue (next_of client.input.rest) → ⊥)
+    → ((readers : Readers) → AreReaders readers → after ≡ end_read readers client) → NothingRead client after
 nothing_read client after server cs written h may none is = go (next_of client.input.rest) refl
   where
     go : (f : Front) → next_of client.input.rest ≡ f → NothingRead client after
-    go (Ok None) e = record { same = is h.readers h.are ∙ none_there h.readers client (next_of client.input.rest) e; none = not_any client (Ok None) e refl }
+    go (Ok None) e = record { same = is h.readers h.are ∙ none_there h.readers client (next_of client.input.rest) e;
+        none = not_any client (Ok None) e refl }
     go (Ok (Some found)) e = absurd (none (subst IsLineDue (sym e) refl))
     go (Err why) e = absurd (no_fault_read client server cs written h (may_is client may).0 why e)
 
@@ -94,14 +103,17 @@ pub record NotRead (client after : ClientEnd) (fault : ClientFault) : Type 0 whe
 pub off_reads : (e : ClientEnd) → e.client.on ≡ false → reads_any e ≡ false
 off_reads e off = ap (λ (b : Bool). b && (not (world.is_faulted e.client.state) && is_any (next_of e.input.rest))) off
 
-never_met : (client after : ClientEnd) (server : Serving) (cs : List Connection) (written : List ℕ) → IsReached (seen client server cs written) → is_faulted after.client.state ≡ true
-    → (may_read client.client ≡ true → (readers : Readers) → AreReaders readers → after ≡ end_read readers client) → (may_read client.client ≡ false → after ≡ client) → ⊥
+never_met : (client after : ClientEnd) (server : Serving) (cs : List Connection) (written : List ℕ)
+    → IsReached (seen client server cs written) → is_faulted after.client.state ≡ true
+    → (may_read client.client ≡ true → (readers : Readers) → AreReaders readers → after ≡ end_read readers client)
+    → (may_read client.client ≡ false → after ≡ client) → ⊥
 never_met client after server cs written h met is before = go (may_read client.client) refl
   where
     front : (f : Front) → next_of client.input.rest ≡ f → may_read client.client ≡ true → ⊥
     front (Ok None) e may =
         never_faulted_now client server cs written h
-        (subst (λ (x : ClientEnd). is_faulted x.client.state ≡ true) (is may h.readers h.are ∙ none_there h.readers client (next_of client.input.rest) e) met)
+        (subst (λ (x : ClientEnd). is_faulted x.client.state ≡ true) (is may h.readers h.are
+            ∙ none_there h.readers client (next_of client.input.rest) e) met)
     front (Ok (Some found)) e may =
         let parts = may_is client may in
         let can_now : reads_any client ≡ true = and_from _ _ parts.0 (and_from _ _ parts.1 (ap is_any e)) in
@@ -110,10 +122,13 @@ never_met client after server cs written h met is before = go (may_read client.c
 
     go : (b : Bool) → may_read client.client ≡ b → ⊥
     go true may = front (next_of client.input.rest) refl may
-    go false never = never_faulted_now client server cs written h (subst (λ (x : ClientEnd). is_faulted x.client.state ≡ true) (before never) met)
+    go false never = never_faulted_now client server cs written h
+        (subst (λ (x : ClientEnd). is_faulted x.client.state ≡ true) (before never) met)
 
-pub not_read : (client after : ClientEnd) (server : Serving) (cs : List Connection) (written : List ℕ) (fault : ClientFault) → IsReached (seen client server cs written)
-    → IsReadRefused client after fault → (fault ≢ client_fault.Memory → may_read client.client ≡ true → (readers : Readers) → AreReaders readers → after ≡ end_read readers client)
+pub not_read : (client after : ClientEnd) (server : Serving) (cs : List Connection) (written : List ℕ) (fault : ClientFault)
+    → IsReached (seen client server cs written)
+    → IsReadRefused client after fault → (fault ≢ client_fault.Memory → may_read client.client ≡ true → (readers : Readers)
+    → AreReaders readers → after ≡ end_read readers client)
     → (may_read client.client ≡ false → after ≡ client) → NotRead client after fault
 not_read client after server cs written client_fault.NotNow h r is before = record { same = r.0; none = λ e. off_reads client r.1 }
 not_read client after server cs written (client_fault.Faulted cause) h r is before =
@@ -132,4 +147,5 @@ no_line client server cs written h on none = go (next_of client.input.rest) refl
 pub line_can : (client : ClientEnd) (server : Serving) (cs : List Connection) (written : List ℕ) → IsReached (seen client server cs written)
     → client.client.on ≡ true → IsLineDue (next_of client.input.rest) → reads_any client ≡ true
 line_can client server cs written h on due =
-    and_from _ _ on (and_from _ _ (subst (λ (b : Bool). not b ≡ true) (faulted_same client.client.state) (ap not (awake client server cs written h))) (any_line (next_of client.input.rest) due))
+    and_from _ _ on (and_from _ _ (subst (λ (b : Bool). not b ≡ true) (faulted_same client.client.state)
+        (ap not (awake client server cs written h))) (any_line (next_of client.input.rest) due))

@@ -1,5 +1,6 @@
 -- What the client's events make of a world.
-use Rattle.std.proofs.Common.{◌≡◌, ℕ, suc, ◌+◌, ◌≤◌, ◌<◌, Bool, true, false, ◌&&◌, nat_lt, nat_le, List, [], ◌∷◌, ◌++◌, length, refl, sym, ◌∙◌, ap, subst, arith}
+use Rattle.std.proofs.Common.{◌≡◌, ℕ, suc, ◌+◌, ◌≤◌, ◌<◌, Bool, true, false, ◌&&◌, nat_lt, nat_le, List, [], ◌∷◌, ◌++◌, length, refl, sym,
+  ◌∙◌, ap, subst, arith}
 use Rattle.std.proofs.lemmas.Bool.{false≢true, and_parts, and_from, ltb-true, lt-ltb, le-leb, leb-true}
 use Rattle.protocol_model.specs.Lines.{Readers, AreReaders}
 use Rattle.protocol_model.specs.Client.{is_apart, may_resume}
@@ -30,11 +31,13 @@ faulted_state State.Aborting e = absurd (false≢true e)
 faulted_state State.Halted e = absurd (false≢true e)
 faulted_state State.Done e = absurd (false≢true e)
 
-pub never_faulted_now : (client : ClientEnd) (server : Serving) (cs : List Connection) (written : List ℕ) → IsReached (seen client server cs written) → is_faulted client.client.state ≡ true → ⊥
+pub never_faulted_now : (client : ClientEnd) (server : Serving) (cs : List Connection) (written : List ℕ)
+    → IsReached (seen client server cs written) → is_faulted client.client.state ≡ true → ⊥
 never_faulted_now client server cs written h e = (agree (seen client server cs written) h).client (faulted_state client.client.state e)
 
 -- a call that is refused was not possible
-pub refused_now : (client : ClientEnd) (server : Serving) (cs : List Connection) (written : List ℕ) (can_call : Bool) (fault : ClientFault) → IsReached (seen client server cs written)
+pub refused_now : (client : ClientEnd) (server : Serving) (cs : List Connection) (written : List ℕ) (can_call : Bool) (fault : ClientFault)
+    → IsReached (seen client server cs written)
     → IsRefused can_call client fault → refused_by fault ≡ world_fault.NotNow → can_call ≡ false
 refused_now client server cs written can_call client_fault.NotNow h r e = r.1
 refused_now client server cs written can_call (client_fault.Faulted cause) h r e = absurd (never_faulted_now client server cs written h r.0)
@@ -43,37 +46,49 @@ refused_now client server cs written can_call client_fault.Memory h r e = absurd
 -- ---- the next connection
 
 no_bytes : (c : Connection) → c.up.waiting ≡ [] → c.down.waiting ≡ [] → link_of_connection c ≡ no_link
-no_bytes c up down = ap (λ (l : List ℕ). record { up = l; down = c.down.waiting }) up ∙ ap (λ (l : List ℕ). record { up = []; down = l }) down
+no_bytes c up down = ap (λ (l : List ℕ). record { up = l; down = c.down.waiting }) up
+    ∙ ap (λ (l : List ℕ). record { up = []; down = l }) down
 
 connect_seen : (client after : ClientEnd) (server : Serving) (cs ds : List Connection) (written now : List ℕ) (c : Connection) (number : ℕ)
-    → IsReached (seen client server cs written) → after ≡ end_connected number client → number ≡ length cs + 1 → ds ≡ cs ++ c ∷ [] → c.up.waiting ≡ [] → c.down.waiting ≡ [] → now ≡ []
+    → IsReached (seen client server cs written) → after ≡ end_connected number client → number ≡ length cs + 1 → ds ≡ cs ++ c ∷ []
+    → c.up.waiting ≡ [] → c.down.waiting ≡ [] → now ≡ []
     → seen after server ds now ≡ with_world (seen client server cs written) (connected (seen client server cs written).world)
 connect_seen client after server cs ds written now c number h is n d up down none =
-    let last : number ≡ suc client.client.last = let same : length cs ≡ client.client.last = made client server cs written h in n ∙ omega (arith, same) in
-    let links : links_of ds ≡ links_of cs ++ no_link ∷ [] = ap links_of d ∙ (links_more cs c ∙ ap (λ (l : Link). links_of cs ++ l ∷ []) (no_bytes c up down)) in
+    let last : number ≡ suc client.client.last = let same : length cs ≡ client.client.last = made client server cs written h in n
+        ∙ omega (arith, same) in
+    let links : links_of ds ≡ links_of cs ++ no_link ∷ [] = ap links_of d
+        ∙ (links_more cs c ∙ ap (λ (l : Link). links_of cs ++ l ∷ []) (no_bytes c up down)) in
     ap (λ (e : ClientEnd). seen e server ds now) (is ∙ ap (λ (k : ℕ). end_connected k client) last)
-    ∙ (ap (λ (l : List Link). record { setup = server.setup; world = record { client = end_connected (suc client.client.last) client; server = server.end; links = l; written = now } }) links
-    ∙ ap (λ (l : List ℕ). record { setup = server.setup; world = record { client = end_connected (suc client.client.last) client; server = server.end; links = links_of cs ++ no_link ∷ []; written = l } }) none)
+    ∙ (ap (λ (l : List Link). record { setup = server.setup; world = record { client = end_connected (suc client.client.last) client;
+    server = server.end; links = l; written = now } }) links
+    ∙ ap (λ (l : List ℕ). record { setup = server.setup; world = record { client = end_connected (suc client.client.last) client;
+    server = server.end; links = links_of cs ++ no_link ∷ []; written = l } }) none)
 
-pub connect_reached : (client after : ClientEnd) (server : Serving) (cs ds : List Connection) (written now : List ℕ) (c : Connection) (number : ℕ)
+pub connect_reached : (client after : ClientEnd) (server : Serving) (cs ds : List Connection) (written now : List ℕ) (c : Connection)
+    (number : ℕ)
     → IsReached (seen client server cs written) → can event.Connect (seen client server cs written).world ≡ true
     → after ≡ end_connected number client → number ≡ length cs + 1 → ds ≡ cs ++ c ∷ [] → c.up.waiting ≡ [] → c.down.waiting ≡ [] → now ≡ []
     → IsReached (seen after server ds now)
 connect_reached client after server cs ds written now c number h may is n d up down none =
-    reached_more (seen client server cs written) (seen after server ds now) event.Connect h may (λ readers are. connect_seen client after server cs ds written now c number h is n d up down none)
+    reached_more (seen client server cs written) (seen after server ds now) event.Connect h may
+        (λ readers are. connect_seen client after server cs ds written now c number h is n d up down none)
 
-pub connect_is : (l : Linked) (client after : ClientEnd) (server : Serving) (cs ds : List Connection) (written now : List ℕ) (c : Connection) (number : ℕ)
-    → l ≡ seen client server cs written → IsReached (seen client server cs written) → after ≡ end_connected number client → number ≡ length cs + 1 → ds ≡ cs ++ c ∷ [] → c.up.waiting ≡ [] → c.down.waiting ≡ [] → now ≡ []
+pub connect_is : (l : Linked) (client after : ClientEnd) (server : Serving) (cs ds : List Connection) (written now : List ℕ)
+    (c : Connection) (number : ℕ)
+    → l ≡ seen client server cs written → IsReached (seen client server cs written) → after ≡ end_connected number client
+    → number ≡ length cs + 1 → ds ≡ cs ++ c ∷ [] → c.up.waiting ≡ [] → c.down.waiting ≡ [] → now ≡ []
     → seen after server ds now ≡ with_world l (connected l.world)
 connect_is l client after server cs ds written now c number view h is n d up down none =
-    connect_seen client after server cs ds written now c number h is n d up down none ∙ ap (λ (k : Linked). with_world k (connected k.world)) (sym view)
+    connect_seen client after server cs ds written now c number h is n d up down none
+        ∙ ap (λ (k : Linked). with_world k (connected k.world)) (sym view)
 
 -- whether the number of the next connection is one that a client may take
 next_number_fits : (last most : ℕ) → nat_le (suc last) most ≡ nat_lt last most
 next_number_fits last most = refl
 
 pub connect_may : (l : Linked) (client : ClientEnd) (server : Serving) (cs : List Connection) (written : List ℕ) (number : ℕ) (b : Bool)
-    → l ≡ seen client server cs written → IsReached (seen client server cs written) → number ≡ length cs + 1 → (is_apart client.client.state && nat_le number 4000000000) ≡ b
+    → l ≡ seen client server cs written → IsReached (seen client server cs written) → number ≡ length cs + 1
+    → (is_apart client.client.state && nat_le number 4000000000) ≡ b
     → (is_apart l.world.client.client.state && nat_lt l.world.client.client.last 4000000000) ≡ b
 connect_may l client server cs written number b view h n is =
     let same : length cs ≡ client.client.last = made client server cs written h in
@@ -84,7 +99,8 @@ connect_may l client server cs written number b view h n is =
 
 -- it is refused where the client is not apart, or each number is taken
 pub connect_refused : (l : Linked) (client : ClientEnd) (server : Serving) (cs : List Connection) (written : List ℕ) (number : ℕ)
-    → l ≡ seen client server cs written → IsReached (seen client server cs written) → number ≡ length cs + 1 → may_connect number client.client ≡ false
+    → l ≡ seen client server cs written → IsReached (seen client server cs written) → number ≡ length cs + 1
+    → may_connect number client.client ≡ false
     → (is_apart l.world.client.client.state && nat_lt l.world.client.client.last 4000000000) ≡ false
 connect_refused l client server cs written number view h n never =
     subst (λ (k : Linked). (is_apart k.world.client.client.state && nat_lt k.world.client.client.last 4000000000) ≡ false) (sym view)
@@ -104,32 +120,43 @@ connect_refused l client server cs written number view h n never =
 
 -- ---- events of the client alone
 
-alone : (client after : ClientEnd) (server : Serving) (cs : List Connection) (written : List ℕ) (e : Event) → IsReached (seen client server cs written) → can e (seen client server cs written).world ≡ true
-    → ((readers : Readers) → AreReaders readers → record (seen client server cs written).world { client = after } ≡ happens readers e (seen client server cs written).world) → IsReached (seen after server cs written)
+alone : (client after : ClientEnd) (server : Serving) (cs : List Connection) (written : List ℕ) (e : Event)
+    → IsReached (seen client server cs written) → can e (seen client server cs written).world ≡ true
+    → ((readers : Readers) → AreReaders readers → record (seen client server cs written).world { client = after }
+    ≡ happens readers e (seen client server cs written).world) → IsReached (seen after server cs written)
 alone client after server cs written e h may is =
-    reached_more (seen client server cs written) (seen after server cs written) e h may (λ readers are. ap (λ (w : World). with_world (seen client server cs written) w) (is readers are))
+    reached_more (seen client server cs written) (seen after server cs written) e h may
+        (λ readers are. ap (λ (w : World). with_world (seen client server cs written) w) (is readers are))
 
-pub resume_reached : (client after : ClientEnd) (server : Serving) (cs : List Connection) (written : List ℕ) → IsReached (seen client server cs written) → may_resume client.client client.client.state ≡ true
+pub resume_reached : (client after : ClientEnd) (server : Serving) (cs : List Connection) (written : List ℕ)
+    → IsReached (seen client server cs written) → may_resume client.client client.client.state ≡ true
     → after ≡ end_resumed client → IsReached (seen after server cs written)
 resume_reached client after server cs written h may is =
-    alone client after server cs written event.Resume h may (λ readers are. ap (λ (e : ClientEnd). record (seen client server cs written).world { client = e }) is)
+    alone client after server cs written event.Resume h may (λ readers are. ap
+        (λ (e : ClientEnd). record (seen client server cs written).world { client = e }) is)
 
-pub left_reached : (client after : ClientEnd) (server : Serving) (cs : List Connection) (written : List ℕ) → IsReached (seen client server cs written) → client.client.on ≡ true
+pub left_reached : (client after : ClientEnd) (server : Serving) (cs : List Connection) (written : List ℕ)
+    → IsReached (seen client server cs written) → client.client.on ≡ true
     → after ≡ end_left client → IsReached (seen after server cs written)
 left_reached client after server cs written h may is =
-    alone client after server cs written event.ClientLeaves h may (λ readers are. ap (λ (e : ClientEnd). record (seen client server cs written).world { client = e }) is)
+    alone client after server cs written event.ClientLeaves h may
+        (λ readers are. ap (λ (e : ClientEnd). record (seen client server cs written).world { client = e }) is)
 
-pub restart_can : (count : ℕ) (client : ClientEnd) → count ≤ length client.client.table.tally.features → nat_le count (length client.client.table.tally.features) ≡ true
+pub restart_can : (count : ℕ) (client : ClientEnd) → count ≤ length client.client.table.tally.features
+    → nat_le count (length client.client.table.tally.features) ≡ true
 restart_can count client le = le-leb count (length client.client.table.tally.features) le
 
-pub restart_refused : (count : ℕ) (client : ClientEnd) → (count ≤ length client.client.table.tally.features → ⊥) → nat_le count (length client.client.table.tally.features) ≡ false
+pub restart_refused : (count : ℕ) (client : ClientEnd) → (count ≤ length client.client.table.tally.features → ⊥)
+    → nat_le count (length client.client.table.tally.features) ≡ false
 restart_refused count client never = go (nat_le count (length client.client.table.tally.features)) refl
   where
     go : (b : Bool) → nat_le count (length client.client.table.tally.features) ≡ b → b ≡ false
     go false e = refl
     go true e = absurd (never (leb-true count (length client.client.table.tally.features) e))
 
-pub restart_reached : (count : ℕ) (client after : ClientEnd) (server : Serving) (cs : List Connection) (written : List ℕ) → IsReached (seen client server cs written)
+pub restart_reached : (count : ℕ) (client after : ClientEnd) (server : Serving) (cs : List Connection) (written : List ℕ)
+    → IsReached (seen client server cs written)
     → count ≤ length client.client.table.tally.features → after ≡ end_restarted count client → IsReached (seen after server cs written)
 restart_reached count client after server cs written h le is =
-    alone client after server cs written (event.ClientRestart count) h (restart_can count client le) (λ readers are. ap (λ (e : ClientEnd). record (seen client server cs written).world { client = e }) is)
+    alone client after server cs written (event.ClientRestart count) h (restart_can count client le)
+        (λ readers are. ap (λ (e : ClientEnd). record (seen client server cs written).world { client = e }) is)

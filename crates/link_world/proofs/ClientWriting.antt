@@ -1,5 +1,6 @@
 -- What the client writes in a world joins the bytes of its connection.
-use Rattle.std.proofs.Common.{◌≡◌, ◌≢◌, ℕ, ◌-◌, ◌≤◌, ◌<◌, Bool, true, false, is_some, List, ◌++◌, length, slice_index_or, slice_set, refl, sym, ◌∙◌, ap, subst, arith, ◌⊎◌, inl, inr}
+use Rattle.std.proofs.Common.{◌≡◌, ◌≢◌, ℕ, ◌-◌, ◌≤◌, ◌<◌, Bool, true, false, is_some, List, ◌++◌, length, slice_index_or, slice_set, refl,
+  sym, ◌∙◌, ap, subst, arith, ◌⊎◌, inl, inr}
 use Rattle.protocol_model.specs.Client.{due, may_abort}
 use Rattle.protocol_model.specs.Ends.{ClientEnd, end_sent, end_aborted}
 use Rattle.protocol_model.specs.World.{World, Link, link_of, with_link, client_link, can, happens, client_writes}
@@ -36,7 +37,8 @@ abort_on w inv can = go inv.side
     go (inl off) = absurd (never_off w off w.client.state refl can)
     go (inr live) = live.on
 
-pub some_made : (client : ClientEnd) (server : Serving) (cs : List Connection) (written : List ℕ) → IsReached (seen client server cs written) → client.client.on ≡ true → 0 < length cs
+pub some_made : (client : ClientEnd) (server : Serving) (cs : List Connection) (written : List ℕ)
+    → IsReached (seen client server cs written) → client.client.on ≡ true → 0 < length cs
 some_made client server cs written h on =
     let first : 1 ≤ client.client.last = (carried (seen client server cs written) h).wired.first on in
     let same : length cs ≡ client.client.last = made client server cs written h in omega (arith, first, same)
@@ -45,15 +47,19 @@ false_by : (b : Bool) → (b ≡ true → ⊥) → b ≡ false
 false_by true never = absurd (never refl)
 false_by false never = refl
 
-pub none_due : (client : ClientEnd) (server : Serving) (cs : List Connection) (written : List ℕ) → IsReached (seen client server cs written) → (0 < length cs → ⊥) → is_some (due client.client) ≡ false
+pub none_due : (client : ClientEnd) (server : Serving) (cs : List Connection) (written : List ℕ) → IsReached (seen client server cs written)
+    → (0 < length cs → ⊥) → is_some (due client.client) ≡ false
 none_due client server cs written h none =
     let c : IsCarried (seen client server cs written).world = carried (seen client server cs written) h in
-    false_by (is_some (due client.client)) (λ e. none (some_made client server cs written h (due_on (lined (seen client server cs written).world c.up c.down) c.inv e)))
+    false_by (is_some (due client.client)) (λ e. none (some_made client server cs written h
+        (due_on (lined (seen client server cs written).world c.up c.down) c.inv e)))
 
-pub none_aborts : (client : ClientEnd) (server : Serving) (cs : List Connection) (written : List ℕ) → IsReached (seen client server cs written) → (0 < length cs → ⊥) → may_abort client.client.state ≡ false
+pub none_aborts : (client : ClientEnd) (server : Serving) (cs : List Connection) (written : List ℕ)
+    → IsReached (seen client server cs written) → (0 < length cs → ⊥) → may_abort client.client.state ≡ false
 none_aborts client server cs written h none =
     let c : IsCarried (seen client server cs written).world = carried (seen client server cs written) h in
-    false_by (may_abort client.client.state) (λ e. none (some_made client server cs written h (abort_on (lined (seen client server cs written).world c.up c.down) c.inv e)))
+    false_by (may_abort client.client.state) (λ e. none (some_made client server cs written h
+        (abort_on (lined (seen client server cs written).world c.up c.down) c.inv e)))
 
 -- ---- no tag is wanting
 
@@ -66,74 +72,103 @@ awake_state State.Halted n = refl
 awake_state State.Done n = refl
 awake_state State.Faulted n = absurd (n refl)
 
-pub awake : (client : ClientEnd) (server : Serving) (cs : List Connection) (written : List ℕ) → IsReached (seen client server cs written) → is_faulted client.client.state ≡ false
+pub awake : (client : ClientEnd) (server : Serving) (cs : List Connection) (written : List ℕ) → IsReached (seen client server cs written)
+    → is_faulted client.client.state ≡ false
 awake client server cs written h = awake_state client.client.state (agree (seen client server cs written) h).client
 
-pub send_fine : (client : ClientEnd) (server : Serving) (cs : List Connection) (written : List ℕ) → IsReached (seen client server cs written) → is_some (due client.client) ≡ true → is_faulted (end_sent client).client.state ≡ false
-send_fine client server cs written h may = awake_state (end_sent client).client.state (never_faulted_behind h.readers h.are (seen client server cs written) event.ClientSends h may)
+pub send_fine : (client : ClientEnd) (server : Serving) (cs : List Connection) (written : List ℕ)
+    → IsReached (seen client server cs written) → is_some (due client.client) ≡ true → is_faulted (end_sent client).client.state ≡ false
+send_fine client server cs written h may = awake_state (end_sent client).client.state
+    (never_faulted_behind h.readers h.are (seen client server cs written) event.ClientSends h may)
 
-pub abort_fine : (client : ClientEnd) (server : Serving) (cs : List Connection) (written : List ℕ) → IsReached (seen client server cs written) → may_abort client.client.state ≡ true → is_faulted (end_aborted client).client.state ≡ false
-abort_fine client server cs written h may = awake_state (end_aborted client).client.state (never_faulted_behind h.readers h.are (seen client server cs written) event.Abort h may)
+pub abort_fine : (client : ClientEnd) (server : Serving) (cs : List Connection) (written : List ℕ)
+    → IsReached (seen client server cs written) → may_abort client.client.state ≡ true
+    → is_faulted (end_aborted client).client.state ≡ false
+abort_fine client server cs written h may = awake_state (end_aborted client).client.state
+    (never_faulted_behind h.readers h.are (seen client server cs written) event.Abort h may)
 
 -- ---- what is written
 
-writes_seen : (client after : ClientEnd) (server : Serving) (cs : List Connection) (written now : List ℕ) (at : ℕ) (c d : Connection) (e : ClientEnd)
+writes_seen : (client after : ClientEnd) (server : Serving) (cs : List Connection) (written now : List ℕ) (at : ℕ) (c d : Connection)
+    (e : ClientEnd)
     → IsReached (seen client server cs written) → at ≡ length cs - 1 → 0 < length cs → c ≡ slice_index_or cs at c
     → after ≡ quiet_client e → d.up.waiting ≡ c.up.waiting ++ e.out → d.down.waiting ≡ c.down.waiting → now ≡ written ++ e.out
-    → seen after server (slice_set cs at d) now ≡ with_world (seen client server cs written) (client_writes (seen client server cs written).world e)
+    → seen after server (slice_set cs at d) now ≡ with_world (seen client server cs written)
+    (client_writes (seen client server cs written).world e)
 writes_seen client after server cs written now at c d e h place some is quiet up down text =
     let same : length cs ≡ client.client.last = made client server cs written h in
     let number : at ≡ client.client.last - 1 = place ∙ ap (λ (n : ℕ). n - 1) same in
     let short : at < length cs = omega (arith, place, some) in
     let here : link_of (links_of cs) client.client.last ≡ link_of_connection c =
-    ap (λ (n : ℕ). slice_index_or (links_of cs) n Rattle.protocol_model.specs.World.no_link) (sym number) ∙ Rattle.link_world.proofs.Linking.links_get cs at c short is in
+    ap (λ (n : ℕ). slice_index_or (links_of cs) n Rattle.protocol_model.specs.World.no_link) (sym number)
+        ∙ Rattle.link_world.proofs.Linking.links_get cs at c short is in
     let bytes : d.up.waiting ≡ (link_of (links_of cs) client.client.last).up ++ e.out = up ∙ ap (λ (l : Link). l.up ++ e.out) (sym here) in
-    let links : links_of (slice_set cs at d) ≡ with_link (links_of cs) client.client.last (record (link_of (links_of cs) client.client.last) { up = (link_of (links_of cs) client.client.last).up ++ e.out }) =
+    let links : links_of (slice_set cs at d) ≡ with_link (links_of cs) client.client.last
+        (record (link_of (links_of cs) client.client.last) { up = (link_of (links_of cs) client.client.last).up ++ e.out }) =
     link_up cs at client.client.last c d ((link_of (links_of cs) client.client.last).up ++ e.out) short is number bytes down in
     ap (λ (x : ClientEnd). seen x server (slice_set cs at d) now) quiet
-    ∙ (ap (λ (l : List Link). record { setup = server.setup; world = record { client = quiet_client e; server = server.end; links = l; written = now } }) links
-    ∙ ap (λ (l : List ℕ). record { setup = server.setup; world = record { client = quiet_client e; server = server.end; links = with_link (links_of cs) client.client.last (record (link_of (links_of cs) client.client.last) { up = (link_of (links_of cs) client.client.last).up ++ e.out }); written = l } }) text)
+    ∙ (ap (λ (l : List Link). record { setup = server.setup; world = record { client = quiet_client e; server = server.end; links = l;
+    written = now } }) links
+    ∙ ap (λ (l : List ℕ). record { setup = server.setup; world = record { client = quiet_client e; server = server.end;
+    links = with_link (links_of cs) client.client.last (record (link_of (links_of cs) client.client.last)
+    { up = (link_of (links_of cs) client.client.last).up ++ e.out }); written = l } }) text)
 
-pub sends_is : (l : Linked) (client after : ClientEnd) (server : Serving) (cs : List Connection) (written now : List ℕ) (at : ℕ) (c d : Connection)
-    → l ≡ seen client server cs written → IsReached (seen client server cs written) → at ≡ length cs - 1 → 0 < length cs → c ≡ slice_index_or cs at c
-    → after ≡ quiet_client (end_sent client) → d.up.waiting ≡ c.up.waiting ++ (end_sent client).out → d.down.waiting ≡ c.down.waiting → now ≡ written ++ (end_sent client).out
+pub sends_is : (l : Linked) (client after : ClientEnd) (server : Serving) (cs : List Connection) (written now : List ℕ) (at : ℕ)
+    (c d : Connection)
+    → l ≡ seen client server cs written → IsReached (seen client server cs written) → at ≡ length cs - 1 → 0 < length cs
+    → c ≡ slice_index_or cs at c
+    → after ≡ quiet_client (end_sent client) → d.up.waiting ≡ c.up.waiting ++ (end_sent client).out → d.down.waiting ≡ c.down.waiting
+    → now ≡ written ++ (end_sent client).out
     → seen after server (slice_set cs at d) now ≡ with_world l (client_writes l.world (end_sent l.world.client))
 sends_is l client after server cs written now at c d view h place some is quiet up down text =
-    writes_seen client after server cs written now at c d (end_sent client) h place some is quiet up down text ∙ ap (λ (k : Linked). with_world k (client_writes k.world (end_sent k.world.client))) (sym view)
+    writes_seen client after server cs written now at c d (end_sent client) h place some is quiet up down text
+        ∙ ap (λ (k : Linked). with_world k (client_writes k.world (end_sent k.world.client))) (sym view)
 
-pub aborts_is : (l : Linked) (client after : ClientEnd) (server : Serving) (cs : List Connection) (written now : List ℕ) (at : ℕ) (c d : Connection)
-    → l ≡ seen client server cs written → IsReached (seen client server cs written) → at ≡ length cs - 1 → 0 < length cs → c ≡ slice_index_or cs at c
-    → after ≡ quiet_client (end_aborted client) → d.up.waiting ≡ c.up.waiting ++ (end_aborted client).out → d.down.waiting ≡ c.down.waiting → now ≡ written ++ (end_aborted client).out
+pub aborts_is : (l : Linked) (client after : ClientEnd) (server : Serving) (cs : List Connection) (written now : List ℕ) (at : ℕ)
+    (c d : Connection)
+    → l ≡ seen client server cs written → IsReached (seen client server cs written) → at ≡ length cs - 1 → 0 < length cs
+    → c ≡ slice_index_or cs at c
+    → after ≡ quiet_client (end_aborted client) → d.up.waiting ≡ c.up.waiting ++ (end_aborted client).out → d.down.waiting ≡ c.down.waiting
+    → now ≡ written ++ (end_aborted client).out
     → seen after server (slice_set cs at d) now ≡ with_world l (client_writes l.world (end_aborted l.world.client))
 aborts_is l client after server cs written now at c d view h place some is quiet up down text =
-    writes_seen client after server cs written now at c d (end_aborted client) h place some is quiet up down text ∙ ap (λ (k : Linked). with_world k (client_writes k.world (end_aborted k.world.client))) (sym view)
+    writes_seen client after server cs written now at c d (end_aborted client) h place some is quiet up down text
+        ∙ ap (λ (k : Linked). with_world k (client_writes k.world (end_aborted k.world.client))) (sym view)
 
 pub sent_reached : (client after : ClientEnd) (server : Serving) (cs : List Connection) (written now : List ℕ) (at : ℕ) (c d : Connection)
-    → IsReached (seen client server cs written) → at ≡ length cs - 1 → 0 < length cs → c ≡ slice_index_or cs at c → is_some (due client.client) ≡ true
-    → after ≡ quiet_client (end_sent client) → d.up.waiting ≡ c.up.waiting ++ (end_sent client).out → d.down.waiting ≡ c.down.waiting → now ≡ written ++ (end_sent client).out
+    → IsReached (seen client server cs written) → at ≡ length cs - 1 → 0 < length cs → c ≡ slice_index_or cs at c
+    → is_some (due client.client) ≡ true
+    → after ≡ quiet_client (end_sent client) → d.up.waiting ≡ c.up.waiting ++ (end_sent client).out → d.down.waiting ≡ c.down.waiting
+    → now ≡ written ++ (end_sent client).out
     → IsReached (seen after server (slice_set cs at d) now)
 sent_reached client after server cs written now at c d h place some is may quiet up down text =
     reached_more (seen client server cs written) (seen after server (slice_set cs at d) now) event.ClientSends h may
     (λ readers are. writes_seen client after server cs written now at c d (end_sent client) h place some is quiet up down text)
 
-pub aborted_reached : (client after : ClientEnd) (server : Serving) (cs : List Connection) (written now : List ℕ) (at : ℕ) (c d : Connection)
-    → IsReached (seen client server cs written) → at ≡ length cs - 1 → 0 < length cs → c ≡ slice_index_or cs at c → may_abort client.client.state ≡ true
-    → after ≡ quiet_client (end_aborted client) → d.up.waiting ≡ c.up.waiting ++ (end_aborted client).out → d.down.waiting ≡ c.down.waiting → now ≡ written ++ (end_aborted client).out
+pub aborted_reached : (client after : ClientEnd) (server : Serving) (cs : List Connection) (written now : List ℕ) (at : ℕ)
+    (c d : Connection)
+    → IsReached (seen client server cs written) → at ≡ length cs - 1 → 0 < length cs → c ≡ slice_index_or cs at c
+    → may_abort client.client.state ≡ true
+    → after ≡ quiet_client (end_aborted client) → d.up.waiting ≡ c.up.waiting ++ (end_aborted client).out → d.down.waiting ≡ c.down.waiting
+    → now ≡ written ++ (end_aborted client).out
     → IsReached (seen after server (slice_set cs at d) now)
 aborted_reached client after server cs written now at c d h place some is may quiet up down text =
     reached_more (seen client server cs written) (seen after server (slice_set cs at d) now) event.Abort h may
     (λ readers are. writes_seen client after server cs written now at c d (end_aborted client) h place some is quiet up down text)
 
 -- nothing is written
-pub same_seen : (l : Linked) (client after : ClientEnd) (server : Serving) (cs : List Connection) (written now : List ℕ) (at : ℕ) (c d : Connection)
+pub same_seen : (l : Linked) (client after : ClientEnd) (server : Serving) (cs : List Connection) (written now : List ℕ) (at : ℕ)
+    (c d : Connection)
     → l ≡ seen client server cs written → at ≡ length cs - 1 → 0 < length cs → c ≡ slice_index_or cs at c
     → after ≡ client → link_of_connection d ≡ link_of_connection c → now ≡ written → seen after server (slice_set cs at d) now ≡ l
 same_seen l client after server cs written now at c d view place some is same link text =
-    rw (same, text) (ap (λ (x : List Link). record { setup = server.setup; world = record { client = client; server = server.end; links = x; written = written } })
+    rw (same, text) (ap (λ (x : List Link). record { setup = server.setup;
+        world = record { client = client; server = server.end; links = x; written = written } })
     (links_same cs at c d (omega (arith, place, some)) is link) ∙ sym view)
 
 pub same_reached : (client after : ClientEnd) (server : Serving) (cs : List Connection) (written now : List ℕ) (at : ℕ) (c d : Connection)
     → IsReached (seen client server cs written) → at ≡ length cs - 1 → 0 < length cs → c ≡ slice_index_or cs at c
     → after ≡ client → link_of_connection d ≡ link_of_connection c → now ≡ written → IsReached (seen after server (slice_set cs at d) now)
 same_reached client after server cs written now at c d h place some is same link text =
-    subst IsReached (sym (same_seen (seen client server cs written) client after server cs written now at c d refl place some is same link text)) h
+    subst IsReached (sym (same_seen (seen client server cs written) client after server cs written now at c d refl place some is same link
+        text)) h

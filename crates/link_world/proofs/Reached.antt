@@ -1,5 +1,6 @@
 -- What holds of a world to which a list of events has led.
-use Rattle.std.proofs.Common.{◌≡◌, ◌≢◌, ℕ, suc, ◌-◌, ◌≤◌, ◌<◌, Bool, true, false, ◌&&◌, cond, nat_le, List, [], ◌∷◌, ◌++◌, length, if◌then◌else◌, refl, sym, ◌∙◌, ap, subst, arith, Option, Some, None, Err}
+use Rattle.std.proofs.Common.{◌≡◌, ◌≢◌, ℕ, suc, ◌-◌, ◌≤◌, ◌<◌, Bool, true, false, ◌&&◌, cond, nat_le, List, [], ◌∷◌, ◌++◌, length,
+  if◌then◌else◌, refl, sym, ◌∙◌, ap, subst, arith, Option, Some, None, Err}
 use Rattle.std.proofs.lemmas.Bool.{false≢true, and_parts, leb-true}
 use Rattle.dmis_program.specs.Meaning.{Meaning}
 use Rattle.dmis_program.specs.Programs.{IsProgram}
@@ -25,19 +26,23 @@ use Rattle.link_world.specs.Claims.{IsSound, IsTold, DoNotDisagree}
 use Rattle.link_world.specs.Links.{Linked, links_of, seen, with_world, IsReached}
 
 pub carried : (l : Linked) → IsReached l → IsCarried l.world
-carried l h = subst IsCarried (sym h.reached) (run_carried h.readers h.are h.events (start h.program l.setup.tools h.window) (start_carried h.program l.setup.tools h.window h.is_program h.few))
+carried l h = subst IsCarried (sym h.reached) (run_carried h.readers h.are h.events (start h.program l.setup.tools h.window)
+    (start_carried h.program l.setup.tools h.window h.is_program h.few))
 
 -- ---- one event more
 
-run_more : (readers : Readers) (es : List Event) (e : Event) (w : World) → run_of readers (es ++ e ∷ []) w ≡ after readers e (run_of readers es w)
+run_more : (readers : Readers) (es : List Event) (e : Event) (w : World)
+    → run_of readers (es ++ e ∷ []) w ≡ after readers e (run_of readers es w)
 run_more readers [] e w = refl
 run_more readers (x ∷ es) e w = run_more readers es e (after readers x w)
 
-happened : (readers : Readers) (e : Event) (w : World) (b : Bool) → can e w ≡ b → b ≡ true → cond b (happens readers e w) w ≡ happens readers e w
+happened : (readers : Readers) (e : Event) (w : World) (b : Bool) → can e w ≡ b → b ≡ true
+    → cond b (happens readers e w) w ≡ happens readers e w
 happened readers e w true is may = refl
 happened readers e w false is may = absurd (false≢true may)
 
-pub reached_more : (l m : Linked) (e : Event) → IsReached l → can e l.world ≡ true → ((readers : Readers) → AreReaders readers → m ≡ with_world l (happens readers e l.world)) → IsReached m
+pub reached_more : (l m : Linked) (e : Event) → IsReached l → can e l.world ≡ true
+    → ((readers : Readers) → AreReaders readers → m ≡ with_world l (happens readers e l.world)) → IsReached m
 reached_more l m e h may is =
     subst IsReached (sym (is h.readers h.are)) (record {
       readers = h.readers;
@@ -56,13 +61,16 @@ reached_more l m e h may is =
 
 pub sound : (l : Linked) → IsReached l → IsSound l.world
 sound l h = let c : IsCarried l.world = carried l h in
-    served_sound l.world.client.client.program.features l.world.client.client.table.tally.features l.world.server.server.ledger (served_now (lined l.world c.up c.down) c.inv)
+    served_sound l.world.client.client.program.features l.world.client.client.table.tally.features l.world.server.server.ledger
+        (served_now (lined l.world c.up c.down) c.inv)
 
 pub told : (l : Linked) → IsReached l → IsTold l.world
-told l h = let c : IsCarried l.world = carried l h in let t = told_now (lined l.world c.up c.down) c.inv in record { more = t.0; whole = t.1 }
+told l h = let c : IsCarried l.world = carried l h in let t = told_now (lined l.world c.up c.down) c.inv
+    in record { more = t.0; whole = t.1 }
 
 pub agree : (l : Linked) → IsReached l → DoNotDisagree l.world
-agree l h = let c : IsCarried l.world = carried l h in record { client = never_faulted (lined l.world c.up c.down) c.inv; server = c.server_fault }
+agree l h = let c : IsCarried l.world = carried l h in record { client = never_faulted (lined l.world c.up c.down) c.inv;
+    server = c.server_fault }
 
 -- ---- numbers of connections
 
@@ -70,30 +78,35 @@ pub links_long : (cs : List Connection) → length (links_of cs) ≡ length cs
 links_long [] = refl
 links_long (c ∷ cs) = ap suc (links_long cs)
 
-pub made : (client : ClientEnd) (server : Serving) (cs : List Connection) (written : List ℕ) → IsReached (seen client server cs written) → length cs ≡ client.client.last
+pub made : (client : ClientEnd) (server : Serving) (cs : List Connection) (written : List ℕ) → IsReached (seen client server cs written)
+    → length cs ≡ client.client.last
 made client server cs written h = sym (links_long cs) ∙ (carried (seen client server cs written) h).wired.made
 
-pub taken : (client : ClientEnd) (server : Serving) (cs : List Connection) (written : List ℕ) → IsReached (seen client server cs written) → server.end.server.last ≤ length cs
+pub taken : (client : ClientEnd) (server : Serving) (cs : List Connection) (written : List ℕ) → IsReached (seen client server cs written)
+    → server.end.server.last ≤ length cs
 taken client server cs written h =
     let w = (carried (seen client server cs written) h).wired in
     let same : length cs ≡ client.client.last = made client server cs written h in
     let le : server.end.server.last ≤ client.client.last = w.numbers in omega (arith, same, le)
 
-pub server_number : (client : ClientEnd) (server : Serving) (cs : List Connection) (written : List ℕ) → IsReached (seen client server cs written) → server.end.server.on ≡ true → 1 ≤ server.end.server.last
+pub server_number : (client : ClientEnd) (server : Serving) (cs : List Connection) (written : List ℕ)
+    → IsReached (seen client server cs written) → server.end.server.on ≡ true → 1 ≤ server.end.server.last
 server_number client server cs written h on = (carried (seen client server cs written) h).wired.taken on
 
 -- the number of the connection on which a server stands
 abbrev pub number_on : Serving → Option ℕ
 number_on server = if server.end.server.on then Some server.end.server.last else None
 
-some_number : (server : Serving) (number : ℕ) → number_on server ≡ Some number → (server.end.server.on ≡ true) × (server.end.server.last ≡ number)
+some_number : (server : Serving) (number : ℕ) → number_on server ≡ Some number → (server.end.server.on ≡ true)
+    × (server.end.server.last ≡ number)
 some_number server number is = go server.end.server.on refl is
   where
     value : Option ℕ → ℕ
     value (Some n) = n
     value None = number
 
-    go : (b : Bool) → server.end.server.on ≡ b → cond b (Some server.end.server.last) None ≡ Some number → (server.end.server.on ≡ true) × (server.end.server.last ≡ number)
+    go : (b : Bool) → server.end.server.on ≡ b → cond b (Some server.end.server.last) None ≡ Some number → (server.end.server.on ≡ true)
+        × (server.end.server.last ≡ number)
     go true on e = (on, ap value e)
     go false off e = absurd (cc)
 
@@ -102,7 +115,8 @@ pub record Stands (l : Linked) (at : ℕ) : Type 0 where
   pub place : at ≡ l.world.server.server.last - 1
   pub within : at < length l.world.links
 
-pub stands : (l : Linked) (client : ClientEnd) (server : Serving) (cs : List Connection) (written : List ℕ) (number at : ℕ) → l ≡ seen client server cs written → IsReached (seen client server cs written)
+pub stands : (l : Linked) (client : ClientEnd) (server : Serving) (cs : List Connection) (written : List ℕ) (number at : ℕ)
+    → l ≡ seen client server cs written → IsReached (seen client server cs written)
     → number_on server ≡ Some number → at ≡ number - 1 → (1 ≤ number) × Stands l at
 stands l client server cs written number at view h is place =
     let two = some_number server number is in
@@ -119,33 +133,43 @@ stands l client server cs written number at view h is place =
 
 -- ---- what is to be sent was sent
 
-pub client_quiet : (client : ClientEnd) (server : Serving) (cs : List Connection) (written : List ℕ) → IsReached (seen client server cs written) → client.out ≡ []
+pub client_quiet : (client : ClientEnd) (server : Serving) (cs : List Connection) (written : List ℕ)
+    → IsReached (seen client server cs written) → client.out ≡ []
 client_quiet client server cs written h = (carried (seen client server cs written) h).client_out
 
-pub server_quiet : (client : ClientEnd) (server : Serving) (cs : List Connection) (written : List ℕ) → IsReached (seen client server cs written) → server.end.out ≡ []
+pub server_quiet : (client : ClientEnd) (server : Serving) (cs : List Connection) (written : List ℕ)
+    → IsReached (seen client server cs written) → server.end.out ≡ []
 server_quiet client server cs written h = (carried (seen client server cs written) h).server_out
 
 -- ---- no side meets what is no line
 
-pub server_reads_lines : (client : ClientEnd) (server : Serving) (cs : List Connection) (written : List ℕ) → IsReached (seen client server cs written)
+pub server_reads_lines : (client : ClientEnd) (server : Serving) (cs : List Connection) (written : List ℕ)
+    → IsReached (seen client server cs written)
     → server.end.server.on ≡ true → (why : FramingFault) → next_of server.end.input.rest ≡ Err why → ⊥
 server_reads_lines client server cs written h on why is =
     let w = (carried (seen client server cs written) h).wired in
     let whole : IsWhole (server.end.input.rest ++ (server_link (seen client server cs written).world).up) = w.serves on in
-    no_fault server.end.input.rest (server_link (seen client server cs written).world).up (command_texts whole.lines) why (command_lines whole.lines whole.writable) whole.is is
+    no_fault server.end.input.rest (server_link (seen client server cs written).world).up (command_texts whole.lines) why
+        (command_lines whole.lines whole.writable) whole.is is
 
-pub never_faulted_behind : (readers : Readers) → AreReaders readers → (l : Linked) (e : Event) → IsReached l → can e l.world ≡ true → (happens readers e l.world).client.client.state ≢ State.Faulted
+pub never_faulted_behind : (readers : Readers) → AreReaders readers → (l : Linked) (e : Event) → IsReached l → can e l.world ≡ true
+    → (happens readers e l.world).client.client.state ≢ State.Faulted
 never_faulted_behind readers are l e h may =
-    let c : IsCarried (happens readers e l.world) = Rattle.protocol_model.proofs.whole_run.WholeRun.happens_carried readers are e l.world (carried l h) may in
+    let c : IsCarried (happens readers e l.world) = Rattle.protocol_model.proofs.whole_run.WholeRun.happens_carried readers are e l.world
+        (carried l h) may in
     never_faulted (lined (happens readers e l.world) c.up c.down) c.inv
 
 -- ---- before any event
 
-pub start_reached : (program : Meaning) (setup : SetupValue) (window : ℕ) (client : ClientEnd) (server : Serving) (cs : List Connection) (written : List ℕ) → IsProgram program → (nat_le 1 window && nat_le window 16) ≡ true
-    → client ≡ new_client_end program [] window → server ≡ new_serving setup → cs ≡ [] → written ≡ [] → IsReached (seen client server cs written)
+pub start_reached : (program : Meaning) (setup : SetupValue) (window : ℕ) (client : ClientEnd) (server : Serving) (cs : List Connection)
+    (written : List ℕ) → IsProgram program → (nat_le 1 window && nat_le window 16) ≡ true
+    → client ≡ new_client_end program [] window → server ≡ new_serving setup → cs ≡ [] → written ≡ []
+    → IsReached (seen client server cs written)
 start_reached program setup window client server cs written is_program few c s none nothing =
-    subst (λ (l : Linked). IsReached l) (sym (ap (λ (x : ClientEnd). seen x server cs written) c ∙ (ap (λ (x : Serving). seen (new_client_end program [] window) x cs written) s
-    ∙ (ap (λ (x : List Connection). seen (new_client_end program [] window) (new_serving setup) x written) none ∙ ap (λ (x : List ℕ). seen (new_client_end program [] window) (new_serving setup) [] x) nothing))))
+    subst (λ (l : Linked). IsReached l) (sym (ap (λ (x : ClientEnd). seen x server cs written) c
+        ∙ (ap (λ (x : Serving). seen (new_client_end program [] window) x cs written) s
+    ∙ (ap (λ (x : List Connection). seen (new_client_end program [] window) (new_serving setup) x written) none
+    ∙ ap (λ (x : List ℕ). seen (new_client_end program [] window) (new_serving setup) [] x) nothing))))
     (record {
       readers = some_are_readers.0;
       are = some_are_readers.1;

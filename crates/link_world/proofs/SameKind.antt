@@ -16,16 +16,19 @@ pub record IsSameKind (old new : Linked) : Type 0 where
   pub program : new.world.client.client.program ≡ old.world.client.client.program
   pub window : new.world.client.client.window ≡ old.world.client.client.window
 
-same_kind : (l m : Linked) (e : Event) → can e l.world ≡ true → ((readers : Readers) → AreReaders readers → m ≡ with_world l (happens readers e l.world)) → IsSameKind l m
+same_kind : (l m : Linked) (e : Event) → can e l.world ≡ true
+    → ((readers : Readers) → AreReaders readers → m ≡ with_world l (happens readers e l.world)) → IsSameKind l m
 same_kind l m e may is =
     let new : m ≡ with_world l (happens some_are_readers.0 e l.world) = is some_are_readers.0 some_are_readers.1 in record {
       setup = ap (λ (k : Linked). k.setup) new;
       program =
           ap (λ (k : Linked). k.world.client.client.program) new
-          ∙ (ap (λ (w : World). w.client.client.program) (sym (after_can some_are_readers.0 e l.world (can e l.world) refl may)) ∙ run_same some_are_readers.0 (e ∷ []) l.world);
+          ∙ (ap (λ (w : World). w.client.client.program) (sym (after_can some_are_readers.0 e l.world (can e l.world) refl may))
+          ∙ run_same some_are_readers.0 (e ∷ []) l.world);
       window =
           ap (λ (k : Linked). k.world.client.client.window) new
-          ∙ (ap (λ (w : World). w.client.client.window) (sym (after_can some_are_readers.0 e l.world (can e l.world) refl may)) ∙ run_window some_are_readers.0 (e ∷ []) l.world);
+          ∙ (ap (λ (w : World). w.client.client.window) (sym (after_can some_are_readers.0 e l.world (can e l.world) refl may))
+          ∙ run_window some_are_readers.0 (e ∷ []) l.world);
     }
 
 pub same_behind : (l m : Linked) (e : Event) (r : Result (Unit {0}) WorldFault) → OnOk r (can e l.world ≡ true)

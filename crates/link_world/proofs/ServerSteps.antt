@@ -1,5 +1,6 @@
 -- What the server's events make of a world.
-use Rattle.std.proofs.Common.{◌≡◌, ℕ, ◌≤◌, ◌<◌, Bool, true, false, List, [], ◌∷◌, length, refl, sym, ◌∙◌, ap, subst, arith, cond, length-append}
+use Rattle.std.proofs.Common.{◌≡◌, ℕ, ◌≤◌, ◌<◌, Bool, true, false, List, [], ◌∷◌, length, refl, sym, ◌∙◌, ap, subst, arith, cond,
+  length-append}
 use Rattle.std.proofs.lemmas.Bool.{false≢true, and_parts, and_from, ltb-true, le-leb, leb-true}
 use Rattle.protocol_model.specs.Lines.{Readers, AreReaders}
 use Rattle.protocol_model.specs.Ends.{ClientEnd, ServerEnd, serving_accepted, serving_left, serving_restarted}
@@ -16,7 +17,8 @@ use Rattle.link_world.proofs.Reached.{reached_more, links_long}
 
 -- ---- no more than 4,000,000,000 connections are made
 
-within : (readers : Readers) (e : Event) (w : World) → can e w ≡ true → length w.links ≡ w.client.client.last → length w.links ≤ 4000000000 → length (happens readers e w).links ≤ 4000000000
+within : (readers : Readers) (e : Event) (w : World) → can e w ≡ true → length w.links ≡ w.client.client.last → length w.links ≤ 4000000000
+    → length (happens readers e w).links ≤ 4000000000
 within readers event.Connect w may same le =
     let below : w.client.client.last < 4000000000 = ltb-true w.client.client.last 4000000000 (and_parts _ _ may).1 in
     omega (arith, length-append w.links (no_link ∷ []), same, below)
@@ -35,41 +37,55 @@ within readers event.Resume w may same le = le
 within readers (event.ClientRestart k) w may same le = le
 within readers event.ServerRestart w may same le = le
 
-runs_within : (readers : Readers) → AreReaders readers → (es : List Event) (w : World) → IsCarried w → length w.links ≤ 4000000000 → length (run_of readers es w).links ≤ 4000000000
+runs_within : (readers : Readers) → AreReaders readers → (es : List Event) (w : World) → IsCarried w → length w.links ≤ 4000000000
+    → length (run_of readers es w).links ≤ 4000000000
 runs_within readers are [] w h le = le
-runs_within readers are (e ∷ es) w h le = go (can e w) refl (λ (x : World) (c : IsCarried x) (l : length x.links ≤ 4000000000). runs_within readers are es x c l)
+runs_within readers are (e ∷ es) w h le = go (can e w) refl
+    (λ (x : World) (c : IsCarried x) (l : length x.links ≤ 4000000000). runs_within readers are es x c l)
   where
-    go : (b : Bool) → can e w ≡ b → ((x : World) → IsCarried x → length x.links ≤ 4000000000 → length (run_of readers es x).links ≤ 4000000000) → length (run_of readers es (cond b (happens readers e w) w)).links ≤ 4000000000
+    go : (b : Bool) → can e w ≡ b → ((x : World) → IsCarried x → length x.links ≤ 4000000000
+        → length (run_of readers es x).links ≤ 4000000000) → length (run_of readers es (cond b (happens readers e w) w)).links ≤ 4000000000
     go true may later = later (happens readers e w) (happens_carried readers are e w h may) (within readers e w may h.wired.made le)
     go false never later = later w h le
 
-pub connections_few : (client : ClientEnd) (server : Serving) (cs : List Connection) (written : List ℕ) → IsReached (seen client server cs written) → length cs ≤ 4000000000
+pub connections_few : (client : ClientEnd) (server : Serving) (cs : List Connection) (written : List ℕ)
+    → IsReached (seen client server cs written) → length cs ≤ 4000000000
 connections_few client server cs written h =
     let few : length (links_of cs) ≤ 4000000000 =
     subst (λ (w : World). length w.links ≤ 4000000000) (sym h.reached)
-    (runs_within h.readers h.are h.events (start h.program server.setup.tools h.window) (start_carried h.program server.setup.tools h.window h.is_program h.few) (omega arith)) in
+    (runs_within h.readers h.are h.events (start h.program server.setup.tools h.window)
+        (start_carried h.program server.setup.tools h.window h.is_program h.few) (omega arith)) in
     omega (arith, few, links_long cs)
 
 -- ---- events of the server alone
 
-alone : (client : ClientEnd) (server : Serving) (after : ServerEnd) (cs : List Connection) (written : List ℕ) (e : Event) → IsReached (seen client server cs written) → can e (seen client server cs written).world ≡ true
-    → ((readers : Readers) → AreReaders readers → record (seen client server cs written).world { server = after } ≡ happens readers e (seen client server cs written).world) → IsReached (seen client (with_end server after) cs written)
+alone : (client : ClientEnd) (server : Serving) (after : ServerEnd) (cs : List Connection) (written : List ℕ) (e : Event)
+    → IsReached (seen client server cs written) → can e (seen client server cs written).world ≡ true
+    → ((readers : Readers) → AreReaders readers → record (seen client server cs written).world { server = after }
+    ≡ happens readers e (seen client server cs written).world) → IsReached (seen client (with_end server after) cs written)
 alone client server after cs written e h may is =
-    reached_more (seen client server cs written) (seen client (with_end server after) cs written) e h may (λ readers are. ap (λ (w : World). with_world (seen client server cs written) w) (is readers are))
+    reached_more (seen client server cs written) (seen client (with_end server after) cs written) e h may
+        (λ readers are. ap (λ (w : World). with_world (seen client server cs written) w) (is readers are))
 
-accept_may : (number : ℕ) (client : ClientEnd) (server : Serving) (cs : List Connection) (written : List ℕ) → may_accept number server.end.server ≡ true → number ≤ length cs
+accept_may : (number : ℕ) (client : ClientEnd) (server : Serving) (cs : List Connection) (written : List ℕ)
+    → may_accept number server.end.server ≡ true → number ≤ length cs
     → can (event.Accept number) (seen client server cs written).world ≡ true
 accept_may number client server cs written may le =
     let parts = and_parts _ _ may in
-    and_from _ _ parts.0 (and_from _ _ (and_parts _ _ parts.1).0 (le-leb number (length (links_of cs)) (subst (λ (n : ℕ). number ≤ n) (sym (links_long cs)) le)))
+    and_from _ _ parts.0 (and_from _ _ (and_parts _ _ parts.1).0
+        (le-leb number (length (links_of cs)) (subst (λ (n : ℕ). number ≤ n) (sym (links_long cs)) le)))
 
-pub accept_can : (l : Linked) (number : ℕ) (client : ClientEnd) (server : Serving) (cs : List Connection) (written : List ℕ) → l ≡ seen client server cs written → may_accept number server.end.server ≡ true → number ≤ length cs
+pub accept_can : (l : Linked) (number : ℕ) (client : ClientEnd) (server : Serving) (cs : List Connection) (written : List ℕ)
+    → l ≡ seen client server cs written → may_accept number server.end.server ≡ true → number ≤ length cs
     → can (event.Accept number) l.world ≡ true
-accept_can l number client server cs written view may le = subst (λ (k : Linked). can (event.Accept number) k.world ≡ true) (sym view) (accept_may number client server cs written may le)
+accept_can l number client server cs written view may le = subst (λ (k : Linked). can (event.Accept number) k.world ≡ true) (sym view)
+    (accept_may number client server cs written may le)
 
-pub accept_far : (l : Linked) (number : ℕ) (client : ClientEnd) (server : Serving) (cs : List Connection) (written : List ℕ) → l ≡ seen client server cs written → length cs < number → can (event.Accept number) l.world ≡ false
+pub accept_far : (l : Linked) (number : ℕ) (client : ClientEnd) (server : Serving) (cs : List Connection) (written : List ℕ)
+    → l ≡ seen client server cs written → length cs < number → can (event.Accept number) l.world ≡ false
 accept_far l number client server cs written view far =
-    subst (λ (k : Linked). can (event.Accept number) k.world ≡ false) (sym view) (go (can (event.Accept number) (seen client server cs written).world) refl)
+    subst (λ (k : Linked). can (event.Accept number) k.world ≡ false) (sym view)
+        (go (can (event.Accept number) (seen client server cs written).world) refl)
   where
     go : (b : Bool) → can (event.Accept number) (seen client server cs written).world ≡ b → b ≡ false
     go false e = refl
@@ -77,30 +93,40 @@ accept_far l number client server cs written view far =
         let le : number ≤ length (links_of cs) = leb-true number (length (links_of cs)) (and_parts _ _ (and_parts _ _ e).1).1 in
         absurd (omega (arith, le, links_long cs, far))
 
-pub accept_refused : (l : Linked) (number : ℕ) (client : ClientEnd) (server : Serving) (cs : List Connection) (written : List ℕ) → l ≡ seen client server cs written → IsReached (seen client server cs written)
+pub accept_refused : (l : Linked) (number : ℕ) (client : ClientEnd) (server : Serving) (cs : List Connection) (written : List ℕ)
+    → l ≡ seen client server cs written → IsReached (seen client server cs written)
     → number ≤ length cs → may_accept number server.end.server ≡ false → can (event.Accept number) l.world ≡ false
 accept_refused l number client server cs written view h near never =
-    subst (λ (k : Linked). can (event.Accept number) k.world ≡ false) (sym view) (go (can (event.Accept number) (seen client server cs written).world) refl)
+    subst (λ (k : Linked). can (event.Accept number) k.world ≡ false) (sym view)
+        (go (can (event.Accept number) (seen client server cs written).world) refl)
   where
     go : (b : Bool) → can (event.Accept number) (seen client server cs written).world ≡ b → b ≡ false
     go false e = refl
     go true e =
         let parts = and_parts _ _ e in
         let few : length cs ≤ 4000000000 = connections_few client server cs written h in
-        absurd (false≢true (sym never ∙ and_from _ _ parts.0 (and_from _ _ (and_parts _ _ parts.1).0 (le-leb number 4000000000 (omega (arith, near, few))))))
+        absurd (false≢true (sym never ∙ and_from _ _ parts.0 (and_from _ _ (and_parts _ _ parts.1).0
+            (le-leb number 4000000000 (omega (arith, near, few))))))
 
-pub accept_reached : (number : ℕ) (client : ClientEnd) (server after : Serving) (cs : List Connection) (written : List ℕ) → IsReached (seen client server cs written)
-    → may_accept number server.end.server ≡ true → number ≤ length cs → after ≡ with_end server (serving_accepted number server.end) → IsReached (seen client after cs written)
+pub accept_reached : (number : ℕ) (client : ClientEnd) (server after : Serving) (cs : List Connection) (written : List ℕ)
+    → IsReached (seen client server cs written)
+    → may_accept number server.end.server ≡ true → number ≤ length cs → after ≡ with_end server (serving_accepted number server.end)
+    → IsReached (seen client after cs written)
 accept_reached number client server after cs written h may le is =
     subst (λ (s : Serving). IsReached (seen client s cs written)) (sym is)
-    (alone client server (serving_accepted number server.end) cs written (event.Accept number) h (accept_may number client server cs written may le) (λ readers are. refl))
+    (alone client server (serving_accepted number server.end) cs written (event.Accept number) h
+        (accept_may number client server cs written may le) (λ readers are. refl))
 
-pub left_reached : (client : ClientEnd) (server after : Serving) (cs : List Connection) (written : List ℕ) → IsReached (seen client server cs written)
+pub left_reached : (client : ClientEnd) (server after : Serving) (cs : List Connection) (written : List ℕ)
+    → IsReached (seen client server cs written)
     → server.end.server.on ≡ true → after ≡ with_end server (serving_left server.end) → IsReached (seen client after cs written)
 left_reached client server after cs written h may is =
-    subst (λ (s : Serving). IsReached (seen client s cs written)) (sym is) (alone client server (serving_left server.end) cs written event.ServerLeaves h may (λ readers are. refl))
+    subst (λ (s : Serving). IsReached (seen client s cs written)) (sym is)
+        (alone client server (serving_left server.end) cs written event.ServerLeaves h may (λ readers are. refl))
 
-pub restart_reached : (client : ClientEnd) (server after : Serving) (cs : List Connection) (written : List ℕ) → IsReached (seen client server cs written)
+pub restart_reached : (client : ClientEnd) (server after : Serving) (cs : List Connection) (written : List ℕ)
+    → IsReached (seen client server cs written)
     → after ≡ with_end server (serving_restarted server.end) → IsReached (seen client after cs written)
 restart_reached client server after cs written h is =
-    subst (λ (s : Serving). IsReached (seen client s cs written)) (sym is) (alone client server (serving_restarted server.end) cs written event.ServerRestart h refl (λ readers are. refl))
+    subst (λ (s : Serving). IsReached (seen client s cs written)) (sym is)
+        (alone client server (serving_restarted server.end) cs written event.ServerRestart h refl (λ readers are. refl))

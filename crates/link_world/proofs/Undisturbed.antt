@@ -17,7 +17,8 @@ use Rattle.link_world.proofs.Reached.{carried}
 
 -- ---- the events that happened
 
-pub after_can : (readers : Readers) (e : Event) (w : World) (b : Bool) → can e w ≡ b → b ≡ true → cond b (happens readers e w) w ≡ happens readers e w
+pub after_can : (readers : Readers) (e : Event) (w : World) (b : Bool) → can e w ≡ b → b ≡ true
+    → cond b (happens readers e w) w ≡ happens readers e w
 after_can readers e w true is may = refl
 after_can readers e w false is may = absurd (false≢true may)
 
@@ -31,7 +32,8 @@ record Quietly (readers : Readers) (w v : World) : Type 0 where
   pub quiet : AreUndisturbed events
   pub leads : v ≡ run_of readers events w
 
-quietly : (readers : Readers) (w v : World) (events : List Event) (xs : List Answer) → AreUndisturbed events → Leads readers w events xs v → Quietly readers w v
+quietly : (readers : Readers) (w v : World) (events : List Event) (xs : List Answer) → AreUndisturbed events → Leads readers w events xs v
+    → Quietly readers w v
 quietly readers w v [] [] q h = record { events = []; quiet = tt; leads = h }
 quietly readers w v [] (x ∷ xs) q h = absurd h
 quietly readers w v (e ∷ es) [] q h = absurd h
@@ -45,7 +47,8 @@ quietly readers w v (e ∷ es) (Refused ∷ xs) q h = quietly readers w v es xs 
 quietly readers w v (e ∷ es) (Wanting ∷ xs) q h = quietly readers w v es xs q.1 h.2
 
 -- where memory sufficed, all events lead there
-all_lead : (readers : Readers) (w v : World) (events : List Event) (xs : List Answer) → wanting xs ≡ 0 → Leads readers w events xs v → v ≡ run_of readers events w
+all_lead : (readers : Readers) (w v : World) (events : List Event) (xs : List Answer) → wanting xs ≡ 0 → Leads readers w events xs v
+    → v ≡ run_of readers events w
 all_lead readers w v [] [] none h = h
 all_lead readers w v [] (x ∷ xs) none h = absurd h
 all_lead readers w v (e ∷ es) [] none h = absurd h
@@ -55,14 +58,16 @@ all_lead readers w v (e ∷ es) (Refused ∷ xs) none h =
     all_lead readers w v es xs none h.1 ∙ ap (run_of readers es) (sym (after_cannot readers e w (can e w) refl h.0))
 all_lead readers w v (e ∷ es) (Wanting ∷ xs) none h = absurd (cc)
 
-pub run_leads : (readers : Readers) (w v : World) (events : List Event) (done not_now memory : ℕ) → HasRun readers w events v done not_now memory → memory ≡ 0 → v ≡ run_of readers events w
+pub run_leads : (readers : Readers) (w v : World) (events : List Event) (done not_now memory : ℕ)
+    → HasRun readers w events v done not_now memory → memory ≡ 0 → v ≡ run_of readers events w
 run_leads readers w v events done not_now memory h none = all_lead readers w v events h.answers (h.memory_are ∙ none) h.leads
 
 -- ---- the program and the window of a world to which events have led
 
 pub program_is : (l : Linked) → IsReached l → IsProgram l.world.client.client.program
 program_is l h =
-    subst IsProgram (sym (ap (λ (w : World). w.client.client.program) h.reached ∙ run_same h.readers h.events (start h.program l.setup.tools h.window))) h.is_program
+    subst IsProgram (sym (ap (λ (w : World). w.client.client.program) h.reached
+        ∙ run_same h.readers h.events (start h.program l.setup.tools h.window))) h.is_program
 
 pub window_few : (l : Linked) → IsReached l → l.world.client.client.window ≤ 16
 window_few l h = let c : IsCarried l.world = carried l h in c.inv.window
@@ -72,30 +77,38 @@ window_few l h = let c : IsCarried l.world = carried l h in c.inv.window
 abbrev Runs : Linked → World → List Event → ℕ → ℕ → ℕ → Type 0
 Runs l v events done not_now memory = (readers : Readers) → AreReaders readers → HasRun readers l.world events v done not_now memory
 
-ran : (l : Linked) (v : World) (events : List Event) (done not_now memory : ℕ) → Runs l v events done not_now memory → AreUndisturbed events → Quietly some_are_readers.0 l.world v
-ran l v events done not_now memory h q = let r = h some_are_readers.0 some_are_readers.1 in quietly some_are_readers.0 l.world v events r.answers q r.leads
+ran : (l : Linked) (v : World) (events : List Event) (done not_now memory : ℕ) → Runs l v events done not_now memory → AreUndisturbed events
+    → Quietly some_are_readers.0 l.world v
+ran l v events done not_now memory h q = let r = h some_are_readers.0 some_are_readers.1
+    in quietly some_are_readers.0 l.world v events r.answers q r.leads
 
 from_new : (l : Linked) (v : World) → IsNew l.world → (q : Quietly some_are_readers.0 l.world v)
     → run_of some_are_readers.0 q.events (start l.world.client.client.program l.world.server.server.rack l.world.client.client.window) ≡ v
 from_new l v new q = sym (q.leads ∙ ap (run_of some_are_readers.0 q.events) new)
 
-pub new_lines : (l : Linked) (v : World) (events : List Event) (done not_now memory : ℕ) → IsReached l → Runs l v events done not_now memory → IsNew l.world → AreUndisturbed events
+pub new_lines : (l : Linked) (v : World) (events : List Event) (done not_now memory : ℕ) → IsReached l → Runs l v events done not_now memory
+    → IsNew l.world → AreUndisturbed events
     → AreFirstLines v.written (first_plan l.world)
 new_lines l v events done not_now memory h runs new quiet =
     let q : Quietly some_are_readers.0 l.world v = ran l v events done not_now memory runs quiet in
     subst (λ (w : World). AreFirstLines w.written (first_plan l.world)) (from_new l v new q)
-    (undisturbed_lines some_are_readers.0 some_are_readers.1 l.world.client.client.program l.world.server.server.rack l.world.client.client.window q.events (program_is l h) (window_few l h) q.quiet)
+    (undisturbed_lines some_are_readers.0 some_are_readers.1 l.world.client.client.program l.world.server.server.rack
+        l.world.client.client.window q.events (program_is l h) (window_few l h) q.quiet)
 
-pub new_acts : (l : Linked) (v : World) (events : List Event) (done not_now memory : ℕ) → IsReached l → Runs l v events done not_now memory → IsNew l.world → AreUndisturbed events
+pub new_acts : (l : Linked) (v : World) (events : List Event) (done not_now memory : ℕ) → IsReached l → Runs l v events done not_now memory
+    → IsNew l.world → AreUndisturbed events
     → AreFirstActs (acts_in v.server.server.ledger) (acts_planned (first_plan l.world))
 new_acts l v events done not_now memory h runs new quiet =
     let q : Quietly some_are_readers.0 l.world v = ran l v events done not_now memory runs quiet in
     subst (λ (w : World). AreFirstActs (acts_in w.server.server.ledger) (acts_planned (first_plan l.world))) (from_new l v new q)
-    (undisturbed_acts some_are_readers.0 some_are_readers.1 l.world.client.client.program l.world.server.server.rack l.world.client.client.window q.events (program_is l h) (window_few l h) q.quiet)
+    (undisturbed_acts some_are_readers.0 some_are_readers.1 l.world.client.client.program l.world.server.server.rack
+        l.world.client.client.window q.events (program_is l h) (window_few l h) q.quiet)
 
-pub new_counts : (l : Linked) (v : World) (events : List Event) (done not_now memory : ℕ) → IsReached l → Runs l v events done not_now memory → IsNew l.world → AreUndisturbed events
+pub new_counts : (l : Linked) (v : World) (events : List Event) (done not_now memory : ℕ) → IsReached l
+    → Runs l v events done not_now memory → IsNew l.world → AreUndisturbed events
     → AreFirstOf v.client.client.table.tally.counted (acts_in v.server.server.ledger)
 new_counts l v events done not_now memory h runs new quiet =
     let q : Quietly some_are_readers.0 l.world v = ran l v events done not_now memory runs quiet in
     subst (λ (w : World). AreFirstOf w.client.client.table.tally.counted (acts_in w.server.server.ledger)) (from_new l v new q)
-    (undisturbed_counts some_are_readers.0 some_are_readers.1 l.world.client.client.program l.world.server.server.rack l.world.client.client.window q.events (program_is l h) (window_few l h) q.quiet)
+    (undisturbed_counts some_are_readers.0 some_are_readers.1 l.world.client.client.program l.world.server.server.rack
+        l.world.client.client.window q.events (program_is l h) (window_few l h) q.quiet)

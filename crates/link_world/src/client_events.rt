@@ -24,16 +24,20 @@ fn send(
 ) -> Result<(), WorldFault>
     requires quiet { client.old.out ≡ [] }
     requires awake { is_faulted client.old.client.state ≡ false }
-    requires fine { is_some (due client.old.client) ≡ true → is_faulted (end_sent client.old).client.state ≡ false }
+    requires fine { is_some (due client.old.client) ≡ true
+        → is_faulted (end_sent client.old).client.state ≡ false }
     ensures can { OnOk result (is_some (due client.old.client) ≡ true) }
     ensures client { OnOk result (client.new ≡ quiet_client (end_sent client.old)) }
-    ensures up { OnOk result (connection.new.up.waiting ≡ connection.old.up.waiting ++ (end_sent client.old).out) }
+    ensures up { OnOk result (connection.new.up.waiting ≡ connection.old.up.waiting
+        ++ (end_sent client.old).out) }
     ensures down { OnOk result (connection.new.down.waiting ≡ connection.old.down.waiting) }
-    ensures written { OnOk result (written.new.items ≡ written.old.items ++ (end_sent client.old).out) }
+    ensures written { OnOk result (written.new.items ≡ written.old.items
+        ++ (end_sent client.old).out) }
     ensures not_now { IsErrOf result WorldFault.NotNow → is_some (due client.old.client) ≡ false }
     ensures memory { IsErrOf result WorldFault.Memory → is_some (due client.old.client) ≡ true }
     ensures client_err { OnErr result (client.new ≡ client.old) }
-    ensures link_err { OnErr result (link_of_connection connection.new ≡ link_of_connection connection.old) }
+    ensures link_err { OnErr result (link_of_connection connection.new
+        ≡ link_of_connection connection.old) }
     ensures written_err { OnErr result (written.new.items ≡ written.old.items) }
 {
     if client.due().is_none() {
@@ -66,16 +70,20 @@ fn abort(
 ) -> Result<(), WorldFault>
     requires quiet { client.old.out ≡ [] }
     requires awake { is_faulted client.old.client.state ≡ false }
-    requires fine { may_abort client.old.client.state ≡ true → is_faulted (end_aborted client.old).client.state ≡ false }
+    requires fine { may_abort client.old.client.state ≡ true
+        → is_faulted (end_aborted client.old).client.state ≡ false }
     ensures can { OnOk result (may_abort client.old.client.state ≡ true) }
     ensures client { OnOk result (client.new ≡ quiet_client (end_aborted client.old)) }
-    ensures up { OnOk result (connection.new.up.waiting ≡ connection.old.up.waiting ++ (end_aborted client.old).out) }
+    ensures up { OnOk result (connection.new.up.waiting ≡ connection.old.up.waiting
+        ++ (end_aborted client.old).out) }
     ensures down { OnOk result (connection.new.down.waiting ≡ connection.old.down.waiting) }
-    ensures written { OnOk result (written.new.items ≡ written.old.items ++ (end_aborted client.old).out) }
+    ensures written { OnOk result (written.new.items ≡ written.old.items
+        ++ (end_aborted client.old).out) }
     ensures not_now { IsErrOf result WorldFault.NotNow → may_abort client.old.client.state ≡ false }
     ensures memory { IsErrOf result WorldFault.Memory → may_abort client.old.client.state ≡ true }
     ensures client_err { OnErr result (client.new ≡ client.old) }
-    ensures link_err { OnErr result (link_of_connection connection.new ≡ link_of_connection connection.old) }
+    ensures link_err { OnErr result (link_of_connection connection.new
+        ≡ link_of_connection connection.old) }
     ensures written_err { OnErr result (written.new.items ≡ written.old.items) }
 {
     if !may_abort(client.state()) {
@@ -101,13 +109,18 @@ fn bring_down(
 ) -> Result<(), WorldFault>
     requires reads { may_read client.old.client ≡ true }
     ensures can { OnOk result (has_some count connection.old.down.waiting ≡ true) }
-    ensures client { OnOk result (client.new ≡ end_fed (take count connection.old.down.waiting) client.old) }
+    ensures client { OnOk result (client.new ≡ end_fed (take count connection.old.down.waiting)
+        client.old) }
     ensures up { OnOk result (connection.new.up.waiting ≡ connection.old.up.waiting) }
-    ensures down { OnOk result (connection.new.down.waiting ≡ drop count connection.old.down.waiting) }
-    ensures not_now { IsErrOf result WorldFault.NotNow → has_some count connection.old.down.waiting ≡ false }
-    ensures memory { IsErrOf result WorldFault.Memory → has_some count connection.old.down.waiting ≡ true }
+    ensures down { OnOk result (connection.new.down.waiting
+        ≡ drop count connection.old.down.waiting) }
+    ensures not_now { IsErrOf result WorldFault.NotNow
+        → has_some count connection.old.down.waiting ≡ false }
+    ensures memory { IsErrOf result WorldFault.Memory
+        → has_some count connection.old.down.waiting ≡ true }
     ensures client_err { OnErr result (client.new ≡ client.old) }
-    ensures link_err { OnErr result (link_of_connection connection.new ≡ link_of_connection connection.old) }
+    ensures link_err { OnErr result (link_of_connection connection.new
+        ≡ link_of_connection connection.old) }
 {
     if count == 0 || count > connection.down.waiting().len() {
         return Err(WorldFault::NotNow);
@@ -134,8 +147,10 @@ impl World {
     pub(crate) fn connect(&mut self) -> Result<(), WorldFault>
         ensures can { OnOk result (can event.Connect self.old.world ≡ true) }
         ensures ok { OnOk result (self.new ≡ with_world self.old (connected self.old.world)) }
-        ensures not_now { IsErrOf result WorldFault.NotNow → can event.Connect self.old.world ≡ false }
-        ensures memory { IsErrOf result WorldFault.Memory → can event.Connect self.old.world ≡ true }
+        ensures not_now { IsErrOf result WorldFault.NotNow
+            → can event.Connect self.old.world ≡ false }
+        ensures memory { IsErrOf result WorldFault.Memory
+            → can event.Connect self.old.world ≡ true }
         ensures err { OnErr result (self.new ≡ self.old) }
     {
         let number = self.connections.len() as u64 + 1;
@@ -159,9 +174,12 @@ impl World {
     #[tactic(auto, using(crate::proofs::ClientWriting::sent_reached, crate::proofs::ClientWriting::same_reached))]
     pub(crate) fn client_sends(&mut self) -> Result<(), WorldFault>
         ensures can { OnOk result (can event.ClientSends self.old.world ≡ true) }
-        ensures ok { OnOk result (self.new ≡ with_world self.old (client_writes self.old.world (end_sent self.old.world.client))) }
-        ensures not_now { IsErrOf result WorldFault.NotNow → can event.ClientSends self.old.world ≡ false }
-        ensures memory { IsErrOf result WorldFault.Memory → can event.ClientSends self.old.world ≡ true }
+        ensures ok { OnOk result (self.new ≡ with_world self.old
+            (client_writes self.old.world (end_sent self.old.world.client))) }
+        ensures not_now { IsErrOf result WorldFault.NotNow
+            → can event.ClientSends self.old.world ≡ false }
+        ensures memory { IsErrOf result WorldFault.Memory
+            → can event.ClientSends self.old.world ≡ true }
         ensures err { OnErr result (self.new ≡ self.old) }
     {
         let Some(connection) = self.connections.last_mut() else {
@@ -177,8 +195,10 @@ impl World {
     #[tactic(auto, using(crate::proofs::ClientWriting::aborted_reached, crate::proofs::ClientWriting::same_reached))]
     pub(crate) fn abort(&mut self) -> Result<(), WorldFault>
         ensures can { OnOk result (can event.Abort self.old.world ≡ true) }
-        ensures ok { OnOk result (self.new ≡ with_world self.old (client_writes self.old.world (end_aborted self.old.world.client))) }
-        ensures not_now { IsErrOf result WorldFault.NotNow → can event.Abort self.old.world ≡ false }
+        ensures ok { OnOk result (self.new ≡ with_world self.old
+            (client_writes self.old.world (end_aborted self.old.world.client))) }
+        ensures not_now { IsErrOf result WorldFault.NotNow
+            → can event.Abort self.old.world ≡ false }
         ensures memory { IsErrOf result WorldFault.Memory → can event.Abort self.old.world ≡ true }
         ensures err { OnErr result (self.new ≡ self.old) }
     {
@@ -195,9 +215,12 @@ impl World {
     #[tactic(auto, using(crate::proofs::ClientBytes::down_reached, crate::proofs::ClientWriting::same_reached))]
     pub(crate) fn down(&mut self, count: usize) -> Result<(), WorldFault>
         ensures can { OnOk result (can (event.Down count) self.old.world ≡ true) }
-        ensures ok { OnOk result (self.new ≡ with_world self.old (moved_down count self.old.world)) }
-        ensures not_now { IsErrOf result WorldFault.NotNow → can (event.Down count) self.old.world ≡ false }
-        ensures memory { IsErrOf result WorldFault.Memory → can (event.Down count) self.old.world ≡ true }
+        ensures ok { OnOk result (self.new ≡ with_world self.old
+            (moved_down count self.old.world)) }
+        ensures not_now { IsErrOf result WorldFault.NotNow
+            → can (event.Down count) self.old.world ≡ false }
+        ensures memory { IsErrOf result WorldFault.Memory
+            → can (event.Down count) self.old.world ≡ true }
         ensures err { OnErr result (self.new ≡ self.old) }
     {
         if !self.client.is_on() {
@@ -216,8 +239,10 @@ impl World {
     #[tactic(auto, using(crate::proofs::ClientSteps::resume_reached))]
     pub(crate) fn resume(&mut self) -> Result<(), WorldFault>
         ensures can { OnOk result (can event.Resume self.old.world ≡ true) }
-        ensures ok { OnOk result (self.new ≡ with_world self.old (record self.old.world { client = end_resumed self.old.world.client })) }
-        ensures not_now { IsErrOf result WorldFault.NotNow → can event.Resume self.old.world ≡ false }
+        ensures ok { OnOk result (self.new ≡ with_world self.old
+            (record self.old.world { client = end_resumed self.old.world.client })) }
+        ensures not_now { IsErrOf result WorldFault.NotNow
+            → can event.Resume self.old.world ≡ false }
         ensures memory { IsErrOf result WorldFault.Memory → can event.Resume self.old.world ≡ true }
         ensures err { OnErr result (self.new ≡ self.old) }
     {
@@ -231,7 +256,8 @@ impl World {
     #[tactic(auto, using(crate::proofs::ClientSteps::left_reached))]
     pub(crate) fn client_leaves(&mut self) -> Result<(), WorldFault>
         ensures can { OnOk result (can event.ClientLeaves self.old.world ≡ true) }
-        ensures ok { OnOk result (self.new ≡ with_world self.old (record self.old.world { client = end_left self.old.world.client })) }
+        ensures ok { OnOk result (self.new ≡ with_world self.old
+            (record self.old.world { client = end_left self.old.world.client })) }
         ensures not_now { OnErr result (can event.ClientLeaves self.old.world ≡ false) }
         ensures memory { IfErr result (λ fault. fault ≡ WorldFault.NotNow) }
         ensures err { OnErr result (self.new ≡ self.old) }
@@ -247,7 +273,8 @@ impl World {
     #[tactic(auto, using(crate::proofs::ClientSteps::restart_reached, crate::proofs::ClientSteps::restart_can, crate::proofs::ClientSteps::restart_refused))]
     pub(crate) fn client_restart(&mut self, count: usize) -> Result<(), WorldFault>
         ensures can { OnOk result (can (event.ClientRestart count) self.old.world ≡ true) }
-        ensures ok { OnOk result (self.new ≡ with_world self.old (record self.old.world { client = end_restarted count self.old.world.client })) }
+        ensures ok { OnOk result (self.new ≡ with_world self.old
+            (record self.old.world { client = end_restarted count self.old.world.client })) }
         ensures not_now { OnErr result (can (event.ClientRestart count) self.old.world ≡ false) }
         ensures memory { IfErr result (λ fault. fault ≡ WorldFault.NotNow) }
         ensures err { OnErr result (self.new ≡ self.old) }
@@ -262,9 +289,12 @@ impl World {
     pub(crate) fn client_reads(&mut self) -> Result<(), WorldFault>
         ensures can { OnOk result (can event.ClientReads self.old.world ≡ true) }
         ensures ok { OnOk result ((readers : Readers) → AreReaders readers
-            → self.new ≡ with_world self.old (record self.old.world { client = end_read readers self.old.world.client })) }
-        ensures not_now { IsErrOf result WorldFault.NotNow → can event.ClientReads self.old.world ≡ false }
-        ensures memory { IsErrOf result WorldFault.Memory → can event.ClientReads self.old.world ≡ true }
+            → self.new ≡ with_world self.old (record self.old.world
+            { client = end_read readers self.old.world.client })) }
+        ensures not_now { IsErrOf result WorldFault.NotNow
+            → can event.ClientReads self.old.world ≡ false }
+        ensures memory { IsErrOf result WorldFault.Memory
+            → can event.ClientReads self.old.world ≡ true }
         ensures err { OnErr result (self.new ≡ self.old) }
     {
         if !self.client.is_on() {

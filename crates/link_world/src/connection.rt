@@ -43,7 +43,8 @@ impl Connection {
     /// What the client wrote joins the bytes up.
     pub(crate) fn join_up(&mut self, client: &mut Client, written: &mut Vec<u8>)
         requires room { length client.old.out ≤ self.old.up.room }
-        requires room_written { vec_len written.old + length client.old.out ≤ vec_capacity written.old }
+        requires room_written { vec_len written.old + length client.old.out
+            ≤ vec_capacity written.old }
         ensures client { client.new ≡ quiet_client client.old }
         ensures up { self.new.up.waiting ≡ self.old.up.waiting ++ client.old.out }
         ensures down { self.new.down.waiting ≡ self.old.down.waiting }

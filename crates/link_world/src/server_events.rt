@@ -28,11 +28,15 @@ fn read_line(server: &mut Server, connection: &mut Connection) -> Result<(), Wor
         → server.new ≡ with_end server.old (quiet_server (serving_read readers server.old.end))) }
     ensures up { OnOk result (connection.new.up.waiting ≡ connection.old.up.waiting) }
     ensures down { OnOk result ((readers : Readers) → AreReaders readers
-        → connection.new.down.waiting ≡ connection.old.down.waiting ++ (serving_read readers server.old.end).out) }
-    ensures not_now { IsErrOf result WorldFault.NotNow → is_line (next_of server.old.end.input.rest) ≡ false }
-    ensures memory { IsErrOf result WorldFault.Memory → is_line (next_of server.old.end.input.rest) ≡ true }
+        → connection.new.down.waiting ≡ connection.old.down.waiting
+        ++ (serving_read readers server.old.end).out) }
+    ensures not_now { IsErrOf result WorldFault.NotNow
+        → is_line (next_of server.old.end.input.rest) ≡ false }
+    ensures memory { IsErrOf result WorldFault.Memory
+        → is_line (next_of server.old.end.input.rest) ≡ true }
     ensures server_err { OnErr result (server.new ≡ server.old) }
-    ensures link_err { OnErr result (link_of_connection connection.new ≡ link_of_connection connection.old) }
+    ensures link_err { OnErr result (link_of_connection connection.new
+        ≡ link_of_connection connection.old) }
 {
     if !server.has_line() {
         return Err(WorldFault::NotNow);
@@ -55,13 +59,16 @@ fn read_line(server: &mut Server, connection: &mut Connection) -> Result<(), Wor
 fn take_turn(server: &mut Server, connection: &mut Connection) -> Result<(), WorldFault>
     requires quiet { server.old.end.out ≡ [] }
     ensures can { OnOk result (may_turn server.old.end.server ≡ true) }
-    ensures server { OnOk result (server.new ≡ with_end server.old (quiet_server (serving_turned server.old.end))) }
+    ensures server { OnOk result (server.new ≡ with_end server.old
+        (quiet_server (serving_turned server.old.end))) }
     ensures up { OnOk result (connection.new.up.waiting ≡ connection.old.up.waiting) }
-    ensures down { OnOk result (connection.new.down.waiting ≡ connection.old.down.waiting ++ (serving_turned server.old.end).out) }
+    ensures down { OnOk result (connection.new.down.waiting ≡ connection.old.down.waiting
+        ++ (serving_turned server.old.end).out) }
     ensures not_now { IsErrOf result WorldFault.NotNow → may_turn server.old.end.server ≡ false }
     ensures memory { IsErrOf result WorldFault.Memory → may_turn server.old.end.server ≡ true }
     ensures server_err { OnErr result (server.new ≡ server.old) }
-    ensures link_err { OnErr result (link_of_connection connection.new ≡ link_of_connection connection.old) }
+    ensures link_err { OnErr result (link_of_connection connection.new
+        ≡ link_of_connection connection.old) }
 {
     if !server.may_turn() {
         return Err(WorldFault::NotNow);
@@ -87,13 +94,18 @@ fn end_job(
 ) -> Result<(), WorldFault>
     requires quiet { server.old.end.out ≡ [] }
     ensures can { OnOk result (may_end server.old.end.server.running outcome ≡ true) }
-    ensures server { OnOk result (server.new ≡ with_end server.old (quiet_server (serving_machined outcome server.old.end))) }
+    ensures server { OnOk result (server.new ≡ with_end server.old
+        (quiet_server (serving_machined outcome server.old.end))) }
     ensures up { OnOk result (connection.new.up.waiting ≡ connection.old.up.waiting) }
-    ensures down { OnOk result (connection.new.down.waiting ≡ connection.old.down.waiting ++ (serving_machined outcome server.old.end).out) }
-    ensures not_now { IsErrOf result WorldFault.NotNow → may_end server.old.end.server.running outcome ≡ false }
-    ensures memory { IsErrOf result WorldFault.Memory → may_end server.old.end.server.running outcome ≡ true }
+    ensures down { OnOk result (connection.new.down.waiting ≡ connection.old.down.waiting
+        ++ (serving_machined outcome server.old.end).out) }
+    ensures not_now { IsErrOf result WorldFault.NotNow
+        → may_end server.old.end.server.running outcome ≡ false }
+    ensures memory { IsErrOf result WorldFault.Memory
+        → may_end server.old.end.server.running outcome ≡ true }
     ensures server_err { OnErr result (server.new ≡ server.old) }
-    ensures link_err { OnErr result (link_of_connection connection.new ≡ link_of_connection connection.old) }
+    ensures link_err { OnErr result (link_of_connection connection.new
+        ≡ link_of_connection connection.old) }
 {
     if !server.may_end(&outcome) {
         return Err(WorldFault::NotNow);
@@ -120,13 +132,17 @@ fn bring_up(
     requires on { server.old.end.server.on ≡ true }
     requires fine { server.old.end.input.fault ≡ None }
     ensures can { OnOk result (has_some count connection.old.up.waiting ≡ true) }
-    ensures server { OnOk result (server.new ≡ with_end server.old (serving_fed (take count connection.old.up.waiting) server.old.end)) }
+    ensures server { OnOk result (server.new ≡ with_end server.old
+        (serving_fed (take count connection.old.up.waiting) server.old.end)) }
     ensures up { OnOk result (connection.new.up.waiting ≡ drop count connection.old.up.waiting) }
     ensures down { OnOk result (connection.new.down.waiting ≡ connection.old.down.waiting) }
-    ensures not_now { IsErrOf result WorldFault.NotNow → has_some count connection.old.up.waiting ≡ false }
-    ensures memory { IsErrOf result WorldFault.Memory → has_some count connection.old.up.waiting ≡ true }
+    ensures not_now { IsErrOf result WorldFault.NotNow
+        → has_some count connection.old.up.waiting ≡ false }
+    ensures memory { IsErrOf result WorldFault.Memory
+        → has_some count connection.old.up.waiting ≡ true }
     ensures server_err { OnErr result (server.new ≡ server.old) }
-    ensures link_err { OnErr result (link_of_connection connection.new ≡ link_of_connection connection.old) }
+    ensures link_err { OnErr result (link_of_connection connection.new
+        ≡ link_of_connection connection.old) }
 {
     if count == 0 || count > connection.up.waiting().len() {
         return Err(WorldFault::NotNow);
@@ -146,7 +162,9 @@ impl World {
     #[tactic(auto, using(crate::proofs::Reached::server_number, crate::proofs::Reached::taken))]
     fn server_place(&self) -> Option<usize>
         ensures { MatchOption result (self.now.world.server.server.on ≡ false)
-            (λ at. (self.now.world.server.server.on ≡ true) × (at ≡ self.now.world.server.server.last - 1) × (at < length self.now.world.links)) }
+            (λ at. (self.now.world.server.server.on ≡ true)
+                × (at ≡ self.now.world.server.server.last - 1)
+                × (at < length self.now.world.links)) }
     {
         let number = self.server.view().connection?;
         Some((number - 1) as usize)
@@ -156,7 +174,8 @@ impl World {
     #[tactic(auto, using(crate::proofs::ServerSteps::accept_reached))]
     pub(crate) fn accept(&mut self, number: u64) -> Result<(), WorldFault>
         ensures can { OnOk result (can (event.Accept number) self.old.world ≡ true) }
-        ensures ok { OnOk result (self.new ≡ with_world self.old (record self.old.world { server = serving_accepted number self.old.world.server })) }
+        ensures ok { OnOk result (self.new ≡ with_world self.old
+            (record self.old.world { server = serving_accepted number self.old.world.server })) }
         ensures not_now { OnErr result (can (event.Accept number) self.old.world ≡ false) }
         ensures memory { IfErr result (λ fault. fault ≡ WorldFault.NotNow) }
         ensures err { OnErr result (self.new ≡ self.old) }
@@ -174,8 +193,10 @@ impl World {
     pub(crate) fn up(&mut self, count: usize) -> Result<(), WorldFault>
         ensures can { OnOk result (can (event.Up count) self.old.world ≡ true) }
         ensures ok { OnOk result (self.new ≡ with_world self.old (moved_up count self.old.world)) }
-        ensures not_now { IsErrOf result WorldFault.NotNow → can (event.Up count) self.old.world ≡ false }
-        ensures memory { IsErrOf result WorldFault.Memory → can (event.Up count) self.old.world ≡ true }
+        ensures not_now { IsErrOf result WorldFault.NotNow
+            → can (event.Up count) self.old.world ≡ false }
+        ensures memory { IsErrOf result WorldFault.Memory
+            → can (event.Up count) self.old.world ≡ true }
         ensures err { OnErr result (self.new ≡ self.old) }
     {
         let Some(at) = self.server_place() else {
@@ -193,9 +214,12 @@ impl World {
     /// The first command that waits has its turn.
     pub(crate) fn server_turn(&mut self) -> Result<(), WorldFault>
         ensures can { OnOk result (can event.ServerTurn self.old.world ≡ true) }
-        ensures ok { OnOk result (self.new ≡ with_world self.old (server_writes self.old.world (serving_turned self.old.world.server))) }
-        ensures not_now { IsErrOf result WorldFault.NotNow → can event.ServerTurn self.old.world ≡ false }
-        ensures memory { IsErrOf result WorldFault.Memory → can event.ServerTurn self.old.world ≡ true }
+        ensures ok { OnOk result (self.new ≡ with_world self.old
+            (server_writes self.old.world (serving_turned self.old.world.server))) }
+        ensures not_now { IsErrOf result WorldFault.NotNow
+            → can event.ServerTurn self.old.world ≡ false }
+        ensures memory { IsErrOf result WorldFault.Memory
+            → can event.ServerTurn self.old.world ≡ true }
         ensures err { OnErr result (self.new ≡ self.old) }
     {
         let Some(at) = self.server_place() else {
@@ -214,9 +238,12 @@ impl World {
     pub(crate) fn server_reads(&mut self) -> Result<(), WorldFault>
         ensures can { OnOk result (can event.ServerReads self.old.world ≡ true) }
         ensures ok { OnOk result ((readers : Readers) → AreReaders readers
-            → self.new ≡ with_world self.old (server_writes self.old.world (serving_read readers self.old.world.server))) }
-        ensures not_now { IsErrOf result WorldFault.NotNow → can event.ServerReads self.old.world ≡ false }
-        ensures memory { IsErrOf result WorldFault.Memory → can event.ServerReads self.old.world ≡ true }
+            → self.new ≡ with_world self.old (server_writes self.old.world
+            (serving_read readers self.old.world.server))) }
+        ensures not_now { IsErrOf result WorldFault.NotNow
+            → can event.ServerReads self.old.world ≡ false }
+        ensures memory { IsErrOf result WorldFault.Memory
+            → can event.ServerReads self.old.world ≡ true }
         ensures err { OnErr result (self.new ≡ self.old) }
     {
         let Some(at) = self.server_place() else {
@@ -234,9 +261,12 @@ impl World {
     /// The machine is done with what runs.
     pub(crate) fn machine(&mut self, outcome: Outcome) -> Result<(), WorldFault>
         ensures can { OnOk result (can (event.Machine outcome) self.old.world ≡ true) }
-        ensures ok { OnOk result (self.new ≡ with_world self.old (server_writes self.old.world (serving_machined outcome self.old.world.server))) }
-        ensures not_now { IsErrOf result WorldFault.NotNow → can (event.Machine outcome) self.old.world ≡ false }
-        ensures memory { IsErrOf result WorldFault.Memory → can (event.Machine outcome) self.old.world ≡ true }
+        ensures ok { OnOk result (self.new ≡ with_world self.old
+            (server_writes self.old.world (serving_machined outcome self.old.world.server))) }
+        ensures not_now { IsErrOf result WorldFault.NotNow
+            → can (event.Machine outcome) self.old.world ≡ false }
+        ensures memory { IsErrOf result WorldFault.Memory
+            → can (event.Machine outcome) self.old.world ≡ true }
         ensures err { OnErr result (self.new ≡ self.old) }
     {
         let Some(at) = self.server_place() else {
@@ -255,7 +285,8 @@ impl World {
     #[tactic(auto, using(crate::proofs::ServerSteps::left_reached))]
     pub(crate) fn server_leaves(&mut self) -> Result<(), WorldFault>
         ensures can { OnOk result (can event.ServerLeaves self.old.world ≡ true) }
-        ensures ok { OnOk result (self.new ≡ with_world self.old (record self.old.world { server = serving_left self.old.world.server })) }
+        ensures ok { OnOk result (self.new ≡ with_world self.old
+            (record self.old.world { server = serving_left self.old.world.server })) }
         ensures not_now { OnErr result (can event.ServerLeaves self.old.world ≡ false) }
         ensures memory { IfErr result (λ fault. fault ≡ WorldFault.NotNow) }
         ensures err { OnErr result (self.new ≡ self.old) }
@@ -270,7 +301,8 @@ impl World {
     /// The server is switched off and on.
     #[tactic(auto, using(crate::proofs::ServerSteps::restart_reached))]
     pub(crate) fn server_restart(&mut self)
-        ensures { self.new ≡ with_world self.old (record self.old.world { server = serving_restarted self.old.world.server }) }
+        ensures { self.new ≡ with_world self.old
+            (record self.old.world { server = serving_restarted self.old.world.server }) }
     {
         self.server.restart();
     }

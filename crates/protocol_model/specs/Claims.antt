@@ -48,7 +48,8 @@ Serves n [] [] [] = Unit {0}
 Serves n (t ∷ ts) (p ∷ ps) (m ∷ ms) = IsServed n t p m × Serves n ts ps ms
 Serves n _ _ _ = ⊥
 
--- a feature has the label of a wanted one, and its points are those of the contacts numbered from start on, one unbroken run on one connection, which serve the wanted touches
+-- a feature has the label of a wanted one, and its points are those of the contacts numbered from start on, one unbroken run on one
+-- connection, which serve the wanted touches
 pub record IsRun (wanted : Wanted) (feature : Feature) (start : ℕ) (made : List Made) : Type 0 where
   pub label : feature.label ≡ wanted.label
   pub connection : ℕ

@@ -1,5 +1,6 @@
 -- The client: its states, its open commands and what it counts, and what each of its calls does (this profile).
-use Rattle.std.specs.Prelude.{ℕ, zero, suc, ◌-◌, ◌==◌, nat_lt, Bool, true, false, ◌&&◌, ◌||◌, not, if◌then◌else◌, Option, Some, None, List, [], ◌∷◌, ◌++◌, length, take, Result, Ok, Err}
+use Rattle.std.specs.Prelude.{ℕ, zero, suc, ◌-◌, ◌==◌, nat_lt, Bool, true, false, ◌&&◌, ◌||◌, not, if◌then◌else◌, Option, Some, None, List,
+  [], ◌∷◌, ◌++◌, length, take, Result, Ok, Err}
 use Rattle.fixed_um.specs.declared.lengths.Point.{Point}
 use Rattle.dme_line.specs.Kinds.{kind_of}
 use Rattle.dme_line.specs.declared.tags.Tag.{Tag}
@@ -26,7 +27,8 @@ use Rattle.protocol_model.specs.declared.plans.Does.{Does}
 use Rattle.protocol_model.specs.declared.plans.Start.{Start}
 
 -- what a client has counted: whether a standard command has failed since the plan began, whether a session was begun on the connection,
--- the plan from its first uncounted command on, the acts of the connection, the points of the unfinished feature, the features, and how many commands of the plan are counted
+-- the plan from its first uncounted command on, the acts of the connection, the points of the unfinished feature, the features, and how
+-- many commands of the plan are counted
 pub record Tally : Type 0 where
   pub failed : Bool
   pub session : Bool
@@ -78,7 +80,8 @@ begins_session _ = false
 abbrev pub counted_next : List Wanted → Kind → Option Point → List Planned → Tally → Tally
 counted_next ws k given [] y = y
 counted_next ws k given (p ∷ todo) y =
-    measured ws p.does given (record y { session = y.session || begins_session k; todo = todo; counted = y.counted ++ act_of p.does given; completed = suc y.completed })
+    measured ws p.does given (record y { session = y.session || begins_session k; todo = todo; counted = y.counted ++ act_of p.does given;
+        completed = suc y.completed })
 
 -- what an effect changes in the tally: nothing, that a command has failed, or the next command of the plan is counted
 abbrev pub tallied : List Wanted → Effect → Tally → Tally
@@ -105,8 +108,10 @@ heard_on ws b (Event n) m = heard_event b (heard_in true b.event (Event n) m)
 abbrev pub heard : List Wanted → Table → Tag → Mark → Result Table Cause
 heard ws b t m = if tag_is t (Event 0) then Ok b else heard_on ws b t m
 
--- a client: its program, how many commands may be open, whether it is on a connection and the number of the last one, its state and why it is Faulted,
--- what replies change, the plan from its first unsent command on, the numbers of the tags drawn last, and the tag of the abort that was sent last
+-- a client: its program, how many commands may be open, whether it is on a connection and the number of the last one, its state and why it
+-- is Faulted,
+-- what replies change, the plan from its first unsent command on, the numbers of the tags drawn last, and the tag of the abort that was
+-- sent last
 pub record Client : Type 0 where
   pub program : Program
   pub window : ℕ

@@ -1,4 +1,5 @@
--- A client and a server with the bytes that they were fed and the bytes that are to be sent (this profile; lines as the I++ DME Interface version 1 forms them).
+-- A client and a server with the bytes that they were fed and the bytes that are to be sent (this profile; lines as the I++ DME Interface
+-- version 1 forms them).
 use Rattle.std.specs.Prelude.{ℕ, if◌then◌else◌, Option, Some, None, List, [], ◌∷◌, ◌++◌, drop, Result, Ok, Err}
 use Rattle.fixed_um.specs.declared.lengths.Point.{Point}
 use Rattle.dmis_program.specs.Meaning.{Meaning}
@@ -17,8 +18,10 @@ use Rattle.line_framing.specs.declared.faults.FramingFault.TheVariants as framin
 use Rattle.protocol_model.specs.Replies.{Mark, tag_is}
 use Rattle.protocol_model.specs.Lines.{Readers, command_bytes, reply_bytes, reading_of}
 use Rattle.protocol_model.specs.Open.{asks_data}
-use Rattle.protocol_model.specs.Client.{Client, Sends, new_client, faulted, client_connected, client_sent, client_aborted, client_resumed, client_read, client_left, client_restarted}
-use Rattle.protocol_model.specs.Server.{Server, Answer, new_server, server_accepted, server_read, server_turned, server_machined, server_left, server_restarted}
+use Rattle.protocol_model.specs.Client.{Client, Sends, new_client, faulted, client_connected, client_sent, client_aborted, client_resumed,
+  client_read, client_left, client_restarted}
+use Rattle.protocol_model.specs.Server.{Server, Answer, new_server, server_accepted, server_read, server_turned, server_machined,
+  server_left, server_restarted}
 use Rattle.protocol_model.specs.declared.states.Cause.{Cause}
 use Rattle.protocol_model.specs.declared.held.Held.{Held}
 use Rattle.protocol_model.specs.declared.machine.Outcome.{Outcome}
@@ -100,7 +103,8 @@ front_read readers c (Err framing.BadByte) = faulted Cause.BadByte c
 
 -- what stands at the front is read
 abbrev pub end_read : Readers → ClientEnd → ClientEnd
-end_read readers e = record { client = front_read readers e.client (next_of e.input.rest); input = left_by (next_of e.input.rest) e.input; out = e.out }
+end_read readers e = record { client = front_read readers e.client (next_of e.input.rest); input = left_by (next_of e.input.rest) e.input;
+    out = e.out }
 
 -- the plan is begun again on the same connection
 abbrev pub end_resumed : ClientEnd → ClientEnd
@@ -145,7 +149,8 @@ with_answer e input a = record { server = a.server; input = input; out = e.out +
 -- what stands at the front of the bytes: nothing whole, a line, or a fault, behind which nothing is read until the connection is left
 abbrev pub front_served : Readers → ServerEnd → Front → ServerEnd
 front_served readers e (Ok None) = e
-front_served readers e (Ok (Some (line, rest))) = with_answer e (record (e.input) { rest = rest }) (server_read e.server (reading_of (readers.command line)))
+front_served readers e (Ok (Some (line, rest))) = with_answer e (record (e.input) { rest = rest })
+    (server_read e.server (reading_of (readers.command line)))
 front_served readers e (Err why) = record e { input = record (e.input) { fault = Some why } }
 
 -- what stands at the front is read

@@ -1,4 +1,5 @@
--- Lines as bytes: what is written of commands and replies, and how they are read (I++ DME Interface version 1; the texts of errors are this profile's).
+-- Lines as bytes: what is written of commands and replies, and how they are read (I++ DME Interface version 1; the texts of errors are this
+-- profile's).
 use Rattle.std.specs.Prelude.{ℕ, List, [], ◌∷◌, Result, Ok, Err}
 use Rattle.fixed_um.specs.declared.lengths.Point.{Point}
 use Rattle.dme_line.specs.Points.{written_point, ReadsPoint}

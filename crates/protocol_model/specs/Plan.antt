@@ -1,4 +1,5 @@
--- The plan of a client: the commands of the I++ DME Interface version 1 that measure what is left of an ISO 22093 program, each with what it stands for (this profile).
+-- The plan of a client: the commands of the I++ DME Interface version 1 that measure what is left of an ISO 22093 program, each with what
+-- it stands for (this profile).
 use Rattle.std.specs.Prelude.{ℕ, zero, suc, Bool, true, false, if◌then◌else◌, Option, Some, None, List, [], ◌∷◌, ◌++◌}
 use Rattle.fixed_um.specs.Points.{point_opposite}
 use Rattle.fixed_um.specs.declared.frames.Frame.{Frame}
@@ -69,7 +70,8 @@ planned c does = record { command = c; does = does }
 -- the commands that select a frame
 abbrev pub framing : Frame → List Planned
 framing Machine = planned (command.SetCoordSystem MachineCsy) (Frames Machine) ∷ []
-framing (Part p) = planned (command.SetCsyTransformation (point_opposite p)) Nothing ∷ planned (command.SetCoordSystem PartCsy) (Frames (Part p)) ∷ []
+framing (Part p) = planned (command.SetCsyTransformation (point_opposite p)) Nothing
+    ∷ planned (command.SetCoordSystem PartCsy) (Frames (Part p)) ∷ []
 
 -- the command that changes to the selected tool, if one is selected
 abbrev pub tooling : Option (List ℕ) → List Planned

@@ -1,4 +1,5 @@
--- What a plan measures, told by its commands alone, read one after another as a machine reads them (I++ DME Interface version 1; the order of a plan: this profile).
+-- What a plan measures, told by its commands alone, read one after another as a machine reads them (I++ DME Interface version 1; the order
+-- of a plan: this profile).
 use Rattle.std.specs.Prelude.{◌≡◌, ℕ, Bool, true, false, Option, Some, None, List, [], ◌∷◌, ◌++◌}
 use Rattle.std.specs.List.{list_all, flat_map}
 use Rattle.fixed_um.specs.Points.{point_opposite}
@@ -117,7 +118,8 @@ abbrev pub is_last : Does → Bool
 is_last (Does.Touches t last) = last
 is_last _ = false
 
--- each command, read where it stands, does what it is planned for: a touch has its target, direction, tool and frame, a move its target and frame
+-- each command, read where it stands, does what it is planned for: a touch has its target, direction, tool and frame, a move its target and
+-- frame
 abbrev pub ReadAsPlanned : Selected → List Planned → Type 0
 ReadAsPlanned s [] = Unit {0}
 ReadAsPlanned s (p ∷ ps) = (read_as s (is_last p.does) p.command ≡ Some p.does) × ReadAsPlanned (selected_by s p.command) ps
@@ -158,7 +160,8 @@ is_measuring (command.SetCsyTransformation p) = true
 is_measuring (command.SetCoordSystem system) = true
 is_measuring _ = false
 
--- commands in the order of a plan: its opening, commands that measure, and the end of the session; so errors are cleared once, at their place
+-- commands in the order of a plan: its opening, commands that measure, and the end of the session; so errors are cleared once, at their
+-- place
 pub record IsInOrder (start : Start) (commands : List Command) : Type 0 where
   pub measuring : List Command
   pub parts : commands ≡ opening start ++ (measuring ++ command.EndSession ∷ [])

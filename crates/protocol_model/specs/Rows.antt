@@ -131,7 +131,8 @@ pub record Play : Type 0 where
   pub wrote : List Line
   pub said : List Reply
 
--- a line of a script: an event, the outcome of the simulated machine where something runs, the server or the client reads all that stands there, or so many quiet rounds
+-- a line of a script: an event, the outcome of the simulated machine where something runs, the server or the client reads all that stands
+-- there, or so many quiet rounds
 pub data Cue : Type 0 where
   On : Event → Cue
   Auto : Cue
@@ -272,12 +273,14 @@ at_its_turn n = connect ∷ accept 1 ∷ quiet n ∷ client_sends ∷ server_rea
 
 -- with a window of three: a tool change runs, and two touches wait behind it
 abbrev pub change_while_two_wait : List Cue
-change_while_two_wait = connect ∷ accept 1 ∷ quiet 2 ∷ client_sends ∷ client_sends ∷ client_sends ∷ server_reads_all ∷ server_turn ∷ client_reads_all
+change_while_two_wait = connect ∷ accept 1 ∷ quiet 2 ∷ client_sends ∷ client_sends ∷ client_sends ∷ server_reads_all ∷ server_turn
+    ∷ client_reads_all
     ∷ client_sends ∷ server_reads_all ∷ server_turn ∷ []
 
 -- with a window of four: the second touch runs, the third waits, and the end of the session is on its way
 abbrev pub touch_while_one_waits : List Cue
-touch_while_one_waits = connect ∷ accept 1 ∷ quiet 2 ∷ client_sends ∷ client_sends ∷ client_sends ∷ client_sends ∷ server_reads_all ∷ server_turn ∷ auto
+touch_while_one_waits = connect ∷ accept 1 ∷ quiet 2 ∷ client_sends ∷ client_sends ∷ client_sends ∷ client_sends ∷ server_reads_all
+    ∷ server_turn ∷ auto
     ∷ server_turn ∷ auto ∷ server_turn ∷ client_reads_all ∷ client_sends ∷ []
 
 -- ---- reports

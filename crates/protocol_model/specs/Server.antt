@@ -1,5 +1,6 @@
 -- The server: its state, and the lines and the act with which it answers each call, case by case (this profile).
-use Rattle.std.specs.Prelude.{ℕ, nat_le, Bool, true, false, ◌&&◌, ◌||◌, not, if◌then◌else◌, Option, Some, None, is_none, List, [], ◌∷◌, ◌++◌, length, pos, unsigned_abs, bytes_eq, Result, Ok, Err}
+use Rattle.std.specs.Prelude.{ℕ, nat_le, Bool, true, false, ◌&&◌, ◌||◌, not, if◌then◌else◌, Option, Some, None, is_none, List, [], ◌∷◌,
+  ◌++◌, length, pos, unsigned_abs, bytes_eq, Result, Ok, Err}
 use Rattle.std.specs.List.{list_any}
 use Rattle.fixed_um.specs.Limits.{volume_limit}
 use Rattle.fixed_um.specs.Points.{point_sum, point_difference}
@@ -27,7 +28,8 @@ use Rattle.protocol_model.specs.declared.lines.Misread.TheVariants as misread
 use Rattle.protocol_model.specs.declared.lines.Waiting.{Waiting}
 use Rattle.protocol_model.specs.declared.lines.Line.{Line}
 
--- a server: the tools of its rack, whether it is on a connection and the number of the last one, session, homing, tool, frame, stored offset,
+-- a server: the tools of its rack, whether it is on a connection and the number of the last one, session, homing, tool, frame, stored
+-- offset,
 -- error state, the running command, the waiting ones, and the acts with their connections
 pub record Server : Type 0 where
   pub rack : List (List ℕ)
@@ -154,12 +156,14 @@ aborted s t =
     answers (record (in_error s) { running = None })
     (Reply.Ack t ∷ (running_fails s.running ++ (all_fail 9007 s.waiting ++ Reply.Done t ∷ [])))
 
--- a standard command, or a faulty line on a standard tag: refused in the error state, which ClearAllErrors ends; refused where 64 wait; else queued
+-- a standard command, or a faulty line on a standard tag: refused in the error state, which ClearAllErrors ends; refused where 64 wait;
+-- else queued
 abbrev pub stands : Server → Tag → Result Command Misread → Answer
 stands s t reading =
     if s.error && not (is_clear reading) then answers s (Reply.Ack t ∷ fails t 9008 (kind_in reading))
     else if s.error then answers (queued t reading (record s { error = false })) (Reply.Ack t ∷ [])
-    else if nat_le 64 (length s.waiting) then answers (in_error s) (Reply.Ack t ∷ (fails t 9009 (kind_in reading) ++ all_fail 9007 s.waiting))
+    else if nat_le 64 (length s.waiting) then answers (in_error s)
+        (Reply.Ack t ∷ (fails t 9009 (kind_in reading) ++ all_fail 9007 s.waiting))
     else answers (queued t reading s) (Reply.Ack t ∷ [])
 
 -- a line under a tag that is not in use: an abort, a faulty line on an event tag, or a standard one
@@ -232,7 +236,8 @@ abbrev pub first_failing : List (Bool × ℕ) → Option ℕ
 first_failing [] = None
 first_failing ((fails, number) ∷ checks) = if fails then Some number else first_failing checks
 
--- the checks of a command at its turn, in order, each with its number: a session is wanted, a session is open, homing is wanted, the tool is unknown, no tool is there, the target cannot be reached
+-- the checks of a command at its turn, in order, each with its number: a session is wanted, a session is open, homing is wanted, the tool
+-- is unknown, no tool is there, the target cannot be reached
 abbrev pub checks : Server → Command → List (Bool × ℕ)
 checks s c =
     (wants_session c && not s.session, 9005) ∷ (opens c && s.session, 9006) ∷ (wants_home c && not s.homed, 9010)

@@ -6,7 +6,8 @@ use Rattle.dme_line.specs.declared.tags.Tag.{Tag}
 use Rattle.dme_line.specs.declared.tags.Tag.TheVariants.{Std}
 use Rattle.protocol_model.specs.Lines.{command_bytes}
 use Rattle.protocol_model.specs.declared.events.Event.{Event}
-use Rattle.protocol_model.specs.declared.events.Event.TheVariants.{Connect, Accept, ClientSends, Up, ServerReads, ServerTurn, Machine, Down, ClientReads, ClientLeaves, ServerLeaves, Abort, Resume, ClientRestart, ServerRestart}
+use Rattle.protocol_model.specs.declared.events.Event.TheVariants.{Connect, Accept, ClientSends, Up, ServerReads, ServerTurn, Machine, Down,
+  ClientReads, ClientLeaves, ServerLeaves, Abort, Resume, ClientRestart, ServerRestart}
 use Rattle.protocol_model.specs.declared.lines.Line.{Line}
 use Rattle.protocol_model.specs.declared.machine.Outcome.{Outcome}
 use Rattle.protocol_model.specs.declared.plans.Does.{Does}
@@ -78,7 +79,8 @@ StandsFor act.Homed Does.Homes = Unit {0}
 StandsFor (act.Moved p f) (Does.Moves q g) = (p ≡ q) × (f ≡ g)
 StandsFor (act.Changed n) (Does.Changes m) = n ≡ m
 StandsFor (act.Framed f) (Does.Frames g) = f ≡ g
-StandsFor (act.Contact target dir tool frame point) (Does.Touches t last) = (target ≡ t.target) × (dir ≡ t.dir) × (tool ≡ t.tool) × (frame ≡ t.frame)
+StandsFor (act.Contact target dir tool frame point) (Does.Touches t last) = (target ≡ t.target) × (dir ≡ t.dir) × (tool ≡ t.tool)
+    × (frame ≡ t.frame)
 StandsFor _ _ = ⊥
 
 -- acts are what is planned, one for one

@@ -22,15 +22,20 @@ ghost use Rattle.protocol_model.specs.PlanReading.{touches_of, ends_of, feature_
 #[tactic(auto, using(crate::proofs::plan::PlanLaws::plan_touches_left, crate::proofs::plan::PlanLaws::plan_ends_left, crate::proofs::plan::PlanLaws::plan_makes, crate::proofs::plan::PlanLaws::plan_as_planned, crate::proofs::plan::PlanLaws::plan_in_order, crate::proofs::plan::PlanLaws::plan_whole, crate::proofs::plan::PlanLaws::plan_can_be_written))]
 pub fn plans_measure_what_is_left()
     ensures touches { (program : Meaning) (completed : ℕ) (start : Start) → IsProgram program
-        → touches_of (plan program completed start) ≡ feature_touches (drop completed program.features) }
+        → touches_of (plan program completed start)
+        ≡ feature_touches (drop completed program.features) }
     ensures ends { (program : Meaning) (completed : ℕ) (start : Start) → IsProgram program
         → ends_of (plan program completed start) ≡ feature_ends (drop completed program.features) }
     ensures measures { (program : Meaning) (completed : ℕ) (start : Start) → IsProgram program
-        → touches_made nothing_selected (commands_of (plan program completed start)) ≡ all_known (feature_touches (drop completed program.features)) }
+        → touches_made nothing_selected (commands_of (plan program completed start))
+        ≡ all_known (feature_touches (drop completed program.features)) }
     ensures reached { (program : Meaning) (completed : ℕ) (start : Start) → IsProgram program
         → ReadAsPlanned nothing_selected (plan program completed start) }
-    ensures order { (program : Meaning) (completed : ℕ) (start : Start) → IsInOrder start (commands_of (plan program completed start)) }
-    ensures whole { (program : Meaning) (start : Start) → commands_of (plan program 0 start) ≡ whole_commands start program.steps }
-    ensures lines { (program : Meaning) (completed : ℕ) (start : Start) (number : ℕ) → IsProgram program → 1 ≤ number → number ≤ 9999
+    ensures order { (program : Meaning) (completed : ℕ) (start : Start)
+        → IsInOrder start (commands_of (plan program completed start)) }
+    ensures whole { (program : Meaning) (start : Start)
+        → commands_of (plan program 0 start) ≡ whole_commands start program.steps }
+    ensures lines { (program : Meaning) (completed : ℕ) (start : Start) (number : ℕ)
+        → IsProgram program → 1 ≤ number → number ≤ 9999
         → CanBeWritten (Tag.Std number) (plan program completed start) }
 {}

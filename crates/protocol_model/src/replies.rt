@@ -13,6 +13,7 @@ ghost use Rattle.protocol_model.specs.Language.{Placed, marks_of, IsRepliesFront
 pub fn table_accepts_the_language()
     ensures only { (kind : Kind) (marks : List Placed) → Accepts kind Stage.Sent marks
         → IsRepliesFront (asks_data kind) (marks_of marks) × AreAtFront false marks }
-    ensures all { (kind : Kind) (marks : List Placed) → IsRepliesFront (asks_data kind) (marks_of marks) → AreAtFront false marks
+    ensures all { (kind : Kind) (marks : List Placed)
+        → IsRepliesFront (asks_data kind) (marks_of marks) → AreAtFront false marks
         → Accepts kind Stage.Sent marks }
 {}

@@ -22,18 +22,23 @@ ghost use Rattle.protocol_model.specs.declared.events.Event.{Event};
 #[tactic(auto, using(crate::proofs::whole_run::WholeRun::always_sound, crate::proofs::whole_run::WholeRun::always_told, crate::proofs::whole_run::WholeRun::never_faulted_run, crate::proofs::whole_run::WholeRun::no_framing_fault))]
 pub fn every_run()
     ensures sound { (readers : Readers) → AreReaders readers
-        → (program : Meaning) (rack : List (List ℕ)) (window : ℕ) (events : List Event) → IsProgram program → window ≤ 16
-        → Sound program.features (run_of readers events (start program rack window)).client.client.table.tally.features
+        → (program : Meaning) (rack : List (List ℕ)) (window : ℕ) (events : List Event)
+        → IsProgram program → window ≤ 16
+        → Sound program.features (run_of readers events
+        (start program rack window)).client.client.table.tally.features
         (run_of readers events (start program rack window)).server.server.ledger }
     ensures told { (readers : Readers) → AreReaders readers
-        → (program : Meaning) (rack : List (List ℕ)) (window : ℕ) (events : List Event) → IsProgram program → window ≤ 16
+        → (program : Meaning) (rack : List (List ℕ)) (window : ℕ) (events : List Event)
+        → IsProgram program → window ≤ 16
         → Told (run_of readers events (start program rack window)).client.client.table.tally.counted
         (run_of readers events (start program rack window)).server.server.ledger
         (run_of readers events (start program rack window)).client.client.last }
     ensures client { (readers : Readers) → AreReaders readers
-        → (program : Meaning) (rack : List (List ℕ)) (window : ℕ) (events : List Event) → IsProgram program → window ≤ 16
+        → (program : Meaning) (rack : List (List ℕ)) (window : ℕ) (events : List Event)
+        → IsProgram program → window ≤ 16
         → (run_of readers events (start program rack window)).client.client.state ≢ State.Faulted }
     ensures server { (readers : Readers) → AreReaders readers
-        → (program : Meaning) (rack : List (List ℕ)) (window : ℕ) (events : List Event) → IsProgram program → window ≤ 16
+        → (program : Meaning) (rack : List (List ℕ)) (window : ℕ) (events : List Event)
+        → IsProgram program → window ≤ 16
         → (run_of readers events (start program rack window)).server.input.fault ≡ None }
 {}

@@ -12,10 +12,17 @@ ghost use Rattle.protocol_model.specs.Typed.{Event, start, run_of};
 /// what the server did there; and the client never meets a reply that has no place.
 #[tactic(auto, using(crate::proofs::events::Whole::always_sound, crate::proofs::events::Whole::always_told, crate::proofs::events::Whole::never_disagree))]
 pub fn every_typed_run()
-    ensures sound { (program : Meaning) (rack : List (List ℕ)) (window : ℕ) (events : List Event) → IsProgram program → window ≤ 16
-        → Sound program.features (run_of events (start program rack window)).client.table.tally.features (run_of events (start program rack window)).server.ledger }
-    ensures told { (program : Meaning) (rack : List (List ℕ)) (window : ℕ) (events : List Event) → IsProgram program → window ≤ 16
-        → Told (run_of events (start program rack window)).client.table.tally.counted (run_of events (start program rack window)).server.ledger (run_of events (start program rack window)).client.last }
-    ensures agree { (program : Meaning) (rack : List (List ℕ)) (window : ℕ) (events : List Event) → IsProgram program → window ≤ 16
+    ensures sound { (program : Meaning) (rack : List (List ℕ)) (window : ℕ) (events : List Event)
+        → IsProgram program → window ≤ 16
+        → Sound program.features (run_of events
+        (start program rack window)).client.table.tally.features
+        (run_of events (start program rack window)).server.ledger }
+    ensures told { (program : Meaning) (rack : List (List ℕ)) (window : ℕ) (events : List Event)
+        → IsProgram program → window ≤ 16
+        → Told (run_of events (start program rack window)).client.table.tally.counted
+        (run_of events (start program rack window)).server.ledger
+        (run_of events (start program rack window)).client.last }
+    ensures agree { (program : Meaning) (rack : List (List ℕ)) (window : ℕ) (events : List Event)
+        → IsProgram program → window ≤ 16
         → (run_of events (start program rack window)).client.state ≢ State.Faulted }
 {}

@@ -23,14 +23,20 @@ ghost use Rattle.protocol_model.specs.declared.plans.Start.TheVariants as Start;
 /// point texts are, by any functions that read as the interface says.
 pub fn undisturbed_prefixes()
     ensures lines { (readers : Readers) → AreReaders readers
-        → (program : Meaning) (rack : List (List ℕ)) (window : ℕ) (events : List Event) → IsProgram program → window ≤ 16 → AreUndisturbed events
-        → AreFirstLines (run_of readers events (start program rack window)).written (plan program 0 Start.NewConnection) }
+        → (program : Meaning) (rack : List (List ℕ)) (window : ℕ) (events : List Event)
+        → IsProgram program → window ≤ 16 → AreUndisturbed events
+        → AreFirstLines (run_of readers events (start program rack window)).written
+        (plan program 0 Start.NewConnection) }
     ensures acts { (readers : Readers) → AreReaders readers
-        → (program : Meaning) (rack : List (List ℕ)) (window : ℕ) (events : List Event) → IsProgram program → window ≤ 16 → AreUndisturbed events
-        → AreFirstActs (acts_in (run_of readers events (start program rack window)).server.server.ledger)
+        → (program : Meaning) (rack : List (List ℕ)) (window : ℕ) (events : List Event)
+        → IsProgram program → window ≤ 16 → AreUndisturbed events
+        → AreFirstActs (acts_in (run_of readers events
+        (start program rack window)).server.server.ledger)
         (acts_planned (plan program 0 Start.NewConnection)) }
     ensures counted { (readers : Readers) → AreReaders readers
-        → (program : Meaning) (rack : List (List ℕ)) (window : ℕ) (events : List Event) → IsProgram program → window ≤ 16 → AreUndisturbed events
-        → AreFirstOf (run_of readers events (start program rack window)).client.client.table.tally.counted
+        → (program : Meaning) (rack : List (List ℕ)) (window : ℕ) (events : List Event)
+        → IsProgram program → window ≤ 16 → AreUndisturbed events
+        → AreFirstOf (run_of readers events (start program rack
+        window)).client.client.table.tally.counted
         (acts_in (run_of readers events (start program rack window)).server.server.ledger) }
 {}

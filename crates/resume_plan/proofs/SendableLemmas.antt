@@ -1,5 +1,6 @@
 -- Every command of a plan can be written.
-use Rattle.std.proofs.Common.{◌≡◌, ℕ, zero, suc, Bool, true, false, cond, Option, Some, None, List, [], ◌∷◌, ◌++◌, refl, arith, ℤ, pos, negsuc, neg_ℤ}
+use Rattle.std.proofs.Common.{◌≡◌, ℕ, zero, suc, Bool, true, false, cond, Option, Some, None, List, [], ◌∷◌, ◌++◌, refl, arith, ℤ, pos,
+  negsuc, neg_ℤ}
 use Rattle.std.specs.Prelude.{unsigned_abs}
 use Rattle.std.specs.List.{All, AllByRecursion}
 use Rattle.fixed_um.specs.Points.{IsInVolume, point_opposite}
@@ -13,7 +14,8 @@ use Rattle.dmis_program.specs.declared.steps.Step.TheVariants as step
 use Rattle.protocol_model.specs.declared.plans.Planned.{Planned}
 use Rattle.protocol_model.specs.declared.plans.Start.{Start}
 use Rattle.protocol_model.specs.declared.plans.Start.TheVariants.{NewConnection, SameConnection}
-use Rattle.protocol_model.specs.Plan.{is_empty, frame_behind, behind, up_to, framing, tooling, stepping, measuring, clearing, starting, plan}
+use Rattle.protocol_model.specs.Plan.{is_empty, frame_behind, behind, up_to, framing, tooling, stepping, measuring, clearing, starting,
+  plan}
 use Rattle.resume_plan.specs.Sendable.{IsSendable}
 
 -- turning signs stays in the volume
@@ -37,7 +39,8 @@ at_each P (x ∷ xs) h zero d below = h.0
 at_each P (x ∷ xs) h (suc k) d below = at_each P xs h.1 k d (omega arith)
 
 -- of one of two lists
-either : {A : Type 0} (P : A → Type 0) (b : Bool) (xs ys : List A) → AllByRecursion P xs → AllByRecursion P ys → AllByRecursion P (cond b xs ys)
+either : {A : Type 0} (P : A → Type 0) (b : Bool) (xs ys : List A) → AllByRecursion P xs → AllByRecursion P ys
+    → AllByRecursion P (cond b xs ys)
 either P true xs ys h g = h
 either P false xs ys h g = g
 
@@ -47,7 +50,8 @@ are_up_to zero ss h = tt
 are_up_to (suc k) [] h = tt
 are_up_to (suc k) (step.Goto p ∷ ss) h = (h.0, are_up_to (suc k) ss h.1)
 are_up_to (suc k) (step.Begin l ∷ ss) h = (h.0, are_up_to (suc k) ss h.1)
-are_up_to (suc k) (step.Touch t ∷ ss) h = (h.0, either IsStep (is_empty (block_touches ss)) (up_to k ss) (up_to (suc k) ss) (are_up_to k ss h.1) (are_up_to (suc k) ss h.1))
+are_up_to (suc k) (step.Touch t ∷ ss) h = (h.0, either IsStep (is_empty (block_touches ss)) (up_to k ss) (up_to (suc k) ss)
+    (are_up_to k ss h.1) (are_up_to (suc k) ss h.1))
 are_up_to (suc k) (step.Tool n ∷ ss) h = (h.0, are_up_to (suc k) ss h.1)
 are_up_to (suc k) (step.Recall p ∷ ss) h = (h.0, are_up_to (suc k) ss h.1)
 are_up_to (suc k) (step.End ∷ ss) h = (h.0, are_up_to (suc k) ss h.1)
@@ -57,7 +61,8 @@ are_behind zero ss h = h
 are_behind (suc k) [] h = tt
 are_behind (suc k) (step.Goto p ∷ ss) h = are_behind (suc k) ss h.1
 are_behind (suc k) (step.Begin l ∷ ss) h = are_behind (suc k) ss h.1
-are_behind (suc k) (step.Touch t ∷ ss) h = either IsStep (is_empty (block_touches ss)) (behind k ss) (behind (suc k) ss) (are_behind k ss h.1) (are_behind (suc k) ss h.1)
+are_behind (suc k) (step.Touch t ∷ ss) h = either IsStep (is_empty (block_touches ss)) (behind k ss) (behind (suc k) ss)
+    (are_behind k ss h.1) (are_behind (suc k) ss h.1)
 are_behind (suc k) (step.Tool n ∷ ss) h = are_behind (suc k) ss h.1
 are_behind (suc k) (step.Recall p ∷ ss) h = are_behind (suc k) ss h.1
 are_behind (suc k) (step.End ∷ ss) h = are_behind (suc k) ss h.1
@@ -87,17 +92,20 @@ sendable_stepping f (step.Goto p ∷ ss) h = (record { standard = refl; lengths 
 sendable_stepping f (step.Begin l ∷ ss) h = sendable_stepping f ss h.1
 sendable_stepping f (step.Touch t ∷ ss) h = (record { standard = refl; lengths = tt }, sendable_stepping f ss h.1)
 sendable_stepping f (step.Tool n ∷ ss) h = (record { standard = refl; lengths = tt }, sendable_stepping f ss h.1)
-sendable_stepping f (step.Recall p ∷ ss) h = both IsSendable (framing (Part p)) (stepping (Part p) ss) (sendable_framing (Part p) h.0) (sendable_stepping (Part p) ss h.1)
+sendable_stepping f (step.Recall p ∷ ss) h = both IsSendable (framing (Part p)) (stepping (Part p) ss) (sendable_framing (Part p) h.0)
+    (sendable_stepping (Part p) ss h.1)
 sendable_stepping f (step.End ∷ ss) h = sendable_stepping f ss h.1
 
-sendable_measuring : (tool : Option (List ℕ)) (f : Frame) (ss : List Step) → IsFrame f → AllByRecursion IsStep ss → AllByRecursion IsSendable (measuring tool f ss)
+sendable_measuring : (tool : Option (List ℕ)) (f : Frame) (ss : List Step) → IsFrame f → AllByRecursion IsStep ss
+    → AllByRecursion IsSendable (measuring tool f ss)
 sendable_measuring tool f ss is h =
     both IsSendable (tooling tool) _ (sendable_tooling tool)
     (both IsSendable (framing f) _ (sendable_framing f is)
     (both IsSendable (stepping f ss) _ (sendable_stepping f ss h) (record { standard = refl; lengths = tt }, tt)))
 
 sendable_clearing : (ps : List Planned) → AllByRecursion IsSendable ps → AllByRecursion IsSendable (clearing ps)
-sendable_clearing ps h = (record { standard = refl; lengths = tt }, (record { standard = refl; lengths = tt }, (record { standard = refl; lengths = tt }, h)))
+sendable_clearing ps h = (record { standard = refl; lengths = tt },
+    (record { standard = refl; lengths = tt }, (record { standard = refl; lengths = tt }, h)))
 
 sendable_starting : (start : Start) (ps : List Planned) → AllByRecursion IsSendable ps → AllByRecursion IsSendable (starting start ps)
 sendable_starting NewConnection ps h = (record { standard = refl; lengths = tt }, h)

@@ -23,7 +23,8 @@ struct Commands {
 
 impl Commands {
     fn push(&mut self, command: Command, does: Does) -> Result<(), AllocError>
-        ensures { OnOk result (self.new.planned.items ≡ self.old.planned.items ++ planned command does ∷ []) }
+        ensures { OnOk result (self.new.planned.items ≡ self.old.planned.items
+            ++ planned command does ∷ []) }
     {
         self.planned.push(Planned { command, does })?;
         Ok(())
@@ -31,7 +32,8 @@ impl Commands {
 
     /// Adds the change to a tool.
     fn push_tool(&mut self, name: &Name) -> Result<(), AllocError>
-        ensures { OnOk result (self.new.planned.items ≡ self.old.planned.items ++ tooling (Some name.now)) }
+        ensures { OnOk result (self.new.planned.items ≡ self.old.planned.items
+            ++ tooling (Some name.now)) }
     {
         let tool = name.copy(self.alloc)?;
         let changed = name.copy(self.alloc)?;
@@ -40,7 +42,8 @@ impl Commands {
 
     /// Adds the commands that select a frame.
     fn push_frame(&mut self, frame: &Frame) -> Result<(), AllocError>
-        ensures { OnOk result (self.new.planned.items ≡ self.old.planned.items ++ framing frame.now) }
+        ensures { OnOk result (self.new.planned.items ≡ self.old.planned.items
+            ++ framing frame.now) }
     {
         let selects = Does::Frames(*frame);
         match frame {
@@ -58,7 +61,8 @@ impl Commands {
     /// Adds a touch, which may be the last of its feature.
     fn push_touch(&mut self, touch: &Touch, last: bool) -> Result<(), AllocError>
         ensures { OnOk result (self.new.planned.items
-            ≡ self.old.planned.items ++ planned (Command.PtMeas touch.now.target touch.now.dir) (Does.Touches touch.now last) ∷ []) }
+            ≡ self.old.planned.items ++ planned (Command.PtMeas touch.now.target touch.now.dir)
+                (Does.Touches touch.now last) ∷ []) }
     {
         let command = Command::PtMeas(touch.target, touch.dir);
         let touch = touch.copy(self.alloc)?;
@@ -99,7 +103,8 @@ impl Commands {
 
     /// Adds the commands of steps, the first of them in this frame.
     fn push_steps(&mut self, steps: &[Step], frame: Frame) -> Result<(), AllocError>
-        ensures { OnOk result (self.new.planned.items ≡ self.old.planned.items ++ stepping frame steps.now) }
+        ensures { OnOk result (self.new.planned.items ≡ self.old.planned.items
+            ++ stepping frame steps.now) }
     {
         let mut selected = frame;
         let mut rest = steps;
@@ -112,7 +117,8 @@ impl Commands {
 
     /// Adds what begins every plan.
     fn push_preamble(&mut self, start: Start) -> Result<(), AllocError>
-        ensures { OnOk result (self.new.planned.items ≡ self.old.planned.items ++ starting start (clearing [])) }
+        ensures { OnOk result (self.new.planned.items ≡ self.old.planned.items
+            ++ starting start (clearing [])) }
     {
         match start {
             Start::NewConnection => self.push(Command::StartSession, Does::Nothing)?,
@@ -126,7 +132,8 @@ impl Commands {
     /// Adds what is selected at a position, and what is left to be measured from there.
     fn push_left(&mut self, position: &Position<'_>) -> Result<(), AllocError>
         ensures { OnOk result (self.new.planned.items
-            ≡ self.old.planned.items ++ measuring (option_copied position.now.tool) position.now.frame position.now.steps.now) }
+            ≡ self.old.planned.items ++ measuring (option_copied position.now.tool)
+                position.now.frame position.now.steps.now) }
     {
         if let Some(name) = position.tool {
             self.push_tool(name)?;
@@ -156,7 +163,8 @@ pub fn plan(
     // Each of its commands can be written under a standard tag.
     ensures sendable { IfOk result (λ planned. All IsSendable planned.items) }
     // Its touches are, in order, those of the features that are left, each with its target, direction, tool and frame.
-    ensures touches { IfOk result (λ planned. touches_of planned.items ≡ feature_touches (drop completed program.now.features)) }
+    ensures touches { IfOk result (λ planned. touches_of planned.items
+        ≡ feature_touches (drop completed program.now.features)) }
 {
     let mut commands = Commands {
         alloc,

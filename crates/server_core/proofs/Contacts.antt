@@ -1,5 +1,6 @@
 -- A contact is made by a touch that runs, as it was commanded.
-use Rattle.std.proofs.Common.{◌≡◌, ℕ, ◌+◌, List, [], ◌∷◌, ◌++◌, length, refl, sym, ap, subst, ◌∙◌, arith, Option, Some, None, append-nil, length-append}
+use Rattle.std.proofs.Common.{◌≡◌, ℕ, ◌+◌, List, [], ◌∷◌, ◌++◌, length, refl, sym, ap, subst, ◌∙◌, arith, Option, Some, None, append-nil,
+  length-append}
 use Rattle.std.proofs.lemmas.List.{append_cancel_left}
 use Rattle.fixed_um.specs.Points.{point_difference}
 use Rattle.fixed_um.specs.Shapes.{Direction}
@@ -41,7 +42,8 @@ not_longer ms m e =
     omega arith
 
 -- an act that is no contact
-no_more : (n : ℕ) (acts : List (ℕ × Act)) (a : Act) (m : Made) → contacts ((n, a) ∷ []) ≡ [] → contacts (acts ++ (n, a) ∷ []) ≡ contacts acts ++ m ∷ [] → ⊥
+no_more : (n : ℕ) (acts : List (ℕ × Act)) (a : Act) (m : Made) → contacts ((n, a) ∷ []) ≡ []
+    → contacts (acts ++ (n, a) ∷ []) ≡ contacts acts ++ m ∷ [] → ⊥
 no_more n acts a m none e =
     not_longer (contacts acts) m
     (sym (contacts_more acts ((n, a) ∷ []) ∙ (ap (λ (ms : List Made). contacts acts ++ ms) none ∙ append-nil (contacts acts))) ∙ e)
@@ -54,7 +56,8 @@ first_of : (m k : Made) → m ∷ [] ≡ k ∷ [] → m ≡ k
 first_of m k e = ap (first_or m) e
 
 abbrev contact_of : Server → Point → Point → Option Direction → List ℕ → Made
-contact_of s at p d tool = record { connection = s.last; target = p; dir = d; tool = tool; frame = s.frame; point = point_difference at (offset s.frame) }
+contact_of s at p d tool = record { connection = s.last; target = p; dir = d; tool = tool; frame = s.frame;
+    point = point_difference at (offset s.frame) }
 
 as_commanded : (e : ServerEnd) (at : Point) (t : Tag) (p : Point) (d : Option Direction) (tool : List ℕ)
     → e.server.running ≡ Some (record { tag = t; command = command.PtMeas p d }) → e.server.tool ≡ Some tool
@@ -73,7 +76,8 @@ as_commanded e at t p d tool ran head = record {
       ∙ ap (λ (in_head : Option (List ℕ)). e.out ++ reply_bytes (touched e.server t (command.PtMeas p d) at in_head).said) head;
 }
 
-same : (e : ServerEnd) (ended : Outcome) (made : Made) → contacts e.server.ledger ≡ contacts e.server.ledger ++ made ∷ [] → IsCommanded e ended made
+same : (e : ServerEnd) (ended : Outcome) (made : Made) → contacts e.server.ledger ≡ contacts e.server.ledger ++ made ∷ []
+    → IsCommanded e ended made
 same e ended made longer = absurd (not_longer _ _ longer)
 
 finished_made : (e : ServerEnd) (made : Made) (t : Tag) (c : Command)
@@ -83,7 +87,8 @@ finished_made e made t command.EndSession longer = same e outcome.Done made long
 finished_made e made t command.ClearAllErrors longer = same e outcome.Done made longer
 finished_made e made t command.Home longer = absurd (no_more e.server.last e.server.ledger act.Homed made refl longer)
 finished_made e made t command.OnPtMeasReport longer = same e outcome.Done made longer
-finished_made e made t (command.GoTo p) longer = absurd (no_more e.server.last e.server.ledger (act.Moved p e.server.frame) made refl longer)
+finished_made e made t (command.GoTo p) longer = absurd (no_more e.server.last e.server.ledger (act.Moved p e.server.frame) made refl
+    longer)
 finished_made e made t (command.PtMeas p d) longer = same e outcome.Done made longer
 finished_made e made t (command.ChangeTool n) longer = absurd (no_more e.server.last e.server.ledger (act.Changed n) made refl longer)
 finished_made e made t (command.SetCsyTransformation p) longer = same e outcome.Done made longer
@@ -92,7 +97,8 @@ finished_made e made t command.AbortE longer = same e outcome.Done made longer
 
 touched_made : (e : ServerEnd) (made : Made) (at : Point) (t : Tag) (c : Command) (tool : Option (List ℕ))
     → e.server.running ≡ Some (record { tag = t; command = c }) → e.server.tool ≡ tool
-    → contacts (touched e.server t c at tool).server.ledger ≡ contacts e.server.ledger ++ made ∷ [] → IsCommanded e (outcome.Touched at) made
+    → contacts (touched e.server t c at tool).server.ledger ≡ contacts e.server.ledger ++ made ∷ []
+    → IsCommanded e (outcome.Touched at) made
 touched_made e made at t command.StartSession tool ran head longer = same e (outcome.Touched at) made longer
 touched_made e made at t command.EndSession tool ran head longer = same e (outcome.Touched at) made longer
 touched_made e made at t command.ClearAllErrors tool ran head longer = same e (outcome.Touched at) made longer
@@ -113,7 +119,8 @@ machined_made : (e : ServerEnd) (made : Made) (ended : Outcome) (running : Optio
     → contacts (machined e.server ended running).server.ledger ≡ contacts e.server.ledger ++ made ∷ [] → IsCommanded e ended made
 machined_made e made ended None ran longer = same e ended made longer
 machined_made e made outcome.Done (Some line) ran longer = finished_made e made line.tag line.command longer
-machined_made e made (outcome.Touched at) (Some line) ran longer = touched_made e made at line.tag line.command e.server.tool ran refl longer
+machined_made e made (outcome.Touched at) (Some line) ran longer =
+    touched_made e made at line.tag line.command e.server.tool ran refl longer
 machined_made e made outcome.Missed (Some line) ran longer = same e outcome.Missed made longer
 machined_made e made outcome.Fault (Some line) ran longer = same e outcome.Fault made longer
 

@@ -1,5 +1,6 @@
 -- Which act each call of a server completes.
-use Rattle.std.proofs.Common.{◌≡◌, ℕ, Bool, true, false, cond, not, ◌&&◌, is_none, is_some, List, [], ◌∷◌, ◌++◌, refl, sym, ◌∙◌, ap, subst, append-nil, Option, Some, None, Result, Ok, Err}
+use Rattle.std.proofs.Common.{◌≡◌, ℕ, Bool, true, false, cond, not, ◌&&◌, is_none, is_some, List, [], ◌∷◌, ◌++◌, refl, sym, ◌∙◌, ap, subst,
+  append-nil, Option, Some, None, Result, Ok, Err}
 use Rattle.std.proofs.lemmas.Bool.{false≢true, and_parts}
 use Rattle.std.specs.List.{AllByRecursion}
 use Rattle.fixed_um.specs.Points.{point_sum}
@@ -13,15 +14,18 @@ use Rattle.protocol_model.specs.declared.lines.Misread.{Misread}
 use Rattle.protocol_model.specs.Replies.{Reply}
 use Rattle.protocol_model.specs.Lines.{Readers, reply_bytes}
 use Rattle.protocol_model.specs.Claims.{Made, contacts}
-use Rattle.protocol_model.specs.Server.{Server, Answer, offset, in_volume, first_failing, checks, refusal, carried_out, carried, taken, turned_to, server_turned, finished, touched, machined, server_machined, may_end}
-use Rattle.protocol_model.specs.Ends.{ServerEnd, with_answer, serving_accepted, serving_fed, serving_turned, serving_machined, serving_left, serving_restarted, serving_taken}
+use Rattle.protocol_model.specs.Server.{Server, Answer, offset, in_volume, first_failing, checks, refusal, carried_out, carried, taken,
+  turned_to, server_turned, finished, touched, machined, server_machined, may_end}
+use Rattle.protocol_model.specs.Ends.{ServerEnd, with_answer, serving_accepted, serving_fed, serving_turned, serving_machined, serving_left,
+  serving_restarted, serving_taken}
 use Rattle.protocol_model.specs.declared.lines.Line.{Line}
 use Rattle.protocol_model.specs.declared.lines.Waiting.{Waiting}
 use Rattle.protocol_model.specs.declared.machine.Outcome.{Outcome}
 use Rattle.server_core.specs.Serving.{may_turn, ok_of, command_in, refusal_in}
 use Rattle.server_core.specs.Acting.{IsCommanded}
 use Rattle.server_core.specs.Steady.{IsSteady}
-use Rattle.server_core.specs.Calls.{Call, Accept, Feed, ReadOne, Turn, Machine, Leave, Restart, Sent, possible, done_by, behind_call, selects_frame, completes_act, Deed, done_deed, touch_deed, end_deed, frame_deed, turn_deed, deed_of, IsDone, IsContactOf}
+use Rattle.server_core.specs.Calls.{Call, Accept, Feed, ReadOne, Turn, Machine, Leave, Restart, Sent, possible, done_by, behind_call,
+  selects_frame, completes_act, Deed, done_deed, touch_deed, end_deed, frame_deed, turn_deed, deed_of, IsDone, IsContactOf}
 use Rattle.server_core.proofs.Ledgers.{read_keeps}
 use Rattle.server_core.proofs.Contacts.{not_longer, turned_no_contact, machined_as_commanded}
 use Rattle.server_core.proofs.Steadies.{nothing_runs}
@@ -44,9 +48,11 @@ DoneBy (Some deed) s a = IsAnswered deed s a
 
 with_bytes : (deed : Option Deed) (e : ServerEnd) (a : Answer) → DoneBy deed e.server a → IsDone deed e (with_answer e e.input a)
 with_bytes None e a h = h
-with_bytes (Some deed) e a h = record { ledger = h.ledger; said = ap (λ (said : List Reply). e.out ++ reply_bytes said) h.said; idle = h.idle }
+with_bytes (Some deed) e a h = record { ledger = h.ledger; said = ap (λ (said : List Reply). e.out ++ reply_bytes said) h.said;
+    idle = h.idle }
 
-carried_done : (s : Server) (ws : List Waiting) (t : Tag) (c : Command) → s.running ≡ None → DoneBy (frame_deed s t (Some c)) s (carried_out (record s { waiting = ws }) t c)
+carried_done : (s : Server) (ws : List Waiting) (t : Tag) (c : Command) → s.running ≡ None
+    → DoneBy (frame_deed s t (Some c)) s (carried_out (record s { waiting = ws }) t c)
 carried_done s ws t command.StartSession idle = refl
 carried_done s ws t command.EndSession idle = refl
 carried_done s ws t command.ClearAllErrors idle = refl
@@ -64,7 +70,8 @@ taken_done : (s : Server) (w : Waiting) (ws : List Waiting) (number : Option ℕ
 taken_done s w ws (Some number) idle = refl
 taken_done s w ws None idle = go w.reading
   where
-    go : (reading : Result Command Misread) → DoneBy (frame_deed s w.tag (ok_of reading)) s (carried (record s { waiting = ws }) w.tag reading)
+    go : (reading : Result Command Misread) → DoneBy (frame_deed s w.tag (ok_of reading)) s
+        (carried (record s { waiting = ws }) w.tag reading)
     go (Ok c) = carried_done s ws w.tag c idle
     go (Err refused) = refl
 
@@ -72,7 +79,8 @@ turned_done : (s : Server) (ws : List Waiting) → s.running ≡ None → DoneBy
 turned_done s [] idle = refl
 turned_done s (w ∷ ws) idle = taken_done s w ws (refusal s w.reading) idle
 
-turn_done : (e : ServerEnd) (may : Bool) → may_turn e.server ≡ may → IsDone (cond may (turn_deed e.server e.server.waiting) None) e (cond may (serving_turned e) e)
+turn_done : (e : ServerEnd) (may : Bool) → may_turn e.server ≡ may
+    → IsDone (cond may (turn_deed e.server e.server.waiting) None) e (cond may (serving_turned e) e)
 turn_done e true is =
     with_bytes (turn_deed e.server e.server.waiting) e (server_turned e.server)
     (turned_done e.server e.server.waiting (nothing_runs e.server.running ((and_parts _ _ is).0)))
@@ -91,7 +99,8 @@ finished_done s t (command.SetCsyTransformation p) = refl
 finished_done s t (command.SetCoordSystem system) = refl
 finished_done s t command.AbortE = refl
 
-touched_done : (s : Server) (t : Tag) (c : Command) (at : Point) (tool : Option (List ℕ)) → DoneBy (touch_deed s t c at tool) s (touched s t c at tool)
+touched_done : (s : Server) (t : Tag) (c : Command) (at : Point) (tool : Option (List ℕ))
+    → DoneBy (touch_deed s t c at tool) s (touched s t c at tool)
 touched_done s t command.StartSession at tool = refl
 touched_done s t command.EndSession at tool = refl
 touched_done s t command.ClearAllErrors at tool = refl
@@ -122,14 +131,18 @@ machine_done e ended true =
 machine_done e ended false = refl
 
 pub call_done : (readers : Readers) (call : Call) (e : ServerEnd) → IsDone (deed_of call e) e (behind_call readers call e)
-call_done readers (Accept n) e = chosen (λ (f : ServerEnd). f.server.ledger ≡ e.server.ledger) (possible (Accept n) e) _ _ (λ b. refl) (λ b. refl)
-call_done readers (Feed bytes) e = chosen (λ (f : ServerEnd). f.server.ledger ≡ e.server.ledger) (possible (Feed bytes) e) _ _ (λ b. refl) (λ b. refl)
-call_done readers ReadOne e = chosen (λ (f : ServerEnd). f.server.ledger ≡ e.server.ledger) (possible ReadOne e) _ _ (λ b. read_keeps readers e) (λ b. refl)
+call_done readers (Accept n) e = chosen (λ (f : ServerEnd). f.server.ledger ≡ e.server.ledger) (possible (Accept n) e) _ _ (λ b. refl)
+    (λ b. refl)
+call_done readers (Feed bytes) e = chosen (λ (f : ServerEnd). f.server.ledger ≡ e.server.ledger) (possible (Feed bytes) e) _ _ (λ b. refl)
+    (λ b. refl)
+call_done readers ReadOne e = chosen (λ (f : ServerEnd). f.server.ledger ≡ e.server.ledger) (possible ReadOne e) _ _
+    (λ b. read_keeps readers e) (λ b. refl)
 call_done readers Turn e = turn_done e (may_turn e.server) refl
 call_done readers (Machine ended) e = machine_done e ended (may_end e.server.running ended)
 call_done readers Leave e = refl
 call_done readers Restart e = refl
-call_done readers (Sent count) e = chosen (λ (f : ServerEnd). f.server.ledger ≡ e.server.ledger) (possible (Sent count) e) _ _ (λ b. refl) (λ b. refl)
+call_done readers (Sent count) e = chosen (λ (f : ServerEnd). f.server.ledger ≡ e.server.ledger) (possible (Sent count) e) _ _ (λ b. refl)
+    (λ b. refl)
 
 -- ---- which calls
 
@@ -149,7 +162,8 @@ record Passes (s : Server) (p : Point) (d : Option Direction) : Type 0 where
 
 touch_passes : (s : Server) (p : Point) (d : Option Direction) → first_failing (checks s (command.PtMeas p d)) ≡ None → Passes s p d
 touch_passes s p d e =
-    let passed : AllByRecursion (λ (test : Bool × ℕ). test.0 ≡ false) (checks s (command.PtMeas p d)) = all_pass (checks s (command.PtMeas p d)) e in
+    let passed : AllByRecursion (λ (test : Bool × ℕ). test.0 ≡ false) (checks s (command.PtMeas p d)) =
+        all_pass (checks s (command.PtMeas p d)) e in
     record { tool = passed.1.1.1.1.0; target = passed.1.1.1.1.1.0 }
 
 not_false : (b : Bool) → not b ≡ false → b ≡ true
@@ -179,7 +193,8 @@ waiting_due : (s : Server) (ws : List Waiting) → is_some (turn_deed s ws) ≡ 
 waiting_due s [] = refl
 waiting_due s (w ∷ ws) = taken_due s w.tag (ok_of w.reading) (refusal s w.reading)
 
-turn_due : (s : Server) (may : Bool) → is_some (cond may (turn_deed s s.waiting) None) ≡ (may && (is_none (refusal_in s s.waiting) && selects_frame (command_in s.waiting)))
+turn_due : (s : Server) (may : Bool) → is_some (cond may (turn_deed s s.waiting) None)
+    ≡ (may && (is_none (refusal_in s s.waiting) && selects_frame (command_in s.waiting)))
 turn_due s true = waiting_due s s.waiting
 turn_due s false = refl
 
@@ -202,19 +217,23 @@ done_due s (Some line) = go line.command
     go (command.SetCoordSystem system) = refl
     go command.AbortE = refl
 
-touched_due : (s : Server) (t : Tag) (p : Point) (d : Option Direction) (at : Point) (may : Bool) (tool : Option (List ℕ)) → is_none tool ≡ false
+touched_due : (s : Server) (t : Tag) (p : Point) (d : Option Direction) (at : Point) (may : Bool) (tool : Option (List ℕ))
+    → is_none tool ≡ false
     → is_some (cond may (touch_deed s t (command.PtMeas p d) at tool) None) ≡ may
 touched_due s t p d at true (Some tool) has = refl
 touched_due s t p d at false tool has = refl
 touched_due s t p d at true None has = absurd (false≢true (sym has))
 
-touch_due : (s : Server) (at : Point) (running : Option Line) → ((line : Line) → running ≡ Some line → first_failing (checks s line.command) ≡ None)
-    → is_some (cond (may_end running (Outcome.Touched at)) (end_deed s (Outcome.Touched at) running) None) ≡ may_end running (Outcome.Touched at)
+touch_due : (s : Server) (at : Point) (running : Option Line)
+    → ((line : Line) → running ≡ Some line → first_failing (checks s line.command) ≡ None)
+    → is_some (cond (may_end running (Outcome.Touched at)) (end_deed s (Outcome.Touched at) running) None)
+    ≡ may_end running (Outcome.Touched at)
 touch_due s at None passed = refl
 touch_due s at (Some line) passed = go line.command (passed line refl)
   where
     go : (c : Command) → first_failing (checks s c) ≡ None
-        → is_some (cond (may_end (Some (record { tag = line.tag; command = c })) (Outcome.Touched at)) (touch_deed s line.tag c at s.tool) None)
+        → is_some (cond (may_end (Some (record { tag = line.tag; command = c })) (Outcome.Touched at)) (touch_deed s line.tag c at s.tool)
+        None)
         ≡ may_end (Some (record { tag = line.tag; command = c })) (Outcome.Touched at)
     go command.StartSession e = refl
     go command.EndSession e = refl
@@ -255,7 +274,8 @@ no_contact : (e f : ServerEnd) (call : Call) (made : Made) → contacts f.server
     → contacts f.server.ledger ≡ contacts e.server.ledger ++ made ∷ [] → IsContactOf e call made
 no_contact e f call made same longer = absurd (same_contacts e f made same longer)
 
-target_in_volume : (e : ServerEnd) (ended : Outcome) (made : Made) → IsSteady e → IsCommanded e ended made → in_volume (point_sum made.target (offset made.frame)) ≡ true
+target_in_volume : (e : ServerEnd) (ended : Outcome) (made : Made) → IsSteady e → IsCommanded e ended made
+    → in_volume (point_sum made.target (offset made.frame)) ≡ true
 target_in_volume e ended made h commanded =
     subst (λ (frame : Frame). in_volume (point_sum made.target (offset frame)) ≡ true) (sym commanded.frame)
     (not_false _ (touch_passes e.server made.target made.dir (h.orderly.running _ commanded.ran).1).target)
@@ -263,24 +283,31 @@ target_in_volume e ended made h commanded =
 pub contact_of_call : (readers : Readers) (call : Call) (e : ServerEnd) (made : Made) → IsSteady e
     → contacts (behind_call readers call e).server.ledger ≡ contacts e.server.ledger ++ made ∷ [] → IsContactOf e call made
 contact_of_call readers (Accept n) e made h =
-    chosen (λ (f : ServerEnd). contacts f.server.ledger ≡ contacts e.server.ledger ++ made ∷ [] → IsContactOf e (Accept n) made) (possible (Accept n) e) (serving_accepted n e) e
+    chosen (λ (f : ServerEnd). contacts f.server.ledger ≡ contacts e.server.ledger ++ made ∷ []
+        → IsContactOf e (Accept n) made) (possible (Accept n) e) (serving_accepted n e) e
     (λ b. no_contact e (serving_accepted n e) (Accept n) made refl) (λ b. no_contact e e (Accept n) made refl)
 contact_of_call readers (Feed bytes) e made h =
-    chosen (λ (f : ServerEnd). contacts f.server.ledger ≡ contacts e.server.ledger ++ made ∷ [] → IsContactOf e (Feed bytes) made) (possible (Feed bytes) e) (serving_fed bytes e) e
+    chosen (λ (f : ServerEnd). contacts f.server.ledger ≡ contacts e.server.ledger ++ made ∷ []
+        → IsContactOf e (Feed bytes) made) (possible (Feed bytes) e) (serving_fed bytes e) e
     (λ b. no_contact e (serving_fed bytes e) (Feed bytes) made refl) (λ b. no_contact e e (Feed bytes) made refl)
 contact_of_call readers ReadOne e made h =
-    chosen (λ (f : ServerEnd). contacts f.server.ledger ≡ contacts e.server.ledger ++ made ∷ [] → IsContactOf e ReadOne made) (possible ReadOne e) (done_by readers ReadOne e) e
-    (λ b. no_contact e (done_by readers ReadOne e) ReadOne made (ap contacts (read_keeps readers e))) (λ b. no_contact e e ReadOne made refl)
+    chosen (λ (f : ServerEnd). contacts f.server.ledger ≡ contacts e.server.ledger ++ made ∷ []
+        → IsContactOf e ReadOne made) (possible ReadOne e) (done_by readers ReadOne e) e
+    (λ b. no_contact e (done_by readers ReadOne e) ReadOne made (ap contacts (read_keeps readers e)))
+        (λ b. no_contact e e ReadOne made refl)
 contact_of_call readers Turn e made h =
-    chosen (λ (f : ServerEnd). contacts f.server.ledger ≡ contacts e.server.ledger ++ made ∷ [] → IsContactOf e Turn made) (possible Turn e) (serving_turned e) e
+    chosen (λ (f : ServerEnd). contacts f.server.ledger ≡ contacts e.server.ledger ++ made ∷ []
+        → IsContactOf e Turn made) (possible Turn e) (serving_turned e) e
     (λ b. no_contact e (serving_turned e) Turn made (turned_no_contact e.server)) (λ b. no_contact e e Turn made refl)
 contact_of_call readers (Machine ended) e made h =
-    chosen (λ (f : ServerEnd). contacts f.server.ledger ≡ contacts e.server.ledger ++ made ∷ [] → IsContactOf e (Machine ended) made) (possible (Machine ended) e) (serving_machined ended e) e
+    chosen (λ (f : ServerEnd). contacts f.server.ledger ≡ contacts e.server.ledger ++ made ∷ []
+        → IsContactOf e (Machine ended) made) (possible (Machine ended) e) (serving_machined ended e) e
     (λ b longer. let commanded : IsCommanded e ended made = machined_as_commanded ended e made longer in
     record { ended = ended; is_end = refl; commanded = commanded; target = target_in_volume e ended made h commanded })
     (λ b. no_contact e e (Machine ended) made refl)
 contact_of_call readers Leave e made h = no_contact e (serving_left e) Leave made refl
 contact_of_call readers Restart e made h = no_contact e (serving_restarted e) Restart made refl
 contact_of_call readers (Sent count) e made h =
-    chosen (λ (f : ServerEnd). contacts f.server.ledger ≡ contacts e.server.ledger ++ made ∷ [] → IsContactOf e (Sent count) made) (possible (Sent count) e) (serving_taken count e) e
+    chosen (λ (f : ServerEnd). contacts f.server.ledger ≡ contacts e.server.ledger ++ made ∷ []
+        → IsContactOf e (Sent count) made) (possible (Sent count) e) (serving_taken count e) e
     (λ b. no_contact e (serving_taken count e) (Sent count) made refl) (λ b. no_contact e e (Sent count) made refl)

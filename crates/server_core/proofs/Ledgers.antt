@@ -9,7 +9,8 @@ use Rattle.contact_ledger.specs.declared.acts.Act.{Act}
 use Rattle.contact_ledger.specs.declared.acts.Act.TheVariants as act
 use Rattle.line_framing.specs.Next.{Front, next_of}
 use Rattle.protocol_model.specs.Lines.{Readers, reading_of}
-use Rattle.protocol_model.specs.Server.{Server, Answer, frame_of, refusal, carried_out, carried, taken, turned_to, server_turned, finished, touched, machined}
+use Rattle.protocol_model.specs.Server.{Server, Answer, frame_of, refusal, carried_out, carried, taken, turned_to, server_turned, finished,
+  touched, machined}
 use Rattle.protocol_model.specs.Ends.{ServerEnd, front_served, serving_read, serving_turned, serving_machined}
 use Rattle.protocol_model.specs.declared.lines.Line.{Line}
 use Rattle.protocol_model.specs.declared.lines.Misread.{Misread}
@@ -22,7 +23,8 @@ use Rattle.server_core.specs.Acting.{with_act, IsOneMore}
 
 front_keeps : (readers : Readers) (e : ServerEnd) (front : Front) → (front_served readers e front).server.ledger ≡ e.server.ledger
 front_keeps readers e (Ok None) = refl
-front_keeps readers e (Ok (Some (line, rest))) = (read_moves e.server (reading_of (readers.command line))).ledger ∙ append-nil e.server.ledger
+front_keeps readers e (Ok (Some (line, rest))) = (read_moves e.server (reading_of (readers.command line))).ledger
+    ∙ append-nil e.server.ledger
 front_keeps readers e (Err why) = refl
 
 pub read_keeps : (readers : Readers) (e : ServerEnd) → (serving_read readers e).server.ledger ≡ e.server.ledger

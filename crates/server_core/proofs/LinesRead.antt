@@ -40,5 +40,6 @@ read_is_fit line (Err (fault.UnknownCommand t)) h = tag_of_numbered t h.2.tagged
 read_is_fit line (Err (fault.BadArguments t k)) h = tag_of_numbered t h.2.tagged.numbered
 
 -- all that read commands as the interface says read a line in one way
-pub one_reading : (line : List ℕ) (reading : Result (Tag × Command) LineFault) (readers : Readers) → ReadsCommand line reading → AreReaders readers → readers.command line ≡ reading
+pub one_reading : (line : List ℕ) (reading : Result (Tag × Command) LineFault) (readers : Readers) → ReadsCommand line reading
+    → AreReaders readers → readers.command line ≡ reading
 one_reading line reading readers read are = one_command_reading line (readers.command line) reading (are.command line) read

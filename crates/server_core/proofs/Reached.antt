@@ -1,5 +1,6 @@
 -- What holds of a server behind every list of calls from a new one.
-use Rattle.std.proofs.Common.{◌≡◌, ℕ, ◌≤◌, nat_le, Bool, true, false, cond, not, ◌&&◌, ◌||◌, is_some, List, [], ◌∷◌, ◌++◌, length, refl, sym, ◌∙◌, ap, subst, arith, append_assoc, append-nil, ◌⊎◌, inl, inr, Option, Some, None, Result, Ok, Err}
+use Rattle.std.proofs.Common.{◌≡◌, ℕ, ◌≤◌, nat_le, Bool, true, false, cond, not, ◌&&◌, ◌||◌, is_some, List, [], ◌∷◌, ◌++◌, length, refl,
+  sym, ◌∙◌, ap, subst, arith, append_assoc, append-nil, ◌⊎◌, inl, inr, Option, Some, None, Result, Ok, Err}
 use Rattle.std.proofs.lemmas.Bool.{false≢true, and_parts, leb-true}
 use Rattle.fixed_um.specs.declared.lengths.Point.{Point}
 use Rattle.dme_line.specs.Tags.{is_event_tag}
@@ -14,15 +15,21 @@ use Rattle.line_framing.specs.Framing.{fed_behind}
 use Rattle.line_framing.specs.declared.faults.FramingFault.{FramingFault}
 use Rattle.protocol_model.specs.Replies.{Reading}
 use Rattle.protocol_model.specs.Lines.{Readers, AreReaders, reading_of}
-use Rattle.protocol_model.specs.Server.{Server, Answer, in_error, queued, runs_under, waits_under, is_abort, is_clear, stands, fresh, tagged, server_read, refusal, carried_out, carried, taken, turned_to, server_turned, finished, touched, machined, server_machined, may_end}
-use Rattle.protocol_model.specs.Ends.{ServerEnd, new_server_end, front_served, serving_accepted, serving_fed, serving_read, serving_turned, serving_machined, serving_left, serving_restarted, serving_taken}
+use Rattle.protocol_model.specs.Server.{Server, Answer, in_error, queued, runs_under, waits_under, is_abort, is_clear, stands, fresh,
+  tagged, server_read, refusal, carried_out, carried, taken, turned_to, server_turned, finished, touched, machined, server_machined,
+  may_end}
+use Rattle.protocol_model.specs.Ends.{ServerEnd, new_server_end, front_served, serving_accepted, serving_fed, serving_read, serving_turned,
+  serving_machined, serving_left, serving_restarted, serving_taken}
 use Rattle.protocol_model.specs.declared.lines.Line.{Line}
 use Rattle.protocol_model.specs.declared.lines.Waiting.{Waiting}
 use Rattle.protocol_model.specs.declared.machine.Outcome.{Outcome}
 use Rattle.server_core.specs.Serving.{may_turn}
 use Rattle.server_core.specs.Steady.{IsSteady, IsServing, AreStandard}
-use Rattle.server_core.specs.Calls.{Call, Accept, Feed, ReadOne, Turn, Machine, Leave, Restart, Sent, possible, done_by, behind_call, behind_calls, reached, gives_up, completes_act, deed_of, IsDone, IsContactOf, RunsInError, StaysInError, IsFull, RanBefore, IsEndOfEarlier}
-use Rattle.server_core.proofs.Steadies.{branch, none_some, not_empty, nothing_runs, empty_waits, accepted_steady, fed_steady, read_steady, turned_steady, machined_steady, left_steady, restarted_steady, taken_steady, new_steady}
+use Rattle.server_core.specs.Calls.{Call, Accept, Feed, ReadOne, Turn, Machine, Leave, Restart, Sent, possible, done_by, behind_call,
+  behind_calls, reached, gives_up, completes_act, deed_of, IsDone, IsContactOf, RunsInError, StaysInError, IsFull, RanBefore,
+  IsEndOfEarlier}
+use Rattle.server_core.proofs.Steadies.{branch, none_some, not_empty, nothing_runs, empty_waits, accepted_steady, fed_steady, read_steady,
+  turned_steady, machined_steady, left_steady, restarted_steady, taken_steady, new_steady}
 use Rattle.server_core.proofs.Standards.{read_standard, turned_standard, machined_standard}
 use Rattle.server_core.proofs.Deeds.{chosen, call_done, act_due, contact_of_call}
 use Rattle.protocol_model.specs.Claims.{Made, contacts}
@@ -46,7 +53,8 @@ Standard e = AreStandard e.server.waiting
 call_standard : (readers : Readers) (call : Call) (e : ServerEnd) → AreReaders readers → Standard e → Standard (behind_call readers call e)
 call_standard readers (Accept n) e are h = chosen Standard (possible (Accept n) e) (serving_accepted n e) e (λ may. h) (λ may. h)
 call_standard readers (Feed bytes) e are h = chosen Standard (possible (Feed bytes) e) (serving_fed bytes e) e (λ may. h) (λ may. h)
-call_standard readers ReadOne e are h = chosen Standard (possible ReadOne e) (serving_read readers e) e (λ may. read_standard readers e are h) (λ may. h)
+call_standard readers ReadOne e are h = chosen Standard (possible ReadOne e) (serving_read readers e) e
+    (λ may. read_standard readers e are h) (λ may. h)
 call_standard readers Turn e are h = chosen Standard (possible Turn e) (serving_turned e) e (λ may. turned_standard e.server h) (λ may. h)
 call_standard readers (Machine ended) e are h =
     chosen Standard (possible (Machine ended) e) (serving_machined ended e) e (λ may. machined_standard e.server ended h) (λ may. h)
@@ -58,21 +66,25 @@ calls_steady : (readers : Readers) (calls : List Call) (e : ServerEnd) → IsSte
 calls_steady readers [] e h = h
 calls_steady readers (call ∷ calls) e h = calls_steady readers calls (behind_call readers call e) (call_steady readers call e h)
 
-calls_standard : (readers : Readers) (calls : List Call) (e : ServerEnd) → AreReaders readers → Standard e → Standard (behind_calls readers calls e)
+calls_standard : (readers : Readers) (calls : List Call) (e : ServerEnd) → AreReaders readers → Standard e
+    → Standard (behind_calls readers calls e)
 calls_standard readers [] e are h = h
-calls_standard readers (call ∷ calls) e are h = calls_standard readers calls (behind_call readers call e) are (call_standard readers call e are h)
+calls_standard readers (call ∷ calls) e are h = calls_standard readers calls (behind_call readers call e) are
+    (call_standard readers call e are h)
 
 pub reached_steady : (readers : Readers) (tools : List (List ℕ)) (calls : List Call) → IsSteady (reached readers tools calls)
 reached_steady readers tools calls = calls_steady readers calls (new_server_end tools) (new_steady tools)
 
-pub reached_serving : (readers : Readers) (tools : List (List ℕ)) (calls : List Call) → AreReaders readers → IsServing (reached readers tools calls)
+pub reached_serving : (readers : Readers) (tools : List (List ℕ)) (calls : List Call) → AreReaders readers
+    → IsServing (reached readers tools calls)
 reached_serving readers tools calls are =
     record { steady = reached_steady readers tools calls; standard = calls_standard readers calls (new_server_end tools) are tt }
 
 -- ---- one act
 
 pub one_act : (readers : Readers) (tools : List (List ℕ)) (calls : List Call) (call : Call)
-    → IsDone (deed_of call (reached readers tools calls)) (reached readers tools calls) (behind_call readers call (reached readers tools calls))
+    → IsDone (deed_of call (reached readers tools calls)) (reached readers tools calls)
+    (behind_call readers call (reached readers tools calls))
 one_act readers tools calls call = call_done readers call (reached readers tools calls)
 
 pub act_is_due : (readers : Readers) (tools : List (List ℕ)) (calls : List Call) (call : Call)
@@ -80,7 +92,8 @@ pub act_is_due : (readers : Readers) (tools : List (List ℕ)) (calls : List Cal
 act_is_due readers tools calls call = act_due call (reached readers tools calls) (reached_steady readers tools calls)
 
 pub contact_is_commanded : (readers : Readers) (tools : List (List ℕ)) (calls : List Call) (call : Call) (made : Made)
-    → contacts (behind_call readers call (reached readers tools calls)).server.ledger ≡ contacts (reached readers tools calls).server.ledger ++ made ∷ []
+    → contacts (behind_call readers call (reached readers tools calls)).server.ledger ≡ contacts (reached readers tools calls).server.ledger
+    ++ made ∷ []
     → IsContactOf (reached readers tools calls) call made
 contact_is_commanded readers tools calls call made longer =
     contact_of_call readers call (reached readers tools calls) made (reached_steady readers tools calls) longer
@@ -109,22 +122,27 @@ as_before line s error runs = inl (error, runs)
 just_full : (n : ℕ) → n ≤ 64 → nat_le 64 n ≡ true → n ≡ 64
 just_full n few full = let most : 64 ≤ n = leb-true 64 n full in omega arith
 
-stands_came : (line : Line) (s : Server) (t : Tag) (reading : Result Command Misread) → length s.waiting ≤ 64 → Came line s (stands s t reading)
+stands_came : (line : Line) (s : Server) (t : Tag) (reading : Result Command Misread) → length s.waiting ≤ 64
+    → Came line s (stands s t reading)
 stands_came line s t reading few =
     branch (Came line s) (s.error && not (is_clear reading)) _ _ (λ refused. as_before line s)
     (λ go. branch (Came line s) s.error _ _ (λ error cleared runs. absurd (false≢true cleared))
     (λ calm. branch (Came line s) (nat_le 64 (length s.waiting)) _ _
     (λ full entered runs. inr (calm, runs, just_full (length s.waiting) few full)) (λ room. as_before line s)))
 
-fresh_came : (line : Line) (s : Server) (t : Tag) (reading : Result Command Misread) → length s.waiting ≤ 64 → Came line s (fresh s t reading)
+fresh_came : (line : Line) (s : Server) (t : Tag) (reading : Result Command Misread) → length s.waiting ≤ 64
+    → Came line s (fresh s t reading)
 fresh_came line s t (Ok c) few =
-    branch (Came line s) (is_abort (Ok c)) _ _ (λ aborts error runs. absurd (none_some None line refl runs)) (λ other. stands_came line s t (Ok c) few)
+    branch (Came line s) (is_abort (Ok c)) _ _ (λ aborts error runs. absurd (none_some None line refl runs))
+        (λ other. stands_came line s t (Ok c) few)
 fresh_came line s t (Err why) few =
     branch (Came line s) (is_event_tag t) _ _ (λ event. as_before line s) (λ standard. stands_came line s t (Err why) few)
 
-tagged_came : (line : Line) (s : Server) (t : Tag) (reading : Result Command Misread) → length s.waiting ≤ 64 → Came line s (tagged s t reading)
+tagged_came : (line : Line) (s : Server) (t : Tag) (reading : Result Command Misread) → length s.waiting ≤ 64
+    → Came line s (tagged s t reading)
 tagged_came line s t reading few =
-    branch (Came line s) (runs_under t s.running || waits_under t s.waiting) _ _ (λ used. as_before line s) (λ free. fresh_came line s t reading few)
+    branch (Came line s) (runs_under t s.running || waits_under t s.waiting) _ _ (λ used. as_before line s)
+        (λ free. fresh_came line s t reading few)
 
 read_came : (line : Line) (s : Server) (reading : Reading) → length s.waiting ≤ 64 → Came line s (server_read s reading)
 read_came line s (Ok l) few = tagged_came line s l.tag (Ok l.command) few
@@ -151,7 +169,8 @@ carried_error s t (command.SetCsyTransformation p) = refl
 carried_error s t (command.SetCoordSystem system) = refl
 carried_error s t command.AbortE = refl
 
-taken_came : (line : Line) (s : Server) (w : Waiting) (ws : List Waiting) (number : Option ℕ) → s.running ≡ None → (s.error ≡ true → ⊥) → Stayed line s (taken s w ws number)
+taken_came : (line : Line) (s : Server) (w : Waiting) (ws : List Waiting) (number : Option ℕ) → s.running ≡ None → (s.error ≡ true → ⊥)
+    → Stayed line s (taken s w ws number)
 taken_came line s w ws (Some number) idle calm = λ error runs. absurd (none_some s.running line idle runs)
 taken_came line s w ws None idle calm = go w.reading
   where
@@ -179,7 +198,8 @@ finished_came line s t (command.SetCsyTransformation p) = still_ran line s
 finished_came line s t (command.SetCoordSystem system) = still_ran line s
 finished_came line s t command.AbortE = still_ran line s
 
-touched_came : (line : Line) (s : Server) (t : Tag) (c : Command) (at : Point) (tool : Option (List ℕ)) → Stayed line s (touched s t c at tool)
+touched_came : (line : Line) (s : Server) (t : Tag) (c : Command) (at : Point) (tool : Option (List ℕ))
+    → Stayed line s (touched s t c at tool)
 touched_came line s t command.StartSession at tool = still_ran line s
 touched_came line s t command.EndSession at tool = still_ran line s
 touched_came line s t command.ClearAllErrors at tool = still_ran line s
@@ -219,23 +239,29 @@ by_other call line e h = inl (record { error = h.0; runs = h.1 })
 
 came_by : (readers : Readers) (call : Call) (line : Line) (e : ServerEnd) → IsSteady e → CameBy call line e (behind_call readers call e)
 came_by readers (Accept n) line e h =
-    chosen (CameBy (Accept n) line e) (possible (Accept n) e) (serving_accepted n e) e (λ may. same_by (Accept n) line e) (λ may. same_by (Accept n) line e)
+    chosen (CameBy (Accept n) line e) (possible (Accept n) e) (serving_accepted n e) e (λ may. same_by (Accept n) line e)
+        (λ may. same_by (Accept n) line e)
 came_by readers (Feed bytes) line e h =
-    chosen (CameBy (Feed bytes) line e) (possible (Feed bytes) e) (serving_fed bytes e) e (λ may. same_by (Feed bytes) line e) (λ may. same_by (Feed bytes) line e)
+    chosen (CameBy (Feed bytes) line e) (possible (Feed bytes) e) (serving_fed bytes e) e (λ may. same_by (Feed bytes) line e)
+        (λ may. same_by (Feed bytes) line e)
 came_by readers ReadOne line e h =
     chosen (CameBy ReadOne line e) (possible ReadOne e) (serving_read readers e) e
-    (λ may error runs. by_reading line e (front_came readers line e (next_of e.input.rest) h.orderly.few error runs)) (λ may. same_by ReadOne line e)
+    (λ may error runs. by_reading line e (front_came readers line e (next_of e.input.rest) h.orderly.few error runs))
+        (λ may. same_by ReadOne line e)
 came_by readers Turn line e h =
     chosen (CameBy Turn line e) (possible Turn e) (serving_turned e) e
     (λ may error runs. by_other Turn line e
-    (turned_came line e.server (nothing_runs e.server.running ((and_parts _ _ may).0)) h.orderly.quiet error runs)) (λ may. same_by Turn line e)
+    (turned_came line e.server (nothing_runs e.server.running ((and_parts _ _ may).0)) h.orderly.quiet error runs))
+        (λ may. same_by Turn line e)
 came_by readers (Machine ended) line e h =
     chosen (CameBy (Machine ended) line e) (possible (Machine ended) e) (serving_machined ended e) e
-    (λ may error runs. by_other (Machine ended) line e (machined_came line e.server ended e.server.running error runs)) (λ may. same_by (Machine ended) line e)
+    (λ may error runs. by_other (Machine ended) line e (machined_came line e.server ended e.server.running error runs))
+        (λ may. same_by (Machine ended) line e)
 came_by readers Leave line e h = λ error runs. absurd (none_some None line refl runs)
 came_by readers Restart line e h = λ error runs. absurd (none_some None line refl runs)
 came_by readers (Sent count) line e h =
-    chosen (CameBy (Sent count) line e) (possible (Sent count) e) (serving_taken count e) e (λ may. same_by (Sent count) line e) (λ may. same_by (Sent count) line e)
+    chosen (CameBy (Sent count) line e) (possible (Sent count) e) (serving_taken count e) e (λ may. same_by (Sent count) line e)
+        (λ may. same_by (Sent count) line e)
 
 -- ---- over lists of calls
 
@@ -251,11 +277,13 @@ stays_more readers line call (c ∷ calls) e h last = (h.0, stays_more readers l
 
 abbrev RanAll : Readers → List (List ℕ) → List Call → Type 0
 RanAll readers tools calls =
-    (line : Line) → (reached readers tools calls).server.error ≡ true → (reached readers tools calls).server.running ≡ Some line → RanBefore readers tools calls line
+    (line : Line) → (reached readers tools calls).server.error ≡ true → (reached readers tools calls).server.running ≡ Some line
+        → RanBefore readers tools calls line
 
 -- one call more
 goes_on : (readers : Readers) (tools : List (List ℕ)) (calls : List Call) (call : Call) (line : Line)
-    → RunsInError line (behind_call readers call (reached readers tools calls)) → RanBefore readers tools calls line → RanBefore readers tools (calls ++ call ∷ []) line
+    → RunsInError line (behind_call readers call (reached readers tools calls)) → RanBefore readers tools calls line
+    → RanBefore readers tools (calls ++ call ∷ []) line
 goes_on readers tools calls call line last h =
     let here : reached readers tools calls ≡ behind_calls readers h.since (behind_call readers ReadOne (reached readers tools h.before)) =
     ap (reached readers tools) h.parts ∙ calls_more readers h.before (ReadOne ∷ h.since) (new_server_end tools) in
@@ -285,7 +313,8 @@ next_ran : (readers : Readers) (tools : List (List ℕ)) (calls : List Call) (ca
 next_ran readers tools calls call line all last (inl h) = goes_on readers tools calls call line last (all line h.error h.runs)
 next_ran readers tools calls call line all last (inr h) = enters readers tools calls call line last h.0 h.1
 
-more_ran : (readers : Readers) (tools : List (List ℕ)) (calls : List Call) (call : Call) → RanAll readers tools calls → RanAll readers tools (calls ++ call ∷ [])
+more_ran : (readers : Readers) (tools : List (List ℕ)) (calls : List Call) (call : Call) → RanAll readers tools calls
+    → RanAll readers tools (calls ++ call ∷ [])
 more_ran readers tools calls call all line error runs =
     let here : reached readers tools (calls ++ call ∷ []) ≡ behind_call readers call (reached readers tools calls) =
     calls_more readers calls (call ∷ []) (new_server_end tools) in
@@ -294,34 +323,40 @@ more_ran readers tools calls call all line error runs =
     next_ran readers tools calls call line all last
     (came_by readers call line (reached readers tools calls) (reached_steady readers tools calls) last.error last.runs)
 
-all_ran : (readers : Readers) (tools : List (List ℕ)) (calls more : List Call) → RanAll readers tools calls → RanAll readers tools (calls ++ more)
+all_ran : (readers : Readers) (tools : List (List ℕ)) (calls more : List Call) → RanAll readers tools calls
+    → RanAll readers tools (calls ++ more)
 all_ran readers tools calls [] h = subst (RanAll readers tools) (sym (append-nil calls)) h
 all_ran readers tools calls (call ∷ more) h =
-    subst (RanAll readers tools) (append_assoc calls (call ∷ []) more) (all_ran readers tools (calls ++ call ∷ []) more (more_ran readers tools calls call h))
+    subst (RanAll readers tools) (append_assoc calls (call ∷ []) more)
+        (all_ran readers tools (calls ++ call ∷ []) more (more_ran readers tools calls call h))
 
 new_ran : (readers : Readers) (tools : List (List ℕ)) → RanAll readers tools []
 new_ran readers tools line error runs = absurd (false≢true error)
 
-pub ran_before : (readers : Readers) (tools : List (List ℕ)) (calls : List Call) (line : Line) → (reached readers tools calls).server.error ≡ true
+pub ran_before : (readers : Readers) (tools : List (List ℕ)) (calls : List Call) (line : Line)
+    → (reached readers tools calls).server.error ≡ true
     → (reached readers tools calls).server.running ≡ Some line → RanBefore readers tools calls line
 ran_before readers tools calls = all_ran readers tools [] calls (new_ran readers tools)
 
 -- ---- acts in the error state
 
 end_of_earlier : (readers : Readers) (tools : List (List ℕ)) (calls : List Call) (ended : Outcome) (running : Option Line)
-    → (reached readers tools calls).server.running ≡ running → (reached readers tools calls).server.error ≡ true → may_end running ended ≡ true
+    → (reached readers tools calls).server.running ≡ running → (reached readers tools calls).server.error ≡ true
+    → may_end running ended ≡ true
     → IsEndOfEarlier readers tools calls (Machine ended)
 end_of_earlier readers tools calls ended None is error may = absurd (false≢true may)
 end_of_earlier readers tools calls ended (Some line) is error may =
     record { ended = ended; is_end = refl; line = line; runs = is; ran = ran_before readers tools calls line error is }
 
-pub act_in_error : (readers : Readers) (tools : List (List ℕ)) (calls : List Call) (call : Call) → (reached readers tools calls).server.error ≡ true
+pub act_in_error : (readers : Readers) (tools : List (List ℕ)) (calls : List Call) (call : Call)
+    → (reached readers tools calls).server.error ≡ true
     → completes_act call (reached readers tools calls) ≡ true → IsEndOfEarlier readers tools calls call
 act_in_error readers tools calls (Accept n) error completes = absurd (false≢true completes)
 act_in_error readers tools calls (Feed bytes) error completes = absurd (false≢true completes)
 act_in_error readers tools calls ReadOne error completes = absurd (false≢true completes)
 act_in_error readers tools calls Turn error completes =
-    absurd (empty_waits (reached readers tools calls).server.waiting ((and_parts _ _ ((and_parts _ _ completes).0)).1) ((reached_steady readers tools calls).orderly.quiet error))
+    absurd (empty_waits (reached readers tools calls).server.waiting ((and_parts _ _ ((and_parts _ _ completes).0)).1)
+        ((reached_steady readers tools calls).orderly.quiet error))
 act_in_error readers tools calls (Machine Outcome.Done) error completes =
     end_of_earlier readers tools calls Outcome.Done (reached readers tools calls).server.running refl error completes
 act_in_error readers tools calls (Machine (Outcome.Touched at)) error completes =
@@ -334,7 +369,8 @@ act_in_error readers tools calls (Sent count) error completes = absurd (false≢
 
 -- ---- a framing fault
 
-read_again : (readers : Readers) (e : ServerEnd) (why : FramingFault) (front : Front) → next_of e.input.rest ≡ front → front ≡ Err why → e.input.fault ≡ Some why
+read_again : (readers : Readers) (e : ServerEnd) (why : FramingFault) (front : Front) → next_of e.input.rest ≡ front → front ≡ Err why
+    → e.input.fault ≡ Some why
     → (front_served readers e front).input ≡ e.input
 read_again readers e why (Ok None) is fault kept = refl
 read_again readers e why (Ok (Some found)) is fault kept = absurd (not_fault fault)
@@ -355,7 +391,8 @@ fed_again None why rest piece kept = absurd (none_is kept)
     none_is : ◌≡◌ {A = Option FramingFault} None (Some why) → ⊥
     none_is e = cc
 
-call_keeps_fault : (readers : Readers) (call : Call) (e : ServerEnd) (why : FramingFault) → next_of e.input.rest ≡ Err why → e.input.fault ≡ Some why
+call_keeps_fault : (readers : Readers) (call : Call) (e : ServerEnd) (why : FramingFault) → next_of e.input.rest ≡ Err why
+    → e.input.fault ≡ Some why
     → gives_up call ≡ false → (behind_call readers call e).input ≡ e.input
 call_keeps_fault readers (Accept n) e why front kept stays =
     chosen (λ (f : ServerEnd). f.input ≡ e.input) (possible (Accept n) e) (serving_accepted n e) e (λ may. refl) (λ may. refl)

@@ -1,5 +1,6 @@
 -- What waits has standard tags, where lines are read as the interface says.
-use Rattle.std.proofs.Common.{◌≡◌, ℕ, nat_le, Bool, true, false, not, ◌&&◌, ◌||◌, List, [], ◌∷◌, ◌++◌, length, refl, sym, ◌∙◌, Option, Some, None, Result, Ok, Err}
+use Rattle.std.proofs.Common.{◌≡◌, ℕ, nat_le, Bool, true, false, not, ◌&&◌, ◌||◌, List, [], ◌∷◌, ◌++◌, length, refl, sym, ◌∙◌, Option, Some,
+  None, Result, Ok, Err}
 use Rattle.std.proofs.lemmas.Bool.{false≢true}
 use Rattle.fixed_um.specs.declared.lengths.Point.{Point}
 use Rattle.dme_line.specs.Tags.{is_event_tag}
@@ -15,7 +16,8 @@ use Rattle.dme_line.specs.declared.reading.LineFault.TheVariants as fault
 use Rattle.dme_line.proofs.ReadWritable.{read_is_writable}
 use Rattle.line_framing.specs.Next.{Front, next_of}
 use Rattle.protocol_model.specs.Lines.{Readers, AreReaders, reading_of}
-use Rattle.protocol_model.specs.Server.{Server, Answer, runs_under, waits_under, is_abort, is_clear, stands, fresh, tagged, server_read, refusal, carried_out, carried, taken, turned_to, server_turned, finished, touched, machined, server_machined}
+use Rattle.protocol_model.specs.Server.{Server, Answer, runs_under, waits_under, is_abort, is_clear, stands, fresh, tagged, server_read,
+  refusal, carried_out, carried, taken, turned_to, server_turned, finished, touched, machined, server_machined}
 use Rattle.protocol_model.specs.Ends.{ServerEnd, front_served, serving_read}
 use Rattle.protocol_model.specs.declared.lines.Line.{Line}
 use Rattle.protocol_model.specs.declared.lines.Waiting.{Waiting}
@@ -30,7 +32,8 @@ standard_join (v ∷ ws) w h one = (h.0, standard_join ws w h.1 one)
 abbrev Waits : Answer → Type 0
 Waits a = AreStandard a.server.waiting
 
-stands_standard : (s : Server) (t : Tag) (reading : Result Command Misread) → is_event_tag t ≡ false → AreStandard s.waiting → Waits (stands s t reading)
+stands_standard : (s : Server) (t : Tag) (reading : Result Command Misread) → is_event_tag t ≡ false → AreStandard s.waiting
+    → Waits (stands s t reading)
 stands_standard s t reading one h =
     branch Waits (s.error && not (is_clear reading)) _ _ (λ refused. h)
     (λ go. branch Waits s.error _ _ (λ error. standard_join s.waiting _ h one)
@@ -41,11 +44,15 @@ abbrev IsSorted : Tag → Result Command Misread → Type 0
 IsSorted t (Ok c) = is_abort (Ok c) ≡ false → is_event_tag t ≡ false
 IsSorted t (Err why) = Unit {0}
 
-fresh_standard : (s : Server) (t : Tag) (reading : Result Command Misread) → IsSorted t reading → AreStandard s.waiting → Waits (fresh s t reading)
-fresh_standard s t (Ok c) sorted h = branch Waits (is_abort (Ok c)) _ _ (λ aborts. tt) (λ other. stands_standard s t (Ok c) (sorted other) h)
-fresh_standard s t (Err why) sorted h = branch Waits (is_event_tag t) _ _ (λ event. h) (λ standard. stands_standard s t (Err why) standard h)
+fresh_standard : (s : Server) (t : Tag) (reading : Result Command Misread) → IsSorted t reading → AreStandard s.waiting
+    → Waits (fresh s t reading)
+fresh_standard s t (Ok c) sorted h = branch Waits (is_abort (Ok c)) _ _ (λ aborts. tt)
+    (λ other. stands_standard s t (Ok c) (sorted other) h)
+fresh_standard s t (Err why) sorted h = branch Waits (is_event_tag t) _ _ (λ event. h)
+    (λ standard. stands_standard s t (Err why) standard h)
 
-tagged_standard : (s : Server) (t : Tag) (reading : Result Command Misread) → IsSorted t reading → AreStandard s.waiting → Waits (tagged s t reading)
+tagged_standard : (s : Server) (t : Tag) (reading : Result Command Misread) → IsSorted t reading → AreStandard s.waiting
+    → Waits (tagged s t reading)
 tagged_standard s t reading sorted h =
     branch Waits (runs_under t s.running || waits_under t s.waiting) _ _ (λ used. h) (λ free. fresh_standard s t reading sorted h)
 
@@ -62,7 +69,8 @@ no_event (command.SetCsyTransformation p) e = refl
 no_event (command.SetCoordSystem system) e = refl
 no_event command.AbortE e = absurd (false≢true (sym e))
 
-reading_standard : (s : Server) (line : List ℕ) (reading : Result (Tag × Command) LineFault) → ReadsCommand line reading → AreStandard s.waiting
+reading_standard : (s : Server) (line : List ℕ) (reading : Result (Tag × Command) LineFault) → ReadsCommand line reading
+    → AreStandard s.waiting
     → Waits (server_read s (reading_of reading))
 reading_standard s line (Ok (t, c)) reads h =
     tagged_standard s t (Ok c) (λ other. (read_is_writable line t c reads).tagged.sort ∙ no_event c other) h
@@ -78,7 +86,8 @@ front_standard readers e (Ok None) are h = h
 front_standard readers e (Ok (Some (line, rest))) are h = reading_standard e.server line (readers.command line) (are.command line) h
 front_standard readers e (Err why) are h = h
 
-pub read_standard : (readers : Readers) (e : ServerEnd) → AreReaders readers → AreStandard e.server.waiting → AreStandard (serving_read readers e).server.waiting
+pub read_standard : (readers : Readers) (e : ServerEnd) → AreReaders readers → AreStandard e.server.waiting
+    → AreStandard (serving_read readers e).server.waiting
 read_standard readers e are h = front_standard readers e (next_of e.input.rest) are h
 
 carried_standard : (s : Server) (t : Tag) (c : Command) → AreStandard s.waiting → Waits (carried_out s t c)
@@ -122,7 +131,8 @@ finished_standard s t (command.SetCsyTransformation p) h = h
 finished_standard s t (command.SetCoordSystem system) h = h
 finished_standard s t command.AbortE h = h
 
-touched_standard : (s : Server) (t : Tag) (c : Command) (at : Point) (tool : Option (List ℕ)) → AreStandard s.waiting → Waits (touched s t c at tool)
+touched_standard : (s : Server) (t : Tag) (c : Command) (at : Point) (tool : Option (List ℕ)) → AreStandard s.waiting
+    → Waits (touched s t c at tool)
 touched_standard s t command.StartSession at tool h = h
 touched_standard s t command.EndSession at tool h = h
 touched_standard s t command.ClearAllErrors at tool h = h

@@ -1,5 +1,6 @@
 -- What holds of a server at any time is kept by each of its calls.
-use Rattle.std.proofs.Common.{◌≡◌, ℕ, ◌+◌, ◌≤◌, ◌<◌, nat_le, nat_lt, Bool, true, false, cond, not, ◌&&◌, ◌||◌, is_none, List, [], ◌∷◌, ◌++◌, length, drop, append-nil, refl, sym, ◌∙◌, ap, subst, arith, length-append, Option, Some, None, Result, Ok, Err}
+use Rattle.std.proofs.Common.{◌≡◌, ℕ, ◌+◌, ◌≤◌, ◌<◌, nat_le, nat_lt, Bool, true, false, cond, not, ◌&&◌, ◌||◌, is_none, List, [], ◌∷◌, ◌++◌,
+  length, drop, append-nil, refl, sym, ◌∙◌, ap, subst, arith, length-append, Option, Some, None, Result, Ok, Err}
 use Rattle.std.proofs.lemmas.Bool.{false≢true, and_parts, leb-true, le-leb, ltb-true}
 use Rattle.std.proofs.Math.Seq.{drop-nil}
 use Rattle.fixed_um.specs.declared.lengths.Point.{Point}
@@ -18,8 +19,11 @@ use Rattle.line_framing.specs.Framing.{IsSound, no_bytes, fed_behind}
 use Rattle.line_framing.specs.declared.faults.FramingFault.{FramingFault}
 use Rattle.protocol_model.specs.Replies.{Reading}
 use Rattle.protocol_model.specs.Lines.{Readers, reading_of}
-use Rattle.protocol_model.specs.Server.{Server, Answer, runs_under, waits_under, is_abort, is_clear, stands, fresh, tagged, server_read, refusal, first_failing, checks, carried_out, carried, taken, turned_to, server_turned, finished, touched, machined, server_machined, may_end}
-use Rattle.protocol_model.specs.Ends.{ServerEnd, front_served, serving_accepted, serving_fed, serving_read, serving_turned, serving_machined, serving_left, serving_restarted, serving_taken, new_server_end}
+use Rattle.protocol_model.specs.Server.{Server, Answer, runs_under, waits_under, is_abort, is_clear, stands, fresh, tagged, server_read,
+  refusal, first_failing, checks, carried_out, carried, taken, turned_to, server_turned, finished, touched, machined, server_machined,
+  may_end}
+use Rattle.protocol_model.specs.Ends.{ServerEnd, front_served, serving_accepted, serving_fed, serving_read, serving_turned,
+  serving_machined, serving_left, serving_restarted, serving_taken, new_server_end}
 use Rattle.protocol_model.specs.declared.lines.Line.{Line}
 use Rattle.protocol_model.specs.declared.lines.Waiting.{Waiting}
 use Rattle.protocol_model.specs.declared.machine.Outcome.{Outcome}
@@ -67,14 +71,16 @@ stands_orderly s t reading h =
     (λ go. branch (λ (a : Answer). IsOrderly a.server) s.error _ _
     (λ error. record {
       quiet = λ e. absurd (false≢true e);
-      few = subst (λ (ws : List Waiting). length (ws ++ record { tag = t; reading = reading } ∷ []) ≤ 64) (sym (h.quiet error)) (omega arith);
+      few = subst (λ (ws : List Waiting). length (ws ++ record { tag = t; reading = reading } ∷ []) ≤ 64) (sym (h.quiet error))
+          (omega arith);
       running = h.running;
     })
     (λ calm. branch (λ (a : Answer). IsOrderly a.server) (nat_le 64 (length s.waiting)) _ _
     (λ full. record { quiet = λ e. refl; few = omega arith; running = h.running })
     (λ room. record {
       quiet = λ e. absurd (false≢true (sym calm ∙ e));
-      few = let longer : length (s.waiting ++ record { tag = t; reading = reading } ∷ []) ≡ length s.waiting + 1 = length-append s.waiting (record { tag = t; reading = reading } ∷ []) in
+      few = let longer : length (s.waiting ++ record { tag = t; reading = reading } ∷ []) ≡ length s.waiting + 1 =
+          length-append s.waiting (record { tag = t; reading = reading } ∷ []) in
           let less : (64 ≤ length s.waiting) → ⊥ = λ le. false≢true (sym room ∙ le-leb 64 (length s.waiting) le) in
           room_for (length s.waiting) (length (s.waiting ++ record { tag = t; reading = reading } ∷ [])) less longer;
       running = h.running;
@@ -107,7 +113,8 @@ still : (s : Server) → s.running ≡ None → (s.error ≡ true → s.waiting 
 still s idle quiet few = record { quiet = quiet; few = few; running = λ line e. absurd (none_some s.running line idle e) }
 
 -- a server on which this command runs
-starts : (s : Server) (line : Line) → s.running ≡ Some line → (s.error ≡ true → s.waiting ≡ []) → length s.waiting ≤ 64 → IsRunnable s line → IsOrderly s
+starts : (s : Server) (line : Line) → s.running ≡ Some line → (s.error ≡ true → s.waiting ≡ []) → length s.waiting ≤ 64 → IsRunnable s line
+    → IsOrderly s
 starts s line ran quiet few able =
     record { quiet = quiet; few = few; running = λ other e. subst (λ (l : Line). IsRunnable s l) (one_value line other (sym ran ∙ e)) able }
 
@@ -128,7 +135,8 @@ carried_orderly s t command.AbortE idle quiet few passed = still _ idle quiet fe
 one_fewer : (w : Waiting) (ws vs : List Waiting) → vs ≡ w ∷ ws → length vs ≤ 64 → length ws ≤ 64
 one_fewer w ws vs is few = let long : length vs ≡ length (w ∷ ws) = ap length is in omega arith
 
-taken_orderly : (s : Server) (w : Waiting) (ws : List Waiting) (number : Option ℕ) → refusal s w.reading ≡ number → s.running ≡ None → s.waiting ≡ w ∷ ws
+taken_orderly : (s : Server) (w : Waiting) (ws : List Waiting) (number : Option ℕ) → refusal s w.reading ≡ number → s.running ≡ None
+    → s.waiting ≡ w ∷ ws
     → IsOrderly s → IsOrderly (taken s w ws number).server
 taken_orderly s w ws (Some number) is idle waits h = record { quiet = λ e. refl; few = omega arith; running = h.running }
 taken_orderly s w ws None is idle waits h = go w.reading is
@@ -139,7 +147,8 @@ taken_orderly s w ws None is idle waits h = go w.reading is
     quiet : s.error ≡ true → ws ≡ []
     quiet error = absurd (not_empty w ws (sym waits ∙ h.quiet error))
 
-    go : (reading : Result Command Misread) → refusal s reading ≡ None → IsOrderly (carried (record s { waiting = ws }) w.tag reading).server
+    go : (reading : Result Command Misread) → refusal s reading ≡ None
+        → IsOrderly (carried (record s { waiting = ws }) w.tag reading).server
     go (Ok c) none = carried_orderly (record s { waiting = ws }) w.tag c idle quiet few none
     go (Err refused) none = still _ idle quiet few
 
@@ -163,7 +172,8 @@ finished_orderly s t (command.SetCsyTransformation p) h = h
 finished_orderly s t (command.SetCoordSystem system) h = h
 finished_orderly s t command.AbortE h = h
 
-touched_orderly : (s : Server) (t : Tag) (c : Command) (at : Point) (tool : Option (List ℕ)) → IsOrderly s → IsOrderly (touched s t c at tool).server
+touched_orderly : (s : Server) (t : Tag) (c : Command) (at : Point) (tool : Option (List ℕ)) → IsOrderly s
+    → IsOrderly (touched s t c at tool).server
 touched_orderly s t command.StartSession at tool h = h
 touched_orderly s t command.EndSession at tool h = h
 touched_orderly s t command.ClearAllErrors at tool h = h
@@ -207,7 +217,8 @@ pub ends_on : (e : ServerEnd) (ended : Outcome) → may_end e.server.running end
 ends_on e ended may h = not_off e.server.on (λ off. none_ends e.server.running ended may ((h.off off).running))
 
 -- a server that stays on its connection
-on_steady : (e f : ServerEnd) (acts : List Act) → e.server.on ≡ true → IsSteady e → Moves e.server f.server acts → IsOrderly f.server → IsSound f.input → IsSteady f
+on_steady : (e f : ServerEnd) (acts : List Act) → e.server.on ≡ true → IsSteady e → Moves e.server f.server acts → IsOrderly f.server
+    → IsSound f.input → IsSteady f
 on_steady e f acts on h moves orderly sound = record {
   last = subst (λ (n : ℕ). n ≤ 4000000000) (sym moves.last) h.last;
   on = λ still_on. subst IsConnection (sym moves.last) (h.on on);
@@ -216,7 +227,8 @@ on_steady e f acts on h moves orderly sound = record {
   sound = sound;
 }
 
-fed_sound : (fault : Option FramingFault) (rest piece : List ℕ) → IsSound (record { rest = rest; fault = fault }) → IsSound (fed_behind fault rest piece)
+fed_sound : (fault : Option FramingFault) (rest piece : List ℕ) → IsSound (record { rest = rest; fault = fault })
+    → IsSound (fed_behind fault rest piece)
 fed_sound None rest piece h = record { kept = λ why e. cc }
 fed_sound (Some fault) rest piece h = h
 
@@ -238,7 +250,8 @@ accepted_steady n e may h =
 
 pub fed_steady : (bytes : List ℕ) (e : ServerEnd) → may_feed e ≡ true → IsSteady e → IsSteady (serving_fed bytes e)
 fed_steady bytes e may h =
-    on_steady e (serving_fed bytes e) [] ((and_parts _ _ may).0) h (record { on = refl; last = refl; ledger = sym (append-nil e.server.ledger) }) h.orderly
+    on_steady e (serving_fed bytes e) [] ((and_parts _ _ may).0) h
+        (record { on = refl; last = refl; ledger = sym (append-nil e.server.ledger) }) h.orderly
     (fed_sound e.input.fault e.input.rest bytes h.sound)
 
 -- a framing fault is kept
@@ -248,10 +261,12 @@ fault_steady e why is on h =
     on_steady e _ [] on h (record { on = refl; last = refl; ledger = sym (append-nil e.server.ledger) }) h.orderly
     (record { kept = λ other kept. is ∙ ap Err (one_fault why other kept) })
 
-front_steady : (readers : Readers) (e : ServerEnd) (front : Front) → next_of e.input.rest ≡ front → e.server.on ≡ true → IsSteady e → IsSteady (front_served readers e front)
+front_steady : (readers : Readers) (e : ServerEnd) (front : Front) → next_of e.input.rest ≡ front → e.server.on ≡ true → IsSteady e
+    → IsSteady (front_served readers e front)
 front_steady readers e (Ok None) is on h = h
 front_steady readers e (Ok (Some (line, rest))) is on h =
-    on_steady e _ [] on h (read_moves e.server (reading_of (readers.command line))) (read_orderly e.server (reading_of (readers.command line)) h.orderly)
+    on_steady e _ [] on h (read_moves e.server (reading_of (readers.command line)))
+        (read_orderly e.server (reading_of (readers.command line)) h.orderly)
     (record { kept = λ why kept. absurd (no why (sym is ∙ h.sound.kept why kept)) })
   where
     no : (why : FramingFault) → ◌≡◌ {A = Front} (Ok (Some (line, rest))) (Err why) → ⊥
@@ -264,9 +279,11 @@ read_steady readers e on h = front_steady readers e (next_of e.input.rest) refl 
 pub turned_steady : (e : ServerEnd) → may_turn e.server ≡ true → IsSteady e → IsSteady (serving_turned e)
 turned_steady e may h =
     let moves = turned_moves e.server in
-    on_steady e _ moves.0 (turns_on e may h) h moves.1 (turned_orderly e.server (nothing_runs e.server.running ((and_parts _ _ may).0)) h.orderly) h.sound
+    on_steady e _ moves.0 (turns_on e may h) h moves.1 (turned_orderly e.server (nothing_runs e.server.running ((and_parts _ _ may).0))
+        h.orderly) h.sound
 
-pub machined_steady : (ended : Outcome) (e : ServerEnd) → may_end e.server.running ended ≡ true → IsSteady e → IsSteady (serving_machined ended e)
+pub machined_steady : (ended : Outcome) (e : ServerEnd) → may_end e.server.running ended ≡ true → IsSteady e
+    → IsSteady (serving_machined ended e)
 machined_steady ended e may h =
     let moves = machined_moves e.server ended in
     on_steady e _ moves.0 (ends_on e ended may h) h moves.1 (machined_orderly e.server ended h.orderly) h.sound

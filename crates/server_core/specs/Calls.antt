@@ -1,5 +1,6 @@
 -- Lists of calls of a server from a new one, and the act that a call completes (this profile).
-use Rattle.std.specs.Prelude.{◌≡◌, ℕ, nat_le, Bool, true, false, ◌&&◌, if◌then◌else◌, Option, Some, None, is_none, List, [], ◌∷◌, ◌++◌, length}
+use Rattle.std.specs.Prelude.{◌≡◌, ℕ, nat_le, Bool, true, false, ◌&&◌, if◌then◌else◌, Option, Some, None, is_none, List, [], ◌∷◌, ◌++◌,
+  length}
 use Rattle.fixed_um.specs.Points.{point_sum, point_difference}
 use Rattle.fixed_um.specs.declared.lengths.Point.{Point}
 use Rattle.dme_line.specs.declared.tags.Tag.{Tag}
@@ -11,7 +12,8 @@ use Rattle.protocol_model.specs.Replies.{Reply}
 use Rattle.protocol_model.specs.Lines.{Readers, reply_bytes}
 use Rattle.protocol_model.specs.Claims.{Made}
 use Rattle.protocol_model.specs.Server.{Server, offset, in_volume, frame_of, may_end, refusal}
-use Rattle.protocol_model.specs.Ends.{ServerEnd, new_server_end, serving_accepted, serving_fed, serving_read, serving_turned, serving_machined, serving_left, serving_restarted, serving_taken}
+use Rattle.protocol_model.specs.Ends.{ServerEnd, new_server_end, serving_accepted, serving_fed, serving_read, serving_turned,
+  serving_machined, serving_left, serving_restarted, serving_taken}
 use Rattle.protocol_model.specs.declared.lines.Line.{Line}
 use Rattle.protocol_model.specs.declared.lines.Waiting.{Waiting}
 use Rattle.protocol_model.specs.declared.machine.Outcome.{Outcome}
@@ -21,7 +23,8 @@ use Rattle.server_core.specs.Acting.{IsCommanded}
 
 -- ---- lists of calls
 
--- a call that may change a server, with what it is given: a connection's number, a piece of bytes, how what runs ended, how many bytes were sent
+-- a call that may change a server, with what it is given: a connection's number, a piece of bytes, how what runs ended, how many bytes were
+-- sent
 pub data Call : Type 0 where
   Accept : ℕ → Call
   Feed : List ℕ → Call
@@ -80,7 +83,8 @@ abbrev pub selects_frame : Option Command → Bool
 selects_frame (Some (command.SetCoordSystem system)) = true
 selects_frame _ = false
 
--- the calls that complete an act: the machine is done or has touched, where what runs can end so, and the turn of a choice of frame that is not refused
+-- the calls that complete an act: the machine is done or has touched, where what runs can end so, and the turn of a choice of frame that is
+-- not refused
 abbrev pub completes_act : Call → ServerEnd → Bool
 completes_act Turn e = may_turn e.server && (is_none (first_refusal e.server) && selects_frame (first_command e.server))
 completes_act (Machine outcome.Done) e = may_end e.server.running outcome.Done
@@ -133,7 +137,8 @@ deed_of Turn e = if may_turn e.server then turn_deed e.server e.server.waiting e
 deed_of (Machine ended) e = if may_end e.server.running ended then end_deed e.server ended e.server.running else None
 deed_of _ e = None
 
--- one act is appended, on the present connection, the call answers its lines and the end of its command, nothing else, and nothing runs any more
+-- one act is appended, on the present connection, the call answers its lines and the end of its command, nothing else, and nothing runs any
+-- more
 pub record HasActed (deed : Deed) (old new : ServerEnd) : Type 0 where
   pub ledger : new.server.ledger ≡ old.server.ledger ++ (old.server.last, deed.act) ∷ []
   pub said : new.out ≡ old.out ++ reply_bytes (deed.lines ++ Reply.Done deed.tag ∷ [])
@@ -169,7 +174,8 @@ pub record IsFull (line : Line) (e : ServerEnd) : Type 0 where
   pub runs : e.server.running ≡ Some line
   pub full : length e.server.waiting ≡ 64
 
--- the command that runs behind these calls ran already when the error state was entered, by a line that was read while 64 waited, and has run in it since
+-- the command that runs behind these calls ran already when the error state was entered, by a line that was read while 64 waited, and has
+-- run in it since
 pub record RanBefore (readers : Readers) (tools : List (List ℕ)) (calls : List Call) (line : Line) : Type 0 where
   pub before : List Call
   pub since : List Call

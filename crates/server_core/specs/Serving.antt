@@ -1,5 +1,6 @@
 -- What callers see of a server (this profile): its setup, and its end of a connection.
-use Rattle.std.specs.Prelude.{◌≡◌, ◌≢◌, ℕ, nat_lt, nat_le, Bool, not, ◌&&◌, is_none, Option, Some, None, true, false, List, [], ◌∷◌, Result, Ok, Err}
+use Rattle.std.specs.Prelude.{◌≡◌, ◌≢◌, ℕ, nat_lt, nat_le, Bool, not, ◌&&◌, is_none, Option, Some, None, true, false, List, [], ◌∷◌, Result,
+  Ok, Err}
 use Rattle.dme_line.specs.declared.commands.Command.{Command}
 use Rattle.dme_line.specs.declared.commands.Command.TheVariants as command
 use Rattle.protocol_model.specs.declared.lines.Misread.{Misread}
@@ -121,7 +122,8 @@ IsFeedFault e _ = ⊥
 abbrev pub with_fault : Serving → FramingFault → Serving
 with_fault s why = with_end s (record (s.end) { input = record (s.end.input) { fault = Some why } })
 
--- why no line is read, and what the server is then: it is on no connection, what stands at the front is no line, which is kept, or memory is wanting for a line
+-- why no line is read, and what the server is then: it is on no connection, what stands at the front is no line, which is kept, or memory
+-- is wanting for a line
 abbrev pub IsReadFault : Serving → Serving → ServerFault → Type 0
 IsReadFault old new server_fault.NotNow = new ≡ old
 IsReadFault old new (server_fault.Framing why) = (next_of old.end.input.rest ≡ Err why) × (new ≡ with_fault old why)

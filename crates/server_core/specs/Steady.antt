@@ -11,7 +11,8 @@ use Rattle.protocol_model.specs.declared.lines.Line.{Line}
 use Rattle.protocol_model.specs.declared.lines.Waiting.{Waiting}
 use Rattle.server_core.specs.Serving.{runs}
 
--- on no connection a server has no session and no error, a stored offset of zero, the machine's frame, nothing that runs or waits, and no bytes
+-- on no connection a server has no session and no error, a stored offset of zero, the machine's frame, nothing that runs or waits, and no
+-- bytes
 pub record IsOff (e : ServerEnd) : Type 0 where
   pub session : e.server.session ≡ false
   pub error : e.server.error ≡ false
@@ -22,7 +23,8 @@ pub record IsOff (e : ServerEnd) : Type 0 where
   pub input : e.input ≡ no_bytes
   pub out : e.out ≡ []
 
--- what runs is a command for the machine, and still passes all checks of a turn: a session is open, a touch has its tool, and a target lies in the volume
+-- what runs is a command for the machine, and still passes all checks of a turn: a session is open, a touch has its tool, and a target lies
+-- in the volume
 abbrev pub IsRunnable : Server → Line → Type 0
 IsRunnable s line = (runs (Some line.command) ≡ true) × (first_failing (checks s line.command) ≡ None)
 
@@ -32,7 +34,8 @@ pub record IsOrderly (s : Server) : Type 0 where
   pub few : length s.waiting ≤ 64
   pub running : (line : Line) → s.running ≡ Some line → IsRunnable s line
 
--- what holds at any time, whatever functions read the lines: a connection has a number, on none nothing is left of one, and a framing fault that is kept
+-- what holds at any time, whatever functions read the lines: a connection has a number, on none nothing is left of one, and a framing fault
+-- that is kept
 -- is what stands at the front of the bytes
 pub record IsSteady (e : ServerEnd) : Type 0 where
   pub last : e.server.last ≤ 4000000000

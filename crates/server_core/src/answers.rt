@@ -73,7 +73,8 @@ pub(crate) fn write_point(out: &mut Vec<u8>, tag: Tag, point: Point)
 pub(crate) fn write_error(out: &mut Vec<u8>, tag: Tag, error: ErrorNumber, kind: Option<Kind>)
     requires tag { IsTag tag }
     requires room { vec_len out.old + 80 ≤ vec_capacity out.old }
-    ensures text { out.new.items ≡ out.old.items ++ reply_bytes (Reply.Error tag (number_of error) kind ∷ []) }
+    ensures text { out.new.items ≡ out.old.items
+        ++ reply_bytes (Reply.Error tag (number_of error) kind ∷ []) }
     ensures len { vec_len out.new ≤ vec_len out.old + 80 }
     ensures capacity { vec_capacity out.old ≤ vec_capacity out.new }
 {

@@ -181,7 +181,8 @@ impl Controller {
 
     /// The job of what runs.
     pub(crate) fn job(&self) -> Option<&Job>
-        ensures { MatchOption result (running_job self.now.server ≡ None) (λ job. running_job self.now.server ≡ Some job.now) }
+        ensures { MatchOption result (running_job self.now.server ≡ None)
+            (λ job. running_job self.now.server ≡ Some job.now) }
     {
         match &self.running {
             Some(running) => Some(&running.job),
@@ -191,10 +192,12 @@ impl Controller {
 
     /// What is shown of the state.
     pub(crate) fn view(&self) -> View<'_>
-        ensures connection { result.connection ≡ (if self.now.server.on then Some self.now.server.last else None) }
+        ensures connection { result.connection ≡ (if self.now.server.on then Some
+            self.now.server.last else None) }
         ensures session { result.session ≡ self.now.server.session }
         ensures homed { result.homed ≡ self.now.server.homed }
-        ensures tool { MatchOption result.tool (self.now.server.tool ≡ None) (λ tool. self.now.server.tool ≡ Some tool.now) }
+        ensures tool { MatchOption result.tool (self.now.server.tool ≡ None)
+            (λ tool. self.now.server.tool ≡ Some tool.now) }
         ensures frame { result.frame ≡ self.now.server.frame }
         ensures stored { result.stored ≡ self.now.server.stored }
         ensures error { result.error ≡ self.now.server.error }

@@ -18,15 +18,20 @@ use crate::answers::ANSWER_MAX;
 /// calls leave the ledger as it is (this profile).
 #[tactic(auto, using(crate::proofs::Ledgers::read_keeps, crate::proofs::Ledgers::turned_one_more, crate::proofs::Ledgers::machined_one_more))]
 pub fn ledger_only_grows()
-    ensures accepted { (n : ℕ) (e : ServerEnd) → (serving_accepted n e).server.ledger ≡ e.server.ledger }
-    ensures fed { (bytes : List ℕ) (e : ServerEnd) → (serving_fed bytes e).server.ledger ≡ e.server.ledger }
-    ensures read { (readers : Readers) (e : ServerEnd) → (serving_read readers e).server.ledger ≡ e.server.ledger }
-    ensures turned { (e : ServerEnd) → IsOneMore e.server.last e.server.ledger (serving_turned e).server.ledger }
+    ensures accepted { (n : ℕ) (e : ServerEnd)
+        → (serving_accepted n e).server.ledger ≡ e.server.ledger }
+    ensures fed { (bytes : List ℕ) (e : ServerEnd)
+        → (serving_fed bytes e).server.ledger ≡ e.server.ledger }
+    ensures read { (readers : Readers) (e : ServerEnd)
+        → (serving_read readers e).server.ledger ≡ e.server.ledger }
+    ensures turned { (e : ServerEnd) → IsOneMore e.server.last e.server.ledger
+        (serving_turned e).server.ledger }
     ensures machined { (ended : OneOutcome) (e : ServerEnd)
         → IsOneMore e.server.last e.server.ledger (serving_machined ended e).server.ledger }
     ensures left { (e : ServerEnd) → (serving_left e).server.ledger ≡ e.server.ledger }
     ensures restarted { (e : ServerEnd) → (serving_restarted e).server.ledger ≡ e.server.ledger }
-    ensures sent { (count : ℕ) (e : ServerEnd) → (serving_taken count e).server.ledger ≡ e.server.ledger }
+    ensures sent { (count : ℕ) (e : ServerEnd)
+        → (serving_taken count e).server.ledger ≡ e.server.ledger }
 {}
 
 /// A contact is made only when the machine touched for a running touch, and is as that command asked; its line with the point and the end of
@@ -34,8 +39,10 @@ pub fn ledger_only_grows()
 #[tactic(auto, using(crate::proofs::Contacts::machined_as_commanded, crate::proofs::Contacts::turned_no_contact, crate::proofs::Ledgers::idle_keeps))]
 pub fn contacts_are_as_commanded()
     ensures made { (ended : OneOutcome) (e : ServerEnd) (made : Made)
-        → contacts (serving_machined ended e).server.ledger ≡ contacts e.server.ledger ++ made ∷ [] → IsCommanded e ended made }
-    ensures turned { (e : ServerEnd) → contacts (serving_turned e).server.ledger ≡ contacts e.server.ledger }
+        → contacts (serving_machined ended e).server.ledger ≡ contacts e.server.ledger ++ made ∷ []
+        → IsCommanded e ended made }
+    ensures turned { (e : ServerEnd) → contacts (serving_turned e).server.ledger
+        ≡ contacts e.server.ledger }
     ensures idle { (ended : OneOutcome) (e : ServerEnd) → e.server.running ≡ None
         → (serving_machined ended e).server.ledger ≡ e.server.ledger }
 {}
@@ -62,16 +69,20 @@ pub fn one_act_at_its_completing_call()
         → IsDone (deed_of call (reached readers tools calls)) (reached readers tools calls)
         (behind_call readers call (reached readers tools calls)) }
     ensures due { (readers : Readers) (tools : List (List ℕ)) (calls : List Call) (call : Call)
-        → is_some (deed_of call (reached readers tools calls)) ≡ completes_act call (reached readers tools calls) }
-    ensures contacts { (readers : Readers) (tools : List (List ℕ)) (calls : List Call) (call : Call) (made : Made)
+        → is_some (deed_of call (reached readers tools calls))
+        ≡ completes_act call (reached readers tools calls) }
+    ensures contacts { (readers : Readers) (tools : List (List ℕ)) (calls : List Call) (call : Call)
+        (made : Made)
         → contacts (behind_call readers call (reached readers tools calls)).server.ledger
         ≡ contacts (reached readers tools calls).server.ledger ++ made ∷ []
         → IsContactOf (reached readers tools calls) call made }
     ensures error { (readers : Readers) (tools : List (List ℕ)) (calls : List Call) (call : Call)
-        → (reached readers tools calls).server.error ≡ true → completes_act call (reached readers tools calls) ≡ true
+        → (reached readers tools calls).server.error ≡ true
+        → completes_act call (reached readers tools calls) ≡ true
         → IsEndOfEarlier readers tools calls call }
     ensures ran { (readers : Readers) (tools : List (List ℕ)) (calls : List Call) (line : OneLine)
-        → (reached readers tools calls).server.error ≡ true → (reached readers tools calls).server.running ≡ Some line
+        → (reached readers tools calls).server.error ≡ true
+        → (reached readers tools calls).server.running ≡ Some line
         → RanBefore readers tools calls line }
 {}
 
@@ -79,7 +90,8 @@ pub fn one_act_at_its_completing_call()
 /// `standard`, where they read as the interface says, that all that waits has standard tags.
 #[tactic(auto, using(crate::proofs::Reached::reached_steady, crate::proofs::Reached::reached_serving))]
 pub fn what_holds_behind_every_list_of_calls()
-    ensures steady { (readers : Readers) (tools : List (List ℕ)) (calls : List Call) → IsSteady (reached readers tools calls) }
+    ensures steady { (readers : Readers) (tools : List (List ℕ)) (calls : List Call)
+        → IsSteady (reached readers tools calls) }
     ensures standard { (readers : Readers) (tools : List (List ℕ)) (calls : List Call)
         → AreReaders readers → IsServing (reached readers tools calls) }
 {}
@@ -88,9 +100,13 @@ pub fn what_holds_behind_every_list_of_calls()
 /// `feed` and `read_one` answers it, until the connection is given up (this profile).
 #[tactic(auto, using(crate::proofs::Reached::kept_fault_stands, crate::proofs::Reached::fault_is_kept))]
 pub fn framing_fault_is_kept()
-    ensures stands { (readers : Readers) (tools : List (List ℕ)) (calls : List Call) (why : OneFault)
-        → (reached readers tools calls).input.fault ≡ Some why → next_of (reached readers tools calls).input.rest ≡ Err why }
-    ensures kept { (readers : Readers) (tools : List (List ℕ)) (calls : List Call) (call : Call) (why : OneFault)
+    ensures stands { (readers : Readers) (tools : List (List ℕ)) (calls : List Call)
+        (why : OneFault)
+        → (reached readers tools calls).input.fault ≡ Some why
+        → next_of (reached readers tools calls).input.rest ≡ Err why }
+    ensures kept { (readers : Readers) (tools : List (List ℕ)) (calls : List Call) (call : Call)
+        (why : OneFault)
         → (reached readers tools calls).input.fault ≡ Some why → gives_up call ≡ false
-        → (behind_call readers call (reached readers tools calls)).input ≡ (reached readers tools calls).input }
+        → (behind_call readers call (reached readers tools calls)).input
+        ≡ (reached readers tools calls).input }
 {}

@@ -58,7 +58,8 @@ impl Controller {
     /// Why what runs cannot end so, if it cannot.
     pub(crate) fn check(&self, outcome: &Outcome) -> Result<(), ServerFault>
         ensures ok { OnOk result (server.may_end self.now.server.running outcome.now ≡ true) }
-        ensures refused { IfErr result (λ fault. IsMachineFault self.now.server outcome.now fault × (fault ≢ ServerFault.Memory)) }
+        ensures refused { IfErr result (λ fault. IsMachineFault self.now.server outcome.now fault
+            × (fault ≢ ServerFault.Memory)) }
     {
         let Some(running) = &self.running else {
             return Err(ServerFault::NothingRuns);
@@ -76,9 +77,11 @@ impl Controller {
     fn stop(&mut self, out: &mut Vec<u8>, error: ErrorNumber)
         requires room { vec_len out.old + 10560 ≤ vec_capacity out.old }
         ensures controller { (line : OneLine) → self.old.server.running ≡ Some line
-            → self.new ≡ with_answered self.old (server.stopped self.old.server line (number_of error)) }
+            → self.new ≡ with_answered self.old (server.stopped self.old.server line
+            (number_of error)) }
         ensures text { (line : OneLine) → self.old.server.running ≡ Some line
-            → out.new.items ≡ out.old.items ++ reply_bytes (server.stopped self.old.server line (number_of error)).said }
+            → out.new.items ≡ out.old.items ++ reply_bytes
+            (server.stopped self.old.server line (number_of error)).said }
         ensures len { vec_len out.new ≤ vec_len out.old + 10560 }
     {
         let _at_most = self.waiting.len();
@@ -99,8 +102,10 @@ impl Controller {
     fn finish(&mut self, out: &mut Vec<u8>) -> Result<(), AllocError>
         requires may { server.may_end self.old.server.running outcome.Done ≡ true }
         requires room { vec_len out.old + 10560 ≤ vec_capacity out.old }
-        ensures controller { OnOk result (self.new ≡ with_answered self.old (server.server_machined self.old.server outcome.Done)) }
-        ensures text { OnOk result (out.new.items ≡ out.old.items ++ reply_bytes (server.server_machined self.old.server outcome.Done).said) }
+        ensures controller { OnOk result (self.new
+            ≡ with_answered self.old (server.server_machined self.old.server outcome.Done)) }
+        ensures text { OnOk result (out.new.items ≡ out.old.items
+            ++ reply_bytes (server.server_machined self.old.server outcome.Done).said) }
         ensures err { OnErr result (self.new ≡ self.old) }
         ensures silent { OnErr result (out.new.items ≡ out.old.items) }
         ensures len { vec_len out.new ≤ vec_len out.old + 10560 }
@@ -140,8 +145,11 @@ impl Controller {
         requires at { IsInVolume at }
         requires may { server.may_end self.old.server.running (outcome.Touched at) ≡ true }
         requires room { vec_len out.old + 10560 ≤ vec_capacity out.old }
-        ensures controller { OnOk result (self.new ≡ with_answered self.old (server.server_machined self.old.server (outcome.Touched at))) }
-        ensures text { OnOk result (out.new.items ≡ out.old.items ++ reply_bytes (server.server_machined self.old.server (outcome.Touched at)).said) }
+        ensures controller { OnOk result (self.new
+            ≡ with_answered self.old (server.server_machined self.old.server
+            (outcome.Touched at))) }
+        ensures text { OnOk result (out.new.items ≡ out.old.items
+            ++ reply_bytes (server.server_machined self.old.server (outcome.Touched at)).said) }
         ensures err { OnErr result (self.new ≡ self.old) }
         ensures silent { OnErr result (out.new.items ≡ out.old.items) }
         ensures len { vec_len out.new ≤ vec_len out.old + 10560 }
@@ -175,8 +183,10 @@ impl Controller {
     pub(crate) fn end(&mut self, out: &mut Vec<u8>, outcome: Outcome) -> Result<(), AllocError>
         requires may { server.may_end self.old.server.running outcome ≡ true }
         requires room { vec_len out.old + 10560 ≤ vec_capacity out.old }
-        ensures controller { OnOk result (self.new ≡ with_answered self.old (server.server_machined self.old.server outcome)) }
-        ensures text { OnOk result (out.new.items ≡ out.old.items ++ reply_bytes (server.server_machined self.old.server outcome).said) }
+        ensures controller { OnOk result (self.new
+            ≡ with_answered self.old (server.server_machined self.old.server outcome)) }
+        ensures text { OnOk result (out.new.items ≡ out.old.items
+            ++ reply_bytes (server.server_machined self.old.server outcome).said) }
         ensures err { OnErr result (self.new ≡ self.old) }
         ensures silent { OnErr result (out.new.items ≡ out.old.items) }
         ensures len { vec_len out.new ≤ vec_len out.old + 10560 }

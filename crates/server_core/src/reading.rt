@@ -38,7 +38,8 @@ pub(crate) fn error_of(why: Misread) -> ErrorNumber
 fn write_running_aborted(out: &mut Vec<u8>, running: &Option<Running>)
     requires tag { IsRunningFit (option_map (λ r. r.line) running.now) }
     requires room { vec_len out.old + 160 ≤ vec_capacity out.old }
-    ensures text { out.new.items ≡ out.old.items ++ reply_bytes (server.running_fails (option_map (λ r. r.line) running.now)) }
+    ensures text { out.new.items ≡ out.old.items
+        ++ reply_bytes (server.running_fails (option_map (λ r. r.line) running.now)) }
     ensures len { vec_len out.new ≤ vec_len out.old + 160 }
     ensures capacity { vec_capacity out.old ≤ vec_capacity out.new }
 {
@@ -55,7 +56,8 @@ fn write_running_aborted(out: &mut Vec<u8>, running: &Option<Running>)
 impl Controller {
     /// Whether a command runs or waits under this tag.
     fn is_in_use(&self, tag: Tag) -> bool
-        ensures { result ≡ (server.runs_under tag self.now.server.running || server.waits_under tag self.now.server.waiting) }
+        ensures { result ≡ (server.runs_under tag self.now.server.running
+            || server.waits_under tag self.now.server.waiting) }
     {
         let runs = match &self.running {
             Some(running) => running.line.tag == tag,
@@ -69,8 +71,10 @@ impl Controller {
     fn abort(&mut self, out: &mut Vec<u8>, tag: Tag)
         requires tag { IsTag tag }
         requires room { vec_len out.old + 10560 ≤ vec_capacity out.old }
-        ensures controller { self.new ≡ with_answered self.old (server.aborted self.old.server tag) }
-        ensures text { out.new.items ≡ out.old.items ++ reply_bytes (server.aborted self.old.server tag).said }
+        ensures controller { self.new ≡ with_answered self.old
+            (server.aborted self.old.server tag) }
+        ensures text { out.new.items ≡ out.old.items
+            ++ reply_bytes (server.aborted self.old.server tag).said }
         ensures len { vec_len out.new ≤ vec_len out.old + 10560 }
     {
         let _at_most = self.waiting.len();
@@ -89,8 +93,10 @@ impl Controller {
         requires reading { IsReadingFit reading }
         requires on { self.old.server.on ≡ true }
         requires room { vec_len out.old + 10560 ≤ vec_capacity out.old }
-        ensures controller { self.new ≡ with_answered self.old (server.stands self.old.server tag reading) }
-        ensures text { out.new.items ≡ out.old.items ++ reply_bytes (server.stands self.old.server tag reading).said }
+        ensures controller { self.new ≡ with_answered self.old
+            (server.stands self.old.server tag reading) }
+        ensures text { out.new.items ≡ out.old.items
+            ++ reply_bytes (server.stands self.old.server tag reading).said }
         ensures len { vec_len out.new ≤ vec_len out.old + 10560 }
     {
         let _at_most = self.waiting.len();
@@ -111,7 +117,9 @@ impl Controller {
     fn refuse_event(&self, out: &mut Vec<u8>, tag: Tag, why: Misread)
         requires tag { IsTag tag }
         requires room { vec_len out.old + 10560 ≤ vec_capacity out.old }
-        ensures text { out.new.items ≡ out.old.items ++ reply_bytes (Reply.Ack tag ∷ server.fails tag (server.fault_number why) (server.kind_in (Err why))) }
+        ensures text { out.new.items ≡ out.old.items
+            ++ reply_bytes (Reply.Ack tag ∷ server.fails tag (server.fault_number why)
+            (server.kind_in (Err why))) }
         ensures len { vec_len out.new ≤ vec_len out.old + 10560 }
     {
         write_received(out, tag);
@@ -124,8 +132,10 @@ impl Controller {
         requires reading { IsReadingFit reading }
         requires on { self.old.server.on ≡ true }
         requires room { vec_len out.old + 10560 ≤ vec_capacity out.old }
-        ensures controller { self.new ≡ with_answered self.old (server.fresh self.old.server tag reading) }
-        ensures text { out.new.items ≡ out.old.items ++ reply_bytes (server.fresh self.old.server tag reading).said }
+        ensures controller { self.new ≡ with_answered self.old
+            (server.fresh self.old.server tag reading) }
+        ensures text { out.new.items ≡ out.old.items
+            ++ reply_bytes (server.fresh self.old.server tag reading).said }
         ensures len { vec_len out.new ≤ vec_len out.old + 10560 }
     {
         match (tag, reading) {
@@ -142,8 +152,10 @@ impl Controller {
         requires reading { IsReadingFit reading }
         requires on { self.old.server.on ≡ true }
         requires room { vec_len out.old + 10560 ≤ vec_capacity out.old }
-        ensures controller { self.new ≡ with_answered self.old (server.tagged self.old.server tag reading) }
-        ensures text { out.new.items ≡ out.old.items ++ reply_bytes (server.tagged self.old.server tag reading).said }
+        ensures controller { self.new ≡ with_answered self.old
+            (server.tagged self.old.server tag reading) }
+        ensures text { out.new.items ≡ out.old.items
+            ++ reply_bytes (server.tagged self.old.server tag reading).said }
         ensures len { vec_len out.new ≤ vec_len out.old + 10560 }
     {
         if self.is_in_use(tag) {
@@ -158,8 +170,10 @@ impl Controller {
         requires reading { IsLineFit reading }
         requires on { self.old.server.on ≡ true }
         requires room { vec_len out.old + 10560 ≤ vec_capacity out.old }
-        ensures controller { self.new ≡ with_answered self.old (server.server_read self.old.server (reading_of reading)) }
-        ensures text { out.new.items ≡ out.old.items ++ reply_bytes (server.server_read self.old.server (reading_of reading)).said }
+        ensures controller { self.new ≡ with_answered self.old
+            (server.server_read self.old.server (reading_of reading)) }
+        ensures text { out.new.items ≡ out.old.items
+            ++ reply_bytes (server.server_read self.old.server (reading_of reading)).said }
         ensures len { vec_len out.new ≤ vec_len out.old + 10560 }
     {
         match reading {
@@ -180,9 +194,11 @@ impl Controller {
         requires on { self.old.server.on ≡ true }
         requires room { vec_len out.old + 10560 ≤ vec_capacity out.old }
         ensures controller { OnOk result ((readers : Readers) → AreReaders readers
-            → self.new ≡ with_answered self.old (server.server_read self.old.server (reading_of (readers.command line.now)))) }
+            → self.new ≡ with_answered self.old (server.server_read self.old.server
+            (reading_of (readers.command line.now)))) }
         ensures text { OnOk result ((readers : Readers) → AreReaders readers
-            → out.new.items ≡ out.old.items ++ reply_bytes (server.server_read self.old.server (reading_of (readers.command line.now))).said) }
+            → out.new.items ≡ out.old.items ++ reply_bytes
+            (server.server_read self.old.server (reading_of (readers.command line.now))).said) }
         ensures err { OnErr result (self.new ≡ self.old) }
         ensures silent { OnErr result (out.new.items ≡ out.old.items) }
         ensures len { vec_len out.new ≤ vec_len out.old + 10560 }

@@ -74,7 +74,8 @@ impl Server {
     #[tactic(auto, using(crate::proofs::Servings::accepted_holds))]
     pub fn accept(&mut self, number: u64) -> Result<(), ServerFault>
         ensures can { IsOk result ↔ (may_accept number self.old.end.server ≡ true) }
-        ensures ok { OnOk result (self.new ≡ with_end self.old (serving_accepted number self.old.end)) }
+        ensures ok { OnOk result (self.new ≡ with_end self.old
+            (serving_accepted number self.old.end)) }
         ensures not_now { IfErr result (λ fault. fault ≡ ServerFault.NotNow) }
         ensures err { OnErr result (self.new ≡ self.old) }
     {
@@ -91,7 +92,8 @@ impl Server {
     #[tactic(auto, using(crate::proofs::Servings::fed_holds))]
     pub fn feed(&mut self, piece: &[u8]) -> Result<(), ServerFault>
         ensures can { OnOk result (may_feed self.old.end ≡ true) }
-        ensures ok { OnOk result (self.new ≡ with_end self.old (serving_fed piece.now self.old.end)) }
+        ensures ok { OnOk result (self.new ≡ with_end self.old
+            (serving_fed piece.now self.old.end)) }
         ensures not_now { IsErrOf result ServerFault.NotNow ↔ (self.old.end.server.on ≡ false) }
         ensures framing { (why : OneFault) → (result ≡ Err (ServerFault.Framing why))
             ↔ ((self.old.end.server.on ≡ true) × (self.old.end.input.fault ≡ Some why)) }
@@ -114,8 +116,10 @@ impl Server {
     pub fn read_one(&mut self) -> Result<bool, ServerFault>
         ensures ok { OnOk result ((readers : Readers) → AreReaders readers
             → self.new ≡ with_end self.old (serving_read readers self.old.end)) }
-        ensures read { IfOk result (λ read. IsTrue read ↔ IsLineDue (next_of self.old.end.input.rest)) }
-        ensures nothing { (result ≡ Ok false) ↔ ((self.old.end.server.on ≡ true) × (next_of self.old.end.input.rest ≡ Ok None)) }
+        ensures read { IfOk result (λ read. IsTrue read
+            ↔ IsLineDue (next_of self.old.end.input.rest)) }
+        ensures nothing { (result ≡ Ok false) ↔ ((self.old.end.server.on ≡ true)
+            × (next_of self.old.end.input.rest ≡ Ok None)) }
         ensures unread { result ≡ Ok false → self.new ≡ self.old }
         ensures not_now { IsErrOf result ServerFault.NotNow ↔ (self.old.end.server.on ≡ false) }
         ensures framing { (why : OneFault) → (result ≡ Err (ServerFault.Framing why))
@@ -153,8 +157,10 @@ impl Server {
     /// where nothing waits, `Memory`.
     pub fn turn(&mut self) -> Result<(), ServerFault>
         ensures ok { OnOk result (self.new ≡ with_end self.old (serving_turned self.old.end)) }
-        ensures not_now { IsErrOf result ServerFault.NotNow ↔ (may_turn self.old.end.server ≡ false) }
-        ensures others { IfErr result (λ fault. (fault ≡ ServerFault.NotNow) ⊎ (fault ≡ ServerFault.Memory)) }
+        ensures not_now { IsErrOf result ServerFault.NotNow
+            ↔ (may_turn self.old.end.server ≡ false) }
+        ensures others { IfErr result (λ fault. (fault ≡ ServerFault.NotNow)
+            ⊎ (fault ≡ ServerFault.Memory)) }
         ensures err { OnErr result (self.new ≡ self.old) }
         ensures bounded { length self.new.end.out ≤ length self.old.end.out + ANSWER_MAX }
     {
@@ -179,7 +185,8 @@ impl Server {
 
     /// The job of what runs on the machine, its points in machine axes.
     pub fn running(&self) -> Option<&Job>
-        ensures { MatchOption result (running_job self.now.end.server ≡ None) (λ job. running_job self.now.end.server ≡ Some job.now) }
+        ensures { MatchOption result (running_job self.now.end.server ≡ None)
+            (λ job. running_job self.now.end.server ≡ Some job.now) }
     {
         self.controller.job()
     }
@@ -188,13 +195,17 @@ impl Server {
     /// and `Missed` end a touch, `Fault` each; `OutOfVolume` where a touched point is past the volume limit; in this order. `Memory` only where
     /// none of them is due.
     pub fn machine(&mut self, outcome: Outcome) -> Result<(), ServerFault>
-        ensures ok { OnOk result (self.new ≡ with_end self.old (serving_machined outcome self.old.end)) }
+        ensures ok { OnOk result (self.new ≡ with_end self.old
+            (serving_machined outcome self.old.end)) }
         ensures can { OnOk result (may_end self.old.end.server.running outcome ≡ true) }
-        ensures nothing_runs { IsErrOf result ServerFault.NothingRuns ↔ (self.old.end.server.running ≡ None) }
+        ensures nothing_runs { IsErrOf result ServerFault.NothingRuns
+            ↔ (self.old.end.server.running ≡ None) }
         ensures wrong { IsErrOf result ServerFault.WrongOutcome
-            ↔ ((self.old.end.server.running ≢ None) × (fits_running self.old.end.server.running outcome ≡ false)) }
+            ↔ ((self.old.end.server.running ≢ None)
+            × (fits_running self.old.end.server.running outcome ≡ false)) }
         ensures outside { IsErrOf result ServerFault.OutOfVolume
-            ↔ ((fits_running self.old.end.server.running outcome ≡ true) × (may_end self.old.end.server.running outcome ≡ false)) }
+            ↔ ((fits_running self.old.end.server.running outcome ≡ true)
+            × (may_end self.old.end.server.running outcome ≡ false)) }
         ensures others { IfErr result (λ fault. IsMachineFault self.old.end.server outcome fault) }
         ensures err { OnErr result (self.new ≡ self.old) }
         ensures bounded { length self.new.end.out ≤ length self.old.end.out + ANSWER_MAX }
@@ -272,10 +283,12 @@ impl Server {
 
     /// The state. Its clauses also say what holds at any time, whatever came before.
     pub fn view(&self) -> View<'_>
-        ensures connection { result.connection ≡ (if self.now.end.server.on then Some self.now.end.server.last else None) }
+        ensures connection { result.connection ≡ (if self.now.end.server.on then Some
+            self.now.end.server.last else None) }
         ensures session { result.session ≡ self.now.end.server.session }
         ensures homed { result.homed ≡ self.now.end.server.homed }
-        ensures tool { MatchOption result.tool (self.now.end.server.tool ≡ None) (λ tool. self.now.end.server.tool ≡ Some tool.now) }
+        ensures tool { MatchOption result.tool (self.now.end.server.tool ≡ None)
+            (λ tool. self.now.end.server.tool ≡ Some tool.now) }
         ensures frame { result.frame ≡ self.now.end.server.frame }
         ensures stored { result.stored ≡ self.now.end.server.stored }
         ensures error { result.error ≡ self.now.end.server.error }

@@ -53,8 +53,10 @@ impl Controller {
     fn refuse(&mut self, out: &mut Vec<u8>, error: ErrorNumber)
         requires refused { first_refusal self.old.server ≡ Some (number_of error) }
         requires room { vec_len out.old + 10560 ≤ vec_capacity out.old }
-        ensures controller { self.new ≡ with_answered self.old (server.server_turned self.old.server) }
-        ensures text { out.new.items ≡ out.old.items ++ reply_bytes (server.server_turned self.old.server).said }
+        ensures controller { self.new ≡ with_answered self.old
+            (server.server_turned self.old.server) }
+        ensures text { out.new.items ≡ out.old.items
+            ++ reply_bytes (server.server_turned self.old.server).said }
         ensures len { vec_len out.new ≤ vec_len out.old + 10560 }
     {
         let _at_most = self.waiting.len();
@@ -71,7 +73,8 @@ impl Controller {
         requires passed { first_refusal self.old.server ≡ None }
         requires runs { runs (first_command self.old.server) ≡ true }
         requires idle { self.old.server.running ≡ None }
-        ensures controller { OnOk result (self.new ≡ with_answered self.old (server.server_turned self.old.server)) }
+        ensures controller { OnOk result (self.new
+            ≡ with_answered self.old (server.server_turned self.old.server)) }
         ensures silent { (server.server_turned self.old.server).said ≡ [] }
         ensures err { OnErr result (self.new ≡ self.old) }
     {
@@ -114,8 +117,10 @@ impl Controller {
         requires idle { self.old.server.running ≡ None }
         requires selects { first_command self.old.server ≡ Some (command.SetCoordSystem system) }
         requires room { vec_len out.old + 10560 ≤ vec_capacity out.old }
-        ensures controller { OnOk result (self.new ≡ with_answered self.old (server.server_turned self.old.server)) }
-        ensures text { OnOk result (out.new.items ≡ out.old.items ++ reply_bytes (server.server_turned self.old.server).said) }
+        ensures controller { OnOk result (self.new
+            ≡ with_answered self.old (server.server_turned self.old.server)) }
+        ensures text { OnOk result (out.new.items ≡ out.old.items
+            ++ reply_bytes (server.server_turned self.old.server).said) }
         ensures err { OnErr result (self.new ≡ self.old) }
         ensures silent { OnErr result (out.new.items ≡ out.old.items) }
         ensures len { vec_len out.new ≤ vec_len out.old + 10560 }
@@ -134,8 +139,10 @@ impl Controller {
         requires passed { first_refusal self.old.server ≡ None }
         requires at_once { IsAtOnce (first_command self.old.server) }
         requires room { vec_len out.old + 10560 ≤ vec_capacity out.old }
-        ensures controller { self.new ≡ with_answered self.old (server.server_turned self.old.server) }
-        ensures text { out.new.items ≡ out.old.items ++ reply_bytes (server.server_turned self.old.server).said }
+        ensures controller { self.new ≡ with_answered self.old
+            (server.server_turned self.old.server) }
+        ensures text { out.new.items ≡ out.old.items
+            ++ reply_bytes (server.server_turned self.old.server).said }
         ensures len { vec_len out.new ≤ vec_len out.old + 10560 }
     {
         let Some(
@@ -162,8 +169,10 @@ impl Controller {
         requires passed { first_refusal self.old.server ≡ None }
         requires idle { may_turn self.old.server ≡ true }
         requires room { vec_len out.old + 10560 ≤ vec_capacity out.old }
-        ensures controller { OnOk result (self.new ≡ with_answered self.old (server.server_turned self.old.server)) }
-        ensures text { OnOk result (out.new.items ≡ out.old.items ++ reply_bytes (server.server_turned self.old.server).said) }
+        ensures controller { OnOk result (self.new
+            ≡ with_answered self.old (server.server_turned self.old.server)) }
+        ensures text { OnOk result (out.new.items ≡ out.old.items
+            ++ reply_bytes (server.server_turned self.old.server).said) }
         ensures err { OnErr result (self.new ≡ self.old) }
         ensures silent { OnErr result (out.new.items ≡ out.old.items) }
         ensures len { vec_len out.new ≤ vec_len out.old + 10560 }
@@ -189,8 +198,10 @@ impl Controller {
     pub(crate) fn turn(&mut self, out: &mut Vec<u8>) -> Result<(), AllocError>
         requires may { may_turn self.old.server ≡ true }
         requires room { vec_len out.old + 10560 ≤ vec_capacity out.old }
-        ensures controller { OnOk result (self.new ≡ with_answered self.old (server.server_turned self.old.server)) }
-        ensures text { OnOk result (out.new.items ≡ out.old.items ++ reply_bytes (server.server_turned self.old.server).said) }
+        ensures controller { OnOk result (self.new
+            ≡ with_answered self.old (server.server_turned self.old.server)) }
+        ensures text { OnOk result (out.new.items ≡ out.old.items
+            ++ reply_bytes (server.server_turned self.old.server).said) }
         ensures err { OnErr result (self.new ≡ self.old) }
         ensures silent { OnErr result (out.new.items ≡ out.old.items) }
         ensures len { vec_len out.new ≤ vec_len out.old + 10560 }

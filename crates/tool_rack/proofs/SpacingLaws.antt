@@ -1,5 +1,6 @@
 -- The fields of a line are what its spaces separate.
-use Rattle.std.proofs.Common.{◌≡◌, ℕ, zero, suc, ◌-◌, ◌<◌, Bool, true, false, not, ◌||◌, eqb, List, [], ◌∷◌, ◌++◌, length, slice_index, refl, ap, ◌∙◌, arith}
+use Rattle.std.proofs.Common.{◌≡◌, ℕ, zero, suc, ◌-◌, ◌<◌, Bool, true, false, not, ◌||◌, eqb, List, [], ◌∷◌, ◌++◌, length, slice_index,
+  refl, ap, ◌∙◌, arith}
 use Rattle.std.specs.List.{slice_split, list_all, repeat}
 use Rattle.std.proofs.lemmas.Bool.{ne_eqb, eqb-true, and_parts}
 use Rattle.tool_rack.specs.Fields.{fields_of, has_outer_space}
@@ -14,7 +15,8 @@ not_not false e = refl
 
 -- ---- fields with spaces between them are the fields of their line
 
-pieces_behind : (field rest : List ℕ) → list_all (λ b. not (is_space b)) field ≡ true → slice_split is_space (field ++ (32 ∷ rest)) ≡ field ∷ slice_split is_space rest
+pieces_behind : (field rest : List ℕ) → list_all (λ b. not (is_space b)) field ≡ true
+    → slice_split is_space (field ++ (32 ∷ rest)) ≡ field ∷ slice_split is_space rest
 pieces_behind [] rest h = refl
 pieces_behind (x ∷ xs) rest h =
     let p = and_parts (not (is_space x)) (list_all (λ b. not (is_space b)) xs) h in
@@ -60,22 +62,26 @@ ends_free (x ∷ y ∷ ys) = ends_free (y ∷ ys)
 -- fields and spaces from here on, or behind spaces
 data Ending (xs : List ℕ) : Type 0 where
   here : (fields : List (List ℕ)) → IsSpaced xs fields → Ending xs
-  behind : (spaces : ℕ) (rest : List ℕ) (fields : List (List ℕ)) → xs ≡ 32 ∷ (repeat spaces (32 ∷ []) ++ rest) → IsSpaced rest fields → Ending xs
+  behind : (spaces : ℕ) (rest : List ℕ) (fields : List (List ℕ)) → xs ≡ 32 ∷ (repeat spaces (32 ∷ []) ++ rest) → IsSpaced rest fields
+      → Ending xs
 
 longer_field : (x : ℕ) (field : List ℕ) → is_space x ≡ false → IsField field → IsField (x ∷ field)
 longer_field x field e h = record { some = omega arith; free = rw e h.free }
 
 -- one byte in front of the first field
-longer : (x : ℕ) (xs : List ℕ) (fields : List (List ℕ)) → is_space x ≡ false → IsSpaced xs fields → (all : List (List ℕ)) × IsSpaced (x ∷ xs) all
+longer : (x : ℕ) (xs : List ℕ) (fields : List (List ℕ)) → is_space x ≡ false → IsSpaced xs fields → (all : List (List ℕ))
+    × IsSpaced (x ∷ xs) all
 longer x xs [] e h = absurd h
 longer x xs (field ∷ []) e h = ((x ∷ field) ∷ [], (ap (λ (r : List ℕ). x ∷ r) h.0, longer_field x field e h.1))
-longer x xs (field ∷ next ∷ fields) e h = ((x ∷ field) ∷ next ∷ fields, (h.0, h.1, ap (λ (r : List ℕ). x ∷ r) h.2, longer_field x field e h.3, h.4))
+longer x xs (field ∷ next ∷ fields) e h = ((x ∷ field) ∷ next ∷ fields,
+    (h.0, h.1, ap (λ (r : List ℕ). x ∷ r) h.2, longer_field x field e h.3, h.4))
 
 one_byte : (x : ℕ) → is_space x ≡ false → IsField (x ∷ [])
 one_byte x e = record { some = omega arith; free = rw e refl }
 
 -- one byte in front of spaces
-before_spaces : (x : ℕ) (xs : List ℕ) (spaces : ℕ) (rest : List ℕ) (fields : List (List ℕ)) → is_space x ≡ false → xs ≡ 32 ∷ (repeat spaces (32 ∷ []) ++ rest) → IsSpaced rest fields → IsSpaced (x ∷ xs) ((x ∷ []) ∷ fields)
+before_spaces : (x : ℕ) (xs : List ℕ) (spaces : ℕ) (rest : List ℕ) (fields : List (List ℕ)) → is_space x ≡ false
+    → xs ≡ 32 ∷ (repeat spaces (32 ∷ []) ++ rest) → IsSpaced rest fields → IsSpaced (x ∷ xs) ((x ∷ []) ∷ fields)
 before_spaces x xs spaces rest [] e f h = absurd h
 before_spaces x xs spaces rest (next ∷ fields) e f h = (rest, spaces, ap (λ (r : List ℕ). x ∷ r) f, one_byte x e, h)
 

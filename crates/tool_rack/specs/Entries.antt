@@ -52,11 +52,14 @@ frame_entry n _ = Err (BadLine n)
 -- what the fields of line n say: the first is one of three words, and what may follow depends on it
 unfoldable pub fields_entry : ℕ → List (List ℕ) → Result Entry SetupFault
 fields_entry n [] = Err (BadLine n)
-fields_entry n (word ∷ values) = if is_word (codes "TOOL") word then tool_entry n values else (if is_word (codes "FRAME") word then frame_entry n values else (if is_word (codes "SHIFT") word then shift_entry n values else Err (BadLine n)))
+fields_entry n (word ∷ values) = if is_word (codes "TOOL") word then tool_entry n values else
+    (if is_word (codes "FRAME") word then frame_entry n values else
+    (if is_word (codes "SHIFT") word then shift_entry n values else Err (BadLine n)))
 
 -- what line n says by itself, or its refusal
 unfoldable pub entry_on : ℕ → List ℕ → Result Entry SetupFault
-entry_on n line = if is_dropped line then Ok Nothing else (if has_outer_space line then Err (BadLine n) else fields_entry n (fields_of line))
+entry_on n line = if is_dropped line then Ok Nothing else (if has_outer_space line then Err (BadLine n) else fields_entry n
+    (fields_of line))
 
 -- the positions of a line are in the machine's volume
 abbrev pub IsEntryInVolume : Entry → Type 0

@@ -1,5 +1,6 @@
 -- The setup that a text says: its tools, its stored frames and its shifts (this profile).
-use Rattle.std.specs.Prelude.{◌≡◌, ℕ, ◌+◌, ◌%◌, Bool, false, List, [], ◌∷◌, ◌++◌, length, slice_index_or, pos, Option, Some, None, is_some, Result, Ok, Err, if◌then◌else◌}
+use Rattle.std.specs.Prelude.{◌≡◌, ℕ, ◌+◌, ◌%◌, Bool, false, List, [], ◌∷◌, ◌++◌, length, slice_index_or, pos, Option, Some, None, is_some,
+  Result, Ok, Err, if◌then◌else◌}
 use Rattle.std.specs.List.{list_any, filter_map, AllByRecursion}
 use Rattle.std.specs.Str.{bytes_eq}
 use Rattle.std.specs.Str.Lines.{lines}
@@ -38,7 +39,8 @@ shift_in _ = None
 
 -- all that lines say, together
 abbrev pub setup_with : List Entry → SetupValue
-setup_with entries = record { tools = filter_map tool_in entries; frames = filter_map frame_in entries; shifts = filter_map shift_in entries }
+setup_with entries = record { tools = filter_map tool_in entries; frames = filter_map frame_in entries;
+    shifts = filter_map shift_in entries }
 
 -- the line names a tool that is in the setup, or a frame that is; a tool and a frame may share a name
 abbrev pub is_twice : SetupValue → Entry → Bool
@@ -59,7 +61,8 @@ and_then (Err e) f = Err e
 -- what all lines say, or the refusal of the first line that is refused; `above` is what the lines above said
 abbrev pub entries_from : List Entry → List (List ℕ) → Result (List Entry) SetupFault
 entries_from above [] = Ok above
-entries_from above (line ∷ lines) = and_then (judged (length above + 1) above (entry_on (length above + 1) line)) (λ entry. entries_from (above ++ entry ∷ []) lines)
+entries_from above (line ∷ lines) = and_then (judged (length above + 1) above (entry_on (length above + 1) line))
+    (λ entry. entries_from (above ++ entry ∷ []) lines)
 
 -- the setup of a text, or the refusal of its first line that is refused. A line ends with LF or CR LF, the last may lack its end
 unfoldable pub setup_of : List ℕ → Result SetupValue SetupFault

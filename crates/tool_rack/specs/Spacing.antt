@@ -11,4 +11,5 @@ pub record IsField (field : List ℕ) : Type 0 where
 abbrev pub IsSpaced : List ℕ → List (List ℕ) → Type 0
 IsSpaced line [] = ⊥
 IsSpaced line (field ∷ []) = (line ≡ field) × IsField field
-IsSpaced line (field ∷ next ∷ fields) = (rest : List ℕ) × (spaces : ℕ) × (line ≡ field ++ (32 ∷ (repeat spaces (32 ∷ []) ++ rest))) × IsField field × IsSpaced rest (next ∷ fields)
+IsSpaced line (field ∷ next ∷ fields) = (rest : List ℕ) × (spaces : ℕ) × (line ≡ field ++ (32 ∷ (repeat spaces (32 ∷ []) ++ rest)))
+    × IsField field × IsSpaced rest (next ∷ fields)

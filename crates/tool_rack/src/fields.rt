@@ -57,7 +57,8 @@ fn field_len(bytes: &[u8]) -> usize
 /// The first field, and the bytes behind it; none where there is no field.
 #[tactic(auto, using(crate::proofs::FieldCuts::cuts))]
 pub(crate) fn cut_field(bytes: &[u8]) -> Option<(&[u8], &[u8])>
-    ensures { MatchOption result (fields_of bytes.now ≡ []) (λ p. fields_of bytes.now ≡ p.0.now ∷ fields_of p.1.now) }
+    ensures { MatchOption result (fields_of bytes.now ≡ [])
+        (λ p. fields_of bytes.now ≡ p.0.now ∷ fields_of p.1.now) }
 {
     let text = skip_spaces(bytes);
     if text.is_empty() {

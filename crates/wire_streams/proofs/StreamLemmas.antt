@@ -1,5 +1,6 @@
 -- Streams of written lines hand out these lines in order.
-use Rattle.std.proofs.Common.{◌≡◌, ℕ, ◌≤◌, List, [], ◌∷◌, ◌++◌, length, map, Option, Some, None, Result, Ok, Err, refl, sym, subst, ap, ◌∙◌, arith}
+use Rattle.std.proofs.Common.{◌≡◌, ℕ, ◌≤◌, List, [], ◌∷◌, ◌++◌, length, map, Option, Some, None, Result, Ok, Err, refl, sym, subst, ap, ◌∙◌,
+  arith}
 use Rattle.line_framing.specs.declared.faults.FramingFault.{FramingFault}
 use Rattle.line_framing.specs.Content.{IsLine, AreLines, line_bytes}
 use Rattle.line_framing.specs.Next.{Front, next_of}
@@ -13,7 +14,8 @@ use Rattle.dme_line.specs.declared.responses.Response.{Response}
 use Rattle.dme_line.proofs.CommandWire.{command-wire}
 use Rattle.dme_line.proofs.CommandBack.{command_reads_back}
 use Rattle.dme_line.proofs.ResponseBack.{response_reads_back, response-wire}
-use Rattle.wire_streams.specs.Streams.{Sent, AreWritable, command_lines, IsFirstCommand, HandsCommand, AreWritableResponses, response_lines, IsFirstResponse, HandsResponse}
+use Rattle.wire_streams.specs.Streams.{Sent, AreWritable, command_lines, IsFirstCommand, HandsCommand, AreWritableResponses, response_lines,
+  IsFirstResponse, HandsResponse}
 
 -- a text of the wire is a line
 line-from_wire : (text : List ℕ) → IsWireText 200 text → IsLine text
@@ -21,9 +23,11 @@ line-from_wire text h = record { free = h.free; short = omega (arith, h.short) }
 
 commands_are_lines : (sent : List Sent) → AreWritable sent → AreLines (command_lines sent)
 commands_are_lines [] h = tt
-commands_are_lines (s ∷ sent) h = (line-from_wire (written_command s.tag s.command) (command-wire s.tag s.command h.0), commands_are_lines sent h.1)
+commands_are_lines (s ∷ sent) h = (line-from_wire (written_command s.tag s.command) (command-wire s.tag s.command h.0),
+    commands_are_lines sent h.1)
 
-first_command : (sent : List Sent) (more line left : List ℕ) → AreWritable sent → TakesFirst (command_lines sent) line left more → IsFirstCommand sent more line left
+first_command : (sent : List Sent) (more line left : List ℕ) → AreWritable sent → TakesFirst (command_lines sent) line left more
+    → IsFirstCommand sent more line left
 first_command [] more line left h t = let e = t.first in absurd cc
 first_command (s ∷ sent) more line left h t =
     let same : line ≡ written_command s.tag s.command = let e = t.first in cc in
@@ -37,19 +41,23 @@ first_command (s ∷ sent) more line left h t =
       behind = t.behind ∙ ap line_bytes rest;
     }
 
-hands_command : (sent : List Sent) (rest more : List ℕ) (front : Front) → AreWritable sent → rest ++ more ≡ line_bytes (command_lines sent) → next_of rest ≡ front → HandsCommand sent more front
+hands_command : (sent : List Sent) (rest more : List ℕ) (front : Front) → AreWritable sent → rest ++ more ≡ line_bytes (command_lines sent)
+    → next_of rest ≡ front → HandsCommand sent more front
 hands_command sent rest more (Ok None) h e f = tt
-hands_command sent rest more (Ok (Some (line, left))) h e f = first_command sent more line left h (takes_first rest more (command_lines sent) line left (commands_are_lines sent h) e f)
+hands_command sent rest more (Ok (Some (line, left))) h e f =
+    first_command sent more line left h (takes_first rest more (command_lines sent) line left (commands_are_lines sent h) e f)
 hands_command sent rest more (Err fault) h e f = no_fault rest more (command_lines sent) fault (commands_are_lines sent h) e f
 
-pub commands_in_order : (sent : List Sent) (rest more : List ℕ) → AreWritable sent → rest ++ more ≡ line_bytes (command_lines sent) → HandsCommand sent more (next_of rest)
+pub commands_in_order : (sent : List Sent) (rest more : List ℕ) → AreWritable sent → rest ++ more ≡ line_bytes (command_lines sent)
+    → HandsCommand sent more (next_of rest)
 commands_in_order sent rest more h e = hands_command sent rest more (next_of rest) h e refl
 
 responses_are_lines : (sent : List Response) → AreWritableResponses sent → AreLines (response_lines sent)
 responses_are_lines [] h = tt
 responses_are_lines (r ∷ sent) h = (line-from_wire (written_response r) (response-wire r h.0), responses_are_lines sent h.1)
 
-first_response : (sent : List Response) (more line left : List ℕ) → AreWritableResponses sent → TakesFirst (response_lines sent) line left more → IsFirstResponse sent more line left
+first_response : (sent : List Response) (more line left : List ℕ) → AreWritableResponses sent
+    → TakesFirst (response_lines sent) line left more → IsFirstResponse sent more line left
 first_response [] more line left h t = let e = t.first in absurd cc
 first_response (r ∷ sent) more line left h t =
     let same : line ≡ written_response r = let e = t.first in cc in
@@ -63,10 +71,13 @@ first_response (r ∷ sent) more line left h t =
       behind = t.behind ∙ ap line_bytes rest;
     }
 
-hands_response : (sent : List Response) (rest more : List ℕ) (front : Front) → AreWritableResponses sent → rest ++ more ≡ line_bytes (response_lines sent) → next_of rest ≡ front → HandsResponse sent more front
+hands_response : (sent : List Response) (rest more : List ℕ) (front : Front) → AreWritableResponses sent
+    → rest ++ more ≡ line_bytes (response_lines sent) → next_of rest ≡ front → HandsResponse sent more front
 hands_response sent rest more (Ok None) h e f = tt
-hands_response sent rest more (Ok (Some (line, left))) h e f = first_response sent more line left h (takes_first rest more (response_lines sent) line left (responses_are_lines sent h) e f)
+hands_response sent rest more (Ok (Some (line, left))) h e f =
+    first_response sent more line left h (takes_first rest more (response_lines sent) line left (responses_are_lines sent h) e f)
 hands_response sent rest more (Err fault) h e f = no_fault rest more (response_lines sent) fault (responses_are_lines sent h) e f
 
-pub responses_in_order : (sent : List Response) (rest more : List ℕ) → AreWritableResponses sent → rest ++ more ≡ line_bytes (response_lines sent) → HandsResponse sent more (next_of rest)
+pub responses_in_order : (sent : List Response) (rest more : List ℕ) → AreWritableResponses sent
+    → rest ++ more ≡ line_bytes (response_lines sent) → HandsResponse sent more (next_of rest)
 responses_in_order sent rest more h e = hands_response sent rest more (next_of rest) h e refl

@@ -1,5 +1,6 @@
 -- The events of the client, but for what it reads, keep all that holds.
-use Rattle.std.proofs.Common.{◌≡◌, ℕ, suc, ◌<◌, ◌≤◌, ◌⊎◌, inl, inr, Bool, true, false, cond, List, [], ◌∷◌, ◌++◌, length, drop, refl, sym, ◌∙◌, ap, subst, arith, append_assoc, append-nil, Option, None, Ok}
+use Rattle.std.proofs.Common.{◌≡◌, ℕ, suc, ◌<◌, ◌≤◌, ◌⊎◌, inl, inr, Bool, true, false, cond, List, [], ◌∷◌, ◌++◌, length, drop, refl, sym,
+  ◌∙◌, ap, subst, arith, append_assoc, append-nil, Option, None, Ok}
 use Rattle.std.proofs.lemmas.Bool.{false≢true}
 use Rattle.dme_line.specs.Kinds.{kind_of}
 use Rattle.dme_line.specs.declared.tags.Tag.{Tag}
@@ -21,7 +22,8 @@ use Rattle.protocol_model.proofs.table.Replying.{IsFront, Grows, reads_grows, wi
 use Rattle.protocol_model.proofs.plan.Fitting.{Know, unknown}
 use Rattle.protocol_model.proofs.plan.Marks.{plan_fits, plan_sane, plan_touches, plan_no_abort}
 use Rattle.protocol_model.proofs.invariant.Served.{acts_none, Served, served_front, served_take, progress_served, progress_new, program_has}
-use Rattle.protocol_model.proofs.invariant.Holding.{listed, sent_now, all_received, all_sent, abort_lines, abort_helds, commands_in, AreStandard, IsClearFirst, IsNear, HasState, IsLive, IsOff, IsAtRest, Inv}
+use Rattle.protocol_model.proofs.invariant.Holding.{listed, sent_now, all_received, all_sent, abort_lines, abort_helds, commands_in,
+  AreStandard, IsClearFirst, IsNear, HasState, IsLive, IsOff, IsAtRest, Inv}
 use Rattle.protocol_model.proofs.invariant.LineFacts.{tag_is_false, standard_join, no_clears_join, sent_more, commands_more, steps_more}
 use Rattle.protocol_model.specs.declared.lines.Line.{Line}
 use Rattle.protocol_model.specs.declared.plans.Planned.{Planned}
@@ -40,10 +42,12 @@ served_now w inv = go inv.side
     go : IsOff w ⊎ IsLive w → Served w.client.program.features w.client.table.tally.features (contacts w.server.ledger)
     go (inl off) = off.served
     go (inr live) =
-        let grows : Grows w.client.table.tally live.table.tally = reads_grows w.client.program.features w.down w.client.table live.table live.reads in
+        let grows : Grows w.client.table.tally live.table.tally =
+            reads_grows w.client.program.features w.down w.client.table live.table live.reads in
         served_front w.client.program.features w.client.table.tally.features grows.features.0 (contacts w.server.ledger)
         (subst (λ (fs : List Feature). Served w.client.program.features fs (contacts w.server.ledger)) (sym grows.features.1)
-        (progress_served w.client.program.features w.client.last live.table.tally.features live.table.tally.points (contacts w.server.ledger) live.left live.progress))
+        (progress_served w.client.program.features w.client.last live.table.tally.features live.table.tally.points
+            (contacts w.server.ledger) live.left live.progress))
 
 -- what it has counted is told
 pub told_now : (w : World) → Inv w → IsFront w.client.table.tally.counted (acts_on w.client.last w.server.ledger)
@@ -52,7 +56,8 @@ told_now w inv = go inv.side
     go : IsOff w ⊎ IsLive w → IsFront w.client.table.tally.counted (acts_on w.client.last w.server.ledger)
     go (inl off) = off.told
     go (inr live) =
-        let grows : Grows w.client.table.tally live.table.tally = reads_grows w.client.program.features w.down w.client.table live.table live.reads in
+        let grows : Grows w.client.table.tally live.table.tally =
+            reads_grows w.client.program.features w.down w.client.table live.table live.reads in
         (grows.counted.0, grows.counted.1 ∙ live.counted)
 
 -- it is not Faulted
@@ -177,19 +182,22 @@ count_more [] x = go (is_failed x.stage)
     go false = omega arith
 count_more (h ∷ hs) x = go (is_failed h.stage) (count_more hs x)
   where
-    go : (b : Bool) → count_open (hs ++ x ∷ []) ≤ suc (count_open hs) → cond b (count_open (hs ++ x ∷ [])) (suc (count_open (hs ++ x ∷ []))) ≤ suc (cond b (count_open hs) (suc (count_open hs)))
+    go : (b : Bool) → count_open (hs ++ x ∷ []) ≤ suc (count_open hs)
+        → cond b (count_open (hs ++ x ∷ [])) (suc (count_open (hs ++ x ∷ []))) ≤ suc (cond b (count_open hs) (suc (count_open hs)))
     go true le = le
     go false le = omega arith
 
 one_more_tag : (u : Tag) (hs : List Held) (x : Held) → is_held u hs ≡ false → tag_is x.tag u ≡ false → is_held u (hs ++ x ∷ []) ≡ false
 one_more_tag u [] x e apart = if_false {A = Bool} (tag_is x.tag u) true false apart
-one_more_tag u (h ∷ hs) x e apart = if_cases {A = Bool} (tag_is h.tag u) true (is_held u hs) false (is_held u (h ∷ (hs ++ x ∷ [])) ≡ false) e
+one_more_tag u (h ∷ hs) x e apart = if_cases {A = Bool} (tag_is h.tag u) true (is_held u hs) false (is_held u (h ∷ (hs ++ x ∷ [])) ≡ false)
+    e
     (λ same no_way. absurd (false≢true (sym no_way)))
     (λ other rest. if_false {A = Bool} (tag_is h.tag u) true (is_held u (hs ++ x ∷ [])) other ∙ one_more_tag u hs x rest apart)
 
 pub distinct_more : (hs : List Held) (x : Held) → AreDistinct hs → is_held x.tag hs ≡ false → AreDistinct (hs ++ x ∷ [])
 distinct_more [] x d free = (refl, tt)
-distinct_more (h ∷ hs) x d free = if_cases {A = Bool} (tag_is h.tag x.tag) true (is_held x.tag hs) false (AreDistinct (h ∷ (hs ++ x ∷ []))) free
+distinct_more (h ∷ hs) x d free = if_cases {A = Bool} (tag_is h.tag x.tag) true (is_held x.tag hs) false (AreDistinct (h ∷ (hs ++ x ∷ [])))
+    free
     (λ same no_way. absurd (false≢true (sym no_way)))
     (λ other rest. (one_more_tag h.tag hs x d.0 (tag_is_false h.tag x.tag other), distinct_more hs x d.1 rest))
 
@@ -198,7 +206,8 @@ no_aborts [] e = refl
 no_aborts (k ∷ ks) e = absurd (cc)
 
 -- a further line behind a list of lines
-pub clear_more : (failed : Bool) (ls : List Line) (l : Line) → IsClearFirst failed ls → (is_clearing l.command ≡ true → (ls ≡ []) × (failed ≡ false)) → IsClearFirst failed (ls ++ l ∷ [])
+pub clear_more : (failed : Bool) (ls : List Line) (l : Line) → IsClearFirst failed ls
+    → (is_clearing l.command ≡ true → (ls ≡ []) × (failed ≡ false)) → IsClearFirst failed (ls ++ l ∷ [])
 clear_more failed [] l h only = ((λ e. (only e).1), tt)
 clear_more failed (x ∷ xs) l h only = (h.0, no_clears_join xs (l ∷ []) h.1 (go (is_clearing l.command) refl, tt))
   where
@@ -218,24 +227,30 @@ none_received (x ∷ xs) ys h = absurd (go h.0)
     go : ◌≡◌ {A = Stage} Stage.Received Stage.Failed → ⊥
     go e = cc
 
-pub near_sends : (table : Table) (p : Planned) (ps : List Planned) (left : List Wanted) (up : List Line) (running : Option Line) (waiting : List Waiting) (error : Bool) (know : Know) (n : ℕ)
+pub near_sends : (table : Table) (p : Planned) (ps : List Planned) (left : List Wanted) (up : List Line) (running : Option Line)
+    (waiting : List Waiting) (error : Bool) (know : Know) (n : ℕ)
     → IsNear table (p ∷ ps) left up running waiting error know → table.event ≡ [] → is_abort (Ok p.command) ≡ false
     → (is_clearing p.command ≡ true → AreFailed table.standard × (table.tally.failed ≡ false))
-    → IsNear (with_standard (held_now (Std n) (kind_of p.command)) table) ps left (up ++ record { tag = Std n; command = p.command } ∷ []) running waiting error know
+    → IsNear (with_standard (held_now (Std n) (kind_of p.command)) table) ps left (up ++ record { tag = Std n; command = p.command } ∷ [])
+    running waiting error know
 near_sends table p ps left up running waiting error know n h no_event plain clearing =
     let line : Line = record { tag = Std n; command = p.command } in
     let aborts : h.aborts ≡ [] = no_aborts h.aborts (sym h.by.event_is ∙ no_event) in
     let busy : List Line = listed running in
     let lines : List Line = busy ++ (h.queued ++ h.coming) in
-    let longer : lines ++ line ∷ [] ≡ busy ++ (h.queued ++ (h.coming ++ line ∷ [])) = append_assoc busy (h.queued ++ h.coming) (line ∷ []) ∙ ap (λ (l : List Line). busy ++ l) (append_assoc h.queued h.coming (line ∷ [])) in
+    let longer : lines ++ line ∷ [] ≡ busy ++ (h.queued ++ (h.coming ++ line ∷ [])) = append_assoc busy (h.queued ++ h.coming) (line ∷ [])
+        ∙ ap (λ (l : List Line). busy ++ l) (append_assoc h.queued h.coming (line ∷ [])) in
     record {
       queued = h.queued;
       coming = h.coming ++ line ∷ [];
       aborts = [];
       by = record {
         waiting_is = h.by.waiting_is;
-        up_is = ap (λ (l : List Line). l ++ line ∷ []) (h.by.up_is ∙ (ap (λ (ks : List ℕ). h.coming ++ abort_lines ks) aborts ∙ append-nil h.coming)) ∙ sym (append-nil (h.coming ++ line ∷ []));
-        standard_is = ap (λ (hs : List Held). hs ++ sent_now line ∷ []) h.by.standard_is ∙ (append_assoc (all_received (busy ++ h.queued)) (all_sent h.coming) (sent_now line ∷ []) ∙ ap (λ (hs : List Held). all_received (busy ++ h.queued) ++ hs) (sym (sent_more h.coming (line ∷ []))));
+        up_is = ap (λ (l : List Line). l ++ line ∷ []) (h.by.up_is
+            ∙ (ap (λ (ks : List ℕ). h.coming ++ abort_lines ks) aborts ∙ append-nil h.coming)) ∙ sym (append-nil (h.coming ++ line ∷ []));
+        standard_is = ap (λ (hs : List Held). hs ++ sent_now line ∷ []) h.by.standard_is
+            ∙ (append_assoc (all_received (busy ++ h.queued)) (all_sent h.coming) (sent_now line ∷ [])
+            ∙ ap (λ (hs : List Held). all_received (busy ++ h.queued) ++ hs) (sym (sent_more h.coming (line ∷ []))));
         event_is = no_event;
         standard = subst AreStandard longer (standard_join lines (line ∷ []) h.by.standard (refl, plain, tt));
         idle = h.by.idle;
@@ -249,7 +264,8 @@ near_sends table p ps left up running waiting error know n h no_event plain clea
             record {
               steps = c.steps ++ p ∷ [];
               todo = c.todo ∙ sym (append_assoc c.steps (p ∷ []) ps);
-              commands = steps_more c.steps (p ∷ []) ∙ (ap (λ (l : List Command). l ++ p.command ∷ []) c.commands ∙ (sym (commands_more lines (line ∷ [])) ∙ ap commands_in longer));
+              commands = steps_more c.steps (p ∷ []) ∙ (ap (λ (l : List Command). l ++ p.command ∷ []) c.commands
+                  ∙ (sym (commands_more lines (line ∷ [])) ∙ ap commands_in longer));
               sane = c.sane;
               touches = c.touches;
               fits = c.fits;

@@ -1,5 +1,6 @@
 -- An abort, and a plan that goes on behind a failure, keep all that holds.
-use Rattle.std.proofs.Common.{◌≡◌, ℕ, zero, suc, ◌-◌, ◌≤◌, ◌⊎◌, inl, inr, Bool, true, false, List, [], ◌∷◌, ◌++◌, length, drop, refl, sym, ◌∙◌, ap, subst, arith, append_assoc, append-nil, Option, Some, None}
+use Rattle.std.proofs.Common.{◌≡◌, ℕ, zero, suc, ◌-◌, ◌≤◌, ◌⊎◌, inl, inr, Bool, true, false, List, [], ◌∷◌, ◌++◌, length, drop, refl, sym,
+  ◌∙◌, ap, subst, arith, append_assoc, append-nil, Option, Some, None}
 use Rattle.std.proofs.lemmas.Bool.{false≢true}
 use Rattle.dme_line.specs.declared.tags.Tag.TheVariants.{Event}
 use Rattle.contact_ledger.specs.declared.features.Feature.{Feature}
@@ -8,7 +9,8 @@ use Rattle.dmis_program.specs.Meaning.{Meaning as Program}
 use Rattle.protocol_model.proofs.plan.Blocks.{IsPlain}
 use Rattle.protocol_model.specs.Plan.{plan}
 use Rattle.protocol_model.specs.Open.{count_open}
-use Rattle.protocol_model.specs.Client.{Client, Table, Tally, next_number, client_aborted, sends_abort, may_abort, may_resume, client_resumed}
+use Rattle.protocol_model.specs.Client.{Client, Table, Tally, next_number, client_aborted, sends_abort, may_abort, may_resume,
+  client_resumed}
 use Rattle.protocol_model.specs.Claims.{contacts}
 use Rattle.protocol_model.specs.Typed.{World, sent}
 use Rattle.protocol_model.proofs.table.Counts.{AreFailed, all_failed}
@@ -17,7 +19,8 @@ use Rattle.protocol_model.proofs.plan.Fitting.{Know, unknown}
 use Rattle.protocol_model.proofs.plan.Marks.{plan_fits, plan_sane, plan_touches, plan_no_abort}
 use Rattle.protocol_model.proofs.invariant.Served.{IsProgress, progress_anew, program_has}
 use Rattle.protocol_model.proofs.table.Drawing.{IsDrawn, drawn, none_drawn, event_apart}
-use Rattle.protocol_model.proofs.invariant.Holding.{listed, abort_line, abort_lines, abort_held, commands_in, IsClearFirst, IsNear, HasEvents, HasState, IsLive, IsOff, IsAtRest, IsHere, IsAhead, IsGone, Inv, know_of}
+use Rattle.protocol_model.proofs.invariant.Holding.{listed, abort_line, abort_lines, abort_held, commands_in, IsClearFirst, IsNear,
+  HasEvents, HasState, IsLive, IsOff, IsAtRest, IsHere, IsAhead, IsGone, Inv, know_of}
 use Rattle.protocol_model.proofs.events.ClientEvents.{no_aborts, none_received}
 use Rattle.protocol_model.specs.declared.lines.Line.{Line}
 use Rattle.protocol_model.specs.declared.plans.Planned.{Planned}
@@ -28,7 +31,8 @@ use Rattle.protocol_model.specs.declared.lines.Waiting.{Waiting}
 
 -- ---- an abort
 
-near_aborts : (table : Table) (unsent : List Planned) (left : List Wanted) (up : List Line) (running : Option Line) (waiting : List Waiting) (error : Bool) (know : Know) (k : ℕ)
+near_aborts : (table : Table) (unsent : List Planned) (left : List Wanted) (up : List Line) (running : Option Line) (waiting : List Waiting)
+    (error : Bool) (know : Know) (k : ℕ)
     → IsNear table unsent left up running waiting error know → table.event ≡ []
     → IsNear (with_event (abort_held k) table) unsent left (up ++ abort_line k ∷ []) running waiting error know
 near_aborts table unsent left up running waiting error know k h no_event =
@@ -39,14 +43,16 @@ near_aborts table unsent left up running waiting error know k h no_event =
       aborts = k ∷ [];
       by = record {
         waiting_is = h.by.waiting_is;
-        up_is = ap (λ (l : List Line). l ++ abort_line k ∷ []) (h.by.up_is ∙ (ap (λ (ks : List ℕ). h.coming ++ abort_lines ks) aborts ∙ append-nil h.coming));
+        up_is = ap (λ (l : List Line). l ++ abort_line k ∷ []) (h.by.up_is
+            ∙ (ap (λ (ks : List ℕ). h.coming ++ abort_lines ks) aborts ∙ append-nil h.coming));
         standard_is = h.by.standard_is;
         event_is = ap (λ (hs : List Held). hs ++ abort_held k ∷ []) no_event;
         standard = h.by.standard;
         idle = h.by.idle;
         stopped = h.by.stopped;
         clear_first = h.by.clear_first;
-        clean = λ e. let c = h.by.clean e in record { steps = c.steps; todo = c.todo; commands = c.commands; sane = c.sane; touches = c.touches; fits = c.fits };
+        clean = λ e. let c = h.by.clean e in record { steps = c.steps; todo = c.todo; commands = c.commands; sane = c.sane;
+            touches = c.touches; fits = c.fits };
       };
     }
 
@@ -68,7 +74,8 @@ never_off w off State.Halted is may = false≢true may
 never_off w off State.Done is may = false≢true may
 never_off w off State.Faulted is may = false≢true may
 
-aborts_one : (w : World) (inv : Inv w) (live : IsLive w) (k : ℕ) → w.client.table.event ≡ [] → Inv (sent w (sends_abort w.client (Some (suc k))))
+aborts_one : (w : World) (inv : Inv w) (live : IsLive w) (k : ℕ) → w.client.table.event ≡ []
+    → Inv (sent w (sends_abort w.client (Some (suc k))))
 aborts_one w inv live k no_event =
     let c : Client = w.client in
     let ws : List Wanted = c.program.features in
@@ -92,7 +99,8 @@ aborts_one w inv live k no_event =
         distinct = live.distinct;
         within = live.within;
         state = tt;
-        events = record { tag = Event (suc k); held = x; abort_is = refl; event_is = ap (λ (hs : List Held). hs ++ x ∷ []) no_event; same = refl; sort = refl };
+        events = record { tag = Event (suc k); held = x; abort_is = refl; event_is = ap (λ (hs : List Held). hs ++ x ∷ []) no_event;
+            same = refl; sort = refl };
         plain = live.plain;
         place = placed (reads_no_event ws w.down c.table live.table live.reads no_event) live.place;
       });
@@ -101,13 +109,17 @@ aborts_one w inv live k no_event =
     after_abort : World
     after_abort = sent w (sends_abort w.client (Some (suc k)))
 
-    placed : live.table.event ≡ [] → IsHere w live.table live.left ⊎ (IsAhead w live.table live.left ⊎ IsGone w) → IsHere after_abort (with_event (abort_held k) live.table) live.left ⊎ (IsAhead after_abort (with_event (abort_held k) live.table) live.left ⊎ IsGone after_abort)
+    placed : live.table.event ≡ [] → IsHere w live.table live.left ⊎ (IsAhead w live.table live.left ⊎ IsGone w)
+        → IsHere after_abort (with_event (abort_held k) live.table) live.left
+        ⊎ (IsAhead after_abort (with_event (abort_held k) live.table) live.left ⊎ IsGone after_abort)
     placed none (inl here) = inl (record {
       on = here.on;
       same = here.same;
-      near = near_aborts live.table w.client.unsent live.left w.up w.server.running w.server.waiting w.server.error (know_of w.server) k here.near none;
+      near = near_aborts live.table w.client.unsent live.left w.up w.server.running w.server.waiting w.server.error (know_of w.server) k
+          here.near none;
     })
-    placed none (inr (inl ahead)) = inr (inl (record { below = ahead.below; near = near_aborts live.table w.client.unsent live.left w.up None [] false unknown k ahead.near none }))
+    placed none (inr (inl ahead)) = inr (inl (record { below = ahead.below;
+        near = near_aborts live.table w.client.unsent live.left w.up None [] false unknown k ahead.near none }))
     placed none (inr (inr gone)) = inr (inr (record { off = gone.off; same = gone.same }))
 
 none_at_all : (n : ℕ) (hs : List Held) → hs ≡ [] → suc n ≤ length hs → ⊥
@@ -119,10 +131,13 @@ none_at_all n hs e le = let short : suc n ≤ 0 = subst (λ (l : List Held). suc
 pub abort_event : (w : World) → Inv w → may_abort w.client.state ≡ true → Inv (sent w (client_aborted w.client))
 abort_event w inv can = go inv.side
   where
-    numbered : (live : IsLive w) (number : Option ℕ) → next_number Event w.client.table.event w.client.event_drawn ≡ number → w.client.table.event ≡ [] → Inv (sent w (sends_abort w.client number))
-    numbered live None e none = absurd (none_at_all 9998 w.client.table.event none (none_drawn Event w.client.table.event w.client.event_drawn (9999 - w.client.event_drawn) 9999 event_apart e))
+    numbered : (live : IsLive w) (number : Option ℕ) → next_number Event w.client.table.event w.client.event_drawn ≡ number
+        → w.client.table.event ≡ [] → Inv (sent w (sends_abort w.client number))
+    numbered live None e none = absurd (none_at_all 9998 w.client.table.event none
+        (none_drawn Event w.client.table.event w.client.event_drawn (9999 - w.client.event_drawn) 9999 event_apart e))
     numbered live (Some zero) e none =
-        let number : IsDrawn Event w.client.table.event zero = drawn Event w.client.table.event w.client.event_drawn (9999 - w.client.event_drawn) 9999 zero e in
+        let number : IsDrawn Event w.client.table.event zero = drawn Event w.client.table.event w.client.event_drawn
+            (9999 - w.client.event_drawn) 9999 zero e in
         absurd (not_one number.from)
       where
         not_one : 1 ≤ zero → ⊥
@@ -131,7 +146,8 @@ abort_event w inv can = go inv.side
 
     go : IsOff w ⊎ IsLive w → Inv (sent w (client_aborted w.client))
     go (inl off) = absurd (never_off w off w.client.state refl can)
-    go (inr live) = numbered live (next_number Event w.client.table.event w.client.event_drawn) refl (no_event_in w live w.client.state refl can)
+    go (inr live) = numbered live (next_number Event w.client.table.event w.client.event_drawn) refl
+        (no_event_in w live w.client.state refl can)
 
 -- ---- a plan goes on
 
@@ -148,13 +164,16 @@ halted_by c State.Faulted e = absurd (false≢true e)
 abbrev begun : List Planned → Tally → Tally
 begun steps y = record y { failed = false; todo = steps; points = []; completed = 0 }
 
-near_resumes : (p : Program) (fs : List Feature) (table : Table) (unsent : List Planned) (left : List Wanted) (up : List Line) (running : Option Line) (waiting : List Waiting) (error : Bool) (know : Know) (y : Tally)
+near_resumes : (p : Program) (fs : List Feature) (table : Table) (unsent : List Planned) (left : List Wanted) (up : List Line)
+    (running : Option Line) (waiting : List Waiting) (error : Bool) (know : Know) (y : Tally)
     → IsPlain p → IsNear table unsent left up running waiting error know → AreFailed table.standard
-    → IsNear (with_tally (begun (plan p (length fs) Start.SameConnection) y) table) (plan p (length fs) Start.SameConnection) (drop (length fs) p.features) up running waiting error know
+    → IsNear (with_tally (begun (plan p (length fs) Start.SameConnection) y) table) (plan p (length fs) Start.SameConnection)
+    (drop (length fs) p.features) up running waiting error know
 near_resumes p fs table unsent left up running waiting error know y program h failed =
     let steps : List Planned = plan p (length fs) Start.SameConnection in
     let none = none_received (listed running ++ h.queued) h.coming (subst AreFailed h.by.standard_is failed) in
-    let lines : listed running ++ (h.queued ++ h.coming) ≡ [] = sym (append_assoc (listed running) h.queued h.coming) ∙ (ap (λ (l : List Line). l ++ h.coming) none.0 ∙ none.1) in
+    let lines : listed running ++ (h.queued ++ h.coming) ≡ [] = sym (append_assoc (listed running) h.queued h.coming)
+        ∙ (ap (λ (l : List Line). l ++ h.coming) none.0 ∙ none.1) in
     record {
       queued = h.queued;
       coming = h.coming;
@@ -187,10 +206,12 @@ resumes w inv live halted =
     let steps : List Planned = plan c.program (length fs) Start.SameConnection in
     let y : Tally = begun steps c.table.tally in
     let none_open : count_open c.table.standard ≡ 0 = subst (λ (s : State). HasState s c.table) halted live.state in
-    let closes : OnlyCloses ws c.table live.table w.down = only_closes ws w.down c.table live.table live.reads (all_failed c.table.standard none_open) in
+    let closes : OnlyCloses ws c.table live.table w.down = only_closes ws w.down c.table live.table live.reads
+        (all_failed c.table.standard none_open) in
     let events : c.table.event ≡ [] = subst (λ (s : State). HasEvents s c.abort c.table.event) halted live.events in
     let anew : IsProgress ws c.last live.table.tally.features [] (contacts w.server.ledger) (drop (length live.table.tally.features) ws) =
-    progress_anew ws c.last c.last live.table.tally.features live.table.tally.points (contacts w.server.ledger) live.left (program_has c.program inv.program) live.progress in
+    progress_anew ws c.last c.last live.table.tally.features live.table.tally.points (contacts w.server.ledger) live.left
+        (program_has c.program inv.program) live.progress in
     record {
       program = inv.program;
       window = inv.window;
@@ -203,7 +224,8 @@ resumes w inv live halted =
         left = drop (length fs) ws;
         reads = closes.anyhow y;
         counted = ap (λ (z : Tally). z.counted) (sym closes.same) ∙ live.counted;
-        progress = subst (λ (gs : List Feature). IsProgress ws c.last gs [] (contacts w.server.ledger) (drop (length gs) ws)) (ap (λ (z : Tally). z.features) closes.same) anew;
+        progress = subst (λ (gs : List Feature). IsProgress ws c.last gs [] (contacts w.server.ledger) (drop (length gs) ws))
+            (ap (λ (z : Tally). z.features) closes.same) anew;
         pending = live.pending;
         pending_is = live.pending_is;
         tidy = live.tidy;
@@ -223,16 +245,20 @@ resumes w inv live halted =
     fs_now = w.client.table.tally.features
 
     placed : (y : Tally) → AreFailed live.table.standard → IsHere w live.table live.left ⊎ (IsAhead w live.table live.left ⊎ IsGone w)
-        → IsHere after_resume (with_tally (begun (plan w.client.program (length w.client.table.tally.features) Start.SameConnection) y) live.table) (drop (length w.client.table.tally.features) w.client.program.features)
-        ⊎ (IsAhead after_resume (with_tally (begun (plan w.client.program (length w.client.table.tally.features) Start.SameConnection) y) live.table) (drop (length w.client.table.tally.features) w.client.program.features) ⊎ IsGone after_resume)
+        → IsHere after_resume (with_tally (begun (plan w.client.program (length w.client.table.tally.features) Start.SameConnection) y)
+        live.table) (drop (length w.client.table.tally.features) w.client.program.features)
+        ⊎ (IsAhead after_resume (with_tally (begun (plan w.client.program (length w.client.table.tally.features) Start.SameConnection) y)
+        live.table) (drop (length w.client.table.tally.features) w.client.program.features) ⊎ IsGone after_resume)
     placed y failed (inl here) = inl (record {
       on = here.on;
       same = here.same;
-      near = near_resumes w.client.program w.client.table.tally.features live.table w.client.unsent live.left w.up w.server.running w.server.waiting w.server.error (know_of w.server) y inv.program here.near failed;
+      near = near_resumes w.client.program w.client.table.tally.features live.table w.client.unsent live.left w.up w.server.running
+          w.server.waiting w.server.error (know_of w.server) y inv.program here.near failed;
     })
     placed y failed (inr (inl ahead)) = inr (inl (record {
       below = ahead.below;
-      near = near_resumes w.client.program w.client.table.tally.features live.table w.client.unsent live.left w.up None [] false unknown y inv.program ahead.near failed;
+      near = near_resumes w.client.program w.client.table.tally.features live.table w.client.unsent live.left w.up None [] false unknown y
+          inv.program ahead.near failed;
     }))
     placed y failed (inr (inr gone)) = inr (inr (record { off = gone.off; same = gone.same }))
 

@@ -1,12 +1,14 @@
 -- What the client writes keeps all that holds: commands, aborts, and a plan that goes on.
-use Rattle.std.proofs.Common.{◌≡◌, ℕ, ◌-◌, ◌<◌, ◌≤◌, ◌⊎◌, inl, inr, Bool, true, false, cond, not, ◌||◌, List, [], ◌∷◌, ◌++◌, length, refl, sym, ◌∙◌, ap, subst, arith, Option, Some, None, is_some, Ok, eqb, eqb-true, le_trans}
+use Rattle.std.proofs.Common.{◌≡◌, ℕ, ◌-◌, ◌<◌, ◌≤◌, ◌⊎◌, inl, inr, Bool, true, false, cond, not, ◌||◌, List, [], ◌∷◌, ◌++◌, length, refl,
+  sym, ◌∙◌, ap, subst, arith, Option, Some, None, is_some, Ok, eqb, eqb-true, le_trans}
 use Rattle.std.proofs.lemmas.Bool.{false≢true, and_parts, ltb-true}
 use Rattle.dme_line.specs.Kinds.{kind_of}
 use Rattle.dme_line.specs.declared.tags.Tag.{Tag}
 use Rattle.dme_line.specs.declared.tags.Tag.TheVariants.{Std}
 use Rattle.dmis_program.specs.declared.features.Wanted.{Wanted}
 use Rattle.protocol_model.specs.Open.{count_open, is_held}
-use Rattle.protocol_model.specs.Client.{Client, Table, Tally, client_sent, sends_next, held_now, next_number, due, first_due, may_go, is_running, is_clearing}
+use Rattle.protocol_model.specs.Client.{Client, Table, Tally, client_sent, sends_next, held_now, next_number, due, first_due, may_go,
+  is_running, is_clearing}
 use Rattle.protocol_model.specs.Server.{is_abort}
 use Rattle.protocol_model.specs.Typed.{World, sent}
 use Rattle.protocol_model.proofs.table.Counts.{AreFailed, all_failed, failed_tags}
@@ -14,7 +16,8 @@ use Rattle.protocol_model.proofs.table.Replying.{tabled, with_standard, reads_wi
 use Rattle.protocol_model.proofs.plan.Fitting.{unknown}
 use Rattle.protocol_model.proofs.plan.Marks.{HasNoAbort}
 use Rattle.protocol_model.proofs.table.Drawing.{IsDrawn, drawn, none_drawn, standard_apart, held_length}
-use Rattle.protocol_model.proofs.invariant.Holding.{IsNear, HasEvents, HasState, tags_of, IsLive, IsOff, IsAtRest, IsHere, IsAhead, IsGone, Inv, know_of}
+use Rattle.protocol_model.proofs.invariant.Holding.{IsNear, HasEvents, HasState, tags_of, IsLive, IsOff, IsAtRest, IsHere, IsAhead, IsGone,
+  Inv, know_of}
 use Rattle.protocol_model.proofs.events.ClientEvents.{failed_tags_more, count_more, distinct_more, near_sends}
 use Rattle.protocol_model.specs.declared.plans.Planned.{Planned}
 use Rattle.protocol_model.specs.declared.held.Held.{Held}
@@ -42,19 +45,22 @@ first_by : (b : Bool) (p : Planned) → is_some (cond b (Some p) None) ≡ true 
 first_by true p e = refl
 first_by false p e = absurd (false≢true e)
 
-due_by : (c : Client) (ps : List Planned) → c.unsent ≡ ps → c.state ≡ State.Running → is_some (first_due c.window (count_open c.table.standard) ps) ≡ true → IsDue c
+due_by : (c : Client) (ps : List Planned) → c.unsent ≡ ps → c.state ≡ State.Running
+    → is_some (first_due c.window (count_open c.table.standard) ps) ≡ true → IsDue c
 due_by c [] e r is = absurd (false≢true is)
 due_by c (p ∷ ps) e r is = record { running = r; planned = p; others = ps; unsent = e; go = first_by _ p is }
 
 pub due_is : (c : Client) → is_some (due c) ≡ true → IsDue c
 due_is c is = go (is_running c.state) refl is
   where
-    go : (b : Bool) → is_running c.state ≡ b → is_some (cond b (first_due c.window (count_open c.table.standard) c.unsent) None) ≡ true → IsDue c
+    go : (b : Bool) → is_running c.state ≡ b → is_some (cond b (first_due c.window (count_open c.table.standard) c.unsent) None) ≡ true
+        → IsDue c
     go true r e = due_by c c.unsent refl (is_running-true c.state r) e
     go false r e = absurd (false≢true e)
 
 -- a command goes out under a tag that is not held
-sends_one : (w : World) (inv : Inv w) (live : IsLive w) (d : IsDue w.client) (n : ℕ) → is_held (Std n) w.client.table.standard ≡ false → Inv (sent w (sends_next w.client (d.planned ∷ d.others) (Some n)))
+sends_one : (w : World) (inv : Inv w) (live : IsLive w) (d : IsDue w.client) (n : ℕ) → is_held (Std n) w.client.table.standard ≡ false
+    → Inv (sent w (sends_next w.client (d.planned ∷ d.others) (Some n)))
 sends_one w inv live d n free =
     let c : Client = w.client in
     let ws : List Wanted = c.program.features in
@@ -97,28 +103,38 @@ sends_one w inv live d n free =
     after_sending : World
     after_sending = sent w (sends_next w.client (d.planned ∷ d.others) (Some n))
 
-    clearing : (not (is_clearing d.planned.command) || eqb (count_open w.client.table.standard) 0) ≡ true → is_clearing d.planned.command ≡ true → count_open w.client.table.standard ≡ 0
+    clearing : (not (is_clearing d.planned.command) || eqb (count_open w.client.table.standard) 0) ≡ true
+        → is_clearing d.planned.command ≡ true → count_open w.client.table.standard ≡ 0
     clearing may is =
-        let zero_now : eqb (count_open w.client.table.standard) 0 ≡ true = ap (λ (b : Bool). not b || eqb (count_open w.client.table.standard) 0) (sym is) ∙ may in
+        let zero_now : eqb (count_open w.client.table.standard) 0 ≡ true =
+            ap (λ (b : Bool). not b || eqb (count_open w.client.table.standard) 0) (sym is) ∙ may in
         eqb-true _ 0 zero_now
 
-    cleared : w.client.table.tally.failed ≡ false → count_open w.client.table.standard ≡ 0 → AreFailed live.table.standard × (live.table.tally.failed ≡ false)
+    cleared : w.client.table.tally.failed ≡ false → count_open w.client.table.standard ≡ 0 → AreFailed live.table.standard
+        × (live.table.tally.failed ≡ false)
     cleared failed none_open =
-        let closes : OnlyCloses w.client.program.features w.client.table live.table w.down = only_closes w.client.program.features w.down w.client.table live.table live.reads (all_failed w.client.table.standard none_open) in
+        let closes : OnlyCloses w.client.program.features w.client.table live.table w.down =
+            only_closes w.client.program.features w.down w.client.table live.table live.reads (all_failed w.client.table.standard none_open)
+            in
         (closes.left, ap (λ (y : Tally). y.failed) closes.same ∙ failed)
 
-    placed : w.client.table.tally.failed ≡ false → live.table.event ≡ [] → is_abort (Ok d.planned.command) ≡ false → (is_clearing d.planned.command ≡ true → count_open w.client.table.standard ≡ 0)
-        → IsHere w live.table live.left ⊎ (IsAhead w live.table live.left ⊎ IsGone w) → IsHere after_sending (with_standard x live.table) live.left ⊎ (IsAhead after_sending (with_standard x live.table) live.left ⊎ IsGone after_sending)
+    placed : w.client.table.tally.failed ≡ false → live.table.event ≡ [] → is_abort (Ok d.planned.command) ≡ false
+        → (is_clearing d.planned.command ≡ true → count_open w.client.table.standard ≡ 0)
+        → IsHere w live.table live.left ⊎ (IsAhead w live.table live.left ⊎ IsGone w)
+        → IsHere after_sending (with_standard x live.table) live.left
+        ⊎ (IsAhead after_sending (with_standard x live.table) live.left ⊎ IsGone after_sending)
     placed failed none plain zero_at (inl here) = inl (record {
       on = here.on;
       same = here.same;
       near = near_sends live.table d.planned d.others live.left w.up w.server.running w.server.waiting w.server.error (know_of w.server) n
-          (subst (λ (l : List Planned). IsNear live.table l live.left w.up w.server.running w.server.waiting w.server.error (know_of w.server)) d.unsent here.near) none plain (λ e. cleared failed (zero_at e));
+          (subst (λ (l : List Planned). IsNear live.table l live.left w.up w.server.running w.server.waiting w.server.error
+              (know_of w.server)) d.unsent here.near) none plain (λ e. cleared failed (zero_at e));
     })
     placed failed none plain zero_at (inr (inl ahead)) = inr (inl (record {
       below = ahead.below;
       near = near_sends live.table d.planned d.others live.left w.up None [] false unknown n
-          (subst (λ (l : List Planned). IsNear live.table l live.left w.up None [] false unknown) d.unsent ahead.near) none plain (λ e. cleared failed (zero_at e));
+          (subst (λ (l : List Planned). IsNear live.table l live.left w.up None [] false unknown) d.unsent ahead.near) none plain
+              (λ e. cleared failed (zero_at e));
     }))
     placed failed none plain zero_at (inr (inr gone)) = inr (inr (record { off = gone.off; same = gone.same }))
 
@@ -128,7 +144,8 @@ few_tags (Some t) = omega arith
 
 held_few : (w : World) → Inv w → (live : IsLive w) → length w.client.table.standard ≤ 17
 held_few w inv live =
-    let tags : length (failed_tags w.client.table.standard) ≤ 1 = subst (λ (ts : List Tag). length ts ≤ 1) (sym live.pending_is) (few_tags live.pending) in
+    let tags : length (failed_tags w.client.table.standard) ≤ 1 =
+        subst (λ (ts : List Tag). length ts ≤ 1) (sym live.pending_is) (few_tags live.pending) in
     let open_now : count_open w.client.table.standard ≤ 16 = le_trans live.within inv.window in
     omega (arith, held_length w.client.table.standard)
 
@@ -141,12 +158,16 @@ sends_event w inv can = go inv.side
     d : IsDue w.client
     d = due_is w.client can
 
-    numbered : (live : IsLive w) (number : Option ℕ) → next_number Std w.client.table.standard w.client.drawn ≡ number → Inv (sent w (sends_next w.client (d.planned ∷ d.others) number))
-    numbered live None e = absurd (too_many _ (none_drawn Std w.client.table.standard w.client.drawn (9999 - w.client.drawn) 9999 standard_apart e) (held_few w inv live))
-    numbered live (Some n) e = let number : IsDrawn Std w.client.table.standard n = drawn Std w.client.table.standard w.client.drawn (9999 - w.client.drawn) 9999 n e in sends_one w inv live d n number.free
+    numbered : (live : IsLive w) (number : Option ℕ) → next_number Std w.client.table.standard w.client.drawn ≡ number
+        → Inv (sent w (sends_next w.client (d.planned ∷ d.others) number))
+    numbered live None e = absurd (too_many _ (none_drawn Std w.client.table.standard w.client.drawn (9999 - w.client.drawn) 9999
+        standard_apart e) (held_few w inv live))
+    numbered live (Some n) e = let number : IsDrawn Std w.client.table.standard n =
+        drawn Std w.client.table.standard w.client.drawn (9999 - w.client.drawn) 9999 n e in sends_one w inv live d n number.free
 
     go : IsOff w ⊎ IsLive w → Inv (sent w (client_sent w.client))
     go (inl off) = absurd (subst IsAtRest d.running off.rest)
     go (inr live) =
-        subst (λ (ps : List Planned). Inv (sent w (sends_next w.client ps (next_number Std w.client.table.standard w.client.drawn)))) (sym d.unsent)
+        subst (λ (ps : List Planned). Inv (sent w (sends_next w.client ps (next_number Std w.client.table.standard w.client.drawn))))
+            (sym d.unsent)
         (numbered live (next_number Std w.client.table.standard w.client.drawn) refl)

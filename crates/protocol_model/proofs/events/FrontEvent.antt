@@ -1,5 +1,6 @@
 -- The command at the front of what a server has to do: it fails, or it is done.
-use Rattle.std.proofs.Common.{◌≡◌, ℕ, suc, Bool, true, false, ◌||◌, List, [], ◌∷◌, ◌++◌, refl, sym, ◌∙◌, ap, subst, append_assoc, Option, Some, None}
+use Rattle.std.proofs.Common.{◌≡◌, ℕ, suc, Bool, true, false, ◌||◌, List, [], ◌∷◌, ◌++◌, refl, sym, ◌∙◌, ap, subst, append_assoc, Option,
+  Some, None}
 use Rattle.std.proofs.lemmas.Bool.{false≢true}
 use Rattle.fixed_um.specs.declared.lengths.Point.{Point}
 use Rattle.dme_line.specs.Kinds.{kind_of}
@@ -18,15 +19,18 @@ use Rattle.protocol_model.proofs.invariant.Pairs.{broken, pair_and_pairs}
 use Rattle.protocol_model.proofs.events.Answers.{IsAnswered}
 use Rattle.protocol_model.proofs.events.ReadEvent.{quiet_answer, tidy_pair_and_pairs}
 use Rattle.protocol_model.proofs.invariant.Touching.{HasPoint, Keeps, measured_keeps, Goes, does_goes}
-use Rattle.protocol_model.proofs.invariant.Holding.{listed, received, all_received, all_sent, all_wait, abort_lines, abort_helds, commands_of, commands_in, AreStandard, AreNoClears, IsClearFirst, IsClean, IsNearBy, IsTidy, know_of}
-use Rattle.protocol_model.proofs.invariant.LineFacts.{standard_before, standard_behind, clear_first_none, no_clears_behind, IsFirstStep, first_step}
+use Rattle.protocol_model.proofs.invariant.Holding.{listed, received, all_received, all_sent, all_wait, abort_lines, abort_helds,
+  commands_of, commands_in, AreStandard, AreNoClears, IsClearFirst, IsClean, IsNearBy, IsTidy, know_of}
+use Rattle.protocol_model.proofs.invariant.LineFacts.{standard_before, standard_behind, clear_first_none, no_clears_behind, IsFirstStep,
+  first_step}
 use Rattle.protocol_model.specs.declared.lines.Line.{Line}
 use Rattle.protocol_model.specs.declared.plans.Planned.{Planned}
 use Rattle.protocol_model.specs.declared.plans.Does.{Does}
 use Rattle.protocol_model.specs.declared.held.Held.{Held}
 
 -- the first command that the server has to do, on its client's connection, with those that wait and those that come
-pub record IsAtFront (w : World) (table : Table) (left : List Wanted) (x : Line) (queued coming : List Line) (aborts : List ℕ) : Type 0 where
+pub record IsAtFront (w : World) (table : Table) (left : List Wanted) (x : Line) (queued coming : List Line) (aborts : List ℕ) : Type 0
+    where
   pub standard_is : table.standard ≡ received x ∷ (all_received queued ++ all_sent coming)
   pub event_is : table.event ≡ abort_helds aborts
   pub up_is : w.up ≡ coming ++ abort_lines aborts
@@ -52,13 +56,18 @@ pub at_front : (w : World) (table : Table) (left : List Wanted) (x : Line) (now 
     → IsProgress w.client.program.features w.client.last table.tally.features table.tally.points (contacts w.server.ledger) left
     → listed w.server.running ++ now ≡ x ∷ queued → w.server.error ≡ false → IsAtFront w table left x queued coming aborts
 at_front w table left x now queued coming aborts n progress first quiet =
-    let lines : listed w.server.running ++ (now ++ coming) ≡ x ∷ (queued ++ coming) = sym (append_assoc (listed w.server.running) now coming) ∙ ap (λ (l : List Line). l ++ coming) first in
+    let lines : listed w.server.running ++ (now ++ coming) ≡ x ∷ (queued ++ coming) =
+        sym (append_assoc (listed w.server.running) now coming) ∙ ap (λ (l : List Line). l ++ coming) first in
     let calm : table.tally.failed ≡ false = no_failure table.tally.failed refl in
-    let c : IsClean table.tally w.client.unsent left (listed w.server.running ++ (now ++ coming)) w.server.error (know_of w.server) = n.clean calm in
-    let step : IsFirstStep c.steps x.command (commands_in (queued ++ coming)) = first_step c.steps x.command (commands_in (queued ++ coming)) (c.commands ∙ ap commands_in lines) in
-    let todo : table.tally.todo ≡ record { command = x.command; does = step.does } ∷ (step.rest ++ w.client.unsent) = c.todo ∙ ap (λ (l : List Planned). l ++ w.client.unsent) step.is in
+    let c : IsClean table.tally w.client.unsent left (listed w.server.running ++ (now ++ coming)) w.server.error (know_of w.server) =
+        n.clean calm in
+    let step : IsFirstStep c.steps x.command (commands_in (queued ++ coming)) =
+        first_step c.steps x.command (commands_in (queued ++ coming)) (c.commands ∙ ap commands_in lines) in
+    let todo : table.tally.todo ≡ record { command = x.command; does = step.does } ∷ (step.rest ++ w.client.unsent) = c.todo
+        ∙ ap (λ (l : List Planned). l ++ w.client.unsent) step.is in
     let sane : IsSane (record { command = x.command; does = step.does } ∷ (step.rest ++ w.client.unsent)) = subst IsSane todo c.sane in
-    let fits : Fits (know_of w.server) (record { command = x.command; does = step.does } ∷ (step.rest ++ w.client.unsent)) = subst (Fits (know_of w.server)) todo (c.fits quiet) in
+    let fits : Fits (know_of w.server) (record { command = x.command; does = step.does } ∷ (step.rest ++ w.client.unsent)) =
+        subst (Fits (know_of w.server)) todo (c.fits quiet) in
     let clear : IsClearFirst table.tally.failed (x ∷ (queued ++ coming)) = subst (IsClearFirst table.tally.failed) lines n.clear_first in
     record {
       standard_is = n.standard_is ∙ ap (λ (l : List Line). all_received l ++ all_sent coming) first;
@@ -86,7 +95,8 @@ at_front w table left x now queued coming aborts n progress first quiet =
     no_failure true e = absurd (false≢true (sym quiet ∙ n.stopped e))
 
 -- it fails, and all that wait fail behind it
-pub front_fails : (w : World) (table : Table) (left : List Wanted) (x : Line) (queued coming : List Line) (aborts : List ℕ) (s : Server) (code : ℕ)
+pub front_fails : (w : World) (table : Table) (left : List Wanted) (x : Line) (queued coming : List Line) (aborts : List ℕ) (s : Server)
+    (code : ℕ)
     → IsAtFront w table left x queued coming aborts → Moves w.server s [] → s.running ≡ None → s.waiting ≡ [] → s.error ≡ true
     → IsAnswered w table w.up (answers s (fails x.tag code (Some (kind_of x.command)) ++ all_fail 9007 (all_wait queued)))
 front_fails w table left x queued coming aborts s code f moves no_run no_wait error =
@@ -94,7 +104,8 @@ front_fails w table left x queued coming aborts s code f moves no_run no_wait er
     let said : List Reply = fails x.tag code (Some (kind_of x.command)) ++ all_fail 9007 (all_wait queued) in
     let sorts : AreStandard queued = standard_before queued coming f.standard.2 in
     quiet_answer w table left w.up (answers s said) (all_sent coming) table.event true moves f.progress
-    (subst (λ (hs : List Held). Reads ws (tabled hs table.event table.tally) said (tabled (all_sent coming) table.event (broken table.tally))) (sym f.standard_is)
+    (subst (λ (hs : List Held). Reads ws (tabled hs table.event table.tally) said
+        (tabled (all_sent coming) table.event (broken table.tally))) (sym f.standard_is)
     (pair_and_pairs ws x queued (all_sent coming) table.event table.tally code (Some (kind_of x.command)) f.standard.0 sorts))
     (tidy_pair_and_pairs x queued code (Some (kind_of x.command)) f.standard.0 sorts)
     (record {
@@ -109,39 +120,48 @@ front_fails w table left x queued coming aborts s code f moves no_run no_wait er
         standard = subst (λ (o : Option Line). AreStandard (listed o ++ coming)) (sym no_run) (standard_behind queued coming f.standard.2);
         idle = λ e. (no_run, refl);
         stopped = λ e. error;
-        clear_first = subst (λ (o : Option Line). IsClearFirst true (listed o ++ coming)) (sym no_run) (clear_first_none true coming (no_clears_behind queued coming f.no_clears));
+        clear_first = subst (λ (o : Option Line). IsClearFirst true (listed o ++ coming)) (sym no_run)
+            (clear_first_none true coming (no_clears_behind queued coming f.no_clears));
         clean = λ e. absurd (false≢true (sym e));
       };
     })
 
 -- it is done
-pub front_done : (w : World) (table : Table) (left : List Wanted) (x : Line) (queued coming : List Line) (aborts : List ℕ) (s : Server) (said : List Reply) (given : Option Point)
-    → (f : IsAtFront w table left x queued coming aborts) → Moves w.server s (act_of f.does given) → w.server.last ≡ w.client.last → s.running ≡ None → s.waiting ≡ all_wait queued → s.error ≡ false
+pub front_done : (w : World) (table : Table) (left : List Wanted) (x : Line) (queued coming : List Line) (aborts : List ℕ) (s : Server)
+    (said : List Reply) (given : Option Point)
+    → (f : IsAtFront w table left x queued coming aborts) → Moves w.server s (act_of f.does given) → w.server.last ≡ w.client.last
+    → s.running ≡ None → s.waiting ≡ all_wait queued → s.error ≡ false
     → KnowsMore (known_by (know_of w.server) x.command) (know_of s) → HasPoint f.does given
     → Reads w.client.program.features (tabled (received x ∷ (all_received queued ++ all_sent coming)) table.event table.tally) said
-    (tabled (all_received queued ++ all_sent coming) table.event (counted_next w.client.program.features (kind_of x.command) given table.tally.todo table.tally))
+    (tabled (all_received queued ++ all_sent coming) table.event
+        (counted_next w.client.program.features (kind_of x.command) given table.tally.todo table.tally))
     → IsTidy None said
     → IsAnswered w table w.up (answers s said)
 front_done w table left x queued coming aborts s said given f moves same no_run waiting error knows has reads tidy =
     let ws : List Wanted = w.client.program.features in
     let y : Tally = table.tally in
     let rest : List Planned = f.steps ++ w.client.unsent in
-    let mid : Tally = record y { session = y.session || begins_session (kind_of x.command); todo = rest; counted = y.counted ++ act_of f.does given; completed = suc y.completed } in
+    let mid : Tally = record y { session = y.session || begins_session (kind_of x.command); todo = rest; counted = y.counted
+        ++ act_of f.does given; completed = suc y.completed } in
     let next : Tally = measured ws f.does given mid in
-    let is : counted_next ws (kind_of x.command) given y.todo y ≡ next = ap (λ (l : List Planned). counted_next ws (kind_of x.command) given l y) f.todo in
+    let is : counted_next ws (kind_of x.command) given y.todo y ≡ next =
+        ap (λ (l : List Planned). counted_next ws (kind_of x.command) given l y) f.todo in
     let hs : List Held = all_received queued ++ all_sent coming in
     let keeps : Keeps mid next = measured_keeps ws f.does given mid in
-    let goes : Goes ws w.client.last mid (contacts w.server.ledger) f.does given (touches_in rest) = does_goes ws w.client.last mid (contacts w.server.ledger) left f.does given (touches_in rest) f.progress has f.touches in
+    let goes : Goes ws w.client.last mid (contacts w.server.ledger) f.does given (touches_in rest) =
+        does_goes ws w.client.last mid (contacts w.server.ledger) left f.does given (touches_in rest) f.progress has f.touches in
     record {
       acts = act_of f.does given;
       moves = moves;
       next = tabled hs table.event next;
       left = goes.left;
       reads = subst (λ (z : Tally). Reads ws table said (tabled hs table.event z)) is
-          (subst (λ (l : List Held). Reads ws (tabled l table.event y) said (tabled hs table.event (counted_next ws (kind_of x.command) given y.todo y))) (sym f.standard_is) reads);
+          (subst (λ (l : List Held). Reads ws (tabled l table.event y) said
+              (tabled hs table.event (counted_next ws (kind_of x.command) given y.todo y))) (sym f.standard_is) reads);
       tidy = tidy;
       counted = keeps.counted;
-      progress = subst (λ (m : ℕ). IsProgress ws w.client.last next.features next.points (contacts w.server.ledger ++ contacts (done_on m (act_of f.does given))) goes.left) (sym same) goes.progress;
+      progress = subst (λ (m : ℕ). IsProgress ws w.client.last next.features next.points (contacts w.server.ledger
+          ++ contacts (done_on m (act_of f.does given))) goes.left) (sym same) goes.progress;
       near = record {
         queued = queued;
         coming = coming;
@@ -154,7 +174,8 @@ front_done w table left x queued coming aborts s said given f moves same no_run 
           standard = subst (λ (o : Option Line). AreStandard (listed o ++ (queued ++ coming))) (sym no_run) f.standard.2;
           idle = λ e. absurd (false≢true (sym error ∙ e));
           stopped = λ e. absurd (false≢true (sym (keeps.failed ∙ f.calm) ∙ e));
-          clear_first = subst (λ (o : Option Line). IsClearFirst next.failed (listed o ++ (queued ++ coming))) (sym no_run) (clear_first_none next.failed (queued ++ coming) f.no_clears);
+          clear_first = subst (λ (o : Option Line). IsClearFirst next.failed (listed o ++ (queued ++ coming))) (sym no_run)
+              (clear_first_none next.failed (queued ++ coming) f.no_clears);
           clean = λ e. record {
             steps = f.steps;
             todo = keeps.todo;

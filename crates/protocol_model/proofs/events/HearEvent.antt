@@ -1,12 +1,14 @@
 -- The client reads a reply, and all that holds is kept.
-use Rattle.std.proofs.Common.{◌≡◌, ◌≤◌, Bool, true, false, cond, ◌&&◌, List, [], ◌∷◌, refl, sym, ◌∙◌, ap, subst, arith, Option, Some, None, eqb, eqb-true}
+use Rattle.std.proofs.Common.{◌≡◌, ◌≤◌, Bool, true, false, cond, ◌&&◌, List, [], ◌∷◌, refl, sym, ◌∙◌, ap, subst, arith, Option, Some, None,
+  eqb, eqb-true}
 use Rattle.std.proofs.lemmas.Bool.{false≢true}
 use Rattle.fixed_um.specs.declared.lengths.Point.{Point}
 use Rattle.dme_line.specs.Tags.{is_event_tag}
 use Rattle.dme_line.specs.declared.tags.Tag.{Tag}
 use Rattle.dme_line.specs.declared.tags.Tag.TheVariants.{Std, Event}
 use Rattle.protocol_model.specs.Replies.{Mark, tag_is}
-use Rattle.protocol_model.specs.Open.{Effect, Becomes, Closes, Counts, judged, judged_ack, judged_given, heard_in, is_failed, asks_data, count_open}
+use Rattle.protocol_model.specs.Open.{Effect, Becomes, Closes, Counts, judged, judged_ack, judged_given, heard_in, is_failed, asks_data,
+  count_open}
 use Rattle.protocol_model.specs.Client.{Table, ends_abort, first_state, last_state, is_whole, state_behind}
 use Rattle.protocol_model.proofs.table.Walks.{two, staged, heard_cases}
 use Rattle.protocol_model.proofs.table.Counts.{is_error, no_break, done_moves}
@@ -17,7 +19,8 @@ use Rattle.protocol_model.specs.declared.states.State.{State}
 
 -- ---- states
 
-last_has_state : (b : Table) (whole : Bool) (state : State) → (state ≡ State.Running → b.tally.failed ≡ false) → (zero_open : Bool) → eqb (count_open b.standard) 0 ≡ zero_open
+last_has_state : (b : Table) (whole : Bool) (state : State) → (state ≡ State.Running → b.tally.failed ≡ false) → (zero_open : Bool)
+    → eqb (count_open b.standard) 0 ≡ zero_open
     → HasState (cond whole State.Done (cond zero_open State.Halted State.Failing)) b
 last_has_state b true state running zero_open e = tt
 last_has_state b false state running true e = eqb-true (count_open b.standard) 0 e
@@ -26,7 +29,8 @@ last_has_state b false state running false e = tt
 failing_state : (b : Table) → HasState (last_state State.Failing (is_whole b) (count_open b.standard)) b
 failing_state b = go (is_whole b) (eqb (count_open b.standard) 0) refl
   where
-    go : (whole zero_open : Bool) → eqb (count_open b.standard) 0 ≡ zero_open → HasState (cond whole State.Done (cond zero_open State.Halted State.Failing)) b
+    go : (whole zero_open : Bool) → eqb (count_open b.standard) 0 ≡ zero_open
+        → HasState (cond whole State.Done (cond zero_open State.Halted State.Failing)) b
     go true zero_open e = tt
     go false true e = eqb-true (count_open b.standard) 0 e
     go false false e = tt
@@ -38,11 +42,13 @@ running_state b calm = go (is_whole b)
     go true = tt
     go false = calm
 
-pub has_state : (state : State) (ends : Bool) (b c : Table) → HasState state b → count_open c.standard ≤ count_open b.standard → HasState (state_behind state ends c) c
+pub has_state : (state : State) (ends : Bool) (b c : Table) → HasState state b → count_open c.standard ≤ count_open b.standard
+    → HasState (state_behind state ends c) c
 has_state State.Apart ends b c h le = tt
 has_state State.Running ends b c h le = go c.tally.failed refl
   where
-    go : (failed : Bool) → c.tally.failed ≡ failed → HasState (last_state (first_state State.Running ends failed) (is_whole c) (count_open c.standard)) c
+    go : (failed : Bool) → c.tally.failed ≡ failed → HasState (last_state (first_state State.Running ends failed) (is_whole c)
+        (count_open c.standard)) c
     go true e = failing_state c
     go false e = running_state c e
 has_state State.Failing ends b c h le = failing_state c
@@ -53,7 +59,8 @@ has_state State.Done ends b c h le = tt
 has_state State.Faulted ends b c h le = h
 
 -- where no event command is held, each later state has none
-pub failing_events : (b : Table) (abort : Option Tag) (event : List Held) → event ≡ [] → HasEvents (last_state State.Failing (is_whole b) (count_open b.standard)) abort event
+pub failing_events : (b : Table) (abort : Option Tag) (event : List Held) → event ≡ []
+    → HasEvents (last_state State.Failing (is_whole b) (count_open b.standard)) abort event
 failing_events b abort event none = go (is_whole b) (eqb (count_open b.standard) 0)
   where
     go : (whole zero_open : Bool) → HasEvents (cond whole State.Done (cond zero_open State.Halted State.Failing)) abort event
@@ -61,7 +68,8 @@ failing_events b abort event none = go (is_whole b) (eqb (count_open b.standard)
     go false true = none
     go false false = none
 
-running_events : (b : Table) (abort : Option Tag) (event : List Held) → event ≡ [] → HasEvents (last_state State.Running (is_whole b) (count_open b.standard)) abort event
+running_events : (b : Table) (abort : Option Tag) (event : List Held) → event ≡ []
+    → HasEvents (last_state State.Running (is_whole b) (count_open b.standard)) abort event
 running_events b abort event none = go (is_whole b)
   where
     go : (whole : Bool) → HasEvents (cond whole State.Done State.Running) abort event
@@ -69,7 +77,8 @@ running_events b abort event none = go (is_whole b)
     go false = none
 
 -- a standard reply ends no abort
-ends_no_abort : (abort : Option Tag) (a t : Tag) (m : Mark) → abort ≡ Some a → is_event_tag a ≡ true → is_event_tag t ≡ false → ends_abort abort t m ≡ false
+ends_no_abort : (abort : Option Tag) (a t : Tag) (m : Mark) → abort ≡ Some a → is_event_tag a ≡ true → is_event_tag t ≡ false
+    → ends_abort abort t m ≡ false
 ends_no_abort abort a t m is sort other = ap (λ (o : Option Tag). ends_abort o t m) is ∙ go m
   where
     apart : (u v : Tag) → is_event_tag u ≡ true → is_event_tag v ≡ false → tag_is u v ≡ false
@@ -83,16 +92,19 @@ ends_no_abort abort a t m is sort other = ap (λ (o : Option Tag). ends_abort o 
     go Mark.Done = apart a t sort other
     go Mark.Error = apart a t sort other
 
-pub standard_events : (state : State) (abort : Option Tag) (event : List Held) (t : Tag) (m : Mark) (b : Table) → is_event_tag t ≡ false → HasEvents state abort event → HasEvents (state_behind state (ends_abort abort t m) b) abort event
+pub standard_events : (state : State) (abort : Option Tag) (event : List Held) (t : Tag) (m : Mark) (b : Table) → is_event_tag t ≡ false
+    → HasEvents state abort event → HasEvents (state_behind state (ends_abort abort t m) b) abort event
 standard_events State.Apart abort event t m b sort h = h
 standard_events State.Running abort event t m b sort h = go b.tally.failed
   where
-    go : (failed : Bool) → HasEvents (last_state (first_state State.Running (ends_abort abort t m) failed) (is_whole b) (count_open b.standard)) abort event
+    go : (failed : Bool) → HasEvents (last_state (first_state State.Running (ends_abort abort t m) failed) (is_whole b)
+        (count_open b.standard)) abort event
     go true = failing_events b abort event h
     go false = running_events b abort event h
 standard_events State.Failing abort event t m b sort h = failing_events b abort event h
 standard_events State.Aborting abort event t m b sort h =
-    subst (λ (ends : Bool). HasEvents (last_state (first_state State.Aborting ends b.tally.failed) (is_whole b) (count_open b.standard)) abort event) (sym (ends_no_abort abort h.tag t m h.abort_is h.sort sort)) h
+    subst (λ (ends : Bool). HasEvents (last_state (first_state State.Aborting ends b.tally.failed) (is_whole b) (count_open b.standard))
+        abort event) (sym (ends_no_abort abort h.tag t m h.abort_is h.sort sort)) h
 standard_events State.Halted abort event t m b sort h = h
 standard_events State.Done abort event t m b sort h = h
 standard_events State.Faulted abort event t m b sort h = h
@@ -137,29 +149,34 @@ no_end (Mark.Given p) other n (Some a) t = refl
 no_end Mark.Done other n (Some a) t = absurd (other refl)
 no_end Mark.Error other n (Some a) t = absurd (false≢true (sym n))
 
-closes_by : (held : Held) (m : Mark) (hs : List Held) → is_error m ≡ false → judged true held.kind held.stage m ≡ Closes → hs ≡ [] → AbortLeft held m hs
+closes_by : (held : Held) (m : Mark) (hs : List Held) → is_error m ≡ false → judged true held.kind held.stage m ≡ Closes → hs ≡ []
+    → AbortLeft held m hs
 closes_by held Mark.Ack hs n v e = absurd (ack_ends held.stage v)
 closes_by held (Mark.Given p) hs n v e = absurd (data_ends (true && asks_data held.kind) held.stage p v)
 closes_by held Mark.Done hs n v e = gone e refl
 closes_by held Mark.Error hs n v e = absurd (false≢true (sym n))
 
-counts_by : (held : Held) (m : Mark) (hs : List Held) (given : Option Point) → is_error m ≡ false → judged true held.kind held.stage m ≡ Counts given → hs ≡ [] → AbortLeft held m hs
+counts_by : (held : Held) (m : Mark) (hs : List Held) (given : Option Point) → is_error m ≡ false
+    → judged true held.kind held.stage m ≡ Counts given → hs ≡ [] → AbortLeft held m hs
 counts_by held Mark.Ack hs given n v e = absurd (ack_counts held.stage given v)
 counts_by held (Mark.Given p) hs given n v e = absurd (data_counts (true && asks_data held.kind) held.stage p given v)
 counts_by held Mark.Done hs given n v e = gone e refl
 counts_by held Mark.Error hs given n v e = absurd (false≢true (sym n))
 
-becomes_by : (held : Held) (m : Mark) (hs : List Held) (s : Stage) → is_error m ≡ false → judged true held.kind held.stage m ≡ Becomes s → hs ≡ staged held s ∷ [] → AbortLeft held m hs
+becomes_by : (held : Held) (m : Mark) (hs : List Held) (s : Stage) → is_error m ≡ false → judged true held.kind held.stage m ≡ Becomes s
+    → hs ≡ staged held s ∷ [] → AbortLeft held m hs
 becomes_by held m hs s n v e = there s e (no_end m (λ (d : m ≡ Mark.Done). not_done d) n)
   where
     not_done : m ≡ Mark.Done → ⊥
-    not_done d = done_moves true (asks_data held.kind) held.stage s (subst (λ (x : Mark). judged true held.kind held.stage x ≡ Becomes s) d v)
+    not_done d = done_moves true (asks_data held.kind) held.stage s
+        (subst (λ (x : Mark). judged true held.kind held.stage x ≡ Becomes s) d v)
 
 pub record IsAbortReply (held : Held) (t : Tag) (m : Mark) (hs : List Held) : Type 0 where
   pub same : tag_is held.tag t ≡ true
   pub left : AbortLeft held m hs
 
-pub abort_reply : (held : Held) (t : Tag) (m : Mark) (hs : List Held) (e : Effect) → heard_in true (held ∷ []) t m ≡ two hs e → is_error m ≡ false → IsAbortReply held t m hs
+pub abort_reply : (held : Held) (t : Tag) (m : Mark) (hs : List Held) (e : Effect) → heard_in true (held ∷ []) t m ≡ two hs e
+    → is_error m ≡ false → IsAbortReply held t m hs
 abort_reply held t m hs e is n =
     heard_cases true held [] t m hs e (IsAbortReply held t m hs) is
     (λ s same v g f. record { same = same; left = becomes_by held m hs s n v g })

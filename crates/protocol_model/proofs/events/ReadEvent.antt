@@ -1,5 +1,6 @@
 -- The server reads a line of its client.
-use Rattle.std.proofs.Common.{◌≡◌, ℕ, ◌≤◌, Bool, true, false, not, ◌&&◌, ◌||◌, List, [], ◌∷◌, ◌++◌, length, refl, sym, ◌∙◌, ap, subst, arith, append_assoc, append-nil, Option, Some, None, Ok, nat_le}
+use Rattle.std.proofs.Common.{◌≡◌, ℕ, ◌≤◌, Bool, true, false, not, ◌&&◌, ◌||◌, List, [], ◌∷◌, ◌++◌, length, refl, sym, ◌∙◌, ap, subst,
+  arith, append_assoc, append-nil, Option, Some, None, Ok, nat_le}
 use Rattle.std.proofs.lemmas.Bool.{false≢true, lt-leb}
 use Rattle.fixed_um.specs.declared.lengths.Point.{Point}
 use Rattle.dme_line.specs.Kinds.{kind_of}
@@ -11,7 +12,8 @@ use Rattle.dmis_program.specs.declared.features.Wanted.{Wanted}
 use Rattle.protocol_model.specs.Replies.{Reply}
 use Rattle.protocol_model.specs.Open.{count_open, is_held}
 use Rattle.protocol_model.specs.Client.{Table, Tally, is_clearing}
-use Rattle.protocol_model.specs.Server.{Server, Answer, answers, fails, all_fail, queued, runs_under, waits_under, is_abort, is_clear, running_fails, aborted, stands, server_read}
+use Rattle.protocol_model.specs.Server.{Server, Answer, answers, fails, all_fail, queued, runs_under, waits_under, is_abort, is_clear,
+  running_fails, aborted, stands, server_read}
 use Rattle.protocol_model.specs.Claims.{Made, contacts}
 use Rattle.protocol_model.specs.Typed.{World}
 use Rattle.protocol_model.proofs.table.Basics.{if_true, if_false}
@@ -22,8 +24,10 @@ use Rattle.protocol_model.proofs.invariant.Served.{IsProgress}
 use Rattle.protocol_model.proofs.invariant.Moves.{done_on, Moves}
 use Rattle.protocol_model.proofs.invariant.Pairs.{broken, breaks, pair, ack, abort_reads}
 use Rattle.protocol_model.proofs.events.Answers.{IsAnswered, tidy_more}
-use Rattle.protocol_model.proofs.invariant.Holding.{listed, received, sent_now, all_received, all_sent, waits, all_wait, abort_tag, abort_line, abort_lines, abort_held, abort_helds, commands_in, AreStandard, IsClearFirst, IsClean, IsNearBy, IsNear, IsTidy, know_of}
-use Rattle.protocol_model.proofs.invariant.LineFacts.{apart_from, not_in_use, event_not_in_use, standard_behind, clear_first_none, wait_more, one_behind, received_behind, few_wait, wait_long, clear_same, no_steps, IsFirstStep, first_step}
+use Rattle.protocol_model.proofs.invariant.Holding.{listed, received, sent_now, all_received, all_sent, waits, all_wait, abort_tag,
+  abort_line, abort_lines, abort_held, abort_helds, commands_in, AreStandard, IsClearFirst, IsClean, IsNearBy, IsNear, IsTidy, know_of}
+use Rattle.protocol_model.proofs.invariant.LineFacts.{apart_from, not_in_use, event_not_in_use, standard_behind, clear_first_none,
+  wait_more, one_behind, received_behind, few_wait, wait_long, clear_same, no_steps, IsFirstStep, first_step}
 use Rattle.protocol_model.specs.declared.lines.Line.{Line}
 use Rattle.protocol_model.specs.declared.plans.Planned.{Planned}
 use Rattle.protocol_model.specs.declared.held.Held.{Held}
@@ -31,7 +35,8 @@ use Rattle.protocol_model.specs.declared.lines.Waiting.{Waiting}
 
 -- ---- an answer that tells no act
 
-quiet_progress : (ws : List Wanted) (n m : ℕ) (fs : List Feature) (points : List Point) (ms : List Made) (left : List Wanted) → IsProgress ws n fs points ms left → IsProgress ws n fs points (ms ++ contacts (done_on m [])) left
+quiet_progress : (ws : List Wanted) (n m : ℕ) (fs : List Feature) (points : List Point) (ms : List Made) (left : List Wanted)
+    → IsProgress ws n fs points ms left → IsProgress ws n fs points (ms ++ contacts (done_on m [])) left
 quiet_progress ws n m fs points ms left h = subst (λ (l : List Made). IsProgress ws n fs points l left) (sym (append-nil ms)) h
 
 -- the facts of an event in which nothing is counted; the tally is as before but for its flag
@@ -40,7 +45,8 @@ pub quiet_answer : (w : World) (table : Table) (left : List Wanted) (up : List L
     → IsProgress w.client.program.features w.client.last table.tally.features table.tally.points (contacts w.server.ledger) left
     → Reads w.client.program.features table a.said (tabled standard event (record (table.tally) { failed = flag }))
     → IsTidy None a.said
-    → IsNear (tabled standard event (record (table.tally) { failed = flag })) w.client.unsent left up a.server.running a.server.waiting a.server.error (know_of a.server)
+    → IsNear (tabled standard event (record (table.tally) { failed = flag })) w.client.unsent left up a.server.running a.server.waiting
+    a.server.error (know_of a.server)
     → IsAnswered w table up a
 quiet_answer w table left up a standard event flag moves progress reads tidy near = record {
   acts = [];
@@ -50,27 +56,34 @@ quiet_answer w table left up a standard event flag moves progress reads tidy nea
   reads = reads;
   tidy = tidy;
   counted = sym (append-nil table.tally.counted);
-  progress = quiet_progress w.client.program.features w.client.last w.server.last table.tally.features table.tally.points (contacts w.server.ledger) left progress;
+  progress = quiet_progress w.client.program.features w.client.last w.server.last table.tally.features table.tally.points
+      (contacts w.server.ledger) left progress;
   near = near;
 }
 
 -- ---- a standard command
 
 -- a command that is not in use and no abort stands like any other
-stands_is : (s : Server) (x : Line) (waiting : List Line) → s.waiting ≡ all_wait waiting → is_held x.tag (all_received (listed s.running ++ waiting)) ≡ false → is_abort (Ok x.command) ≡ false → server_read s (Ok x) ≡ stands s x.tag (Ok x.command)
+stands_is : (s : Server) (x : Line) (waiting : List Line) → s.waiting ≡ all_wait waiting
+    → is_held x.tag (all_received (listed s.running ++ waiting)) ≡ false → is_abort (Ok x.command) ≡ false
+    → server_read s (Ok x) ≡ stands s x.tag (Ok x.command)
 stands_is s x waiting e free plain =
-    let unused : (runs_under x.tag s.running || waits_under x.tag s.waiting) ≡ false = ap (λ (l : List Waiting). runs_under x.tag s.running || waits_under x.tag l) e ∙ not_in_use x.tag s.running waiting free in
+    let unused : (runs_under x.tag s.running || waits_under x.tag s.waiting) ≡ false =
+        ap (λ (l : List Waiting). runs_under x.tag s.running || waits_under x.tag l) e ∙ not_in_use x.tag s.running waiting free in
     if_false {A = Answer} _ _ _ unused ∙ if_false {A = Answer} _ _ _ plain
 
 -- what the facts say of a line that is the next to be read
-pub record IsReading (w : World) (table : Table) (left : List Wanted) (x : Line) (queued coming : List Line) (aborts : List ℕ) : Type 0 where
-  pub near : IsNearBy table w.client.unsent left w.up w.server.running w.server.waiting w.server.error (know_of w.server) queued (x ∷ coming) aborts
+pub record IsReading (w : World) (table : Table) (left : List Wanted) (x : Line) (queued coming : List Line) (aborts : List ℕ) : Type 0
+    where
+  pub near : IsNearBy table w.client.unsent left w.up w.server.running w.server.waiting w.server.error (know_of w.server) queued
+      (x ∷ coming) aborts
   pub progress : IsProgress w.client.program.features w.client.last table.tally.features table.tally.points (contacts w.server.ledger) left
   pub distinct : AreDistinct table.standard
   pub few : count_open table.standard ≤ 16
 
 -- received, and refused in the error state
-refused : (w : World) (table : Table) (left : List Wanted) (x : Line) (queued coming : List Line) (aborts : List ℕ) → IsReading w table left x queued coming aborts → w.server.error ≡ true → is_clear (Ok x.command) ≡ false
+refused : (w : World) (table : Table) (left : List Wanted) (x : Line) (queued coming : List Line) (aborts : List ℕ)
+    → IsReading w table left x queued coming aborts → w.server.error ≡ true → is_clear (Ok x.command) ≡ false
     → IsAnswered w table (coming ++ abort_lines aborts) (answers w.server (Reply.Ack x.tag ∷ fails x.tag 9008 (Some (kind_of x.command))))
 refused w table left x queued coming aborts r error other =
     let n = r.near in
@@ -78,16 +91,21 @@ refused w table left x queued coming aborts r error other =
     let no_run : w.server.running ≡ None = idle.0 in
     let no_wait : queued ≡ [] = idle.1 in
     let alone : listed w.server.running ++ queued ≡ [] = ap (λ (o : Option Line). listed o ++ queued) no_run ∙ no_wait in
-    let lines : listed w.server.running ++ (queued ++ x ∷ coming) ≡ x ∷ coming = ap (λ (o : Option Line). listed o ++ (queued ++ x ∷ coming)) no_run ∙ ap (λ (l : List Line). l ++ x ∷ coming) no_wait in
+    let lines : listed w.server.running ++ (queued ++ x ∷ coming) ≡ x ∷ coming =
+        ap (λ (o : Option Line). listed o ++ (queued ++ x ∷ coming)) no_run ∙ ap (λ (l : List Line). l ++ x ∷ coming) no_wait in
     let standard : AreStandard (x ∷ coming) = subst AreStandard lines n.standard in
     let clear_first : IsClearFirst table.tally.failed (x ∷ coming) = subst (IsClearFirst table.tally.failed) lines n.clear_first in
-    let same : table.standard ≡ sent_now x ∷ all_sent coming = n.standard_is ∙ ap (λ (l : List Line). all_received l ++ sent_now x ∷ all_sent coming) alone in
+    let same : table.standard ≡ sent_now x ∷ all_sent coming = n.standard_is
+        ∙ ap (λ (l : List Line). all_received l ++ sent_now x ∷ all_sent coming) alone in
     let ws : List Wanted = w.client.program.features in
-    quiet_answer w table left (coming ++ abort_lines aborts) (answers w.server (Reply.Ack x.tag ∷ fails x.tag 9008 (Some (kind_of x.command)))) (all_sent coming) table.event true
+    quiet_answer w table left (coming ++ abort_lines aborts) (answers w.server
+        (Reply.Ack x.tag ∷ fails x.tag 9008 (Some (kind_of x.command)))) (all_sent coming) table.event true
     (record { on = refl; last = refl; ledger = sym (append-nil w.server.ledger) })
     r.progress
-    (subst (λ (st : List Held). Reads ws (tabled st table.event table.tally) (Reply.Ack x.tag ∷ fails x.tag 9008 (Some (kind_of x.command))) (tabled (all_sent coming) table.event (broken table.tally))) (sym same)
-    (tabled (received x ∷ all_sent coming) table.event table.tally, ack ws [] x (all_sent coming) table.event table.tally standard.0 refl, pair ws x (all_sent coming) table.event table.tally 9008 (Some (kind_of x.command)) standard.0))
+    (subst (λ (st : List Held). Reads ws (tabled st table.event table.tally) (Reply.Ack x.tag ∷ fails x.tag 9008 (Some (kind_of x.command)))
+        (tabled (all_sent coming) table.event (broken table.tally))) (sym same)
+    (tabled (received x ∷ all_sent coming) table.event table.tally, ack ws [] x (all_sent coming) table.event table.tally standard.0 refl,
+        pair ws x (all_sent coming) table.event table.tally 9008 (Some (kind_of x.command)) standard.0))
     (standard.0, (refl, standard.0, tt))
     (record {
       queued = [];
@@ -101,14 +119,17 @@ refused w table left x queued coming aborts r error other =
         standard = subst (λ (o : Option Line). AreStandard (listed o ++ coming)) (sym no_run) standard.2;
         idle = λ e. (no_run, refl);
         stopped = λ e. error;
-        clear_first = subst (λ (o : Option Line). IsClearFirst true (listed o ++ coming)) (sym no_run) (clear_first_none true coming clear_first.1);
+        clear_first = subst (λ (o : Option Line). IsClearFirst true (listed o ++ coming)) (sym no_run)
+            (clear_first_none true coming clear_first.1);
         clean = λ e. absurd (false≢true (sym e));
       };
     })
 
 -- received, and queued
-joins : (w : World) (table : Table) (left : List Wanted) (x : Line) (waiting coming : List Line) (aborts : List ℕ) (s : Server) → IsReading w table left x waiting coming aborts
-    → s.on ≡ w.server.on → s.last ≡ w.server.last → s.ledger ≡ w.server.ledger → s.running ≡ w.server.running → s.waiting ≡ w.server.waiting → know_of s ≡ know_of w.server → s.error ≡ false
+joins : (w : World) (table : Table) (left : List Wanted) (x : Line) (waiting coming : List Line) (aborts : List ℕ) (s : Server)
+    → IsReading w table left x waiting coming aborts
+    → s.on ≡ w.server.on → s.last ≡ w.server.last → s.ledger ≡ w.server.ledger → s.running ≡ w.server.running → s.waiting ≡ w.server.waiting
+    → know_of s ≡ know_of w.server → s.error ≡ false
     → (table.tally.failed ≡ true → ⊥)
     → (table.tally.failed ≡ false → Fits (know_of w.server) table.tally.todo)
     → is_held x.tag (all_received (listed w.server.running ++ waiting)) ≡ false
@@ -117,13 +138,17 @@ joins w table left x waiting coming aborts s r on last ledger running waits_same
     let n = r.near in
     let busy : List Line = listed w.server.running in
     let now : List Line = waiting ++ x ∷ [] in
-    let standard : AreStandard (x ∷ coming) = standard_behind waiting (x ∷ coming) (standard_behind busy (waiting ++ x ∷ coming) n.standard) in
+    let standard : AreStandard (x ∷ coming) = standard_behind waiting (x ∷ coming) (standard_behind busy (waiting ++ x ∷ coming) n.standard)
+        in
     let ws : List Wanted = w.client.program.features in
-    let lines : busy ++ (waiting ++ x ∷ coming) ≡ listed s.running ++ (now ++ coming) = one_behind busy waiting x coming ∙ ap (λ (o : Option Line). listed o ++ (now ++ coming)) (sym running) in
-    quiet_answer w table left (coming ++ abort_lines aborts) (answers (queued x.tag (Ok x.command) s) (Reply.Ack x.tag ∷ [])) (all_received (busy ++ now) ++ all_sent coming) table.event table.tally.failed
+    let lines : busy ++ (waiting ++ x ∷ coming) ≡ listed s.running ++ (now ++ coming) = one_behind busy waiting x coming
+        ∙ ap (λ (o : Option Line). listed o ++ (now ++ coming)) (sym running) in
+    quiet_answer w table left (coming ++ abort_lines aborts) (answers (queued x.tag (Ok x.command) s) (Reply.Ack x.tag ∷ []))
+        (all_received (busy ++ now) ++ all_sent coming) table.event table.tally.failed
     (record { on = on; last = last; ledger = ledger ∙ sym (append-nil w.server.ledger) })
     r.progress
-    (subst (λ (st : List Held). Reads ws (tabled st table.event table.tally) (Reply.Ack x.tag ∷ []) (tabled (all_received (busy ++ now) ++ all_sent coming) table.event table.tally)) (sym n.standard_is) (
+    (subst (λ (st : List Held). Reads ws (tabled st table.event table.tally) (Reply.Ack x.tag ∷ [])
+        (tabled (all_received (busy ++ now) ++ all_sent coming) table.event table.tally)) (sym n.standard_is) (
       tabled (all_received (busy ++ waiting) ++ received x ∷ all_sent coming) table.event table.tally,
       ack ws (busy ++ waiting) x (all_sent coming) table.event table.tally standard.0 free,
       ap (λ (st : List Held). tabled st table.event table.tally) (received_behind busy waiting x coming),
@@ -156,18 +181,22 @@ joins w table left x waiting coming aborts s r on last ledger running waits_same
     })
 
 -- a standard line is read
-pub reads_standard : (w : World) (table : Table) (left : List Wanted) (x : Line) (waiting coming : List Line) (aborts : List ℕ) → IsReading w table left x waiting coming aborts → IsAnswered w table (coming ++ abort_lines aborts) (server_read w.server (Ok x))
+pub reads_standard : (w : World) (table : Table) (left : List Wanted) (x : Line) (waiting coming : List Line) (aborts : List ℕ)
+    → IsReading w table left x waiting coming aborts → IsAnswered w table (coming ++ abort_lines aborts) (server_read w.server (Ok x))
 reads_standard w table left x waiting coming aborts r =
-    subst (λ (a : Answer). IsAnswered w table (coming ++ abort_lines aborts) a) (sym (stands_is s x waiting n.waiting_is free plain)) (go s.error refl (is_clear (Ok x.command)) refl)
+    subst (λ (a : Answer). IsAnswered w table (coming ++ abort_lines aborts) a) (sym (stands_is s x waiting n.waiting_is free plain))
+        (go s.error refl (is_clear (Ok x.command)) refl)
   where
     s : Server
     s = w.server
 
-    n : IsNearBy table w.client.unsent left w.up w.server.running w.server.waiting w.server.error (know_of w.server) waiting (x ∷ coming) aborts
+    n : IsNearBy table w.client.unsent left w.up w.server.running w.server.waiting w.server.error (know_of w.server) waiting (x ∷ coming)
+        aborts
     n = r.near
 
     free : is_held x.tag (all_received (listed w.server.running ++ waiting)) ≡ false
-    free = apart_from (all_received (listed w.server.running ++ waiting)) (sent_now x) (all_sent coming) (subst AreDistinct n.standard_is r.distinct)
+    free = apart_from (all_received (listed w.server.running ++ waiting)) (sent_now x) (all_sent coming)
+        (subst AreDistinct n.standard_is r.distinct)
 
     standard : AreStandard (x ∷ coming)
     standard = standard_behind waiting (x ∷ coming) (standard_behind (listed w.server.running) (waiting ++ x ∷ coming) n.standard)
@@ -182,37 +211,51 @@ reads_standard w table left x waiting coming aborts r =
     t = x.tag
 
     room : nat_le 64 (length w.server.waiting) ≡ false
-    room = ap (λ (l : List Waiting). nat_le 64 (length l)) n.waiting_is ∙ lt-leb 64 (length (all_wait waiting)) (omega (arith, wait_long waiting, few_wait (listed w.server.running) waiting (sent_now x ∷ all_sent coming), subst (λ (hs : List Held). count_open hs ≤ 16) n.standard_is r.few))
+    room = ap (λ (l : List Waiting). nat_le 64 (length l)) n.waiting_is
+        ∙ lt-leb 64 (length (all_wait waiting)) (omega (arith, wait_long waiting,
+        few_wait (listed w.server.running) waiting (sent_now x ∷ all_sent coming),
+        subst (λ (hs : List Held). count_open hs ≤ 16) n.standard_is r.few))
 
-    test : (e b : Bool) → w.server.error ≡ e → is_clear (Ok x.command) ≡ b → (w.server.error && not (is_clear (Ok x.command))) ≡ (e && not b)
+    test : (e b : Bool) → w.server.error ≡ e → is_clear (Ok x.command) ≡ b
+        → (w.server.error && not (is_clear (Ok x.command))) ≡ (e && not b)
     test e b f g = ap (λ (z : Bool). z && not (is_clear (Ok x.command))) f ∙ ap (λ (z : Bool). e && not z) g
 
     no_wait : w.server.error ≡ true → listed w.server.running ++ (waiting ++ x ∷ coming) ≡ x ∷ coming
-    no_wait e = let idle = n.idle e in ap (λ (o : Option Line). listed o ++ (waiting ++ x ∷ coming)) idle.0 ∙ ap (λ (l : List Line). l ++ x ∷ coming) idle.1
+    no_wait e = let idle = n.idle e in ap (λ (o : Option Line). listed o ++ (waiting ++ x ∷ coming)) idle.0
+        ∙ ap (λ (l : List Line). l ++ x ∷ coming) idle.1
 
     clearing : is_clear (Ok x.command) ≡ true → is_clearing x.command ≡ true
     clearing e = sym (clear_same x.command) ∙ e
 
     calm : w.server.error ≡ true → is_clear (Ok x.command) ≡ true → table.tally.failed ≡ false
-    calm e b = let first : IsClearFirst table.tally.failed (x ∷ coming) = subst (IsClearFirst table.tally.failed) (no_wait e) n.clear_first in first.0 (clearing b)
+    calm e b = let first : IsClearFirst table.tally.failed (x ∷ coming) = subst (IsClearFirst table.tally.failed) (no_wait e) n.clear_first
+        in first.0 (clearing b)
 
     fits : w.server.error ≡ true → is_clear (Ok x.command) ≡ true → table.tally.failed ≡ false → Fits (know_of w.server) table.tally.todo
     fits e b f =
-        let c : IsClean table.tally w.client.unsent left (listed w.server.running ++ (waiting ++ x ∷ coming)) w.server.error (know_of w.server) = n.clean f in
-        let first : IsFirstStep c.steps x.command (commands_in coming) = first_step c.steps x.command (commands_in coming) (c.commands ∙ ap commands_in (no_wait e)) in
-        let todo : table.tally.todo ≡ record { command = x.command; does = first.does } ∷ (first.rest ++ w.client.unsent) = c.todo ∙ ap (λ (l : List Planned). l ++ w.client.unsent) first.is in
-        let sane : IsSane (record { command = x.command; does = first.does } ∷ (first.rest ++ w.client.unsent)) = subst IsSane todo c.sane in
+        let c : IsClean table.tally w.client.unsent left (listed w.server.running ++ (waiting ++ x ∷ coming)) w.server.error
+            (know_of w.server) = n.clean f in
+        let first : IsFirstStep c.steps x.command (commands_in coming) =
+            first_step c.steps x.command (commands_in coming) (c.commands ∙ ap commands_in (no_wait e)) in
+        let todo : table.tally.todo ≡ record { command = x.command; does = first.does } ∷ (first.rest ++ w.client.unsent) = c.todo
+            ∙ ap (λ (l : List Planned). l ++ w.client.unsent) first.is in
+        let sane : IsSane (record { command = x.command; does = first.does } ∷ (first.rest ++ w.client.unsent)) = subst IsSane todo c.sane
+            in
         subst (Fits (know_of w.server)) (sym todo) (sane.0 (clearing b) (know_of w.server))
 
-    go : (e : Bool) → w.server.error ≡ e → (b : Bool) → is_clear (Ok x.command) ≡ b → IsAnswered w table out (stands w.server t (Ok x.command))
+    go : (e : Bool) → w.server.error ≡ e → (b : Bool) → is_clear (Ok x.command) ≡ b
+        → IsAnswered w table out (stands w.server t (Ok x.command))
     go true e false b =
-        subst (λ (a : Answer). IsAnswered w table out a) (sym (if_true {A = Answer} _ _ _ (test true false e b))) (refused w table left x waiting coming aborts r e b)
+        subst (λ (a : Answer). IsAnswered w table out a) (sym (if_true {A = Answer} _ _ _ (test true false e b)))
+            (refused w table left x waiting coming aborts r e b)
     go true e true b =
-        subst (λ (a : Answer). IsAnswered w table out a) (sym (if_false {A = Answer} _ _ _ (test true true e b) ∙ if_true {A = Answer} _ _ _ e))
+        subst (λ (a : Answer). IsAnswered w table out a) (sym (if_false {A = Answer} _ _ _ (test true true e b)
+            ∙ if_true {A = Answer} _ _ _ e))
         (joins w table left x waiting coming aborts (record (w.server) { error = false }) r refl refl refl refl refl refl refl
         (λ f. absurd (false≢true (sym (calm e b) ∙ f))) (fits e b) free)
     go false e b g =
-        subst (λ (a : Answer). IsAnswered w table out a) (sym (if_false {A = Answer} _ _ _ (test false b e g) ∙ (if_false {A = Answer} _ _ _ e ∙ if_false {A = Answer} _ _ _ room)))
+        subst (λ (a : Answer). IsAnswered w table out a) (sym (if_false {A = Answer} _ _ _ (test false b e g)
+            ∙ (if_false {A = Answer} _ _ _ e ∙ if_false {A = Answer} _ _ _ room)))
         (joins w table left x waiting coming aborts w.server r refl refl refl refl refl refl e
         (λ f. absurd (false≢true (sym e ∙ n.stopped f))) (λ f. (n.clean f).fits e) free)
 
@@ -222,10 +265,12 @@ tidy_pairs : (ls : List Line) → AreStandard ls → IsTidy None (all_fail 9007 
 tidy_pairs [] h = tt
 tidy_pairs (l ∷ ls) h = (h.0, (refl, h.0, tidy_pairs ls h.2))
 
-pub tidy_pair_and_pairs : (x : Line) (ls : List Line) (code : ℕ) (name : Option Kind) → is_event_tag x.tag ≡ false → AreStandard ls → IsTidy None (fails x.tag code name ++ all_fail 9007 (all_wait ls))
+pub tidy_pair_and_pairs : (x : Line) (ls : List Line) (code : ℕ) (name : Option Kind) → is_event_tag x.tag ≡ false → AreStandard ls
+    → IsTidy None (fails x.tag code name ++ all_fail 9007 (all_wait ls))
 tidy_pair_and_pairs x ls code name sort sorts = (sort, (refl, sort, tidy_pairs ls sorts))
 
-tidy_running : (running : Option Line) (ls : List Line) (t : Tag) → AreStandard (listed running ++ ls) → IsTidy None (running_fails running ++ (all_fail 9007 (all_wait ls) ++ Reply.Done t ∷ []))
+tidy_running : (running : Option Line) (ls : List Line) (t : Tag) → AreStandard (listed running ++ ls)
+    → IsTidy None (running_fails running ++ (all_fail 9007 (all_wait ls) ++ Reply.Done t ∷ []))
 tidy_running None ls t h = tidy_more None (all_fail 9007 (all_wait ls)) (Reply.Done t ∷ []) (tidy_pairs ls h) tt
 tidy_running (Some x) ls t h = (h.0, (refl, h.0, tidy_more None (all_fail 9007 (all_wait ls)) (Reply.Done t ∷ []) (tidy_pairs ls h.2) tt))
 
@@ -243,10 +288,14 @@ no_flag [] f e = (refl, e)
 no_flag (l ∷ ls) f e = absurd (false≢true (sym e))
 
 -- the tally behind an abort keeps what is planned, where nothing ran or waited
-still_clean : (w : World) (table : Table) (left : List Wanted) (queued : List Line) (know : Know) → IsClean table.tally w.client.unsent left (listed w.server.running ++ (queued ++ [])) w.server.error know → listed w.server.running ++ queued ≡ []
-    → IsClean (record (table.tally) { failed = flag_of (listed w.server.running ++ queued) table.tally.failed }) w.client.unsent left [] true know
+still_clean : (w : World) (table : Table) (left : List Wanted) (queued : List Line) (know : Know)
+    → IsClean table.tally w.client.unsent left (listed w.server.running ++ (queued ++ [])) w.server.error know
+    → listed w.server.running ++ queued ≡ []
+    → IsClean (record (table.tally) { failed = flag_of (listed w.server.running ++ queued) table.tally.failed }) w.client.unsent left []
+    true know
 still_clean w table left queued know c none =
-    let lines : listed w.server.running ++ (queued ++ []) ≡ [] = sym (append_assoc (listed w.server.running) queued []) ∙ (append-nil (listed w.server.running ++ queued) ∙ none) in
+    let lines : listed w.server.running ++ (queued ++ []) ≡ [] = sym (append_assoc (listed w.server.running) queued [])
+        ∙ (append-nil (listed w.server.running ++ queued) ∙ none) in
     let steps : c.steps ≡ [] = no_steps c.steps (c.commands ∙ ap commands_in lines) in
     record {
       steps = [];
@@ -266,23 +315,35 @@ reads_abort w table left k queued aborts n progress =
     let busy : List Line = listed s.running ++ queued in
     let standard : AreStandard busy = subst AreStandard (sym (append_assoc (listed s.running) queued []) ∙ append-nil busy) n.standard in
     let unused : (runs_under (abort_tag k) s.running || waits_under (abort_tag k) s.waiting) ≡ false =
-    ap (λ (l : List Waiting). runs_under (abort_tag k) s.running || waits_under (abort_tag k) l) n.waiting_is ∙ event_not_in_use (abort_tag k) s.running queued standard refl in
+    ap (λ (l : List Waiting). runs_under (abort_tag k) s.running || waits_under (abort_tag k) l) n.waiting_is
+        ∙ event_not_in_use (abort_tag k) s.running queued standard refl in
     let is : server_read s (Ok (abort_line k)) ≡ aborted s (abort_tag k) = if_false {A = Answer} _ _ _ unused in
     let flag : Bool = flag_of busy table.tally.failed in
     let ws : List Wanted = w.client.program.features in
-    let said : List Reply = Reply.Ack (abort_tag k) ∷ (running_fails s.running ++ (all_fail 9007 s.waiting ++ Reply.Done (abort_tag k) ∷ [])) in
-    let said_is : said ≡ Reply.Ack (abort_tag k) ∷ (running_fails s.running ++ (all_fail 9007 (all_wait queued) ++ Reply.Done (abort_tag k) ∷ [])) =
-    ap (λ (l : List Waiting). Reply.Ack (abort_tag k) ∷ (running_fails s.running ++ (all_fail 9007 l ++ Reply.Done (abort_tag k) ∷ []))) n.waiting_is in
-    let reads : Reads ws (tabled (all_received busy ++ []) (abort_held k ∷ abort_helds aborts) table.tally) (Reply.Ack (abort_tag k) ∷ (running_fails s.running ++ (all_fail 9007 (all_wait queued) ++ Reply.Done (abort_tag k) ∷ []))) (tabled [] (abort_helds aborts) (breaks busy table.tally)) =
+    let said : List Reply = Reply.Ack (abort_tag k) ∷ (running_fails s.running
+        ++ (all_fail 9007 s.waiting ++ Reply.Done (abort_tag k) ∷ [])) in
+    let said_is : said ≡ Reply.Ack (abort_tag k) ∷ (running_fails s.running
+        ++ (all_fail 9007 (all_wait queued) ++ Reply.Done (abort_tag k) ∷ [])) =
+    ap (λ (l : List Waiting). Reply.Ack (abort_tag k) ∷ (running_fails s.running ++ (all_fail 9007 l ++ Reply.Done (abort_tag k) ∷ [])))
+        n.waiting_is in
+    let reads : Reads ws (tabled (all_received busy ++ []) (abort_held k ∷ abort_helds aborts) table.tally)
+        (Reply.Ack (abort_tag k) ∷ (running_fails s.running ++ (all_fail 9007 (all_wait queued) ++ Reply.Done (abort_tag k) ∷ [])))
+        (tabled [] (abort_helds aborts) (breaks busy table.tally)) =
     abort_reads ws k s.running queued (abort_helds aborts) table.tally standard in
     subst (λ (a : Answer). IsAnswered w table (abort_lines aborts) a) (sym is)
     (quiet_answer w table left (abort_lines aborts) (aborted s (abort_tag k)) [] (abort_helds aborts) flag
     (record { on = refl; last = refl; ledger = sym (append-nil s.ledger) })
     progress
     (subst (λ (rs : List Reply). Reads ws table rs (tabled [] (abort_helds aborts) (record (table.tally) { failed = flag }))) (sym said_is)
-    (subst (λ (y : Tally). Reads ws table (Reply.Ack (abort_tag k) ∷ (running_fails s.running ++ (all_fail 9007 (all_wait queued) ++ Reply.Done (abort_tag k) ∷ []))) (tabled [] (abort_helds aborts) y)) (breaks_flag busy table.tally)
-    (subst (λ (hs : List Held). Reads ws (tabled hs table.event table.tally) (Reply.Ack (abort_tag k) ∷ (running_fails s.running ++ (all_fail 9007 (all_wait queued) ++ Reply.Done (abort_tag k) ∷ []))) (tabled [] (abort_helds aborts) (breaks busy table.tally))) (sym n.standard_is)
-    (subst (λ (hs : List Held). Reads ws (tabled (all_received busy ++ []) hs table.tally) (Reply.Ack (abort_tag k) ∷ (running_fails s.running ++ (all_fail 9007 (all_wait queued) ++ Reply.Done (abort_tag k) ∷ []))) (tabled [] (abort_helds aborts) (breaks busy table.tally))) (sym n.event_is) reads))))
+    (subst (λ (y : Tally). Reads ws table (Reply.Ack (abort_tag k)
+        ∷ (running_fails s.running ++ (all_fail 9007 (all_wait queued) ++ Reply.Done (abort_tag k) ∷ [])))
+        (tabled [] (abort_helds aborts) y)) (breaks_flag busy table.tally)
+    (subst (λ (hs : List Held). Reads ws (tabled hs table.event table.tally)
+        (Reply.Ack (abort_tag k) ∷ (running_fails s.running ++ (all_fail 9007 (all_wait queued) ++ Reply.Done (abort_tag k) ∷ [])))
+        (tabled [] (abort_helds aborts) (breaks busy table.tally))) (sym n.standard_is)
+    (subst (λ (hs : List Held). Reads ws (tabled (all_received busy ++ []) hs table.tally)
+        (Reply.Ack (abort_tag k) ∷ (running_fails s.running ++ (all_fail 9007 (all_wait queued) ++ Reply.Done (abort_tag k) ∷ [])))
+        (tabled [] (abort_helds aborts) (breaks busy table.tally))) (sym n.event_is) reads))))
     (subst (λ (rs : List Reply). IsTidy None rs) (sym said_is) (tidy_running s.running queued (abort_tag k) standard))
     (record {
       queued = [];

@@ -1,5 +1,6 @@
 -- The events of the server keep all that holds.
-use Rattle.std.proofs.Common.{◌≡◌, ℕ, ◌<◌, ◌≤◌, ◌⊎◌, inl, inr, Bool, true, false, not, ◌&&◌, List, [], ◌∷◌, ◌++◌, refl, sym, ◌∙◌, ap, subst, arith, Option, Some, None, Ok, eqb, eqb-true, nat_lt, nat_le, is_none, le_trans}
+use Rattle.std.proofs.Common.{◌≡◌, ℕ, ◌<◌, ◌≤◌, ◌⊎◌, inl, inr, Bool, true, false, not, ◌&&◌, List, [], ◌∷◌, ◌++◌, refl, sym, ◌∙◌, ap, subst,
+  arith, Option, Some, None, Ok, eqb, eqb-true, nat_lt, nat_le, is_none, le_trans}
 use Rattle.std.proofs.lemmas.Bool.{false≢true, and_parts, ltb-true, leb-true, eqb-false}
 use Rattle.contact_ledger.specs.declared.acts.Act.{Act}
 use Rattle.dmis_program.specs.declared.features.Wanted.{Wanted}
@@ -7,7 +8,8 @@ use Rattle.protocol_model.specs.Replies.{Reading}
 use Rattle.protocol_model.specs.Plan.{is_empty}
 use Rattle.protocol_model.specs.Open.{count_open}
 use Rattle.protocol_model.specs.Client.{Table}
-use Rattle.protocol_model.specs.Server.{Answer, server_accepted, server_read, server_turned, server_machined, server_left, server_restarted, may_end}
+use Rattle.protocol_model.specs.Server.{Answer, server_accepted, server_read, server_turned, server_machined, server_left, server_restarted,
+  may_end}
 use Rattle.protocol_model.specs.Typed.{World, answered, server_reads}
 use Rattle.protocol_model.proofs.table.Replying.{reads_counts, reads_distinct}
 use Rattle.protocol_model.proofs.plan.Fitting.{Know, unknown, KnowsMore, more_than_nothing, fits_more}
@@ -16,7 +18,8 @@ use Rattle.protocol_model.proofs.invariant.Moves.{Moves, read_moves, turned_move
 use Rattle.protocol_model.proofs.events.Answers.{IsAnswered, off_answers, old_answers, here_answers}
 use Rattle.protocol_model.proofs.events.ReadEvent.{reads_standard, reads_abort}
 use Rattle.protocol_model.proofs.events.WorkEvent.{turned_here, machined_here}
-use Rattle.protocol_model.proofs.invariant.Holding.{abort_line, abort_lines, IsNearBy, IsNear, IsLive, IsOff, IsHere, IsAhead, IsGone, IsIdle, Inv, know_of}
+use Rattle.protocol_model.proofs.invariant.Holding.{abort_line, abort_lines, IsNearBy, IsNear, IsLive, IsOff, IsHere, IsAhead, IsGone,
+  IsIdle, Inv, know_of}
 use Rattle.protocol_model.specs.declared.lines.Line.{Line}
 use Rattle.protocol_model.specs.declared.plans.Planned.{Planned}
 use Rattle.protocol_model.specs.declared.lines.Waiting.{Waiting}
@@ -25,7 +28,8 @@ use Rattle.protocol_model.specs.declared.machine.Outcome.{Outcome}
 -- ---- a line is read
 
 few_open : (w : World) → Inv w → (live : IsLive w) → count_open live.table.standard ≤ 16
-few_open w inv live = le_trans (reads_counts w.client.program.features w.down w.client.table live.table live.reads) (le_trans live.within inv.window)
+few_open w inv live = le_trans (reads_counts w.client.program.features w.down w.client.table live.table live.reads)
+    (le_trans live.within inv.window)
 
 abbrev first_line : List Line → Line → Line
 first_line [] d = d
@@ -36,21 +40,26 @@ other_lines [] = []
 other_lines (l ∷ ls) = ls
 
 -- an answer to the first line that is unread
-read_here : (w : World) (table : Table) (left : List Wanted) (x y : Line) (up rest : List Line) → y ∷ rest ≡ x ∷ up → IsAnswered w table rest (server_read w.server (Ok y)) → IsAnswered w table up (server_read w.server (Ok x))
+read_here : (w : World) (table : Table) (left : List Wanted) (x y : Line) (up rest : List Line) → y ∷ rest ≡ x ∷ up
+    → IsAnswered w table rest (server_read w.server (Ok y)) → IsAnswered w table up (server_read w.server (Ok x))
 read_here w table left x y up rest e h =
     let same : y ≡ x = ap (λ (l : List Line). first_line l y) e in
     let others : rest ≡ up = ap other_lines e in
-    subst (λ (l : List Line). IsAnswered w table l (server_read w.server (Ok x))) others (subst (λ (z : Line). IsAnswered w table rest (server_read w.server (Ok z))) same h)
+    subst (λ (l : List Line). IsAnswered w table l (server_read w.server (Ok x))) others
+        (subst (λ (z : Line). IsAnswered w table rest (server_read w.server (Ok z))) same h)
 
 reads_next : (w : World) (inv : Inv w) (live : IsLive w) (x : Line) (up queued coming : List Line) (aborts : List ℕ)
-    → IsNearBy live.table w.client.unsent live.left w.up w.server.running w.server.waiting w.server.error (know_of w.server) queued coming aborts
+    → IsNearBy live.table w.client.unsent live.left w.up w.server.running w.server.waiting w.server.error (know_of w.server) queued coming
+    aborts
     → coming ++ abort_lines aborts ≡ x ∷ up → IsAnswered w live.table up (server_read w.server (Ok x))
 reads_next w inv live x up queued (y ∷ coming) aborts n e =
     read_here w live.table live.left x y up (coming ++ abort_lines aborts) e
     (reads_standard w live.table live.left y queued coming aborts
-    (record { near = n; progress = live.progress; distinct = reads_distinct w.client.program.features w.down w.client.table live.table live.reads live.distinct; few = few_open w inv live }))
+    (record { near = n; progress = live.progress; distinct = reads_distinct w.client.program.features w.down w.client.table live.table
+        live.reads live.distinct; few = few_open w inv live }))
 reads_next w inv live x up queued [] (k ∷ aborts) n e =
-    read_here w live.table live.left x (abort_line k) up (abort_lines aborts) e (reads_abort w live.table live.left k queued aborts n live.progress)
+    read_here w live.table live.left x (abort_line k) up (abort_lines aborts) e
+        (reads_abort w live.table live.left k queued aborts n live.progress)
 reads_next w inv live x up queued [] [] n e = absurd (cc)
 
 pub reads_event : (w : World) → Inv w → w.server.on ≡ true → eqb w.server.last w.client.last ≡ true → Inv (server_reads w w.up)
@@ -59,7 +68,8 @@ reads_event w inv on same = go w.up refl inv.side
     equal : w.server.last ≡ w.client.last
     equal = eqb-true w.server.last w.client.last same
 
-    live_case : (x : Line) (up : List Line) → w.up ≡ x ∷ up → (live : IsLive w) → IsHere w live.table live.left ⊎ (IsAhead w live.table live.left ⊎ IsGone w) → Inv (answered w up (server_read w.server (Ok x)))
+    live_case : (x : Line) (up : List Line) → w.up ≡ x ∷ up → (live : IsLive w) → IsHere w live.table live.left
+        ⊎ (IsAhead w live.table live.left ⊎ IsGone w) → Inv (answered w up (server_read w.server (Ok x)))
     live_case x up e live (inl here) =
         here_answers w up (server_read w.server (Ok x)) inv live on equal
         (reads_next w inv live x up here.near.queued here.near.coming here.near.aborts here.near.by (sym here.near.by.up_is ∙ e))
@@ -74,12 +84,14 @@ reads_event w inv on same = go w.up refl inv.side
 apart_below : (m n : ℕ) → m ≤ n → eqb m n ≡ false → m < n
 apart_below m n le e = let apart : m ≡ n → ⊥ = eqb-false m n e in omega arith
 
-pub reads_old_event : (w : World) (reading : Reading) → Inv w → w.server.on ≡ true → eqb w.server.last w.client.last ≡ false → Inv (answered w w.up (server_read w.server reading))
+pub reads_old_event : (w : World) (reading : Reading) → Inv w → w.server.on ≡ true → eqb w.server.last w.client.last ≡ false
+    → Inv (answered w w.up (server_read w.server reading))
 reads_old_event w reading inv on apart = go inv.side
   where
     go : IsOff w ⊎ IsLive w → Inv (answered w w.up (server_read w.server reading))
     go (inl off) = off_answers w w.up (server_read w.server reading) [] inv off on (read_moves w.server reading)
-    go (inr live) = old_answers w (server_read w.server reading) [] inv live on (apart_below w.server.last w.client.last inv.numbers apart) (read_moves w.server reading)
+    go (inr live) = old_answers w (server_read w.server reading) [] inv live on (apart_below w.server.last w.client.last inv.numbers apart)
+        (read_moves w.server reading)
 
 -- ---- turns and outcomes
 
@@ -110,25 +122,32 @@ pub on_by : (w : World) → Inv w → (b : Bool) → w.server.on ≡ b → (w.se
 on_by w inv true e busy = e
 on_by w inv false e busy = let idle : IsIdle w.server = inv.idle e in absurd (busy idle.running idle.waiting)
 
-pub turn_event : (w : World) → Inv w → (is_none w.server.running && not (is_empty w.server.waiting)) ≡ true → Inv (answered w w.up (server_turned w.server))
+pub turn_event : (w : World) → Inv w → (is_none w.server.running && not (is_empty w.server.waiting)) ≡ true
+    → Inv (answered w w.up (server_turned w.server))
 turn_event w inv can =
     let parts = and_parts _ _ can in
     let no_run : w.server.running ≡ None = is_none_of w.server.running parts.0 in
     let some : w.server.waiting ≡ [] → ⊥ = not_nothing w.server.waiting parts.1 in
     let moves = turned_moves w.server in
     works w (server_turned w.server) moves.0 inv (on_by w inv w.server.on refl (λ r e. some e)) moves.1
-    (λ live here. turned_here w live.table live.left here.near.queued here.near.coming here.near.aborts here.near.by live.progress here.same no_run some)
+    (λ live here. turned_here w live.table live.left here.near.queued here.near.coming here.near.aborts here.near.by live.progress here.same
+        no_run some)
 
-pub machine_event : (w : World) (outcome : Outcome) → Inv w → may_end w.server.running outcome ≡ true → Inv (answered w w.up (server_machined w.server outcome))
+pub machine_event : (w : World) (outcome : Outcome) → Inv w → may_end w.server.running outcome ≡ true
+    → Inv (answered w w.up (server_machined w.server outcome))
 machine_event w outcome inv can =
     let moves = machined_moves w.server outcome in
     works w (server_machined w.server outcome) moves.0 inv
-    (on_by w inv w.server.on refl (λ r e. let no_end : may_end None outcome ≡ true = subst (λ (o : Option Line). may_end o outcome ≡ true) r can in false≢true no_end)) moves.1
-    (λ live here. machined_here w live.table live.left here.near.queued here.near.coming here.near.aborts outcome here.near.by live.progress here.same can)
+    (on_by w inv w.server.on refl (λ r e. let no_end : may_end None outcome
+        ≡ true = subst (λ (o : Option Line). may_end o outcome ≡ true) r can in false≢true no_end)) moves.1
+    (λ live here. machined_here w live.table live.left here.near.queued here.near.coming here.near.aborts outcome here.near.by live.progress
+        here.same can)
 
 -- ---- connections
 
-near_knows : (table : Table) (unsent : List Planned) (left : List Wanted) (up : List Line) (running : Option Line) (waiting : List Waiting) (error : Bool) (k l : Know) → KnowsMore k l → IsNear table unsent left up running waiting error k → IsNear table unsent left up running waiting error l
+near_knows : (table : Table) (unsent : List Planned) (left : List Wanted) (up : List Line) (running : Option Line) (waiting : List Waiting)
+    (error : Bool) (k l : Know) → KnowsMore k l → IsNear table unsent left up running waiting error k
+    → IsNear table unsent left up running waiting error l
 near_knows table unsent left up running waiting error k l more n = record {
   queued = n.queued;
   coming = n.coming;
@@ -144,11 +163,13 @@ near_knows table unsent left up running waiting error k l more n = record {
     clear_first = n.by.clear_first;
     clean = λ e.
         let c = n.by.clean e in
-        record { steps = c.steps; todo = c.todo; commands = c.commands; sane = c.sane; touches = c.touches; fits = λ f. fits_more table.tally.todo k l more (c.fits f) };
+        record { steps = c.steps; todo = c.todo; commands = c.commands; sane = c.sane; touches = c.touches;
+            fits = λ f. fits_more table.tally.todo k l more (c.fits f) };
   };
 }
 
-pub accept_event : (w : World) (n : ℕ) → Inv w → (not w.server.on && (nat_lt w.server.last n && nat_le n w.client.last)) ≡ true → Inv (record w { server = server_accepted n w.server })
+pub accept_event : (w : World) (n : ℕ) → Inv w → (not w.server.on && (nat_lt w.server.last n && nat_le n w.client.last)) ≡ true
+    → Inv (record w { server = server_accepted n w.server })
 accept_event w n inv can =
     let parts = and_parts _ _ can in
     let numbers = and_parts _ _ parts.1 in
@@ -168,23 +189,32 @@ accept_event w n inv can =
     is_off false e = refl
     is_off true e = absurd (false≢true e)
 
-    placed : (live : IsLive w) → w.server.on ≡ false → w.server.last < n → n ≤ w.client.last → (b : Bool) → eqb n w.client.last ≡ b → IsHere w live.table live.left ⊎ (IsAhead w live.table live.left ⊎ IsGone w)
-        → IsHere (record w { server = server_accepted n w.server }) live.table live.left ⊎ (IsAhead (record w { server = server_accepted n w.server }) live.table live.left ⊎ IsGone (record w { server = server_accepted n w.server }))
+    placed : (live : IsLive w) → w.server.on ≡ false → w.server.last < n → n ≤ w.client.last → (b : Bool) → eqb n w.client.last ≡ b
+        → IsHere w live.table live.left ⊎ (IsAhead w live.table live.left ⊎ IsGone w)
+        → IsHere (record w { server = server_accepted n w.server }) live.table live.left
+        ⊎ (IsAhead (record w { server = server_accepted n w.server }) live.table live.left
+        ⊎ IsGone (record w { server = server_accepted n w.server }))
     placed live off above made b same (inl here) = absurd (false≢true (sym off ∙ here.on))
     placed live off above made b same (inr (inr gone)) = let here : w.server.last ≡ w.client.last = gone.same in absurd (omega arith)
-    placed live off above made false apart (inr (inl ahead)) = inr (inl (record { below = apart_below n w.client.last made apart; near = ahead.near }))
+    placed live off above made false apart (inr (inl ahead)) =
+        inr (inl (record { below = apart_below n w.client.last made apart; near = ahead.near }))
     placed live off above made true same (inr (inl ahead)) =
         let idle : IsIdle w.server = inv.idle off in
-        let near : IsNear live.table w.client.unsent live.left w.up None [] false (know_of w.server) = near_knows live.table w.client.unsent live.left w.up None [] false unknown (know_of w.server) (more_than_nothing (know_of w.server)) ahead.near in
+        let near : IsNear live.table w.client.unsent live.left w.up None [] false (know_of w.server) =
+            near_knows live.table w.client.unsent live.left w.up None [] false unknown (know_of w.server)
+            (more_than_nothing (know_of w.server)) ahead.near in
         inl (record {
           on = refl;
           same = eqb-true n w.client.last same;
-          near = subst (λ (o : Option Line). IsNear live.table w.client.unsent live.left w.up o w.server.waiting w.server.error (know_of w.server)) (sym idle.running)
-              (subst (λ (l : List Waiting). IsNear live.table w.client.unsent live.left w.up None l w.server.error (know_of w.server)) (sym idle.waiting)
+          near = subst (λ (o : Option Line). IsNear live.table w.client.unsent live.left w.up o w.server.waiting w.server.error
+              (know_of w.server)) (sym idle.running)
+              (subst (λ (l : List Waiting). IsNear live.table w.client.unsent live.left w.up None l w.server.error (know_of w.server))
+                  (sym idle.waiting)
               (subst (λ (b : Bool). IsNear live.table w.client.unsent live.left w.up None [] b (know_of w.server)) (sym idle.error) near));
         })
 
-    go : w.server.on ≡ false → w.server.last < n → n ≤ w.client.last → IsOff w ⊎ IsLive w → IsOff (record w { server = server_accepted n w.server }) ⊎ IsLive (record w { server = server_accepted n w.server })
+    go : w.server.on ≡ false → w.server.last < n → n ≤ w.client.last → IsOff w ⊎ IsLive w
+        → IsOff (record w { server = server_accepted n w.server }) ⊎ IsLive (record w { server = server_accepted n w.server })
     go off above made (inl h) = inl (record { off = h.off; rest = h.rest; served = h.served; told = h.told })
     go off above made (inr live) = inr (record {
       on = live.on;
@@ -208,7 +238,8 @@ accept_event w n inv can =
 abbrev gone_from : World → Bool → Option (List ℕ) → World
 gone_from w homed tool = record w { server = record (server_left w.server) { homed = homed; tool = tool } }
 
-pub gone_event : (w : World) (homed : Bool) (tool : Option (List ℕ)) → Inv w → Inv (record w { server = record (server_left w.server) { homed = homed; tool = tool } })
+pub gone_event : (w : World) (homed : Bool) (tool : Option (List ℕ)) → Inv w
+    → Inv (record w { server = record (server_left w.server) { homed = homed; tool = tool } })
 gone_event w homed tool inv = record {
   program = inv.program;
   window = inv.window;
@@ -218,7 +249,9 @@ gone_event w homed tool inv = record {
   side = go inv.side;
 }
   where
-    placed : (live : IsLive w) → IsHere w live.table live.left ⊎ (IsAhead w live.table live.left ⊎ IsGone w) → IsHere (gone_from w homed tool) live.table live.left ⊎ (IsAhead (gone_from w homed tool) live.table live.left ⊎ IsGone (gone_from w homed tool))
+    placed : (live : IsLive w) → IsHere w live.table live.left ⊎ (IsAhead w live.table live.left ⊎ IsGone w)
+        → IsHere (gone_from w homed tool) live.table live.left ⊎ (IsAhead (gone_from w homed tool) live.table live.left
+        ⊎ IsGone (gone_from w homed tool))
     placed live (inl here) = inr (inr (record { off = refl; same = here.same }))
     placed live (inr (inl ahead)) = inr (inl (record { below = ahead.below; near = ahead.near }))
     placed live (inr (inr gone)) = inr (inr (record { off = refl; same = gone.same }))

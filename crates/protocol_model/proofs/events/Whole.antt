@@ -5,11 +5,14 @@ use Rattle.dmis_program.specs.Meaning.{Meaning as Program}
 use Rattle.dmis_program.specs.Programs.{IsProgram}
 use Rattle.protocol_model.proofs.plan.Blocks.{IsPlain, program_is_plain}
 use Rattle.protocol_model.specs.Claims.{Sound, Told}
-use Rattle.protocol_model.specs.Typed.{World, Event, Connect, Accept, ClientSends, ServerReads, ServerReadsOld, ServerTurn, Machine, ClientReads, ClientLeaves, ServerLeaves, Abort, Resume, ClientRestart, ServerRestart, start, can, happens, after, run_of}
+use Rattle.protocol_model.specs.Typed.{World, Event, Connect, Accept, ClientSends, ServerReads, ServerReadsOld, ServerTurn, Machine,
+  ClientReads, ClientLeaves, ServerLeaves, Abort, Resume, ClientRestart, ServerRestart, start, can, happens, after, run_of}
 use Rattle.protocol_model.proofs.invariant.Served.{served_sound}
 use Rattle.protocol_model.proofs.invariant.Holding.{Inv}
-use Rattle.protocol_model.proofs.events.ServerEvents.{reads_event, reads_old_event, turn_event, machine_event, accept_event, left_event, restart_event}
-use Rattle.protocol_model.proofs.events.ClientEvents.{served_now, told_now, never_faulted, connect_event, client_left_event, client_restart_event}
+use Rattle.protocol_model.proofs.events.ServerEvents.{reads_event, reads_old_event, turn_event, machine_event, accept_event, left_event,
+  restart_event}
+use Rattle.protocol_model.proofs.events.ClientEvents.{served_now, told_now, never_faulted, connect_event, client_left_event,
+  client_restart_event}
 use Rattle.protocol_model.proofs.events.ClientWrites.{sends_event}
 use Rattle.protocol_model.proofs.events.ClientResumes.{abort_event, resume_event}
 use Rattle.protocol_model.proofs.events.Hearing.{hear_event}
@@ -26,7 +29,8 @@ happens_keeps Connect w inv can = connect_event w inv
 happens_keeps (Accept n) w inv can = accept_event w n inv can
 happens_keeps ClientSends w inv can = sends_event w inv can
 happens_keeps ServerReads w inv can = let parts = and_parts _ _ can in reads_event w inv parts.0 parts.1
-happens_keeps (ServerReadsOld reading) w inv can = let parts = and_parts _ _ can in reads_old_event w reading inv parts.0 (not_true _ parts.1)
+happens_keeps (ServerReadsOld reading) w inv can = let parts = and_parts _ _ can
+    in reads_old_event w reading inv parts.0 (not_true _ parts.1)
 happens_keeps ServerTurn w inv can = turn_event w inv can
 happens_keeps (Machine outcome) w inv can = machine_event w outcome inv can
 happens_keeps ClientReads w inv can = hear_event w inv can
@@ -60,18 +64,22 @@ start_holds p rack window program le = record {
 abbrev from_start : Program → List (List ℕ) → ℕ → List Event → World
 from_start p rack window es = run_of es (start p rack window)
 
-from_start_holds : (p : Program) (rack : List (List ℕ)) (window : ℕ) (es : List Event) → IsProgram p → window ≤ 16 → Inv (from_start p rack window es)
-from_start_holds p rack window es program le = run_keeps es (start p rack window) (start_holds p rack window (program_is_plain p program) le)
+from_start_holds : (p : Program) (rack : List (List ℕ)) (window : ℕ) (es : List Event) → IsProgram p → window ≤ 16
+    → Inv (from_start p rack window es)
+from_start_holds p rack window es program le = run_keeps es (start p rack window)
+    (start_holds p rack window (program_is_plain p program) le)
 
 pub always_sound : (p : Program) (rack : List (List ℕ)) (window : ℕ) (es : List Event) → IsProgram p → window ≤ 16
     → Sound p.features (run_of es (start p rack window)).client.table.tally.features (run_of es (start p rack window)).server.ledger
 always_sound p rack window es program le =
     let w : World = from_start p rack window es in
     subst (λ (q : Program). Sound q.features w.client.table.tally.features w.server.ledger) (run_program es (start p rack window))
-    (served_sound w.client.program.features w.client.table.tally.features w.server.ledger (served_now w (from_start_holds p rack window es program le)))
+    (served_sound w.client.program.features w.client.table.tally.features w.server.ledger
+        (served_now w (from_start_holds p rack window es program le)))
 
 pub always_told : (p : Program) (rack : List (List ℕ)) (window : ℕ) (es : List Event) → IsProgram p → window ≤ 16
-    → Told (run_of es (start p rack window)).client.table.tally.counted (run_of es (start p rack window)).server.ledger (run_of es (start p rack window)).client.last
+    → Told (run_of es (start p rack window)).client.table.tally.counted (run_of es (start p rack window)).server.ledger
+    (run_of es (start p rack window)).client.last
 always_told p rack window es program le =
     let told = told_now (from_start p rack window es) (from_start_holds p rack window es program le) in
     record { more = told.0; whole = told.1 }

@@ -1,5 +1,6 @@
 -- What always holds of a client and a server: the facts that every event keeps.
--- The idea: let the client read, in thought, all that is on its way. The table that this leaves fits the server as it is now, command by command.
+-- The idea: let the client read, in thought, all that is on its way. The table that this leaves fits the server as it is now, command by
+-- command.
 use Rattle.std.proofs.Common.{◌≡◌, ℕ, suc, ◌<◌, ◌≤◌, ◌⊎◌, Bool, true, false, List, [], ◌∷◌, ◌++◌, Option, Some, None, Ok}
 use Rattle.dme_line.specs.Kinds.{kind_of}
 use Rattle.dme_line.specs.Tags.{is_event_tag}
@@ -103,7 +104,8 @@ know_of s = record { tool = s.tool; frame = Some s.frame; stored = Some s.stored
 
 -- ---- where nothing has failed, what is not done is what is planned
 
-pub record IsClean (tally : Tally) (unsent : List Planned) (left : List Wanted) (lines : List Line) (error : Bool) (know : Know) : Type 0 where
+pub record IsClean (tally : Tally) (unsent : List Planned) (left : List Wanted) (lines : List Line) (error : Bool) (know : Know) : Type 0
+    where
   pub steps : List Planned
   pub todo : tally.todo ≡ steps ++ unsent
   pub commands : commands_of steps ≡ commands_in lines
@@ -111,9 +113,11 @@ pub record IsClean (tally : Tally) (unsent : List Planned) (left : List Wanted) 
   pub touches : touches_in tally.todo ≡ marks_of left
   pub fits : error ≡ false → Fits know tally.todo
 
--- the table that is left when all is read, and a server that this connection meets: what runs, what waits, whether it is in the error state, and what is known of it;
+-- the table that is left when all is read, and a server that this connection meets: what runs, what waits, whether it is in the error
+-- state, and what is known of it;
 -- with the lines that wait, those that the server has not read, and the aborts behind them
-pub record IsNearBy (table : Table) (unsent : List Planned) (left : List Wanted) (up : List Line) (running : Option Line) (waiting : List Waiting) (error : Bool) (know : Know) (queued coming : List Line) (aborts : List ℕ) : Type 0 where
+pub record IsNearBy (table : Table) (unsent : List Planned) (left : List Wanted) (up : List Line) (running : Option Line)
+    (waiting : List Waiting) (error : Bool) (know : Know) (queued coming : List Line) (aborts : List ℕ) : Type 0 where
   pub waiting_is : waiting ≡ all_wait queued
   pub up_is : up ≡ coming ++ abort_lines aborts
   pub standard_is : table.standard ≡ all_received (listed running ++ queued) ++ all_sent coming
@@ -124,7 +128,8 @@ pub record IsNearBy (table : Table) (unsent : List Planned) (left : List Wanted)
   pub clear_first : IsClearFirst table.tally.failed (listed running ++ (queued ++ coming))
   pub clean : table.tally.failed ≡ false → IsClean table.tally unsent left (listed running ++ (queued ++ coming)) error know
 
-pub record IsNear (table : Table) (unsent : List Planned) (left : List Wanted) (up : List Line) (running : Option Line) (waiting : List Waiting) (error : Bool) (know : Know) : Type 0 where
+pub record IsNear (table : Table) (unsent : List Planned) (left : List Wanted) (up : List Line) (running : Option Line)
+    (waiting : List Waiting) (error : Bool) (know : Know) : Type 0 where
   pub queued : List Line
   pub coming : List Line
   pub aborts : List ℕ

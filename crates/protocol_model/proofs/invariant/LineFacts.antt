@@ -1,5 +1,6 @@
 -- Small facts on lines that run, wait and come.
-use Rattle.std.proofs.Common.{◌≡◌, suc, ◌≤◌, Bool, true, false, ◌||◌, List, [], ◌∷◌, ◌++◌, length, refl, sym, ◌∙◌, ap, subst, arith, append_assoc, length-append, Option, Some, None, Ok}
+use Rattle.std.proofs.Common.{◌≡◌, suc, ◌≤◌, Bool, true, false, ◌||◌, List, [], ◌∷◌, ◌++◌, length, refl, sym, ◌∙◌, ap, subst, arith,
+  append_assoc, length-append, Option, Some, None, Ok}
 use Rattle.std.proofs.lemmas.Bool.{false≢true}
 use Rattle.dme_line.specs.Tags.{is_event_tag}
 use Rattle.dme_line.specs.declared.tags.Tag.{Tag}
@@ -12,7 +13,8 @@ use Rattle.protocol_model.specs.Client.{is_clearing}
 use Rattle.protocol_model.specs.Server.{is_clear, runs_under, waits_under}
 use Rattle.protocol_model.proofs.table.Basics.{if_cases, if_false, tag_is-refl, tag_is-true}
 use Rattle.protocol_model.proofs.table.Walks.{AreDistinct}
-use Rattle.protocol_model.proofs.invariant.Holding.{listed, received, sent_now, all_received, all_sent, all_wait, AreStandard, AreNoClears, IsClearFirst, commands_of, commands_in}
+use Rattle.protocol_model.proofs.invariant.Holding.{listed, received, sent_now, all_received, all_sent, all_wait, AreStandard, AreNoClears,
+  IsClearFirst, commands_of, commands_in}
 use Rattle.protocol_model.specs.declared.lines.Line.{Line}
 use Rattle.protocol_model.specs.declared.held.Held.{Held}
 use Rattle.protocol_model.specs.declared.plans.Planned.{Planned}
@@ -23,7 +25,8 @@ tag_is_false t u e = go (tag_is u t) refl
   where
     go : (b : Bool) → tag_is u t ≡ b → tag_is u t ≡ false
     go false f = f
-    go true f = let same : tag_is t u ≡ true = subst (λ (x : Tag). tag_is t x ≡ true) (sym (tag_is-true u t f)) (tag_is-refl t) in absurd (false≢true (sym e ∙ same))
+    go true f = let same : tag_is t u ≡ true = subst (λ (x : Tag). tag_is t x ≡ true) (sym (tag_is-true u t f)) (tag_is-refl t)
+        in absurd (false≢true (sym e ∙ same))
 
 -- the first of these that come is not among those that are received
 held_parts : (t : Tag) (h : Held) (hs : List Held) → is_held t (h ∷ hs) ≡ false → (tag_is h.tag t ≡ false) × (is_held t hs ≡ false)
@@ -37,7 +40,8 @@ not_held_behind t (x ∷ xs) ys e = not_held_behind t xs ys (held_parts t x (xs 
 
 pub not_held_before : (t : Tag) (xs ys : List Held) → is_held t (xs ++ ys) ≡ false → is_held t xs ≡ false
 not_held_before t [] ys e = refl
-not_held_before t (x ∷ xs) ys e = let parts = held_parts t x (xs ++ ys) e in if_false {A = Bool} (tag_is x.tag t) true (is_held t xs) parts.0 ∙ not_held_before t xs ys parts.1
+not_held_before t (x ∷ xs) ys e = let parts = held_parts t x (xs ++ ys) e
+    in if_false {A = Bool} (tag_is x.tag t) true (is_held t xs) parts.0 ∙ not_held_before t xs ys parts.1
 
 pub apart_from : (xs : List Held) (y : Held) (ys : List Held) → AreDistinct (xs ++ y ∷ ys) → is_held y.tag xs ≡ false
 apart_from [] y ys d = refl
@@ -47,23 +51,28 @@ apart_from (x ∷ xs) y ys d =
 
 waits_not : (t : Tag) (queued : List Line) → is_held t (all_received queued) ≡ false → waits_under t (all_wait queued) ≡ false
 waits_not t [] e = refl
-waits_not t (l ∷ ls) e = let parts = held_parts t (received l) (all_received ls) e in ap (λ (b : Bool). b || waits_under t (all_wait ls)) parts.0 ∙ waits_not t ls parts.1
+waits_not t (l ∷ ls) e = let parts = held_parts t (received l) (all_received ls) e
+    in ap (λ (b : Bool). b || waits_under t (all_wait ls)) parts.0 ∙ waits_not t ls parts.1
 
-pub not_in_use : (t : Tag) (running : Option Line) (queued : List Line) → is_held t (all_received (listed running ++ queued)) ≡ false → (runs_under t running || waits_under t (all_wait queued)) ≡ false
+pub not_in_use : (t : Tag) (running : Option Line) (queued : List Line) → is_held t (all_received (listed running ++ queued)) ≡ false
+    → (runs_under t running || waits_under t (all_wait queued)) ≡ false
 not_in_use t None queued e = waits_not t queued e
-not_in_use t (Some l) queued e = let parts = held_parts t (received l) (all_received queued) e in ap (λ (b : Bool). b || waits_under t (all_wait queued)) parts.0 ∙ waits_not t queued parts.1
+not_in_use t (Some l) queued e = let parts = held_parts t (received l) (all_received queued) e
+    in ap (λ (b : Bool). b || waits_under t (all_wait queued)) parts.0 ∙ waits_not t queued parts.1
 
 -- an event tag is none of standard lines
 event_not_held : (t : Tag) (ls : List Line) → AreStandard ls → is_event_tag t ≡ true → is_held t (all_received ls) ≡ false
 event_not_held t [] sorts e = refl
-event_not_held t (l ∷ ls) sorts e = if_false {A = Bool} (tag_is l.tag t) true (is_held t (all_received ls)) (apart l.tag t sorts.0 e) ∙ event_not_held t ls sorts.2 e
+event_not_held t (l ∷ ls) sorts e = if_false {A = Bool} (tag_is l.tag t) true (is_held t (all_received ls)) (apart l.tag t sorts.0 e)
+    ∙ event_not_held t ls sorts.2 e
   where
     apart : (u v : Tag) → is_event_tag u ≡ false → is_event_tag v ≡ true → tag_is u v ≡ false
     apart (Std n) (Std m) a b = absurd (false≢true b)
     apart (Std n) (Event m) a b = refl
     apart (Event n) v a b = absurd (false≢true (sym a))
 
-pub event_not_in_use : (t : Tag) (running : Option Line) (queued : List Line) → AreStandard (listed running ++ queued) → is_event_tag t ≡ true → (runs_under t running || waits_under t (all_wait queued)) ≡ false
+pub event_not_in_use : (t : Tag) (running : Option Line) (queued : List Line) → AreStandard (listed running ++ queued)
+    → is_event_tag t ≡ true → (runs_under t running || waits_under t (all_wait queued)) ≡ false
 event_not_in_use t running queued sorts e = not_in_use t running queued (event_not_held t (listed running ++ queued) sorts e)
 
 -- ---- lists of lines
@@ -105,13 +114,16 @@ wait_more [] ys = refl
 wait_more (x ∷ xs) ys = ap (λ (l : List _). record { tag = x.tag; reading = Ok x.command } ∷ l) (wait_more xs ys)
 
 -- one more behind what runs and waits: the same lines in all
-pub one_behind : (busy queued : List Line) (x : Line) (coming : List Line) → busy ++ (queued ++ x ∷ coming) ≡ busy ++ ((queued ++ x ∷ []) ++ coming)
+pub one_behind : (busy queued : List Line) (x : Line) (coming : List Line)
+    → busy ++ (queued ++ x ∷ coming) ≡ busy ++ ((queued ++ x ∷ []) ++ coming)
 one_behind busy queued x coming = ap (λ (l : List Line). busy ++ l) (sym (append_assoc queued (x ∷ []) coming))
 
-pub received_behind : (busy queued : List Line) (x : Line) (coming : List Line) → all_received (busy ++ queued) ++ received x ∷ all_sent coming ≡ all_received (busy ++ (queued ++ x ∷ [])) ++ all_sent coming
+pub received_behind : (busy queued : List Line) (x : Line) (coming : List Line)
+    → all_received (busy ++ queued) ++ received x ∷ all_sent coming ≡ all_received (busy ++ (queued ++ x ∷ [])) ++ all_sent coming
 received_behind busy queued x coming =
     sym (append_assoc (all_received (busy ++ queued)) (received x ∷ []) (all_sent coming))
-    ∙ ap (λ (l : List Held). l ++ all_sent coming) (sym (received_more (busy ++ queued) (x ∷ [])) ∙ ap all_received (append_assoc busy queued (x ∷ [])))
+    ∙ ap (λ (l : List Held). l ++ all_sent coming) (sym (received_more (busy ++ queued) (x ∷ []))
+    ∙ ap all_received (append_assoc busy queued (x ∷ [])))
 
 -- ---- how many
 

@@ -1,5 +1,6 @@
 -- What the calls of a server leave as it was, and what they add to its ledger.
-use Rattle.std.proofs.Common.{◌≡◌, ℕ, Bool, true, false, cond, not, ◌&&◌, ◌||◌, List, [], ◌∷◌, ◌++◌, length, refl, sym, ◌∙◌, ap, arith, append-nil, Option, Some, None, Result, Ok, Err, eq-eqb, ne_eqb, nat_le}
+use Rattle.std.proofs.Common.{◌≡◌, ℕ, Bool, true, false, cond, not, ◌&&◌, ◌||◌, List, [], ◌∷◌, ◌++◌, length, refl, sym, ◌∙◌, ap, arith,
+  append-nil, Option, Some, None, Result, Ok, Err, eq-eqb, ne_eqb, nat_le}
 use Rattle.fixed_um.specs.declared.lengths.Point.{Point}
 use Rattle.dme_line.specs.Tags.{is_event_tag}
 use Rattle.dme_line.specs.declared.tags.Tag.{Tag}
@@ -9,7 +10,9 @@ use Rattle.contact_ledger.specs.declared.acts.Act.{Act}
 use Rattle.contact_ledger.specs.declared.acts.Act.TheVariants as act
 use Rattle.protocol_model.specs.Replies.{Reading}
 use Rattle.dme_line.specs.declared.reading.LineFault.TheVariants as fault
-use Rattle.protocol_model.specs.Server.{Server, Answer, in_error, queued, runs_under, waits_under, is_abort, is_clear, stands, fresh, tagged, server_read, refusal, frame_of, carried_out, carried, taken, turned_to, server_turned, finished, touched, machined, server_machined}
+use Rattle.protocol_model.specs.Server.{Server, Answer, in_error, queued, runs_under, waits_under, is_abort, is_clear, stands, fresh,
+  tagged, server_read, refusal, frame_of, carried_out, carried, taken, turned_to, server_turned, finished, touched, machined,
+  server_machined}
 use Rattle.protocol_model.specs.Claims.{acts_on}
 use Rattle.protocol_model.proofs.table.Basics.{if_true, if_false}
 use Rattle.protocol_model.proofs.invariant.Served.{AreUpTo}
@@ -35,11 +38,13 @@ acts_more n ((m, b) ∷ l) k = acts_step _ b _ _ (acts_on n k) (acts_more n l k)
 
 pub acts_done : (n : ℕ) (acts : List Act) → acts_on n (done_on n acts) ≡ acts
 acts_done n [] = refl
-acts_done n (a ∷ acts) = if_true {A = List Act} _ (a ∷ acts_on n (done_on n acts)) (acts_on n (done_on n acts)) (eq-eqb n n refl) ∙ ap (λ (x : List Act). a ∷ x) (acts_done n acts)
+acts_done n (a ∷ acts) = if_true {A = List Act} _ (a ∷ acts_on n (done_on n acts)) (acts_on n (done_on n acts)) (eq-eqb n n refl)
+    ∙ ap (λ (x : List Act). a ∷ x) (acts_done n acts)
 
 pub acts_elsewhere : (n m : ℕ) (acts : List Act) → (m ≡ n → ⊥) → acts_on n (done_on m acts) ≡ []
 acts_elsewhere n m [] apart = refl
-acts_elsewhere n m (a ∷ acts) apart = if_false {A = List Act} _ (a ∷ acts_on n (done_on m acts)) (acts_on n (done_on m acts)) (ne_eqb m n apart) ∙ acts_elsewhere n m acts apart
+acts_elsewhere n m (a ∷ acts) apart = if_false {A = List Act} _ (a ∷ acts_on n (done_on m acts)) (acts_on n (done_on m acts))
+    (ne_eqb m n apart) ∙ acts_elsewhere n m acts apart
 
 pub up_to_join : (n : ℕ) (l k : List (ℕ × Act)) → AreUpTo n l → AreUpTo n k → AreUpTo n (l ++ k)
 up_to_join n [] k h g = g
@@ -70,14 +75,16 @@ stands_stays : (s : Server) (t : Tag) (reading : Result Command Misread) → Sta
 stands_stays s t reading =
     either (Stays s) (s.error && not (is_clear reading)) _ _ (stays s s refl refl refl)
     (either (Stays s) s.error _ _ (stays s (queued t reading (record s { error = false })) refl refl refl)
-    (either (Stays s) (nat_le 64 (length s.waiting)) _ _ (stays s (in_error s) refl refl refl) (stays s (queued t reading s) refl refl refl)))
+    (either (Stays s) (nat_le 64 (length s.waiting)) _ _ (stays s (in_error s) refl refl refl)
+        (stays s (queued t reading s) refl refl refl)))
 
 fresh_stays : (s : Server) (t : Tag) (reading : Result Command Misread) → Stays s (fresh s t reading)
 fresh_stays s t (Ok c) = either (Stays s) (is_abort (Ok c)) _ _ (stays s _ refl refl refl) (stands_stays s t (Ok c))
 fresh_stays s t (Err why) = either (Stays s) (is_event_tag t) _ _ (stays s _ refl refl refl) (stands_stays s t (Err why))
 
 tagged_stays : (s : Server) (t : Tag) (reading : Result Command Misread) → Stays s (tagged s t reading)
-tagged_stays s t reading = either (Stays s) (runs_under t s.running || waits_under t s.waiting) _ _ (stays s s refl refl refl) (fresh_stays s t reading)
+tagged_stays s t reading = either (Stays s) (runs_under t s.running || waits_under t s.waiting) _ _ (stays s s refl refl refl)
+    (fresh_stays s t reading)
 
 pub read_moves : (s : Server) (reading : Reading) → Moves s (server_read s reading).server []
 read_moves s (Ok line) = tagged_stays s line.tag (Ok line.command)
@@ -95,15 +102,18 @@ carried_moves s t (command.GoTo p) = ([], stays s _ refl refl refl)
 carried_moves s t (command.PtMeas p d) = ([], stays s _ refl refl refl)
 carried_moves s t (command.ChangeTool n) = ([], stays s _ refl refl refl)
 carried_moves s t (command.SetCsyTransformation p) = ([], stays s _ refl refl refl)
-carried_moves s t (command.SetCoordSystem system) = (act.Framed (frame_of system s.stored) ∷ [], record { on = refl; last = refl; ledger = refl })
+carried_moves s t (command.SetCoordSystem system) = (act.Framed (frame_of system s.stored) ∷ [],
+    record { on = refl; last = refl; ledger = refl })
 carried_moves s t command.AbortE = ([], stays s _ refl refl refl)
 
-taken_moves : (s : Server) (w : Waiting) (ws : List Waiting) (number : Option ℕ) → (acts : List Act) × Moves s (taken s w ws number).server acts
+taken_moves : (s : Server) (w : Waiting) (ws : List Waiting) (number : Option ℕ) → (acts : List Act)
+    × Moves s (taken s w ws number).server acts
 taken_moves s w ws (Some number) = ([], stays s _ refl refl refl)
 taken_moves s w ws None = go w.reading
   where
     go : (reading : Result Command Misread) → (acts : List Act) × Moves s (carried (record s { waiting = ws }) w.tag reading).server acts
-    go (Ok c) = let m = carried_moves (record s { waiting = ws }) w.tag c in (m.0, record { on = m.1.on; last = m.1.last; ledger = m.1.ledger })
+    go (Ok c) = let m = carried_moves (record s { waiting = ws }) w.tag c
+        in (m.0, record { on = m.1.on; last = m.1.last; ledger = m.1.ledger })
     go (Err refused) = ([], stays s _ refl refl refl)
 
 turned_to_moves : (s : Server) (ws : List Waiting) → (acts : List Act) × Moves s (turned_to s ws).server acts

@@ -1,5 +1,6 @@
 -- What the answers of a server do to the table of its client.
-use Rattle.std.proofs.Common.{◌≡◌, ℕ, suc, Bool, true, false, not, ◌&&◌, List, [], ◌∷◌, ◌++◌, refl, sym, ◌∙◌, ap, subst, append_assoc, Option, Some, None}
+use Rattle.std.proofs.Common.{◌≡◌, ℕ, suc, Bool, true, false, not, ◌&&◌, List, [], ◌∷◌, ◌++◌, refl, sym, ◌∙◌, ap, subst, append_assoc,
+  Option, Some, None}
 use Rattle.std.proofs.lemmas.Bool.{false≢true}
 use Rattle.std.proofs.Common.{ne_eqb, suc-ne-zero}
 use Rattle.fixed_um.specs.declared.lengths.Point.{Point}
@@ -23,7 +24,8 @@ use Rattle.protocol_model.specs.declared.held.Stage.{Stage}
 use Rattle.protocol_model.specs.declared.held.Held.{Held}
 
 -- a reply on a standard tag
-pub standard_hears : (ws : List Wanted) (b : Table) (t : Tag) (m : Mark) (hs : List Held) (e : Effect) → is_event_tag t ≡ false → heard_in (not b.tally.failed) b.standard t m ≡ two hs e → heard ws b t m ≡ fine (tabled hs b.event (tallied ws e b.tally))
+pub standard_hears : (ws : List Wanted) (b : Table) (t : Tag) (m : Mark) (hs : List Held) (e : Effect) → is_event_tag t ≡ false
+    → heard_in (not b.tally.failed) b.standard t m ≡ two hs e → heard ws b t m ≡ fine (tabled hs b.event (tallied ws e b.tally))
 standard_hears ws b (Std n) m hs e sort is = standard_step ws b n m hs e is
 standard_hears ws b (Event n) m hs e sort is = absurd (false≢true (sym sort))
 
@@ -34,13 +36,16 @@ abbrev pub broken : Tally → Tally
 broken y = record y { failed = true }
 
 -- an error and the end of the first command
-pub pair : (ws : List Wanted) (x : Line) (hs ev : List Held) (y : Tally) (code : ℕ) (name : Option Kind) → is_event_tag x.tag ≡ false → Reads ws (tabled (received x ∷ hs) ev y) (fails x.tag code name) (tabled hs ev (broken y))
+pub pair : (ws : List Wanted) (x : Line) (hs ev : List Held) (y : Tally) (code : ℕ) (name : Option Kind) → is_event_tag x.tag ≡ false
+    → Reads ws (tabled (received x ∷ hs) ev y) (fails x.tag code name) (tabled hs ev (broken y))
 pair ws x hs ev y code name sort = (
   tabled (staged_line x Stage.Failed ∷ hs) ev (broken y),
-  standard_hears ws (tabled (received x ∷ hs) ev y) x.tag Mark.Error (staged_line x Stage.Failed ∷ hs) Effect.Failure sort (heard_at (not y.failed) (received x) hs x.tag Mark.Error (tag_is-refl x.tag)),
+  standard_hears ws (tabled (received x ∷ hs) ev y) x.tag Mark.Error (staged_line x Stage.Failed ∷ hs) Effect.Failure sort
+      (heard_at (not y.failed) (received x) hs x.tag Mark.Error (tag_is-refl x.tag)),
   (
     tabled hs ev (broken y),
-    standard_hears ws (tabled (staged_line x Stage.Failed ∷ hs) ev (broken y)) x.tag Mark.Done hs Effect.Quiet sort (heard_at false (staged_line x Stage.Failed) hs x.tag Mark.Done (tag_is-refl x.tag)),
+    standard_hears ws (tabled (staged_line x Stage.Failed ∷ hs) ev (broken y)) x.tag Mark.Done hs Effect.Quiet sort
+        (heard_at false (staged_line x Stage.Failed) hs x.tag Mark.Done (tag_is-refl x.tag)),
     refl,
   ),
 )
@@ -54,37 +59,55 @@ breaks_broken : (xs : List Line) (y : Tally) → breaks xs (broken y) ≡ broken
 breaks_broken [] y = refl
 breaks_broken (x ∷ xs) y = refl
 
-pub pairs : (ws : List Wanted) (queued : List Line) (hs ev : List Held) (y : Tally) → AreStandard queued → Reads ws (tabled (all_received queued ++ hs) ev y) (all_fail 9007 (all_wait queued)) (tabled hs ev (breaks queued y))
+pub pairs : (ws : List Wanted) (queued : List Line) (hs ev : List Held) (y : Tally) → AreStandard queued
+    → Reads ws (tabled (all_received queued ++ hs) ev y) (all_fail 9007 (all_wait queued)) (tabled hs ev (breaks queued y))
 pairs ws [] hs ev y sort = refl
 pairs ws (x ∷ xs) hs ev y sort =
-    reads_more ws (fails x.tag 9007 (Some (kind_of x.command))) (all_fail 9007 (all_wait xs)) (tabled (all_received (x ∷ xs) ++ hs) ev y) (tabled (all_received xs ++ hs) ev (broken y)) (tabled hs ev (broken y))
+    reads_more ws (fails x.tag 9007 (Some (kind_of x.command))) (all_fail 9007 (all_wait xs)) (tabled (all_received (x ∷ xs) ++ hs) ev y)
+        (tabled (all_received xs ++ hs) ev (broken y)) (tabled hs ev (broken y))
     (pair ws x (all_received xs ++ hs) ev y 9007 (Some (kind_of x.command)) sort.0)
-    (subst (λ (z : Tally). Reads ws (tabled (all_received xs ++ hs) ev (broken y)) (all_fail 9007 (all_wait xs)) (tabled hs ev z)) (breaks_broken xs y) (pairs ws xs hs ev (broken y) sort.2))
+    (subst (λ (z : Tally). Reads ws (tabled (all_received xs ++ hs) ev (broken y)) (all_fail 9007 (all_wait xs)) (tabled hs ev z))
+        (breaks_broken xs y) (pairs ws xs hs ev (broken y) sort.2))
 
 -- a refused command, and then all that wait
-pub pair_and_pairs : (ws : List Wanted) (x : Line) (queued : List Line) (hs ev : List Held) (y : Tally) (code : ℕ) (name : Option Kind) → is_event_tag x.tag ≡ false → AreStandard queued → Reads ws (tabled (received x ∷ (all_received queued ++ hs)) ev y) (fails x.tag code name ++ all_fail 9007 (all_wait queued)) (tabled hs ev (broken y))
+pub pair_and_pairs : (ws : List Wanted) (x : Line) (queued : List Line) (hs ev : List Held) (y : Tally) (code : ℕ) (name : Option Kind)
+    → is_event_tag x.tag ≡ false → AreStandard queued → Reads ws (tabled (received x ∷ (all_received queued ++ hs)) ev y)
+    (fails x.tag code name ++ all_fail 9007 (all_wait queued)) (tabled hs ev (broken y))
 pair_and_pairs ws x queued hs ev y code name sort sorts =
-    reads_more ws (fails x.tag code name) (all_fail 9007 (all_wait queued)) (tabled (received x ∷ (all_received queued ++ hs)) ev y) (tabled (all_received queued ++ hs) ev (broken y)) (tabled hs ev (broken y))
+    reads_more ws (fails x.tag code name) (all_fail 9007 (all_wait queued)) (tabled (received x ∷ (all_received queued ++ hs)) ev y)
+        (tabled (all_received queued ++ hs) ev (broken y)) (tabled hs ev (broken y))
     (pair ws x (all_received queued ++ hs) ev y code name sort)
-    (subst (λ (z : Tally). Reads ws (tabled (all_received queued ++ hs) ev (broken y)) (all_fail 9007 (all_wait queued)) (tabled hs ev z)) (breaks_broken queued y) (pairs ws queued hs ev (broken y) sorts))
+    (subst (λ (z : Tally). Reads ws (tabled (all_received queued ++ hs) ev (broken y)) (all_fail 9007 (all_wait queued)) (tabled hs ev z))
+        (breaks_broken queued y) (pairs ws queued hs ev (broken y) sorts))
 
-pub running_pairs : (ws : List Wanted) (running : Option Line) (queued : List Line) (hs ev : List Held) (y : Tally) → AreStandard (listed running ++ queued) → Reads ws (tabled (all_received (listed running ++ queued) ++ hs) ev y) (running_fails running ++ all_fail 9007 (all_wait queued)) (tabled hs ev (breaks (listed running ++ queued) y))
+pub running_pairs : (ws : List Wanted) (running : Option Line) (queued : List Line) (hs ev : List Held) (y : Tally)
+    → AreStandard (listed running ++ queued) → Reads ws (tabled (all_received (listed running ++ queued) ++ hs) ev y) (running_fails running
+    ++ all_fail 9007 (all_wait queued)) (tabled hs ev (breaks (listed running ++ queued) y))
 running_pairs ws None queued hs ev y sort = pairs ws queued hs ev y sort
 running_pairs ws (Some x) queued hs ev y sort = pair_and_pairs ws x queued hs ev y 9007 (Some (kind_of x.command)) sort.0 sort.2
 
 -- the receipt of a command that stands behind others
-ack_in : (front : Bool) (busy : List Line) (x : Line) (hs : List Held) → is_held x.tag (all_received busy) ≡ false → heard_in front (all_received busy ++ sent_now x ∷ hs) x.tag Mark.Ack ≡ two (all_received busy ++ received x ∷ hs) Effect.Quiet
+ack_in : (front : Bool) (busy : List Line) (x : Line) (hs : List Held) → is_held x.tag (all_received busy) ≡ false
+    → heard_in front (all_received busy ++ sent_now x ∷ hs) x.tag Mark.Ack ≡ two (all_received busy ++ received x ∷ hs) Effect.Quiet
 ack_in front [] x hs free = heard_at front (sent_now x) hs x.tag Mark.Ack (tag_is-refl x.tag)
 ack_in front (l ∷ ls) x hs free =
-    if_cases {A = Bool} (tag_is l.tag x.tag) true (is_held x.tag (all_received ls)) false (heard_in front (all_received (l ∷ ls) ++ sent_now x ∷ hs) x.tag Mark.Ack ≡ two (all_received (l ∷ ls) ++ received x ∷ hs) Effect.Quiet) free
+    if_cases {A = Bool} (tag_is l.tag x.tag) true (is_held x.tag (all_received ls)) false
+        (heard_in front (all_received (l ∷ ls) ++ sent_now x ∷ hs) x.tag Mark.Ack
+        ≡ two (all_received (l ∷ ls) ++ received x ∷ hs) Effect.Quiet) free
     (λ same no_way. absurd (false≢true (sym no_way)))
-    (λ other rest. heard_past front (received l) (all_received ls ++ sent_now x ∷ hs) x.tag Mark.Ack other ∙ ap (put_before (received l)) (ack_in (front && false) ls x hs rest))
+    (λ other rest. heard_past front (received l) (all_received ls ++ sent_now x ∷ hs) x.tag Mark.Ack other
+        ∙ ap (put_before (received l)) (ack_in (front && false) ls x hs rest))
 
-pub ack : (ws : List Wanted) (busy : List Line) (x : Line) (hs ev : List Held) (y : Tally) → is_event_tag x.tag ≡ false → is_held x.tag (all_received busy) ≡ false → heard ws (tabled (all_received busy ++ sent_now x ∷ hs) ev y) x.tag Mark.Ack ≡ fine (tabled (all_received busy ++ received x ∷ hs) ev y)
-ack ws busy x hs ev y sort free = standard_hears ws (tabled (all_received busy ++ sent_now x ∷ hs) ev y) x.tag Mark.Ack (all_received busy ++ received x ∷ hs) Effect.Quiet sort (ack_in (not y.failed) busy x hs free)
+pub ack : (ws : List Wanted) (busy : List Line) (x : Line) (hs ev : List Held) (y : Tally) → is_event_tag x.tag ≡ false
+    → is_held x.tag (all_received busy) ≡ false → heard ws (tabled (all_received busy ++ sent_now x ∷ hs) ev y) x.tag Mark.Ack
+    ≡ fine (tabled (all_received busy ++ received x ∷ hs) ev y)
+ack ws busy x hs ev y sort free = standard_hears ws (tabled (all_received busy ++ sent_now x ∷ hs) ev y) x.tag Mark.Ack (all_received busy
+    ++ received x ∷ hs) Effect.Quiet sort (ack_in (not y.failed) busy x hs free)
 
 -- the end of the first command, where nothing has failed
-pub done_first : (ws : List Wanted) (x : Line) (hs ev : List Held) (y : Tally) → is_event_tag x.tag ≡ false → y.failed ≡ false → asks_data (kind_of x.command) ≡ false → Reads ws (tabled (received x ∷ hs) ev y) (Reply.Done x.tag ∷ []) (tabled hs ev (counted_next ws (kind_of x.command) None y.todo y))
+pub done_first : (ws : List Wanted) (x : Line) (hs ev : List Held) (y : Tally) → is_event_tag x.tag ≡ false → y.failed ≡ false
+    → asks_data (kind_of x.command) ≡ false → Reads ws (tabled (received x ∷ hs) ev y) (Reply.Done x.tag ∷ [])
+    (tabled hs ev (counted_next ws (kind_of x.command) None y.todo y))
 done_first ws x hs ev y sort calm asks = (
   tabled hs ev (counted_next ws (kind_of x.command) None y.todo y),
   standard_hears ws (tabled (received x ∷ hs) ev y) x.tag Mark.Done hs (Effect.Count (kind_of x.command) None) sort
@@ -94,7 +117,9 @@ done_first ws x hs ev y sort calm asks = (
   refl,
 )
 
-pub given_first : (ws : List Wanted) (x : Line) (p : Point) (hs ev : List Held) (y : Tally) → is_event_tag x.tag ≡ false → y.failed ≡ false → asks_data (kind_of x.command) ≡ true → Reads ws (tabled (received x ∷ hs) ev y) (Reply.Given x.tag p ∷ Reply.Done x.tag ∷ []) (tabled hs ev (counted_next ws (kind_of x.command) (Some p) y.todo y))
+pub given_first : (ws : List Wanted) (x : Line) (p : Point) (hs ev : List Held) (y : Tally) → is_event_tag x.tag ≡ false → y.failed ≡ false
+    → asks_data (kind_of x.command) ≡ true → Reads ws (tabled (received x ∷ hs) ev y) (Reply.Given x.tag p ∷ Reply.Done x.tag ∷ [])
+    (tabled hs ev (counted_next ws (kind_of x.command) (Some p) y.todo y))
 given_first ws x p hs ev y sort calm asks = (
   tabled (staged_line x (Stage.Given p) ∷ hs) ev y,
   standard_hears ws (tabled (received x ∷ hs) ev y) x.tag (Mark.Given p) (staged_line x (Stage.Given p) ∷ hs) Effect.Quiet sort
@@ -105,7 +130,8 @@ given_first ws x p hs ev y sort calm asks = (
     tabled hs ev (counted_next ws (kind_of x.command) (Some p) y.todo y),
     standard_hears ws (tabled (staged_line x (Stage.Given p) ∷ hs) ev y) x.tag Mark.Done hs (Effect.Count (kind_of x.command) (Some p)) sort
         (heard_at (not y.failed) (staged_line x (Stage.Given p)) hs x.tag Mark.Done (tag_is-refl x.tag)
-        ∙ ap (λ (b : Bool). settled (staged_line x (Stage.Given p)) hs (judged_done (not b) (asks_data (kind_of x.command)) (Stage.Given p))) calm),
+        ∙ ap (λ (b : Bool). settled (staged_line x (Stage.Given p)) hs
+        (judged_done (not b) (asks_data (kind_of x.command)) (Stage.Given p))) calm),
     refl,
   ),
 )
@@ -117,20 +143,29 @@ not_zero k = ne_eqb (suc k) 0 (λ (e : suc k ≡ 0). suc-ne-zero k e)
 abbrev pub abort_received : ℕ → Held
 abort_received k = record { tag = abort_tag k; kind = kind.AbortE; stage = Stage.Received }
 
-pub abort_acked : (ws : List Wanted) (k : ℕ) (st hs : List Held) (y : Tally) → heard ws (tabled st (abort_held k ∷ hs) y) (abort_tag k) Mark.Ack ≡ fine (tabled st (abort_received k ∷ hs) y)
-abort_acked ws k st hs y = event_step ws (tabled st (abort_held k ∷ hs) y) (suc k) Mark.Ack (abort_received k ∷ hs) Effect.Quiet (not_zero k) (heard_at true (abort_held k) hs (abort_tag k) Mark.Ack (tag_is-refl (abort_tag k)))
+pub abort_acked : (ws : List Wanted) (k : ℕ) (st hs : List Held) (y : Tally)
+    → heard ws (tabled st (abort_held k ∷ hs) y) (abort_tag k) Mark.Ack ≡ fine (tabled st (abort_received k ∷ hs) y)
+abort_acked ws k st hs y = event_step ws (tabled st (abort_held k ∷ hs) y) (suc k) Mark.Ack (abort_received k ∷ hs) Effect.Quiet
+    (not_zero k) (heard_at true (abort_held k) hs (abort_tag k) Mark.Ack (tag_is-refl (abort_tag k)))
 
-pub abort_ended : (ws : List Wanted) (k : ℕ) (st hs : List Held) (y : Tally) → heard ws (tabled st (abort_received k ∷ hs) y) (abort_tag k) Mark.Done ≡ fine (tabled st hs y)
-abort_ended ws k st hs y = event_step ws (tabled st (abort_received k ∷ hs) y) (suc k) Mark.Done hs (Effect.Count kind.AbortE None) (not_zero k) (heard_at true (abort_received k) hs (abort_tag k) Mark.Done (tag_is-refl (abort_tag k)))
+pub abort_ended : (ws : List Wanted) (k : ℕ) (st hs : List Held) (y : Tally)
+    → heard ws (tabled st (abort_received k ∷ hs) y) (abort_tag k) Mark.Done ≡ fine (tabled st hs y)
+abort_ended ws k st hs y = event_step ws (tabled st (abort_received k ∷ hs) y) (suc k) Mark.Done hs (Effect.Count kind.AbortE None)
+    (not_zero k) (heard_at true (abort_received k) hs (abort_tag k) Mark.Done (tag_is-refl (abort_tag k)))
 
 -- all that runs and waits fails between the two
-pub abort_reads : (ws : List Wanted) (k : ℕ) (running : Option Line) (queued : List Line) (hs : List Held) (y : Tally) → AreStandard (listed running ++ queued)
-    → Reads ws (tabled (all_received (listed running ++ queued) ++ []) (abort_held k ∷ hs) y) (Reply.Ack (abort_tag k) ∷ (running_fails running ++ (all_fail 9007 (all_wait queued) ++ Reply.Done (abort_tag k) ∷ []))) (tabled [] hs (breaks (listed running ++ queued) y))
+pub abort_reads : (ws : List Wanted) (k : ℕ) (running : Option Line) (queued : List Line) (hs : List Held) (y : Tally)
+    → AreStandard (listed running ++ queued)
+    → Reads ws (tabled (all_received (listed running ++ queued) ++ []) (abort_held k ∷ hs) y)
+    (Reply.Ack (abort_tag k) ∷ (running_fails running ++ (all_fail 9007 (all_wait queued) ++ Reply.Done (abort_tag k) ∷ [])))
+    (tabled [] hs (breaks (listed running ++ queued) y))
 abort_reads ws k running queued hs y sorts =
     let busy : List Line = listed running ++ queued in
     let all : List Reply = running_fails running ++ all_fail 9007 (all_wait queued) in
-    let fell : Reads ws (tabled (all_received busy ++ []) (abort_received k ∷ hs) y) all (tabled [] (abort_received k ∷ hs) (breaks busy y)) = running_pairs ws running queued [] (abort_received k ∷ hs) y sorts in
-    let last : Reads ws (tabled [] (abort_received k ∷ hs) (breaks busy y)) (Reply.Done (abort_tag k) ∷ []) (tabled [] hs (breaks busy y)) = (tabled [] hs (breaks busy y), abort_ended ws k [] hs (breaks busy y), refl) in (
+    let fell : Reads ws (tabled (all_received busy ++ []) (abort_received k ∷ hs) y) all
+        (tabled [] (abort_received k ∷ hs) (breaks busy y)) = running_pairs ws running queued [] (abort_received k ∷ hs) y sorts in
+    let last : Reads ws (tabled [] (abort_received k ∷ hs) (breaks busy y)) (Reply.Done (abort_tag k) ∷ []) (tabled [] hs (breaks busy y)) =
+        (tabled [] hs (breaks busy y), abort_ended ws k [] hs (breaks busy y), refl) in (
       tabled (all_received busy ++ []) (abort_received k ∷ hs) y,
       abort_acked ws k (all_received busy ++ []) hs y,
       subst (λ (rs : List Reply). Reads ws (tabled (all_received busy ++ []) (abort_received k ∷ hs) y) rs (tabled [] hs (breaks busy y)))

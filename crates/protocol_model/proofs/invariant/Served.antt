@@ -1,5 +1,6 @@
 -- Features that contacts serve, with the contacts left out between them; and the contacts of an unfinished feature.
-use Rattle.std.proofs.Common.{◌≡◌, ℕ, zero, suc, ◌+◌, ◌<◌, ◌≤◌, Bool, true, false, cond, List, [], ◌∷◌, ◌++◌, length, take, drop, refl, sym, ◌∙◌, ap, subst, arith, append_assoc, append-nil, length-append}
+use Rattle.std.proofs.Common.{◌≡◌, ℕ, zero, suc, ◌+◌, ◌<◌, ◌≤◌, Bool, true, false, cond, List, [], ◌∷◌, ◌++◌, length, take, drop, refl, sym,
+  ◌∙◌, ap, subst, arith, append_assoc, append-nil, length-append}
 use Rattle.std.proofs.Common.{eq-eqb, ne_eqb}
 use Rattle.fixed_um.specs.declared.lengths.Point.{Point}
 use Rattle.contact_ledger.specs.declared.acts.Act.{Act}
@@ -56,7 +57,8 @@ up_to_above n m ((k, b) ∷ l) le h = (omega (arith, h.0), up_to_above n m l le 
 
 pub acts_none : (n m : ℕ) (l : List (ℕ × Act)) → AreUpTo n l → n < m → acts_on m l ≡ []
 acts_none n m [] h lt = refl
-acts_none n m ((k, b) ∷ l) h lt = if_false {A = List Act} _ (b ∷ acts_on m l) (acts_on m l) (ne_eqb k m (λ (e : k ≡ m). below e)) ∙ acts_none n m l h.1 lt
+acts_none n m ((k, b) ∷ l) h lt = if_false {A = List Act} _ (b ∷ acts_on m l) (acts_on m l) (ne_eqb k m (λ (e : k ≡ m). below e))
+    ∙ acts_none n m l h.1 lt
   where
     below : k ≡ m → ⊥
     below e = let le : k ≤ n = h.0 in omega arith
@@ -99,7 +101,8 @@ run_more w f made rest more h = record {
   gap = h.gap;
   run = h.run;
   connection = h.connection;
-  whole = ap (λ (l : List Made). l ++ more) h.whole ∙ (append_assoc h.gap (h.run ++ rest) more ∙ ap (λ (l : List Made). h.gap ++ l) (append_assoc h.run rest more));
+  whole = ap (λ (l : List Made). l ++ more) h.whole ∙ (append_assoc h.gap (h.run ++ rest) more
+      ∙ ap (λ (l : List Made). h.gap ++ l) (append_assoc h.run rest more));
   label = h.label;
   serves = h.serves;
 }
@@ -121,21 +124,26 @@ served_take (suc k) [] (f ∷ fs) made h = absurd h
 served_take (suc k) (w ∷ ws) (f ∷ fs) made h = (h.0, h.1, served_take k ws fs h.0 h.2)
 
 -- one feature more, served by the contacts behind
-pub served_push : (front : List Wanted) (w : Wanted) (later : List Wanted) (fs : List Feature) (f : Feature) (made run : List Made) (n : ℕ) → length front ≡ length fs → Served (front ++ w ∷ later) fs made → f.label ≡ w.label → Serves n w.touches f.points run → Served (front ++ w ∷ later) (fs ++ f ∷ []) (made ++ run)
+pub served_push : (front : List Wanted) (w : Wanted) (later : List Wanted) (fs : List Feature) (f : Feature) (made run : List Made) (n : ℕ)
+    → length front ≡ length fs → Served (front ++ w ∷ later) fs made → f.label ≡ w.label → Serves n w.touches f.points run
+    → Served (front ++ w ∷ later) (fs ++ f ∷ []) (made ++ run)
 served_push [] w later [] f made run n e h label serves =
-    ([], record { gap = made; run = run; connection = n; whole = ap (λ (l : List Made). made ++ l) (sym (append-nil run)); label = label; serves = serves }, tt)
+    ([], record { gap = made; run = run; connection = n; whole = ap (λ (l : List Made). made ++ l) (sym (append-nil run)); label = label;
+        serves = serves }, tt)
 served_push [] w later (g ∷ gs) f made run n e h label serves = absurd (cc)
 served_push (v ∷ front) w later [] f made run n e h label serves = absurd (cc)
 served_push (v ∷ front) w later (g ∷ gs) f made run n e h label serves =
     (h.0 ++ run, run_more v g made h.0 run h.1, served_push front w later gs f h.0 run n (omega arith) h.2 label serves)
 
-pub joined_is : (front : List Wanted) (w : Wanted) (later : List Wanted) (fs : List Feature) (ps : List Point) → length front ≡ length fs → joined (front ++ w ∷ later) fs ps ≡ fs ++ record { label = w.label; points = ps } ∷ []
+pub joined_is : (front : List Wanted) (w : Wanted) (later : List Wanted) (fs : List Feature) (ps : List Point) → length front ≡ length fs
+    → joined (front ++ w ∷ later) fs ps ≡ fs ++ record { label = w.label; points = ps } ∷ []
 joined_is [] w later [] ps e = refl
 joined_is [] w later (g ∷ gs) ps e = absurd (cc)
 joined_is (v ∷ front) w later [] ps e = absurd (cc)
 joined_is (v ∷ front) w later (g ∷ gs) ps e = ap (λ (l : List Feature). g ∷ l) (joined_is front w later gs ps (omega arith))
 
-pub serves_more : (n : ℕ) (ts : List Touch) (ps : List Point) (ms : List Made) (t : Touch) (p : Point) (m : Made) → Serves n ts ps ms → IsServed n t p m → Serves n (ts ++ t ∷ []) (ps ++ p ∷ []) (ms ++ m ∷ [])
+pub serves_more : (n : ℕ) (ts : List Touch) (ps : List Point) (ms : List Made) (t : Touch) (p : Point) (m : Made) → Serves n ts ps ms
+    → IsServed n t p m → Serves n (ts ++ t ∷ []) (ps ++ p ∷ []) (ms ++ m ∷ [])
 serves_more n [] [] [] t p m h g = (g, tt)
 serves_more n [] [] (y ∷ ms) t p m h g = absurd h
 serves_more n [] (q ∷ ps) ms t p m h g = absurd h
@@ -155,7 +163,8 @@ abbrev pub with_made : List Touch → List Wanted → List Wanted
 with_made made [] = []
 with_made made (w ∷ ws) = record { label = w.label; touches = made ++ w.touches } ∷ ws
 
-pub record IsProgress (ws : List Wanted) (n : ℕ) (fs : List Feature) (points : List Point) (ms : List Made) (left : List Wanted) : Type 0 where
+pub record IsProgress (ws : List Wanted) (n : ℕ) (fs : List Feature) (points : List Point) (ms : List Made) (left : List Wanted) : Type 0
+    where
   pub front : List Wanted
   pub made : List Touch
   pub before : List Made
@@ -167,14 +176,18 @@ pub record IsProgress (ws : List Wanted) (n : ℕ) (fs : List Feature) (points :
   pub serves : Serves n made points run
   pub some : HaveTouches left
 
-pub progress_served : (ws : List Wanted) (n : ℕ) (fs : List Feature) (points : List Point) (ms : List Made) (left : List Wanted) → IsProgress ws n fs points ms left → Served ws fs ms
-progress_served ws n fs points ms left h = subst (λ (l : List Made). Served ws fs l) (sym h.parts) (served_more ws fs h.before h.run h.served)
+pub progress_served : (ws : List Wanted) (n : ℕ) (fs : List Feature) (points : List Point) (ms : List Made) (left : List Wanted)
+    → IsProgress ws n fs points ms left → Served ws fs ms
+progress_served ws n fs points ms left h = subst (λ (l : List Made). Served ws fs l) (sym h.parts)
+    (served_more ws fs h.before h.run h.served)
 
 -- a front of so many wanted features
-served_cut : (ws : List Wanted) (fs : List Feature) (ms : List Made) → Served ws fs ms → (front : List Wanted) × (ws ≡ front ++ drop (length fs) ws) × (length front ≡ length fs)
+served_cut : (ws : List Wanted) (fs : List Feature) (ms : List Made) → Served ws fs ms → (front : List Wanted)
+    × (ws ≡ front ++ drop (length fs) ws) × (length front ≡ length fs)
 served_cut ws [] ms h = ([], refl, refl)
 served_cut [] (f ∷ fs) ms h = absurd h
-served_cut (w ∷ ws) (f ∷ fs) ms h = let rest = served_cut ws fs h.0 h.2 in (w ∷ rest.0, ap (λ (l : List Wanted). w ∷ l) rest.1, ap suc rest.2)
+served_cut (w ∷ ws) (f ∷ fs) ms h = let rest = served_cut ws fs h.0 h.2
+    in (w ∷ rest.0, ap (λ (l : List Wanted). w ∷ l) rest.1, ap suc rest.2)
 
 have_drop : (k : ℕ) (ws : List Wanted) → HaveTouches ws → HaveTouches (drop k ws)
 have_drop zero ws h = h
@@ -186,7 +199,8 @@ with_none [] = refl
 with_none (w ∷ ws) = refl
 
 -- at the beginning of a plan nothing is unfinished
-pub progress_new : (ws : List Wanted) (n : ℕ) (fs : List Feature) (ms : List Made) → Served ws fs ms → HaveTouches ws → IsProgress ws n fs [] ms (drop (length fs) ws)
+pub progress_new : (ws : List Wanted) (n : ℕ) (fs : List Feature) (ms : List Made) → Served ws fs ms → HaveTouches ws
+    → IsProgress ws n fs [] ms (drop (length fs) ws)
 progress_new ws n fs ms h some =
     let cut = served_cut ws fs ms h in
     record {
@@ -212,14 +226,17 @@ serves_up_to : (n b : ℕ) (ts : List Touch) (ps : List Point) (ms : List Made) 
 serves_up_to n b ts [] ms h u lt = refl
 serves_up_to n b [] (p ∷ ps) ms h u lt = absurd h
 serves_up_to n b (t ∷ ts) (p ∷ ps) [] h u lt = absurd h
-serves_up_to n b (t ∷ ts) (p ∷ ps) (m ∷ ms) h u lt = let on : m.connection ≡ n = h.0.on in let le : m.connection ≤ b = u.0 in absurd (omega arith)
+serves_up_to n b (t ∷ ts) (p ∷ ps) (m ∷ ms) h u lt = let on : m.connection ≡ n = h.0.on in let le : m.connection ≤ b = u.0
+    in absurd (omega arith)
 
-pub no_points : (ws : List Wanted) (n b : ℕ) (fs : List Feature) (points : List Point) (ms : List Made) (left : List Wanted) → IsProgress ws n fs points ms left → AreMadeUpTo b ms → b < n → points ≡ []
+pub no_points : (ws : List Wanted) (n b : ℕ) (fs : List Feature) (points : List Point) (ms : List Made) (left : List Wanted)
+    → IsProgress ws n fs points ms left → AreMadeUpTo b ms → b < n → points ≡ []
 no_points ws n b fs points ms left h u lt =
     serves_up_to n b h.made points h.run h.serves (made_behind b h.before h.run (subst (λ (l : List Made). AreMadeUpTo b l) h.parts u)) lt
 
 -- a contact that is none of the unfinished feature's, where nothing is unfinished
-pub progress_other : (ws : List Wanted) (n : ℕ) (fs : List Feature) (points : List Point) (ms more : List Made) (left : List Wanted) → IsProgress ws n fs points ms left → points ≡ [] → IsProgress ws n fs points (ms ++ more) left
+pub progress_other : (ws : List Wanted) (n : ℕ) (fs : List Feature) (points : List Point) (ms more : List Made) (left : List Wanted)
+    → IsProgress ws n fs points ms left → points ≡ [] → IsProgress ws n fs points (ms ++ more) left
 progress_other ws n fs points ms more left h e =
     let nothing = serves_none n h.made h.run (subst (λ (l : List Point). Serves n h.made l h.run) e h.serves) in
     record {
@@ -239,7 +256,8 @@ progress_other ws n fs points ms more left h e =
     }
 
 -- the points of the unfinished feature are given up
-pub progress_anew : (ws : List Wanted) (n m : ℕ) (fs : List Feature) (points : List Point) (ms : List Made) (left : List Wanted) → HaveTouches ws → IsProgress ws n fs points ms left → IsProgress ws m fs [] ms (drop (length fs) ws)
+pub progress_anew : (ws : List Wanted) (n m : ℕ) (fs : List Feature) (points : List Point) (ms : List Made) (left : List Wanted)
+    → HaveTouches ws → IsProgress ws n fs points ms left → IsProgress ws m fs [] ms (drop (length fs) ws)
 progress_anew ws n m fs points ms left some h = progress_new ws m fs ms (progress_served ws n fs points ms left h) some
 
 -- ---- a touch that was wanted
@@ -254,7 +272,8 @@ pub record IsNext (t : Touch) (last : Bool) (rest : List Marked) (left : List Wa
   pub ends : last ≡ is_empty ts
   pub rest_is : rest ≡ marks ts ++ marks_of later
 
-next_by : (t : Touch) (last : Bool) (rest : List Marked) (w : Wanted) (later : List Wanted) (ts : List Touch) → w.touches ≡ ts → (ts ≡ [] → ⊥) → (t, last) ∷ rest ≡ marks ts ++ marks_of later → IsNext t last rest (w ∷ later)
+next_by : (t : Touch) (last : Bool) (rest : List Marked) (w : Wanted) (later : List Wanted) (ts : List Touch) → w.touches ≡ ts
+    → (ts ≡ [] → ⊥) → (t, last) ∷ rest ≡ marks ts ++ marks_of later → IsNext t last rest (w ∷ later)
 next_by t last rest w later [] e some is = absurd (some refl)
 next_by t last rest w later (u ∷ us) e some is =
     let head : ◌≡◌ {A = Marked} (t, last) (u, is_empty us) = cc in
@@ -268,7 +287,8 @@ next_by t last rest w later (u ∷ us) e some is =
       rest_is = cc;
     }
 
-pub next_touch : (t : Touch) (last : Bool) (rest : List Marked) (left : List Wanted) → HaveTouches left → (t, last) ∷ rest ≡ marks_of left → IsNext t last rest left
+pub next_touch : (t : Touch) (last : Bool) (rest : List Marked) (left : List Wanted) → HaveTouches left → (t, last) ∷ rest ≡ marks_of left
+    → IsNext t last rest left
 next_touch t last rest [] some is = absurd (cc)
 next_touch t last rest (w ∷ later) some is = next_by t last rest w later w.touches refl some.0 is
 
@@ -304,7 +324,8 @@ take_front : (xs ys : List Made) → take (length xs) (xs ++ ys) ≡ xs
 take_front [] ys = refl
 take_front (x ∷ xs) ys = ap (λ (l : List Made). x ∷ l) (take_front xs ys)
 
-served_starts : (ws : List Wanted) (fs : List Feature) (passed ms : List Made) → Served ws fs ms → (starts : List ℕ) × AreRuns ws fs starts (length passed) (passed ++ ms)
+served_starts : (ws : List Wanted) (fs : List Feature) (passed ms : List Made) → Served ws fs ms → (starts : List ℕ)
+    × AreRuns ws fs starts (length passed) (passed ++ ms)
 served_starts ws [] passed ms h = ([], tt)
 served_starts [] (f ∷ fs) passed ms h = absurd h
 served_starts (w ∷ ws) (f ∷ fs) passed ms h =
@@ -312,16 +333,20 @@ served_starts (w ∷ ws) (f ∷ fs) passed ms h =
     let begin : List Made = passed ++ r.gap in
     let over : List Made = begin ++ r.run in
     let long : length r.run ≡ length f.points = serves_long r.connection w.touches f.points r.run r.serves in
-    let all : passed ++ ms ≡ begin ++ (r.run ++ h.0) = ap (λ (l : List Made). passed ++ l) r.whole ∙ sym (append_assoc passed r.gap (r.run ++ h.0)) in
+    let all : passed ++ ms ≡ begin ++ (r.run ++ h.0) = ap (λ (l : List Made). passed ++ l) r.whole
+        ∙ sym (append_assoc passed r.gap (r.run ++ h.0)) in
     let cut : take (length f.points) (drop (length begin) (passed ++ ms)) ≡ r.run =
     ap (λ (l : List Made). take (length f.points) (drop (length begin) l)) all
     ∙ (ap (λ (l : List Made). take (length f.points) l) (drop_front begin (r.run ++ h.0))
     ∙ (ap (λ (k : ℕ). take k (r.run ++ h.0)) (sym long) ∙ take_front r.run h.0)) in
     let rest = served_starts ws fs over h.0 h.2 in
-    let one : IsRun w f (length begin) (passed ++ ms) = record { label = r.label; connection = r.connection; serves = subst (λ (l : List Made). Serves r.connection w.touches f.points l) (sym cut) r.serves } in
+    let one : IsRun w f (length begin) (passed ++ ms) = record { label = r.label; connection = r.connection;
+        serves = subst (λ (l : List Made). Serves r.connection w.touches f.points l) (sym cut) r.serves } in
     let least : length over ≡ length begin + length f.points = length-append begin r.run ∙ ap (λ (k : ℕ). length begin + k) long in
     let together : over ++ h.0 ≡ passed ++ ms = append_assoc begin r.run h.0 ∙ sym all in
-    (length begin ∷ rest.0, (omega (arith, length-append passed r.gap), one, subst (λ (k : ℕ). AreRuns ws fs rest.0 k (passed ++ ms)) least (subst (λ (l : List Made). AreRuns ws fs rest.0 (length over) l) together rest.1)))
+    (length begin ∷ rest.0, (omega (arith, length-append passed r.gap), one,
+        subst (λ (k : ℕ). AreRuns ws fs rest.0 k (passed ++ ms)) least
+        (subst (λ (l : List Made). AreRuns ws fs rest.0 (length over) l) together rest.1)))
 
 pub served_sound : (ws : List Wanted) (fs : List Feature) (l : List (ℕ × Act)) → Served ws fs (contacts l) → Sound ws fs l
 served_sound ws fs l h = let all = served_starts ws fs [] (contacts l) h in record { starts = all.0; runs = all.1 }

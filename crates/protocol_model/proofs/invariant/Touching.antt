@@ -1,5 +1,6 @@
 -- A counted command and the contacts of the unfinished feature.
-use Rattle.std.proofs.Common.{◌≡◌, ℕ, ◌+◌, true, false, List, [], ◌∷◌, ◌++◌, refl, sym, ◌∙◌, ap, subst, append_assoc, append-nil, length-append, Option, Some, None}
+use Rattle.std.proofs.Common.{◌≡◌, ℕ, ◌+◌, true, false, List, [], ◌∷◌, ◌++◌, refl, sym, ◌∙◌, ap, subst, append_assoc, append-nil,
+  length-append, Option, Some, None}
 use Rattle.std.proofs.lemmas.Bool.{false≢true}
 use Rattle.fixed_um.specs.declared.lengths.Point.{Point}
 use Rattle.contact_ledger.specs.declared.features.Feature.{Feature}
@@ -9,7 +10,8 @@ use Rattle.protocol_model.specs.Claims.{Made, contacts, IsServed}
 use Rattle.protocol_model.specs.Plan.{is_empty}
 use Rattle.protocol_model.specs.Client.{Tally, act_of, joined, measured}
 use Rattle.protocol_model.proofs.plan.Marks.{Marked, marks, marks_of, touch_in}
-use Rattle.protocol_model.proofs.invariant.Served.{Served, served_push, joined_is, serves_more, HaveTouches, with_made, IsProgress, IsNext, next_touch}
+use Rattle.protocol_model.proofs.invariant.Served.{Served, served_push, joined_is, serves_more, HaveTouches, with_made, IsProgress, IsNext,
+  next_touch}
 use Rattle.protocol_model.proofs.invariant.Moves.{done_on}
 use Rattle.protocol_model.specs.declared.plans.Does.{Does}
 
@@ -43,15 +45,18 @@ measured_keeps ws (Does.Changes n) given y = keeps_all y
 measured_keeps ws (Does.Frames f) given y = keeps_all y
 
 -- behind a counted command: what is left, and the contacts cut anew
-pub record Goes (ws : List Wanted) (n : ℕ) (y : Tally) (ms : List Made) (does : Does) (given : Option Point) (rest : List Marked) : Type 0 where
+pub record Goes (ws : List Wanted) (n : ℕ) (y : Tally) (ms : List Made) (does : Does) (given : Option Point) (rest : List Marked) : Type 0
+    where
   pub left : List Wanted
   pub touches : rest ≡ marks_of left
-  pub progress : IsProgress ws n (measured ws does given y).features (measured ws does given y).points (ms ++ contacts (done_on n (act_of does given))) left
+  pub progress : IsProgress ws n (measured ws does given y).features (measured ws does given y).points (ms
+      ++ contacts (done_on n (act_of does given))) left
 
 made_of : ℕ → Touch → Point → Made
 made_of n t p = record { connection = n; target = t.target; dir = t.dir; tool = t.tool; frame = t.frame; point = p }
 
-is_served : (n : ℕ) (t : Touch) (p : Point) → IsServed n t p (record { connection = n; target = t.target; dir = t.dir; tool = t.tool; frame = t.frame; point = p })
+is_served : (n : ℕ) (t : Touch) (p : Point) → IsServed n t p
+    (record { connection = n; target = t.target; dir = t.dir; tool = t.tool; frame = t.frame; point = p })
 is_served n t p = record { on = refl; target = refl; dir = refl; tool = refl; frame = refl; point_is = refl }
 
 not_empty : (ts : List Touch) → is_empty ts ≡ false → ts ≡ [] → ⊥
@@ -63,8 +68,10 @@ empty_is [] e = refl
 empty_is (t ∷ ts) e = absurd (false≢true e)
 
 -- a touch that is not the last of its feature
-touch_goes : (ws : List Wanted) (n : ℕ) (fs : List Feature) (points : List Point) (ms : List Made) (left : List Wanted) (t : Touch) (p : Point) (rest : List Marked) → IsProgress ws n fs points ms left → IsNext t false rest left
-    → (later : List Wanted) × (rest ≡ marks_of later) × IsProgress ws n fs (points ++ p ∷ []) (ms ++ record { connection = n; target = t.target; dir = t.dir; tool = t.tool; frame = t.frame; point = p } ∷ []) later
+touch_goes : (ws : List Wanted) (n : ℕ) (fs : List Feature) (points : List Point) (ms : List Made) (left : List Wanted) (t : Touch)
+    (p : Point) (rest : List Marked) → IsProgress ws n fs points ms left → IsNext t false rest left
+    → (later : List Wanted) × (rest ≡ marks_of later) × IsProgress ws n fs (points ++ p ∷ []) (ms
+    ++ record { connection = n; target = t.target; dir = t.dir; tool = t.tool; frame = t.frame; point = p } ∷ []) later
 touch_goes ws n fs points ms left t p rest h next =
     let m : Made = record { connection = n; target = t.target; dir = t.dir; tool = t.tool; frame = t.frame; point = p } in
     let smaller : Wanted = record { label = next.wanted.label; touches = next.ts } in
@@ -94,8 +101,10 @@ with_none [] = refl
 with_none (w ∷ ws) = refl
 
 -- and one that is
-touch_ends : (ws : List Wanted) (n : ℕ) (fs : List Feature) (points : List Point) (ms : List Made) (left : List Wanted) (t : Touch) (p : Point) (rest : List Marked) → IsProgress ws n fs points ms left → IsNext t true rest left
-    → (later : List Wanted) × (rest ≡ marks_of later) × IsProgress ws n (joined ws fs (points ++ p ∷ [])) [] (ms ++ record { connection = n; target = t.target; dir = t.dir; tool = t.tool; frame = t.frame; point = p } ∷ []) later
+touch_ends : (ws : List Wanted) (n : ℕ) (fs : List Feature) (points : List Point) (ms : List Made) (left : List Wanted) (t : Touch)
+    (p : Point) (rest : List Marked) → IsProgress ws n fs points ms left → IsNext t true rest left
+    → (later : List Wanted) × (rest ≡ marks_of later) × IsProgress ws n (joined ws fs (points ++ p ∷ [])) [] (ms
+    ++ record { connection = n; target = t.target; dir = t.dir; tool = t.tool; frame = t.frame; point = p } ∷ []) later
 touch_ends ws n fs points ms left t p rest h next =
     let m : Made = record { connection = n; target = t.target; dir = t.dir; tool = t.tool; frame = t.frame; point = p } in
     let none : next.ts ≡ [] = empty_is next.ts (sym next.ends) in
@@ -111,7 +120,8 @@ touch_ends ws n fs points ms left t p rest h next =
     ap (λ (l : List Wanted). joined l fs (points ++ p ∷ [])) whole ∙ joined_is h.front whole_one next.later fs (points ++ p ∷ []) h.long in
     let served : Served ws (fs ++ feature ∷ []) (h.before ++ run) =
     subst (λ (l : List Wanted). Served l (fs ++ feature ∷ []) (h.before ++ run)) (sym whole)
-    (served_push h.front whole_one next.later fs feature h.before run n h.long (subst (λ (l : List Wanted). Served l fs h.before) whole h.served) refl
+    (served_push h.front whole_one next.later fs feature h.before run n h.long
+        (subst (λ (l : List Wanted). Served l fs h.before) whole h.served) refl
     (serves_more n h.made points h.run t p m h.serves (is_served n t p))) in
     let some : HaveTouches (next.wanted ∷ next.later) = subst HaveTouches next.first h.some in (
       next.later,
@@ -122,19 +132,24 @@ touch_ends ws n fs points ms left t p rest h next =
             made = [];
             before = h.before ++ run;
             run = [];
-            whole = whole ∙ (sym (append_assoc h.front (whole_one ∷ []) next.later) ∙ ap (λ (l : List Wanted). (h.front ++ whole_one ∷ []) ++ l) (sym (with_none next.later)));
+            whole = whole ∙ (sym (append_assoc h.front (whole_one ∷ []) next.later)
+                ∙ ap (λ (l : List Wanted). (h.front ++ whole_one ∷ []) ++ l) (sym (with_none next.later)));
             long = length-append h.front (whole_one ∷ []) ∙ (ap (λ (k : ℕ). k + 1) h.long ∙ sym (length-append fs (feature ∷ [])));
-            parts = ap (λ (l : List Made). l ++ m ∷ []) h.parts ∙ (append_assoc h.before h.run (m ∷ []) ∙ sym (append-nil (h.before ++ run)));
+            parts = ap (λ (l : List Made). l ++ m ∷ []) h.parts ∙ (append_assoc h.before h.run (m ∷ [])
+                ∙ sym (append-nil (h.before ++ run)));
             served = served;
             serves = tt;
             some = some.1;
           }),
     )
 
-calm_goes : (ws : List Wanted) (n : ℕ) (y : Tally) (ms : List Made) (left : List Wanted) → IsProgress ws n y.features y.points ms left → IsProgress ws n y.features y.points (ms ++ []) left
+calm_goes : (ws : List Wanted) (n : ℕ) (y : Tally) (ms : List Made) (left : List Wanted) → IsProgress ws n y.features y.points ms left
+    → IsProgress ws n y.features y.points (ms ++ []) left
 calm_goes ws n y ms left h = subst (λ (l : List Made). IsProgress ws n y.features y.points l left) (sym (append-nil ms)) h
 
-pub does_goes : (ws : List Wanted) (n : ℕ) (y : Tally) (ms : List Made) (left : List Wanted) (does : Does) (given : Option Point) (rest : List Marked) → IsProgress ws n y.features y.points ms left → HasPoint does given → touch_in does ++ rest ≡ marks_of left → Goes ws n y ms does given rest
+pub does_goes : (ws : List Wanted) (n : ℕ) (y : Tally) (ms : List Made) (left : List Wanted) (does : Does) (given : Option Point)
+    (rest : List Marked) → IsProgress ws n y.features y.points ms left → HasPoint does given → touch_in does ++ rest ≡ marks_of left
+    → Goes ws n y ms does given rest
 does_goes ws n y ms left (Does.Touches t false) (Some p) rest h has e =
     let next : IsNext t false rest left = next_touch t false rest left h.some e in
     let goes = touch_goes ws n y.features y.points ms left t p rest h next in

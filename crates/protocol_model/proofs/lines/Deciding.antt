@@ -1,5 +1,6 @@
 -- Whether tokens are spelled as arguments are, and what their words say: all of it can be computed.
-use Rattle.std.proofs.Common.{◌≡◌, ℕ, zero, suc, ◌⊎◌, inl, inr, Bool, true, false, List, [], ◌∷◌, ◌++◌, length, take, drop, refl, sym, ◌∙◌, ap, subst, arith, Option, Some, None, MatchOption, Result, Ok, Err, ℤ, pos, negsuc, codes, take-append-drop}
+use Rattle.std.proofs.Common.{◌≡◌, ℕ, zero, suc, ◌⊎◌, inl, inr, Bool, true, false, List, [], ◌∷◌, ◌++◌, length, take, drop, refl, sym, ◌∙◌,
+  ap, subst, arith, Option, Some, None, MatchOption, Result, Ok, Err, ℤ, pos, negsuc, codes, take-append-drop}
 use Rattle.std.specs.Prelude.{bytes_eq, if◌then◌else◌}
 use Rattle.std.proofs.lemmas.Bool.{false≢true}
 use Rattle.std.proofs.lemmas.Slice.Eq.{bytes_eq-Decides}
@@ -15,7 +16,8 @@ use Rattle.dme_line.specs.Tokens.{Token, Open, Close, Comma, Word}
 use Rattle.dme_line.specs.Words.{is_word}
 use Rattle.dme_line.specs.Kinds.{csy_name}
 use Rattle.dme_line.specs.Taken.{bare_word}
-use Rattle.dme_line.specs.Arguments.{Argument, Single, Triple, argument_tokens, list_tokens, enclosed, single_named, triple_named, IsAxis, IsAlong, IsTarget, IsPlace, IsReport, IsOneWord, IsTool, IsSystem, Seven, HasLengths, HasNoAngles, IsTransformation, Says}
+use Rattle.dme_line.specs.Arguments.{Argument, Single, Triple, argument_tokens, list_tokens, enclosed, single_named, triple_named, IsAxis,
+  IsAlong, IsTarget, IsPlace, IsReport, IsOneWord, IsTool, IsSystem, Seven, HasLengths, HasNoAngles, IsTransformation, Says}
 use Rattle.dme_line.specs.declared.commands.Csy.{Csy}
 use Rattle.dme_line.specs.declared.commands.Csy.TheVariants.{MachineCsy, PartCsy}
 use Rattle.dme_line.specs.declared.commands.Kind.{Kind}
@@ -122,7 +124,8 @@ front_is ns ts = decided_by here there (has_shape ns (take (length ns) ts))
     there : Front ns ts → shapes (take (length ns) ts) ≡ ns
     there f =
         let long : length ns ≡ length f.front = ap length (sym f.shaped) ∙ length_shapes f.front in
-        ap shapes (ap (λ (l : List Token). take (length ns) l) f.parts ∙ (ap (λ (k : ℕ). take k (f.front ++ f.behind)) long ∙ take_front f.front f.behind)) ∙ f.shaped
+        ap shapes (ap (λ (l : List Token). take (length ns) l) f.parts
+            ∙ (ap (λ (k : ℕ). take k (f.front ++ f.behind)) long ∙ take_front f.front f.behind)) ∙ f.shaped
 
 -- ---- arguments
 
@@ -135,9 +138,12 @@ pub record FirstArgument (ts : List Token) : Type 0 where
 first_argument : (ts : List Token) → Decided (FirstArgument ts)
 first_argument ts = go (front_is (3 ∷ 0 ∷ 3 ∷ 1 ∷ []) ts) (front_is (3 ∷ 0 ∷ 3 ∷ 2 ∷ 3 ∷ 2 ∷ 3 ∷ 1 ∷ []) ts)
   where
-    none_of : (Front (3 ∷ 0 ∷ 3 ∷ 1 ∷ []) ts → ⊥) → (Front (3 ∷ 0 ∷ 3 ∷ 2 ∷ 3 ∷ 2 ∷ 3 ∷ 1 ∷ []) ts → ⊥) → (a : Argument) (us : List Token) → ts ≡ argument_tokens a ++ us → ⊥
-    none_of single triple (Single n x) us e = single (record { front = argument_tokens (Single n x); behind = us; shaped = refl; parts = e })
-    none_of single triple (Triple n i j k) us e = triple (record { front = argument_tokens (Triple n i j k); behind = us; shaped = refl; parts = e })
+    none_of : (Front (3 ∷ 0 ∷ 3 ∷ 1 ∷ []) ts → ⊥) → (Front (3 ∷ 0 ∷ 3 ∷ 2 ∷ 3 ∷ 2 ∷ 3 ∷ 1 ∷ []) ts → ⊥) → (a : Argument) (us : List Token)
+        → ts ≡ argument_tokens a ++ us → ⊥
+    none_of single triple (Single n x) us e = single (record { front = argument_tokens (Single n x); behind = us; shaped = refl;
+        parts = e })
+    none_of single triple (Triple n i j k) us e = triple (record { front = argument_tokens (Triple n i j k); behind = us; shaped = refl;
+        parts = e })
 
     go : Decided (Front (3 ∷ 0 ∷ 3 ∷ 1 ∷ []) ts) → Decided (Front (3 ∷ 0 ∷ 3 ∷ 2 ∷ 3 ∷ 2 ∷ 3 ∷ 1 ∷ []) ts) → Decided (FirstArgument ts)
     go (inl f) triple =
@@ -150,7 +156,8 @@ first_argument ts = go (front_is (3 ∷ 0 ∷ 3 ∷ 1 ∷ []) ts) (front_is (3 �
     go (inr single) (inl f) =
         let ws : List (List ℕ) = words f.front in
         inl (record {
-          argument = Triple (first_of ws) (first_of (others_of ws)) (first_of (others_of (others_of ws))) (first_of (others_of (others_of (others_of ws))));
+          argument = Triple (first_of ws) (first_of (others_of ws)) (first_of (others_of (others_of ws)))
+              (first_of (others_of (others_of (others_of ws))));
           behind = f.behind;
           parts = f.parts ∙ ap (λ (l : List Token). l ++ f.behind) (filled_of (3 ∷ 0 ∷ 3 ∷ 2 ∷ 3 ∷ 2 ∷ 3 ∷ 1 ∷ []) f.front f.shaped);
         })
@@ -172,14 +179,16 @@ pub record Chain (mark : Token) (k : ℕ) (ts : List Token) : Type 0 where
   pub long : length more ≡ k
   pub parts : ts ≡ mark ∷ (argument_tokens argument ++ tail_tokens more)
 
-chain_is : (mark : Token) (k : ℕ) (ts : List Token) → ((ws : List (List ℕ)) → filled (shape mark ∷ []) ws ≡ mark ∷ []) → ((us : List Token) → Decided (Behind k us)) → Decided (Chain mark k ts)
+chain_is : (mark : Token) (k : ℕ) (ts : List Token) → ((ws : List (List ℕ)) → filled (shape mark ∷ []) ws ≡ mark ∷ [])
+    → ((us : List Token) → Decided (Behind k us)) → Decided (Chain mark k ts)
 chain_is mark k ts one rest = go (front_is (shape mark ∷ []) ts)
   where
     told : (us : List Token) → ts ≡ mark ∷ us → (a : FirstArgument us) → Decided (Behind k a.behind) → Decided (Chain mark k ts)
     told us is a (inr none) = inr (λ c. none (record {
       arguments = c.more;
       long = c.long;
-      parts = (same_argument a.argument c.argument a.behind (tail_tokens c.more) (sym a.parts ∙ cons_behind mark us _ (sym is ∙ c.parts))).behind;
+      parts = (same_argument a.argument c.argument a.behind (tail_tokens c.more) (sym a.parts
+          ∙ cons_behind mark us _ (sym is ∙ c.parts))).behind;
     }))
     told us is a (inl b) = inl (record {
       argument = a.argument;
@@ -189,20 +198,25 @@ chain_is mark k ts one rest = go (front_is (shape mark ∷ []) ts)
     })
 
     argued : (us : List Token) → ts ≡ mark ∷ us → Decided (FirstArgument us) → Decided (Chain mark k ts)
-    argued us is (inr none) = inr (λ c. none (record { argument = c.argument; behind = tail_tokens c.more; parts = cons_behind mark us _ (sym is ∙ c.parts) }))
+    argued us is (inr none) = inr (λ c. none (record { argument = c.argument; behind = tail_tokens c.more;
+        parts = cons_behind mark us _ (sym is ∙ c.parts) }))
     argued us is (inl a) = told us is a (rest a.behind)
 
     go : Decided (Front (shape mark ∷ []) ts) → Decided (Chain mark k ts)
-    go (inr none) = inr (λ c. none (record { front = mark ∷ []; behind = argument_tokens c.argument ++ tail_tokens c.more; shaped = refl; parts = c.parts }))
-    go (inl f) = argued f.behind (f.parts ∙ ap (λ (l : List Token). l ++ f.behind) (filled_of (shape mark ∷ []) f.front f.shaped ∙ one (words f.front))) (first_argument f.behind)
+    go (inr none) = inr (λ c. none (record { front = mark ∷ []; behind = argument_tokens c.argument ++ tail_tokens c.more; shaped = refl;
+        parts = c.parts }))
+    go (inl f) = argued f.behind (f.parts ∙ ap (λ (l : List Token). l ++ f.behind) (filled_of (shape mark ∷ []) f.front f.shaped
+        ∙ one (words f.front))) (first_argument f.behind)
 
 none_long : (args : List Argument) → length args ≡ 0 → args ≡ []
 none_long [] e = refl
 none_long (a ∷ args) e = absurd (omega (arith, e))
 
 behind_is : (k : ℕ) (ts : List Token) → Decided (Behind k ts)
-behind_is zero ts = decided_by (λ (e : shapes ts ≡ 1 ∷ []). record { arguments = []; long = refl; parts = filled_of (1 ∷ []) ts e }) (λ (b : Behind 0 ts). ap shapes (b.parts ∙ ap tail_tokens (none_long b.arguments b.long))) (has_shape (1 ∷ []) ts)
-behind_is (suc k) ts = decided_by here (λ (b : Behind (suc k) ts). there b.arguments b.long b.parts) (chain_is Comma k ts (λ ws. refl) (λ us. behind_is k us))
+behind_is zero ts = decided_by (λ (e : shapes ts ≡ 1 ∷ []). record { arguments = []; long = refl; parts = filled_of (1 ∷ []) ts e })
+    (λ (b : Behind 0 ts). ap shapes (b.parts ∙ ap tail_tokens (none_long b.arguments b.long))) (has_shape (1 ∷ []) ts)
+behind_is (suc k) ts = decided_by here (λ (b : Behind (suc k) ts). there b.arguments b.long b.parts)
+    (chain_is Comma k ts (λ ws. refl) (λ us. behind_is k us))
   where
     here : Chain Comma k ts → Behind (suc k) ts
     here c = record { arguments = c.argument ∷ c.more; long = ap suc c.long; parts = c.parts }
@@ -218,14 +232,17 @@ pub record Listed (k : ℕ) (ts : List Token) : Type 0 where
   pub spelled : ts ≡ enclosed (list_tokens arguments)
 
 listed_is : (k : ℕ) (ts : List Token) → Decided (Listed k ts)
-listed_is k ts = decided_by here (λ (l : Listed k ts). there l.arguments l.long l.spelled) (chain_is Open k ts (λ ws. refl) (λ us. behind_is k us))
+listed_is k ts = decided_by here (λ (l : Listed k ts). there l.arguments l.long l.spelled)
+    (chain_is Open k ts (λ ws. refl) (λ us. behind_is k us))
   where
     here : Chain Open k ts → Listed k ts
-    here c = record { arguments = c.argument ∷ c.more; long = ap suc c.long; spelled = c.parts ∙ ap (λ (l : List Token). Open ∷ l) (sym (list_tokens-tail c.argument c.more)) }
+    here c = record { arguments = c.argument ∷ c.more; long = ap suc c.long; spelled = c.parts
+        ∙ ap (λ (l : List Token). Open ∷ l) (sym (list_tokens-tail c.argument c.more)) }
 
     there : (args : List Argument) → length args ≡ suc k → ts ≡ enclosed (list_tokens args) → Chain Open k ts
     there [] e f = absurd (omega (arith, e))
-    there (a ∷ more) e f = record { argument = a; more = more; long = omega (arith, e); parts = f ∙ ap (λ (l : List Token). Open ∷ l) (list_tokens-tail a more) }
+    there (a ∷ more) e f = record { argument = a; more = more; long = omega (arith, e); parts = f
+        ∙ ap (λ (l : List Token). Open ∷ l) (list_tokens-tail a more) }
 
 -- ---- numerals and places
 
@@ -247,7 +264,8 @@ record Axis (name : List ℕ) (args : List Argument) : Type 0 where
 axis_is : (name : List ℕ) (args : List Argument) → Decided (Axis name args)
 axis_is name args = go (single_named name args) refl
   where
-    read : (numeral : List ℕ) → single_named name args ≡ Some numeral → (r : Result ℤ NumeralFault) → Reads 3 wire_limit numeral r → Decided (Axis name args)
+    read : (numeral : List ℕ) → single_named name args ≡ Some numeral → (r : Result ℤ NumeralFault) → Reads 3 wire_limit numeral r
+        → Decided (Axis name args)
     read numeral e (Ok v) h = inl (record { value = v; is = record { numeral = numeral; found = e; reads = h } })
     read numeral e (Err why) h = inr (λ a. axis_refused name numeral args why a.value e h a.is)
 
@@ -263,10 +281,12 @@ target_is : (args : List Argument) → Decided (Target args)
 target_is args = decided_by here there (both (axis_is (codes "X") args) (both (axis_is (codes "Y") args) (axis_is (codes "Z") args)))
   where
     here : Axis (codes "X") args × (Axis (codes "Y") args × Axis (codes "Z") args) → Target args
-    here h = record { point = record { x = h.0.value; y = h.1.0.value; z = h.1.1.value }; is = record { x = h.0.is; y = h.1.0.is; z = h.1.1.is } }
+    here h = record { point = record { x = h.0.value; y = h.1.0.value; z = h.1.1.value };
+        is = record { x = h.0.is; y = h.1.0.is; z = h.1.1.is } }
 
     there : Target args → Axis (codes "X") args × (Axis (codes "Y") args × Axis (codes "Z") args)
-    there t = (record { value = t.point.x; is = t.is.x }, (record { value = t.point.y; is = t.is.y }, record { value = t.point.z; is = t.is.z }))
+    there t = (record { value = t.point.x; is = t.is.x }, (record { value = t.point.y; is = t.is.y },
+        record { value = t.point.z; is = t.is.z }))
 
 -- three words as a direction
 record Heading (i j k : List ℕ) : Type 0 where
@@ -276,13 +296,15 @@ record Heading (i j k : List ℕ) : Type 0 where
 heading : (i j k : List ℕ) → Heading i j k
 heading i j k = first (value_of 6 component_limit i) (value_of-reads 6 component_limit i)
   where
-    some : (x y z : ℤ) → Reads 6 component_limit i (Ok x) → Reads 6 component_limit j (Ok y) → Reads 6 component_limit k (Ok z) → (x ≡ pos 0 → y ≡ pos 0 → z ≡ pos 0 → ⊥) → Heading i j k
+    some : (x y z : ℤ) → Reads 6 component_limit i (Ok x) → Reads 6 component_limit j (Ok y) → Reads 6 component_limit k (Ok z)
+        → (x ≡ pos 0 → y ≡ pos 0 → z ≡ pos 0 → ⊥) → Heading i j k
     some x y z f g h not_zero = record {
       result = Ok (Some (record { i = x; j = y; k = z }));
       reads = (f, g, h, record { i_within = f.1; j_within = g.1; k_within = h.1; not_zero = not_zero });
     }
 
-    all : (x y z : ℤ) → Reads 6 component_limit i (Ok x) → Reads 6 component_limit j (Ok y) → Reads 6 component_limit k (Ok z) → Heading i j k
+    all : (x y z : ℤ) → Reads 6 component_limit i (Ok x) → Reads 6 component_limit j (Ok y) → Reads 6 component_limit k (Ok z)
+        → Heading i j k
     all (pos zero) (pos zero) (pos zero) f g h = record { result = Ok None; reads = (f, g, h) }
     all (pos zero) (pos zero) (pos (suc n)) f g h = some _ _ _ f g h (λ a b c. cc)
     all (pos zero) (pos zero) (negsuc n) f g h = some _ _ _ f g h (λ a b c. cc)
@@ -291,7 +313,8 @@ heading i j k = first (value_of 6 component_limit i) (value_of-reads 6 component
     all (pos (suc n)) y z f g h = some _ _ _ f g h (λ a b c. cc)
     all (negsuc n) y z f g h = some _ _ _ f g h (λ a b c. cc)
 
-    third : (x y : ℤ) → Reads 6 component_limit i (Ok x) → Reads 6 component_limit j (Ok y) → (r : Result ℤ NumeralFault) → Reads 6 component_limit k r → Heading i j k
+    third : (x y : ℤ) → Reads 6 component_limit i (Ok x) → Reads 6 component_limit j (Ok y) → (r : Result ℤ NumeralFault)
+        → Reads 6 component_limit k r → Heading i j k
     third x y f g (Ok z) h = all x y z f g h
     third x y f g (Err why) h = record { result = Err why; reads = inr (inr (x, y, f, g, h)) }
 
@@ -314,7 +337,8 @@ along_found args = go (triple_named (codes "IJK") args) refl
     told None none = inr (λ a. none a.direction a.is)
     told (Some d) is = inl (record { direction = d; is = is })
 
-    read : (ws : List ℕ × List ℕ × List ℕ) → Some ws ≡ triple_named (codes "IJK") args → (r : Result (Option Direction) NumeralFault) → ReadsDirection ws.0 ws.1 ws.2 r → Decided (Along args)
+    read : (ws : List ℕ × List ℕ × List ℕ) → Some ws ≡ triple_named (codes "IJK") args → (r : Result (Option Direction) NumeralFault)
+        → ReadsDirection ws.0 ws.1 ws.2 r → Decided (Along args)
     read ws e (Ok o) h = told o (along_is args ws o e h)
     read ws e (Err why) h = inr (λ a. along_refused args ws a.direction why e h a.is)
 
@@ -333,7 +357,8 @@ move_is : (ts : List Token) → Decided (Move ts)
 move_is ts = go (listed_is 2 ts)
   where
     aimed : (l : Listed 2 ts) → Decided (Target l.arguments) → Decided (Move ts)
-    aimed l (inl t) = inl (record { point = t.point; is = record { arguments = l.arguments; spelled = l.spelled; target = t.is; ijk = l.long } })
+    aimed l (inl t) = inl (record { point = t.point; is = record { arguments = l.arguments; spelled = l.spelled; target = t.is;
+        ijk = l.long } })
     aimed l (inr none) = inr (λ m. none (record { point = m.point; is = place_target ts l.arguments m.point None l.spelled m.is }))
 
     go : Decided (Listed 2 ts) → Decided (Move ts)
@@ -349,7 +374,8 @@ directed_is : (ts : List Token) → Decided (Directed ts)
 directed_is ts = go (listed_is 3 ts)
   where
     aimed : (l : Listed 3 ts) → Decided (Target l.arguments × Along l.arguments) → Decided (Directed ts)
-    aimed l (inl h) = inl (record { point = h.0.point; direction = h.1.direction; is = record { arguments = l.arguments; spelled = l.spelled; target = h.0.is; ijk = (l.long, h.1.is) } })
+    aimed l (inl h) = inl (record { point = h.0.point; direction = h.1.direction;
+        is = record { arguments = l.arguments; spelled = l.spelled; target = h.0.is; ijk = (l.long, h.1.is) } })
     aimed l (inr none) = inr (λ a. none (
       record { point = a.point; is = place_target ts l.arguments a.point (Some a.direction) l.spelled a.is },
       record { direction = a.direction; is = (place_ijk ts l.arguments a.point (Some a.direction) l.spelled a.is).1 },
@@ -366,7 +392,8 @@ pub record OneWord (ts : List Token) : Type 0 where
   pub spelled : IsOneWord ts word
 
 one_word : (ts : List Token) → Decided (OneWord ts)
-one_word ts = decided_by (λ (e : shapes ts ≡ 0 ∷ 3 ∷ 1 ∷ []). record { word = first_of (words ts); spelled = filled_of (0 ∷ 3 ∷ 1 ∷ []) ts e }) (λ (w : OneWord ts). ap shapes w.spelled) (has_shape (0 ∷ 3 ∷ 1 ∷ []) ts)
+one_word ts = decided_by (λ (e : shapes ts ≡ 0 ∷ 3 ∷ 1 ∷ []). record { word = first_of (words ts);
+    spelled = filled_of (0 ∷ 3 ∷ 1 ∷ []) ts e }) (λ (w : OneWord ts). ap shapes w.spelled) (has_shape (0 ∷ 3 ∷ 1 ∷ []) ts)
 
 record Tool (ts : List Token) : Type 0 where
   pub name : List ℕ
@@ -381,7 +408,9 @@ tool_is ts = go (one_word ts)
 
     go : Decided (OneWord ts) → Decided (Tool ts)
     go (inr none) = inr (λ t. none (record { word = t.is.word; spelled = t.is.spelled }))
-    go (inl w) = told (if is_name_text (bare_word w.word) then Some (folded (bare_word w.word)) else None) (tool_read ts w.word (bare_word w.word) (Ok (if is_name_text (bare_word w.word) then Some (folded (bare_word w.word)) else None)) w.spelled refl refl)
+    go (inl w) = told (if is_name_text (bare_word w.word) then Some (folded (bare_word w.word)) else None)
+        (tool_read ts w.word (bare_word w.word) (Ok (if is_name_text (bare_word w.word) then Some (folded (bare_word w.word)) else None))
+        w.spelled refl refl)
 
 record System (ts : List Token) : Type 0 where
   pub csy : Csy
@@ -390,11 +419,15 @@ record System (ts : List Token) : Type 0 where
 system_is : (ts : List Token) → Decided (System ts)
 system_is ts = go (one_word ts)
   where
-    neither : (w : OneWord ts) → (is_word (csy_name MachineCsy) w.word ≡ true → ⊥) → (is_word (csy_name PartCsy) w.word ≡ true → ⊥) → (csy : Csy) → IsSystem ts csy → ⊥
-    neither w machine part MachineCsy h = machine (subst (λ (v : List ℕ). is_word (csy_name MachineCsy) v ≡ true) (same_word ts h.word w.word h.spelled w.spelled) h.named)
-    neither w machine part PartCsy h = part (subst (λ (v : List ℕ). is_word (csy_name PartCsy) v ≡ true) (same_word ts h.word w.word h.spelled w.spelled) h.named)
+    neither : (w : OneWord ts) → (is_word (csy_name MachineCsy) w.word ≡ true → ⊥) → (is_word (csy_name PartCsy) w.word ≡ true → ⊥)
+        → (csy : Csy) → IsSystem ts csy → ⊥
+    neither w machine part MachineCsy h = machine (subst (λ (v : List ℕ). is_word (csy_name MachineCsy) v ≡ true)
+        (same_word ts h.word w.word h.spelled w.spelled) h.named)
+    neither w machine part PartCsy h = part (subst (λ (v : List ℕ). is_word (csy_name PartCsy) v ≡ true)
+        (same_word ts h.word w.word h.spelled w.spelled) h.named)
 
-    named : (w : OneWord ts) → Decided (is_word (csy_name MachineCsy) w.word ≡ true) → Decided (is_word (csy_name PartCsy) w.word ≡ true) → Decided (System ts)
+    named : (w : OneWord ts) → Decided (is_word (csy_name MachineCsy) w.word ≡ true) → Decided (is_word (csy_name PartCsy) w.word ≡ true)
+        → Decided (System ts)
     named w (inl m) part = inl (record { csy = MachineCsy; is = record { word = w.word; spelled = w.spelled; named = m } })
     named w (inr m) (inl p) = inl (record { csy = PartCsy; is = record { word = w.word; spelled = w.spelled; named = p } })
     named w (inr m) (inr p) = inr (λ s. neither w m p s.csy s.is)
@@ -407,12 +440,19 @@ abbrev report_shape : List ℕ
 report_shape = 0 ∷ 3 ∷ 0 ∷ 1 ∷ 2 ∷ 3 ∷ 0 ∷ 1 ∷ 2 ∷ 3 ∷ 0 ∷ 1 ∷ 1 ∷ []
 
 report_is : (ts : List Token) → Decided (IsReport ts)
-report_is ts = decided_by here there (both (has_shape report_shape ts) (both (test (is_word (codes "X") (first_of (words ts)))) (both (test (is_word (codes "Y") (first_of (others_of (words ts))))) (test (is_word (codes "Z") (first_of (others_of (others_of (words ts)))))))))
+report_is ts = decided_by here there (both (has_shape report_shape ts)
+    (both (test (is_word (codes "X") (first_of (words ts)))) (both (test (is_word (codes "Y") (first_of (others_of (words ts)))))
+    (test (is_word (codes "Z") (first_of (others_of (others_of (words ts)))))))))
   where
-    here : (shapes ts ≡ report_shape) × ((is_word (codes "X") (first_of (words ts)) ≡ true) × ((is_word (codes "Y") (first_of (others_of (words ts))) ≡ true) × (is_word (codes "Z") (first_of (others_of (others_of (words ts)))) ≡ true))) → IsReport ts
-    here h = record { x = first_of (words ts); y = first_of (others_of (words ts)); z = first_of (others_of (others_of (words ts))); spelled = filled_of report_shape ts h.0; x_named = h.1.0; y_named = h.1.1.0; z_named = h.1.1.1 }
+    here : (shapes ts ≡ report_shape) × ((is_word (codes "X") (first_of (words ts)) ≡ true)
+        × ((is_word (codes "Y") (first_of (others_of (words ts))) ≡ true)
+        × (is_word (codes "Z") (first_of (others_of (others_of (words ts)))) ≡ true))) → IsReport ts
+    here h = record { x = first_of (words ts); y = first_of (others_of (words ts)); z = first_of (others_of (others_of (words ts)));
+        spelled = filled_of report_shape ts h.0; x_named = h.1.0; y_named = h.1.1.0; z_named = h.1.1.1 }
 
-    there : IsReport ts → (shapes ts ≡ report_shape) × ((is_word (codes "X") (first_of (words ts)) ≡ true) × ((is_word (codes "Y") (first_of (others_of (words ts))) ≡ true) × (is_word (codes "Z") (first_of (others_of (others_of (words ts)))) ≡ true)))
+    there : IsReport ts → (shapes ts ≡ report_shape) × ((is_word (codes "X") (first_of (words ts)) ≡ true)
+        × ((is_word (codes "Y") (first_of (others_of (words ts))) ≡ true)
+        × (is_word (codes "Z") (first_of (others_of (others_of (words ts)))) ≡ true)))
     there r = (
       ap shapes r.spelled,
       (
@@ -451,30 +491,40 @@ record Lengths (s : Seven) : Type 0 where
   pub are : HasLengths s point
 
 lengths_are : (s : Seven) → Decided (Lengths s)
-lengths_are s = decided_by here there (both (length_is 3 volume_limit s.x) (both (length_is 3 volume_limit s.y) (length_is 3 volume_limit s.z)))
+lengths_are s = decided_by here there (both (length_is 3 volume_limit s.x)
+    (both (length_is 3 volume_limit s.y) (length_is 3 volume_limit s.z)))
   where
     here : Length 3 volume_limit s.x × (Length 3 volume_limit s.y × Length 3 volume_limit s.z) → Lengths s
-    here h = record { point = record { x = h.0.value; y = h.1.0.value; z = h.1.1.value }; are = record { x = h.0.reads; y = h.1.0.reads; z = h.1.1.reads } }
+    here h = record { point = record { x = h.0.value; y = h.1.0.value; z = h.1.1.value };
+        are = record { x = h.0.reads; y = h.1.0.reads; z = h.1.1.reads } }
 
     there : Lengths s → Length 3 volume_limit s.x × (Length 3 volume_limit s.y × Length 3 volume_limit s.z)
-    there l = (record { value = l.point.x; reads = l.are.x }, (record { value = l.point.y; reads = l.are.y }, record { value = l.point.z; reads = l.are.z }))
+    there l = (record { value = l.point.x; reads = l.are.x }, (record { value = l.point.y; reads = l.are.y },
+        record { value = l.point.z; reads = l.are.z }))
 
 angles_are : (s : Seven) → Decided (HasNoAngles s)
-angles_are s = decided_by (λ (h : IsZero s.a × (IsZero s.b × IsZero s.c)). record { a = h.0; b = h.1.0; c = h.1.1 }) (λ (h : HasNoAngles s). (h.a, (h.b, h.c))) (both (zero_is s.a) (both (zero_is s.b) (zero_is s.c)))
+angles_are s = decided_by (λ (h : IsZero s.a × (IsZero s.b × IsZero s.c)). record { a = h.0; b = h.1.0; c = h.1.1 })
+    (λ (h : HasNoAngles s). (h.a, (h.b, h.c))) (both (zero_is s.a) (both (zero_is s.b) (zero_is s.c)))
 
 transformation_is : (ts : List Token) → Decided (Transformation ts)
-transformation_is ts = decided_by here there (both (has_shape seven_shape ts) (both (test (is_word (codes "PartCsy") (seven_of (words ts)).system)) (both (lengths_are (seven_of (words ts))) (angles_are (seven_of (words ts))))))
+transformation_is ts = decided_by here there (both (has_shape seven_shape ts)
+    (both (test (is_word (codes "PartCsy") (seven_of (words ts)).system))
+    (both (lengths_are (seven_of (words ts))) (angles_are (seven_of (words ts))))))
   where
-    here : (shapes ts ≡ seven_shape) × ((is_word (codes "PartCsy") (seven_of (words ts)).system ≡ true) × (Lengths (seven_of (words ts)) × HasNoAngles (seven_of (words ts)))) → Transformation ts
-    here h = record { point = h.1.1.0.point; is = record { words = seven_of (words ts); spelled = filled_of seven_shape ts h.0; named = h.1.0; lengths = h.1.1.0.are; angles = h.1.1.1 } }
+    here : (shapes ts ≡ seven_shape) × ((is_word (codes "PartCsy") (seven_of (words ts)).system ≡ true)
+        × (Lengths (seven_of (words ts)) × HasNoAngles (seven_of (words ts)))) → Transformation ts
+    here h = record { point = h.1.1.0.point; is = record { words = seven_of (words ts); spelled = filled_of seven_shape ts h.0;
+        named = h.1.0; lengths = h.1.1.0.are; angles = h.1.1.1 } }
 
-    there : Transformation ts → (shapes ts ≡ seven_shape) × ((is_word (codes "PartCsy") (seven_of (words ts)).system ≡ true) × (Lengths (seven_of (words ts)) × HasNoAngles (seven_of (words ts))))
+    there : Transformation ts → (shapes ts ≡ seven_shape) × ((is_word (codes "PartCsy") (seven_of (words ts)).system ≡ true)
+        × (Lengths (seven_of (words ts)) × HasNoAngles (seven_of (words ts))))
     there t =
         let same : t.is.words ≡ seven_of (words ts) = sym (ap (λ (l : List Token). seven_of (words l)) t.is.spelled) in (
           ap shapes t.is.spelled,
           (
             subst (λ (s : Seven). is_word (codes "PartCsy") s.system ≡ true) same t.is.named,
-            (record { point = t.point; are = subst (λ (s : Seven). HasLengths s t.point) same t.is.lengths }, subst (λ (s : Seven). HasNoAngles s) same t.is.angles),
+            (record { point = t.point; are = subst (λ (s : Seven). HasLengths s t.point) same t.is.lengths },
+                subst (λ (s : Seven). HasNoAngles s) same t.is.angles),
           ),
         )
 
@@ -485,7 +535,8 @@ pub record Saying (k : Kind) (ts : List Token) : Type 0 where
   pub says : Says k ts command
 
 nothing_is : (ts : List Token) → Decided (ts ≡ enclosed [])
-nothing_is ts = decided_by (λ (e : shapes ts ≡ 0 ∷ 1 ∷ []). filled_of (0 ∷ 1 ∷ []) ts e) (λ (e : ts ≡ enclosed []). ap shapes e) (has_shape (0 ∷ 1 ∷ []) ts)
+nothing_is ts = decided_by (λ (e : shapes ts ≡ 0 ∷ 1 ∷ []). filled_of (0 ∷ 1 ∷ []) ts e) (λ (e : ts ≡ enclosed []). ap shapes e)
+    (has_shape (0 ∷ 1 ∷ []) ts)
 
 touch_is : (ts : List Token) → Decided (Saying kind.PtMeas ts)
 touch_is ts = go (move_is ts) (directed_is ts)
@@ -496,18 +547,30 @@ touch_is ts = go (move_is ts) (directed_is ts)
 
     go : Decided (Move ts) → Decided (Directed ts) → Decided (Saying kind.PtMeas ts)
     go (inl m) a = inl (record { command = command.PtMeas m.point None; says = (m.point, None, m.is, refl) })
-    go (inr m) (inl a) = inl (record { command = command.PtMeas a.point (Some a.direction); says = (a.point, Some a.direction, a.is, refl) })
+    go (inr m) (inl a) = inl (record { command = command.PtMeas a.point (Some a.direction);
+        says = (a.point, Some a.direction, a.is, refl) })
     go (inr m) (inr a) = inr (λ s. neither m a s.says.0 s.says.1 s.says.2)
 
 pub saying : (k : Kind) (ts : List Token) → Decided (Saying k ts)
-saying kind.StartSession ts = decided_by (λ (e : ts ≡ enclosed []). record { command = command.StartSession; says = (e, refl) }) (λ (s : Saying kind.StartSession ts). s.says.0) (nothing_is ts)
-saying kind.EndSession ts = decided_by (λ (e : ts ≡ enclosed []). record { command = command.EndSession; says = (e, refl) }) (λ (s : Saying kind.EndSession ts). s.says.0) (nothing_is ts)
-saying kind.ClearAllErrors ts = decided_by (λ (e : ts ≡ enclosed []). record { command = command.ClearAllErrors; says = (e, refl) }) (λ (s : Saying kind.ClearAllErrors ts). s.says.0) (nothing_is ts)
-saying kind.Home ts = decided_by (λ (e : ts ≡ enclosed []). record { command = command.Home; says = (e, refl) }) (λ (s : Saying kind.Home ts). s.says.0) (nothing_is ts)
-saying kind.OnPtMeasReport ts = decided_by (λ (r : IsReport ts). record { command = command.OnPtMeasReport; says = (r, refl) }) (λ (s : Saying kind.OnPtMeasReport ts). s.says.0) (report_is ts)
-saying kind.GoTo ts = decided_by (λ (m : Move ts). record { command = command.GoTo m.point; says = (m.point, m.is, refl) }) (λ (s : Saying kind.GoTo ts). record { point = s.says.0; is = s.says.1 }) (move_is ts)
+saying kind.StartSession ts = decided_by (λ (e : ts ≡ enclosed []). record { command = command.StartSession; says = (e, refl) })
+    (λ (s : Saying kind.StartSession ts). s.says.0) (nothing_is ts)
+saying kind.EndSession ts = decided_by (λ (e : ts ≡ enclosed []). record { command = command.EndSession; says = (e, refl) })
+    (λ (s : Saying kind.EndSession ts). s.says.0) (nothing_is ts)
+saying kind.ClearAllErrors ts = decided_by (λ (e : ts ≡ enclosed []). record { command = command.ClearAllErrors; says = (e, refl) })
+    (λ (s : Saying kind.ClearAllErrors ts). s.says.0) (nothing_is ts)
+saying kind.Home ts = decided_by (λ (e : ts ≡ enclosed []). record { command = command.Home; says = (e, refl) })
+    (λ (s : Saying kind.Home ts). s.says.0) (nothing_is ts)
+saying kind.OnPtMeasReport ts = decided_by (λ (r : IsReport ts). record { command = command.OnPtMeasReport; says = (r, refl) })
+    (λ (s : Saying kind.OnPtMeasReport ts). s.says.0) (report_is ts)
+saying kind.GoTo ts = decided_by (λ (m : Move ts). record { command = command.GoTo m.point; says = (m.point, m.is, refl) })
+    (λ (s : Saying kind.GoTo ts). record { point = s.says.0; is = s.says.1 }) (move_is ts)
 saying kind.PtMeas ts = touch_is ts
-saying kind.ChangeTool ts = decided_by (λ (t : Tool ts). record { command = command.ChangeTool t.name; says = (t.name, t.is, refl) }) (λ (s : Saying kind.ChangeTool ts). record { name = s.says.0; is = s.says.1 }) (tool_is ts)
-saying kind.SetCsyTransformation ts = decided_by (λ (t : Transformation ts). record { command = command.SetCsyTransformation t.point; says = (t.point, t.is, refl) }) (λ (s : Saying kind.SetCsyTransformation ts). record { point = s.says.0; is = s.says.1 }) (transformation_is ts)
-saying kind.SetCoordSystem ts = decided_by (λ (t : System ts). record { command = command.SetCoordSystem t.csy; says = (t.csy, t.is, refl) }) (λ (s : Saying kind.SetCoordSystem ts). record { csy = s.says.0; is = s.says.1 }) (system_is ts)
-saying kind.AbortE ts = decided_by (λ (e : ts ≡ enclosed []). record { command = command.AbortE; says = (e, refl) }) (λ (s : Saying kind.AbortE ts). s.says.0) (nothing_is ts)
+saying kind.ChangeTool ts = decided_by (λ (t : Tool ts). record { command = command.ChangeTool t.name; says = (t.name, t.is, refl) })
+    (λ (s : Saying kind.ChangeTool ts). record { name = s.says.0; is = s.says.1 }) (tool_is ts)
+saying kind.SetCsyTransformation ts = decided_by (λ (t : Transformation ts). record { command = command.SetCsyTransformation t.point;
+    says = (t.point, t.is, refl) }) (λ (s : Saying kind.SetCsyTransformation ts). record { point = s.says.0; is = s.says.1 })
+    (transformation_is ts)
+saying kind.SetCoordSystem ts = decided_by (λ (t : System ts). record { command = command.SetCoordSystem t.csy;
+    says = (t.csy, t.is, refl) }) (λ (s : Saying kind.SetCoordSystem ts). record { csy = s.says.0; is = s.says.1 }) (system_is ts)
+saying kind.AbortE ts = decided_by (λ (e : ts ≡ enclosed []). record { command = command.AbortE; says = (e, refl) })
+    (λ (s : Saying kind.AbortE ts). s.says.0) (nothing_is ts)

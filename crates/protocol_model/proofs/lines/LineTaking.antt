@@ -1,5 +1,6 @@
 -- A line that stands at the front of bytes is the first of the lines that they carry, and reads as what was written.
-use Rattle.std.proofs.Common.{◌≡◌, ℕ, Bool, true, false, cond, not, ◌&&◌, List, [], ◌∷◌, ◌++◌, refl, sym, ◌∙◌, ap, Option, Some, None, Ok, Err}
+use Rattle.std.proofs.Common.{◌≡◌, ℕ, Bool, true, false, cond, not, ◌&&◌, List, [], ◌∷◌, ◌++◌, refl, sym, ◌∙◌, ap, Option, Some, None, Ok,
+  Err}
 use Rattle.fixed_um.specs.declared.lengths.Point.{Point}
 use Rattle.dme_line.specs.Points.{written_point}
 use Rattle.dme_line.specs.declared.tags.Tag.{Tag}
@@ -11,12 +12,14 @@ use Rattle.line_framing.specs.declared.faults.FramingFault.{FramingFault}
 use Rattle.line_framing.proofs.Streams.{takes_first, no_fault}
 use Rattle.dmis_program.specs.declared.features.Wanted.{Wanted}
 use Rattle.protocol_model.specs.Replies.{Reply, Mark, tag_of, mark_of, tag_is}
-use Rattle.protocol_model.specs.Lines.{command_text, reply_text, command_texts, reply_texts, command_bytes, reply_bytes, Readers, AreReaders}
+use Rattle.protocol_model.specs.Lines.{command_text, reply_text, command_texts, reply_texts, command_bytes, reply_bytes, Readers,
+  AreReaders}
 use Rattle.protocol_model.specs.Open.{Heard, Refused, judged, judged_given, settled, put_before, heard_in, is_failed, asks_data}
 use Rattle.protocol_model.specs.Client.{Client, heard_standard, heard_event, heard_on, client_hears, client_read, faulted}
 use Rattle.protocol_model.specs.Ends.{held_kind, held_under, given_point, given_under, given, response_read, line_read}
 use Rattle.protocol_model.proofs.table.Basics.{if_cases, if_true, if_false, and_false}
-use Rattle.protocol_model.proofs.lines.Writable.{AreWritable, command_lines, IsWritableReply, AreReplies, reply_lines, response_of, reply_read, point_read}
+use Rattle.protocol_model.proofs.lines.Writable.{AreWritable, command_lines, IsWritableReply, AreReplies, reply_lines, response_of,
+  reply_read, point_read}
 use Rattle.protocol_model.specs.declared.lines.Line.{Line}
 use Rattle.protocol_model.specs.declared.states.Cause.{Cause}
 use Rattle.protocol_model.specs.declared.held.Held.{Held}
@@ -49,8 +52,10 @@ command_by (l ∷ ls) line rest more t = record {
   behind = t.behind ∙ ap (λ (x : List (List ℕ)). Rattle.line_framing.specs.Content.line_bytes x) (sym (ap tail_of t.first));
 }
 
-pub next_command : (ls : List Line) (read more line rest : List ℕ) → AreWritable ls → read ++ more ≡ command_bytes ls → next_of read ≡ Ok (Some (line, rest)) → NextCommand ls line rest more
-next_command ls read more line rest w e next = command_by ls line rest more (takes_first read more (command_texts ls) line rest (command_lines ls w) e next)
+pub next_command : (ls : List Line) (read more line rest : List ℕ) → AreWritable ls → read ++ more ≡ command_bytes ls
+    → next_of read ≡ Ok (Some (line, rest)) → NextCommand ls line rest more
+next_command ls read more line rest w e next = command_by ls line rest more
+    (takes_first read more (command_texts ls) line rest (command_lines ls w) e next)
 
 pub record NextReply (rs : List Reply) (line rest more : List ℕ) : Type 0 where
   pub first : Reply
@@ -69,10 +74,13 @@ reply_by (r ∷ rs) line rest more t = record {
   behind = t.behind ∙ ap (λ (x : List (List ℕ)). Rattle.line_framing.specs.Content.line_bytes x) (sym (ap tail_of t.first));
 }
 
-pub next_reply : (rs : List Reply) (read more line rest : List ℕ) → AreReplies rs → read ++ more ≡ reply_bytes rs → next_of read ≡ Ok (Some (line, rest)) → NextReply rs line rest more
-next_reply rs read more line rest w e next = reply_by rs line rest more (takes_first read more (reply_texts rs) line rest (reply_lines rs w) e next)
+pub next_reply : (rs : List Reply) (read more line rest : List ℕ) → AreReplies rs → read ++ more ≡ reply_bytes rs
+    → next_of read ≡ Ok (Some (line, rest)) → NextReply rs line rest more
+next_reply rs read more line rest w e next = reply_by rs line rest more
+    (takes_first read more (reply_texts rs) line rest (reply_lines rs w) e next)
 
-pub no_reply_fault : (rs : List Reply) (read more : List ℕ) (why : FramingFault) → AreReplies rs → read ++ more ≡ reply_bytes rs → next_of read ≡ Err why → ⊥
+pub no_reply_fault : (rs : List Reply) (read more : List ℕ) (why : FramingFault) → AreReplies rs → read ++ more ≡ reply_bytes rs
+    → next_of read ≡ Err why → ⊥
 no_reply_fault rs read more why w e next = no_fault read more (reply_texts rs) why (reply_lines rs w) e next
 
 -- ---- a data line
@@ -80,33 +88,45 @@ no_reply_fault rs read more why w e next = no_fault read more (reply_texts rs) w
 -- under a tag that is not held, any mark is refused
 unknown_in : (front : Bool) (hs : List Held) (t : Tag) (m : Mark) → held_kind t hs ≡ None → heard_in front hs t m ≡ Err Cause.UnknownTag
 unknown_in front [] t m e = refl
-unknown_in front (h ∷ hs) t m e = if_cases {A = Option Kind} (tag_is h.tag t) (Some h.kind) (held_kind t hs) None (heard_in front (h ∷ hs) t m ≡ Err Cause.UnknownTag) e
+unknown_in front (h ∷ hs) t m e = if_cases {A = Option Kind} (tag_is h.tag t) (Some h.kind) (held_kind t hs) None
+    (heard_in front (h ∷ hs) t m ≡ Err Cause.UnknownTag) e
     (λ same found. absurd (cc))
-    (λ other rest. if_false {A = Heard} (tag_is h.tag t) (settled h hs (judged front h.kind h.stage m)) (put_before h (heard_in (front && is_failed h.stage) hs t m)) other ∙ ap (put_before h) (unknown_in (front && is_failed h.stage) hs t m rest))
+    (λ other rest. if_false {A = Heard} (tag_is h.tag t) (settled h hs (judged front h.kind h.stage m))
+        (put_before h (heard_in (front && is_failed h.stage) hs t m)) other
+        ∙ ap (put_before h) (unknown_in (front && is_failed h.stage) hs t m rest))
 
 -- under a tag of a command that asks for no data, a data mark is out of order
-data_out : (b : Bool) (k : Kind) (s : Stage) (p : Point) → asks_data k ≡ false → judged_given (b && asks_data k) s p ≡ Refused Cause.OutOfOrder
+data_out : (b : Bool) (k : Kind) (s : Stage) (p : Point) → asks_data k ≡ false
+    → judged_given (b && asks_data k) s p ≡ Refused Cause.OutOfOrder
 data_out b k s p e = ap (λ (x : Bool). judged_given (b && x) s p) e ∙ ap (λ (x : Bool). judged_given x s p) (and_false b)
 
-out_of_order_in : (front : Bool) (hs : List Held) (t : Tag) (k : Kind) (p : Point) → held_kind t hs ≡ Some k → asks_data k ≡ false → heard_in front hs t (Mark.Given p) ≡ Err Cause.OutOfOrder
+out_of_order_in : (front : Bool) (hs : List Held) (t : Tag) (k : Kind) (p : Point) → held_kind t hs ≡ Some k → asks_data k ≡ false
+    → heard_in front hs t (Mark.Given p) ≡ Err Cause.OutOfOrder
 out_of_order_in front [] t k p e asks = absurd (cc)
-out_of_order_in front (h ∷ hs) t k p e asks = if_cases {A = Option Kind} (tag_is h.tag t) (Some h.kind) (held_kind t hs) (Some k) (heard_in front (h ∷ hs) t (Mark.Given p) ≡ Err Cause.OutOfOrder) e
+out_of_order_in front (h ∷ hs) t k p e asks = if_cases {A = Option Kind} (tag_is h.tag t) (Some h.kind) (held_kind t hs) (Some k)
+    (heard_in front (h ∷ hs) t (Mark.Given p) ≡ Err Cause.OutOfOrder) e
     (λ same found.
     let kind : h.kind ≡ k = cc in
-    if_true {A = Heard} (tag_is h.tag t) (settled h hs (judged front h.kind h.stage (Mark.Given p))) (put_before h (heard_in (front && is_failed h.stage) hs t (Mark.Given p))) same
+    if_true {A = Heard} (tag_is h.tag t) (settled h hs (judged front h.kind h.stage (Mark.Given p)))
+        (put_before h (heard_in (front && is_failed h.stage) hs t (Mark.Given p))) same
     ∙ ap (settled h hs) (data_out front h.kind h.stage p (ap asks_data kind ∙ asks)))
-    (λ other rest. if_false {A = Heard} (tag_is h.tag t) (settled h hs (judged front h.kind h.stage (Mark.Given p))) (put_before h (heard_in (front && is_failed h.stage) hs t (Mark.Given p))) other ∙ ap (put_before h) (out_of_order_in (front && is_failed h.stage) hs t k p rest asks))
+    (λ other rest. if_false {A = Heard} (tag_is h.tag t) (settled h hs (judged front h.kind h.stage (Mark.Given p)))
+        (put_before h (heard_in (front && is_failed h.stage) hs t (Mark.Given p))) other
+        ∙ ap (put_before h) (out_of_order_in (front && is_failed h.stage) hs t k p rest asks))
 
 unknown_on : (ws : List Wanted) (c : Client) (t : Tag) (m : Mark) → held_under t c ≡ None → heard_on ws c.table t m ≡ Err Cause.UnknownTag
 unknown_on ws c (Std n) m e = ap (heard_standard ws c.table) (unknown_in (not c.table.tally.failed) c.table.standard (Std n) m e)
 unknown_on ws c (Event n) m e = ap (heard_event c.table) (unknown_in true c.table.event (Event n) m e)
 
-out_of_order_on : (ws : List Wanted) (c : Client) (t : Tag) (k : Kind) (p : Point) → held_under t c ≡ Some k → asks_data k ≡ false → heard_on ws c.table t (Mark.Given p) ≡ Err Cause.OutOfOrder
-out_of_order_on ws c (Std n) k p e asks = ap (heard_standard ws c.table) (out_of_order_in (not c.table.tally.failed) c.table.standard (Std n) k p e asks)
+out_of_order_on : (ws : List Wanted) (c : Client) (t : Tag) (k : Kind) (p : Point) → held_under t c ≡ Some k → asks_data k ≡ false
+    → heard_on ws c.table t (Mark.Given p) ≡ Err Cause.OutOfOrder
+out_of_order_on ws c (Std n) k p e asks = ap (heard_standard ws c.table)
+    (out_of_order_in (not c.table.tally.failed) c.table.standard (Std n) k p e asks)
 out_of_order_on ws c (Event n) k p e asks = ap (heard_event c.table) (out_of_order_in true c.table.event (Event n) k p e asks)
 
 -- a data text that is a point is heard as that point, whatever is held under its tag
-pub given_is : (readers : Readers) (c : Client) (t : Tag) (text : List ℕ) (p : Point) → readers.point text ≡ Ok p → given readers c t text ≡ client_read c t (Mark.Given p)
+pub given_is : (readers : Readers) (c : Client) (t : Tag) (text : List ℕ) (p : Point) → readers.point text ≡ Ok p
+    → given readers c t text ≡ client_read c t (Mark.Given p)
 given_is readers c t text p e = go (tag_is t (Event 0)) refl (held_under t c) refl
   where
     m : Mark
@@ -115,20 +135,29 @@ given_is readers c t text p e = go (tag_is t (Event 0)) refl (held_under t c) re
     ws : List Wanted
     ws = c.program.features
 
-    go : (zero_tag : Bool) → tag_is t (Event 0) ≡ zero_tag → (kind : Option Kind) → held_under t c ≡ kind → cond (tag_is t (Event 0)) c (given_under readers c t text (held_under t c)) ≡ cond (tag_is t (Event 0)) c (client_hears c t (Mark.Given p) (heard_on c.program.features c.table t (Mark.Given p)))
+    go : (zero_tag : Bool) → tag_is t (Event 0) ≡ zero_tag → (kind : Option Kind) → held_under t c ≡ kind
+        → cond (tag_is t (Event 0)) c (given_under readers c t text (held_under t c))
+        ≡ cond (tag_is t (Event 0)) c (client_hears c t (Mark.Given p) (heard_on c.program.features c.table t (Mark.Given p)))
     go true is kind held = if_true {A = Client} _ _ _ is ∙ sym (if_true {A = Client} _ _ _ is)
-    go false is None held = if_false {A = Client} _ _ _ is ∙ (ap (given_under readers c t text) held ∙ (ap (client_hears c t (Mark.Given p)) (sym (unknown_on c.program.features c t (Mark.Given p) held)) ∙ sym (if_false {A = Client} _ _ _ is)))
+    go false is None held = if_false {A = Client} _ _ _ is ∙ (ap (given_under readers c t text) held
+        ∙ (ap (client_hears c t (Mark.Given p)) (sym (unknown_on c.program.features c t (Mark.Given p) held))
+        ∙ sym (if_false {A = Client} _ _ _ is)))
     go false is (Some k) held = if_false {A = Client} _ _ _ is ∙ (ap (given_under readers c t text) held ∙ asked (asks_data k) refl)
       where
-        asked : (asks : Bool) → asks_data k ≡ asks → cond (asks_data k) (given_point c t (readers.point text)) (faulted Cause.OutOfOrder c) ≡ cond (tag_is t (Event 0)) c (client_hears c t (Mark.Given p) (heard_on c.program.features c.table t (Mark.Given p)))
+        asked : (asks : Bool) → asks_data k ≡ asks → cond (asks_data k) (given_point c t (readers.point text)) (faulted Cause.OutOfOrder c)
+            ≡ cond (tag_is t (Event 0)) c (client_hears c t (Mark.Given p) (heard_on c.program.features c.table t (Mark.Given p)))
         asked true yes_asks = if_true {A = Client} _ _ _ yes_asks ∙ ap (given_point c t) e
-        asked false no_data = if_false {A = Client} _ _ _ no_data ∙ (ap (client_hears c t (Mark.Given p)) (sym (out_of_order_on c.program.features c t k p held no_data)) ∙ sym (if_false {A = Client} _ _ _ is))
+        asked false no_data = if_false {A = Client} _ _ _ no_data
+            ∙ (ap (client_hears c t (Mark.Given p)) (sym (out_of_order_on c.program.features c t k p held no_data))
+            ∙ sym (if_false {A = Client} _ _ _ is))
 
 -- a reply that can be written is heard as it was said
-pub reply_heard : (readers : Readers) → AreReaders readers → (c : Client) (r : Reply) → IsWritableReply r → line_read readers c (readers.response (reply_text r)) ≡ client_read c (tag_of r) (mark_of r)
+pub reply_heard : (readers : Readers) → AreReaders readers → (c : Client) (r : Reply) → IsWritableReply r
+    → line_read readers c (readers.response (reply_text r)) ≡ client_read c (tag_of r) (mark_of r)
 reply_heard readers are c r w = ap (line_read readers c) (reply_read readers are r w) ∙ go r w
   where
-    go : (x : Reply) → IsWritableReply x → response_read readers c (response_of x).tag (response_of x).mark ≡ client_read c (tag_of x) (mark_of x)
+    go : (x : Reply) → IsWritableReply x → response_read readers c (response_of x).tag (response_of x).mark
+        ≡ client_read c (tag_of x) (mark_of x)
     go (Reply.Ack t) h = refl
     go (Reply.Given t p) h = given_is readers c t (written_point p) p (point_read readers are p h.1)
     go (Reply.Done t) h = refl

@@ -1,5 +1,6 @@
 -- What a client writes are commands that can be written.
-use Rattle.std.proofs.Common.{◌≡◌, ℕ, zero, suc, ◌-◌, ◌≤◌, Bool, true, false, cond, List, [], ◌∷◌, ◌++◌, length, refl, sym, arith, Option, Some, None, Result, Ok, Err, IfSome}
+use Rattle.std.proofs.Common.{◌≡◌, ℕ, zero, suc, ◌-◌, ◌≤◌, Bool, true, false, cond, List, [], ◌∷◌, ◌++◌, length, refl, sym, arith, Option,
+  Some, None, Result, Ok, Err, IfSome}
 use Rattle.std.specs.List.{AllByRecursion}
 use Rattle.std.proofs.lemmas.Bool.{false≢true}
 use Rattle.fixed_um.specs.Names.{IsName}
@@ -18,8 +19,10 @@ use Rattle.dme_line.specs.declared.commands.Command.{Command}
 use Rattle.dme_line.specs.declared.commands.Command.TheVariants as command
 use Rattle.dme_line.proofs.CommandBack.{volume_on_wire}
 use Rattle.protocol_model.specs.Replies.{Mark, tag_is}
-use Rattle.protocol_model.specs.Plan.{tool_behind, frame_behind, is_empty, behind, up_to, framing, tooling, stepping, measuring, clearing, plan}
-use Rattle.protocol_model.specs.Client.{Client, Table, Sends, first_free, or_else, next_number, sends_next, client_sent, sends_abort, client_aborted, client_connected, client_resumed, client_left, client_restarted, client_hears, client_read, heard_on}
+use Rattle.protocol_model.specs.Plan.{tool_behind, frame_behind, is_empty, behind, up_to, framing, tooling, stepping, measuring, clearing,
+  plan}
+use Rattle.protocol_model.specs.Client.{Client, Table, Sends, first_free, or_else, next_number, sends_next, client_sent, sends_abort,
+  client_aborted, client_connected, client_resumed, client_left, client_restarted, client_hears, client_read, heard_on}
 use Rattle.protocol_model.specs.Server.{is_abort}
 use Rattle.protocol_model.proofs.plan.Marks.{HasNoAbort, plan_no_abort}
 use Rattle.protocol_model.proofs.table.Drawing.{IsFound, found, or_cases}
@@ -61,9 +64,11 @@ arguments_steps : (frame : Frame) (ss : List Step) → AllByRecursion IsStep ss 
 arguments_steps frame [] h = tt
 arguments_steps frame (step.Goto p ∷ ss) h = (volume_on_wire p h.0, arguments_steps frame ss h.1)
 arguments_steps frame (step.Begin l ∷ ss) h = arguments_steps frame ss h.1
-arguments_steps frame (step.Touch t ∷ ss) h = let touch : IsTouch t = h.0 in ((volume_on_wire t.target touch.target, ijk_is t.dir touch.direction), arguments_steps frame ss h.1)
+arguments_steps frame (step.Touch t ∷ ss) h = let touch : IsTouch t = h.0
+    in ((volume_on_wire t.target touch.target, ijk_is t.dir touch.direction), arguments_steps frame ss h.1)
 arguments_steps frame (step.Tool n ∷ ss) h = (h.0, arguments_steps frame ss h.1)
-arguments_steps frame (step.Recall p ∷ ss) h = arguments_join (framing (Part p)) (stepping (Part p) ss) (arguments_framing (Part p) h.0) (arguments_steps (Part p) ss h.1)
+arguments_steps frame (step.Recall p ∷ ss) h = arguments_join (framing (Part p)) (stepping (Part p) ss) (arguments_framing (Part p) h.0)
+    (arguments_steps (Part p) ss h.1)
 arguments_steps frame (step.End ∷ ss) h = arguments_steps frame ss h.1
 
 abbrev AreSteps : List Step → Type 0
@@ -78,7 +83,8 @@ steps_behind zero ss h = h
 steps_behind (suc k) [] h = tt
 steps_behind (suc k) (step.Goto p ∷ ss) h = steps_behind (suc k) ss h.1
 steps_behind (suc k) (step.Begin l ∷ ss) h = steps_behind (suc k) ss h.1
-steps_behind (suc k) (step.Touch t ∷ ss) h = cond_steps (is_empty (block_touches ss)) _ _ (steps_behind k ss h.1) (steps_behind (suc k) ss h.1)
+steps_behind (suc k) (step.Touch t ∷ ss) h = cond_steps (is_empty (block_touches ss)) _ _ (steps_behind k ss h.1)
+    (steps_behind (suc k) ss h.1)
 steps_behind (suc k) (step.Tool n ∷ ss) h = steps_behind (suc k) ss h.1
 steps_behind (suc k) (step.Recall p ∷ ss) h = steps_behind (suc k) ss h.1
 steps_behind (suc k) (step.End ∷ ss) h = steps_behind (suc k) ss h.1
@@ -88,7 +94,8 @@ steps_up_to zero ss h = tt
 steps_up_to (suc k) [] h = tt
 steps_up_to (suc k) (step.Goto p ∷ ss) h = (h.0, steps_up_to (suc k) ss h.1)
 steps_up_to (suc k) (step.Begin l ∷ ss) h = (h.0, steps_up_to (suc k) ss h.1)
-steps_up_to (suc k) (step.Touch t ∷ ss) h = (h.0, cond_steps (is_empty (block_touches ss)) _ _ (steps_up_to k ss h.1) (steps_up_to (suc k) ss h.1))
+steps_up_to (suc k) (step.Touch t ∷ ss) h = (h.0, cond_steps (is_empty (block_touches ss)) _ _ (steps_up_to k ss h.1)
+    (steps_up_to (suc k) ss h.1))
 steps_up_to (suc k) (step.Tool n ∷ ss) h = (h.0, steps_up_to (suc k) ss h.1)
 steps_up_to (suc k) (step.Recall p ∷ ss) h = (h.0, steps_up_to (suc k) ss h.1)
 steps_up_to (suc k) (step.End ∷ ss) h = (h.0, steps_up_to (suc k) ss h.1)
@@ -111,15 +118,20 @@ frame_is frame (step.Tool n ∷ ss) f h = frame_is frame ss f h.1
 frame_is frame (step.Recall p ∷ ss) f h = frame_is (Part p) ss h.0 h.1
 frame_is frame (step.End ∷ ss) f h = frame_is frame ss f h.1
 
-arguments_measuring : (tool : Option (List ℕ)) (frame : Frame) (ss : List Step) → IsTool tool → IsFrame frame → AreSteps ss → HaveArguments (measuring tool frame ss)
+arguments_measuring : (tool : Option (List ℕ)) (frame : Frame) (ss : List Step) → IsTool tool → IsFrame frame → AreSteps ss
+    → HaveArguments (measuring tool frame ss)
 arguments_measuring tool frame ss t f h =
-    arguments_join (tooling tool) _ (arguments_tooling tool t) (arguments_join (framing frame) _ (arguments_framing frame f) (arguments_join (stepping frame ss) _ (arguments_steps frame ss h) (tt, tt)))
+    arguments_join (tooling tool) _ (arguments_tooling tool t)
+        (arguments_join (framing frame) _ (arguments_framing frame f)
+        (arguments_join (stepping frame ss) _ (arguments_steps frame ss h) (tt, tt)))
 
 pub plan_arguments : (p : Program) (k : ℕ) (start : Start) → IsProgram p → HaveArguments (plan p k start)
 plan_arguments p k start h = go start
   where
-    rest : HaveArguments (clearing (measuring (tool_behind None (up_to k p.steps)) (frame_behind Machine (up_to k p.steps)) (behind k p.steps)))
-    rest = (tt, (tt, (tt, arguments_measuring _ _ (behind k p.steps) (tool_is None (up_to k p.steps) tt (steps_up_to k p.steps h.steps)) (frame_is Machine (up_to k p.steps) tt (steps_up_to k p.steps h.steps)) (steps_behind k p.steps h.steps))))
+    rest : HaveArguments (clearing (measuring (tool_behind None (up_to k p.steps)) (frame_behind Machine (up_to k p.steps))
+        (behind k p.steps)))
+    rest = (tt, (tt, (tt, arguments_measuring _ _ (behind k p.steps) (tool_is None (up_to k p.steps) tt (steps_up_to k p.steps h.steps))
+        (frame_is Machine (up_to k p.steps) tt (steps_up_to k p.steps h.steps)) (steps_behind k p.steps h.steps))))
 
     go : (s : Start) → HaveArguments (plan p k s)
     go NewConnection = (tt, rest)
@@ -127,9 +139,11 @@ plan_arguments p k start h = go start
 
 -- ---- numbers that are drawn
 
-number_below : (sort : ℕ → Tag) (hs : List Held) (last all n : ℕ) → last ≤ all → or_else (first_free sort hs (suc last) (all - last)) (first_free sort hs 1 all) ≡ Some n → (1 ≤ n) × (n ≤ all)
+number_below : (sort : ℕ → Tag) (hs : List Held) (last all n : ℕ) → last ≤ all
+    → or_else (first_free sort hs (suc last) (all - last)) (first_free sort hs 1 all) ≡ Some n → (1 ≤ n) × (n ≤ all)
 number_below sort hs last all n le e = or_cases _ _ n ((1 ≤ n) × (n ≤ all)) e
-    (λ first. let f : IsFound sort hs (suc last) (all - last) n = found sort hs (suc last) (all - last) n first in (omega (arith, f.from), omega (arith, f.below)))
+    (λ first. let f : IsFound sort hs (suc last) (all - last) n = found sort hs (suc last) (all - last) n first
+        in (omega (arith, f.from), omega (arith, f.below)))
     (λ other. let f : IsFound sort hs 1 all n = found sort hs 1 all n other in (f.from, omega (arith, f.below)))
 
 -- ---- the client
@@ -167,21 +181,27 @@ plain_connected n c h = record {
   no_abort = plan_no_abort c.program (length c.table.tally.features) Start.NewConnection;
 }
 
-sends_by : (c : Client) (ps : List Planned) (number : Option ℕ) → IsPlainClient c → HaveArguments ps → HasNoAbort ps → ((n : ℕ) → number ≡ Some n → (1 ≤ n) × (n ≤ 9999)) → IsPlainSends (sends_next c ps number)
+sends_by : (c : Client) (ps : List Planned) (number : Option ℕ) → IsPlainClient c → HaveArguments ps → HasNoAbort ps
+    → ((n : ℕ) → number ≡ Some n → (1 ≤ n) × (n ≤ 9999)) → IsPlainSends (sends_next c ps number)
 sends_by c [] number h a b within = record { client = h; lines = tt }
-sends_by c (p ∷ ps) None h a b within = record { client = record { program = h.program; drawn = h.drawn; event_drawn = h.event_drawn; unsent = h.unsent; no_abort = h.no_abort }; lines = tt }
+sends_by c (p ∷ ps) None h a b within = record { client = record { program = h.program; drawn = h.drawn; event_drawn = h.event_drawn;
+    unsent = h.unsent; no_abort = h.no_abort }; lines = tt }
 sends_by c (p ∷ ps) (Some n) h a b within =
     let bounds = within n refl in
     record {
       client = record { program = h.program; drawn = bounds.1; event_drawn = h.event_drawn; unsent = a.1; no_abort = b.1 };
-      lines = (record { tagged = record { numbered = (bounds.0, omega (arith, bounds.1)); sort = standard_kind p.command b.0 }; arguments = a.0 }, tt);
+      lines = (record { tagged = record { numbered = (bounds.0, omega (arith, bounds.1)); sort = standard_kind p.command b.0 };
+          arguments = a.0 }, tt);
     }
 
 pub plain_sent : (c : Client) → IsPlainClient c → IsPlainSends (client_sent c)
-plain_sent c h = sends_by c c.unsent (next_number Std c.table.standard c.drawn) h h.unsent h.no_abort (λ n e. number_below Std c.table.standard c.drawn 9999 n h.drawn e)
+plain_sent c h = sends_by c c.unsent (next_number Std c.table.standard c.drawn) h h.unsent h.no_abort
+    (λ n e. number_below Std c.table.standard c.drawn 9999 n h.drawn e)
 
-aborts_by : (c : Client) (number : Option ℕ) → IsPlainClient c → ((n : ℕ) → number ≡ Some n → (1 ≤ n) × (n ≤ 9999)) → IsPlainSends (sends_abort c number)
-aborts_by c None h within = record { client = record { program = h.program; drawn = h.drawn; event_drawn = h.event_drawn; unsent = h.unsent; no_abort = h.no_abort }; lines = tt }
+aborts_by : (c : Client) (number : Option ℕ) → IsPlainClient c → ((n : ℕ) → number ≡ Some n → (1 ≤ n) × (n ≤ 9999))
+    → IsPlainSends (sends_abort c number)
+aborts_by c None h within = record { client = record { program = h.program; drawn = h.drawn; event_drawn = h.event_drawn; unsent = h.unsent;
+    no_abort = h.no_abort }; lines = tt }
 aborts_by c (Some n) h within =
     let bounds = within n refl in
     record {
@@ -190,11 +210,14 @@ aborts_by c (Some n) h within =
     }
 
 pub plain_aborted : (c : Client) → IsPlainClient c → IsPlainSends (client_aborted c)
-plain_aborted c h = aborts_by c (next_number Event c.table.event c.event_drawn) h (λ n e. number_below Event c.table.event c.event_drawn 9999 n h.event_drawn e)
+plain_aborted c h = aborts_by c (next_number Event c.table.event c.event_drawn) h
+    (λ n e. number_below Event c.table.event c.event_drawn 9999 n h.event_drawn e)
 
 hears_plain : (c : Client) (t : Tag) (m : Mark) (r : Result Table Cause) → IsPlainClient c → IsPlainClient (client_hears c t m r)
-hears_plain c t m (Ok b) h = record { program = h.program; drawn = h.drawn; event_drawn = h.event_drawn; unsent = h.unsent; no_abort = h.no_abort }
-hears_plain c t m (Err cause) h = record { program = h.program; drawn = h.drawn; event_drawn = h.event_drawn; unsent = h.unsent; no_abort = h.no_abort }
+hears_plain c t m (Ok b) h = record { program = h.program; drawn = h.drawn; event_drawn = h.event_drawn; unsent = h.unsent;
+    no_abort = h.no_abort }
+hears_plain c t m (Err cause) h = record { program = h.program; drawn = h.drawn; event_drawn = h.event_drawn; unsent = h.unsent;
+    no_abort = h.no_abort }
 
 pub plain_read : (c : Client) (t : Tag) (m : Mark) → IsPlainClient c → IsPlainClient (client_read c t m)
 plain_read c t m h = go (tag_is t (Event 0))

@@ -1,5 +1,6 @@
 -- There are functions that read as the interface says: each reading is computed, with what shows that it is the one.
-use Rattle.std.proofs.Common.{◌≡◌, ℕ, ◌+◌, ◌*◌, ◌-◌, ◌/◌, ◌≤◌, ◌⊎◌, inl, inr, Bool, true, false, ◌&&◌, List, [], ◌∷◌, ◌++◌, take, drop, refl, sym, ◌∙◌, ap, subst, arith, Option, Some, None, Result, Ok, Err, codes}
+use Rattle.std.proofs.Common.{◌≡◌, ℕ, ◌+◌, ◌*◌, ◌-◌, ◌/◌, ◌≤◌, ◌⊎◌, inl, inr, Bool, true, false, ◌&&◌, List, [], ◌∷◌, ◌++◌, take, drop,
+  refl, sym, ◌∙◌, ap, subst, arith, Option, Some, None, Result, Ok, Err, codes}
 use Rattle.std.specs.Prelude.{◌==◌, nat_le, if◌then◌else◌}
 use Rattle.std.specs.List.{prefix_len}
 use Rattle.std.proofs.lemmas.Bool.{false≢true, and_parts, and_from, leb-true, le-leb, eqb-true, eq-eqb}
@@ -30,7 +31,8 @@ use Rattle.dme_line.proofs.NameCutLemmas.{name_cut}
 use Rattle.dme_line.proofs.CommandLemmas.{SaysHere, says_here}
 use Rattle.protocol_model.specs.Lines.{Readers, AreReaders}
 use Rattle.protocol_model.proofs.table.Basics.{if_cases}
-use Rattle.protocol_model.proofs.lines.Deciding.{Decided, decided_by, both, test, same_bytes, shapes, words, first_of, others_of, filled, filled_of, has_shape, Length, length_is, Saying, saying}
+use Rattle.protocol_model.proofs.lines.Deciding.{Decided, decided_by, both, test, same_bytes, shapes, words, first_of, others_of, filled,
+  filled_of, has_shape, Length, length_is, Saying, saying}
 
 -- ---- tags
 
@@ -68,7 +70,8 @@ digit_last : (n : ℕ) → is_digit (last_digit n) ≡ true
 digit_last n = and_from _ _ (le-leb 48 (last_digit n) (omega arith)) (le-leb (last_digit n) 57 (omega arith))
 
 five_are : (a b c d e : ℕ) → a ≤ 9 → b ≤ 9 → c ≤ 9 → d ≤ 9 → e ≤ 9 → (text : List ℕ)
-    → (48 + a) ∷ (48 + b) ∷ (48 + c) ∷ (48 + d) ∷ (48 + e) ∷ 32 ∷ text ≡ written_tag (Std (10000 * a + (1000 * b + (100 * c + (10 * d + e))))) ++ (32 ∷ text)
+    → (48 + a) ∷ (48 + b) ∷ (48 + c) ∷ (48 + d) ∷ (48 + e) ∷ 32 ∷ text
+    ≡ written_tag (Std (10000 * a + (1000 * b + (100 * c + (10 * d + e))))) ++ (32 ∷ text)
 five_are a b c d e p q r s t text =
     let n : ℕ = 10000 * a + (1000 * b + (100 * c + (10 * d + e))) in
     let f : last_digit (n / 10000) ≡ 48 + a = omega (arith, p, q, r, s, t) in
@@ -88,7 +91,8 @@ four_are b c d e q r s t text =
     let l : last_digit n ≡ 48 + e = omega (arith, q, r, s, t) in
     sym (λ i. 69 ∷ g i ∷ h i ∷ k i ∷ l i ∷ 32 ∷ text)
 
-six_same : (a b c d e s x y z u v w : ℕ) (text : List ℕ) → a ≡ x → b ≡ y → c ≡ z → d ≡ u → e ≡ v → s ≡ w → a ∷ b ∷ c ∷ d ∷ e ∷ s ∷ text ≡ x ∷ y ∷ z ∷ u ∷ v ∷ w ∷ text
+six_same : (a b c d e s x y z u v w : ℕ) (text : List ℕ) → a ≡ x → b ≡ y → c ≡ z → d ≡ u → e ≡ v → s ≡ w
+    → a ∷ b ∷ c ∷ d ∷ e ∷ s ∷ text ≡ x ∷ y ∷ z ∷ u ∷ v ∷ w ∷ text
 six_same a b c d e s x y z u v w text f g h k l m = λ i. f i ∷ g i ∷ h i ∷ k i ∷ l i ∷ m i ∷ text
 
 standard_found : (line : List ℕ) → is_standard line ≡ true → Tagged line
@@ -107,7 +111,9 @@ standard_found (a ∷ b ∷ c ∷ d ∷ e ∷ s ∷ text) h =
       tag = Std (10000 * first.value + (1000 * second.value + (100 * third.value + (10 * fourth.value + fifth.value))));
       text = text;
       is_tag = omega (arith, first.small, second.small, third.small, fourth.small, fifth.small);
-      parts = six_same a b c d e s _ _ _ _ _ _ text first.is second.is third.is fourth.is fifth.is (eqb-true s 32 u.1) ∙ five_are first.value second.value third.value fourth.value fifth.value first.small second.small third.small fourth.small fifth.small text;
+      parts = six_same a b c d e s _ _ _ _ _ _ text first.is second.is third.is fourth.is fifth.is (eqb-true s 32 u.1)
+          ∙ five_are first.value second.value third.value fourth.value fifth.value first.small second.small third.small fourth.small
+          fifth.small text;
     }
 standard_found [] h = absurd (false≢true h)
 standard_found (a ∷ []) h = absurd (false≢true h)
@@ -131,7 +137,8 @@ event_found (a ∷ b ∷ c ∷ d ∷ e ∷ s ∷ text) h =
       tag = Event (1000 * second.value + (100 * third.value + (10 * fourth.value + fifth.value)));
       text = text;
       is_tag = omega (arith, second.small, third.small, fourth.small, fifth.small);
-      parts = six_same a b c d e s _ _ _ _ _ _ text (eqb-true a 69 p.0) second.is third.is fourth.is fifth.is (eqb-true s 32 u.1) ∙ four_are second.value third.value fourth.value fifth.value second.small third.small fourth.small fifth.small text;
+      parts = six_same a b c d e s _ _ _ _ _ _ text (eqb-true a 69 p.0) second.is third.is fourth.is fifth.is (eqb-true s 32 u.1)
+          ∙ four_are second.value third.value fourth.value fifth.value second.small third.small fourth.small fifth.small text;
     }
 event_found [] h = absurd (false≢true h)
 event_found (a ∷ []) h = absurd (false≢true h)
@@ -140,14 +147,19 @@ event_found (a ∷ b ∷ c ∷ []) h = absurd (false≢true h)
 event_found (a ∷ b ∷ c ∷ d ∷ []) h = absurd (false≢true h)
 event_found (a ∷ b ∷ c ∷ d ∷ e ∷ []) h = absurd (false≢true h)
 
-tag_tests : (t : Tag) (text : List ℕ) → (is_standard (written_tag t ++ (32 ∷ text)) ≡ true) ⊎ (is_event (written_tag t ++ (32 ∷ text)) ≡ true)
-tag_tests (Std n) text = inl (and_from _ _ (digit_last (n / 10000)) (and_from _ _ (digit_last (n / 1000)) (and_from _ _ (digit_last (n / 100)) (and_from _ _ (digit_last (n / 10)) (and_from _ _ (digit_last n) refl)))))
-tag_tests (Event n) text = inr (and_from _ _ refl (and_from _ _ (digit_last (n / 1000)) (and_from _ _ (digit_last (n / 100)) (and_from _ _ (digit_last (n / 10)) (and_from _ _ (digit_last n) refl)))))
+tag_tests : (t : Tag) (text : List ℕ) → (is_standard (written_tag t ++ (32 ∷ text)) ≡ true)
+    ⊎ (is_event (written_tag t ++ (32 ∷ text)) ≡ true)
+tag_tests (Std n) text = inl (and_from _ _ (digit_last (n / 10000))
+    (and_from _ _ (digit_last (n / 1000)) (and_from _ _ (digit_last (n / 100))
+    (and_from _ _ (digit_last (n / 10)) (and_from _ _ (digit_last n) refl)))))
+tag_tests (Event n) text = inr (and_from _ _ refl (and_from _ _ (digit_last (n / 1000))
+    (and_from _ _ (digit_last (n / 100)) (and_from _ _ (digit_last (n / 10)) (and_from _ _ (digit_last n) refl)))))
 
 tagged : (line : List ℕ) → Decided (Tagged line)
 tagged line = go (test (is_standard line)) (test (is_event line))
   where
-    neither : (is_standard line ≡ true → ⊥) → (is_event line ≡ true → ⊥) → (t : Tagged line) → (is_standard (written_tag t.tag ++ (32 ∷ t.text)) ≡ true) ⊎ (is_event (written_tag t.tag ++ (32 ∷ t.text)) ≡ true) → ⊥
+    neither : (is_standard line ≡ true → ⊥) → (is_event line ≡ true → ⊥) → (t : Tagged line)
+        → (is_standard (written_tag t.tag ++ (32 ∷ t.text)) ≡ true) ⊎ (is_event (written_tag t.tag ++ (32 ∷ t.text)) ≡ true) → ⊥
     neither standard event t (inl e) = standard (ap is_standard t.parts ∙ e)
     neither standard event t (inr e) = event (ap is_event t.parts ∙ e)
 
@@ -157,8 +169,10 @@ tagged line = go (test (is_standard line)) (test (is_event line))
     go (inr s) (inr e) = inr (λ t. neither s e t (tag_tests t.tag t.text))
 
 numbered : (t : Tag) → IsTag t → Decided (IsNumbered t)
-numbered (Std n) le = decided_by (λ (e : nat_le 1 n ≡ true). (leb-true 1 n e, le)) (λ (h : (1 ≤ n) × (n ≤ 99999)). le-leb 1 n h.0) (test (nat_le 1 n))
-numbered (Event n) le = decided_by (λ (e : nat_le 1 n ≡ true). (leb-true 1 n e, le)) (λ (h : (1 ≤ n) × (n ≤ 9999)). le-leb 1 n h.0) (test (nat_le 1 n))
+numbered (Std n) le = decided_by (λ (e : nat_le 1 n ≡ true). (leb-true 1 n e, le)) (λ (h : (1 ≤ n) × (n ≤ 99999)). le-leb 1 n h.0)
+    (test (nat_le 1 n))
+numbered (Event n) le = decided_by (λ (e : nat_le 1 n ≡ true). (leb-true 1 n e, le)) (λ (h : (1 ≤ n) × (n ≤ 9999)). le-leb 1 n h.0)
+    (test (nat_le 1 n))
 
 -- ---- commands
 
@@ -173,18 +187,21 @@ same_sort false true = inr (λ e. false≢true e)
 same_sort false false = inl refl
 
 -- the name is that of a command
-known : (line : List ℕ) (t : Tag) (name rest : List ℕ) (k : Kind) → Begins line t name rest → is_word (kind_name k) name ≡ true → Decided (is_event_tag t ≡ is_event_kind k) → Decided (Saying k (tokens rest)) → CommandRead line
+known : (line : List ℕ) (t : Tag) (name rest : List ℕ) (k : Kind) → Begins line t name rest → is_word (kind_name k) name ≡ true
+    → Decided (is_event_tag t ≡ is_event_kind k) → Decided (Saying k (tokens rest)) → CommandRead line
 known line t name rest k b is (inr sort) says = record {
   result = Err (fault.BadArguments t k);
   reads = (name, rest, b, is, λ c h. let here : SaysHere t k rest c = says_here line t t name rest k c b is h in sort here.fits.sort);
 }
 known line t name rest k b is (inl sort) (inr none) = record {
   result = Err (fault.BadArguments t k);
-  reads = (name, rest, b, is, λ c h. let here : SaysHere t k rest c = says_here line t t name rest k c b is h in none (record { command = c; says = here.says }));
+  reads = (name, rest, b, is, λ c h. let here : SaysHere t k rest c = says_here line t t name rest k c b is h
+      in none (record { command = c; says = here.says }));
 }
 known line t name rest k b is (inl sort) (inl s) = record {
   result = Ok (t, s.command);
-  reads = record { name = name; rest = rest; kind = k; begins = b; known = is; fits = record { numbered = b.tagged.numbered; sort = sort }; says = s.says };
+  reads = record { name = name; rest = rest; kind = k; begins = b; known = is; fits = record { numbered = b.tagged.numbered; sort = sort };
+      says = s.says };
 }
 
 -- a word is the name of one of these kinds
@@ -211,7 +228,8 @@ named_one name (k ∷ ks) (inl is) = record { kind = k; is = is }
 named_one name (k ∷ ks) (inr h) = named_one name ks h
 
 abbrev all_kinds : List Kind
-all_kinds = kind.StartSession ∷ kind.EndSession ∷ kind.ClearAllErrors ∷ kind.Home ∷ kind.OnPtMeasReport ∷ kind.GoTo ∷ kind.PtMeas ∷ kind.ChangeTool ∷ kind.SetCsyTransformation ∷ kind.SetCoordSystem ∷ kind.AbortE ∷ []
+all_kinds = kind.StartSession ∷ kind.EndSession ∷ kind.ClearAllErrors ∷ kind.Home ∷ kind.OnPtMeasReport ∷ kind.GoTo ∷ kind.PtMeas
+    ∷ kind.ChangeTool ∷ kind.SetCsyTransformation ∷ kind.SetCoordSystem ∷ kind.AbortE ∷ []
 
 among_all : (name : List ℕ) (k : Kind) → is_word (kind_name k) name ≡ true → IsOneOf name all_kinds
 among_all name kind.StartSession e = inl e
@@ -249,7 +267,8 @@ command_reading line = go (tagged line)
     numbers : (a : Tagged line) → Decided (IsNumbered a.tag) → CommandRead line
     numbers a (inl n) =
         let k : ℕ = prefix_len is_name_part a.text in
-        named line a.tag (take k a.text) (drop k a.text) (record { text = a.text; tagged = record { numbered = n; parts = a.parts }; named = name_cut a.text })
+        named line a.tag (take k a.text) (drop k a.text) (record { text = a.text; tagged = record { numbered = n; parts = a.parts };
+            named = name_cut a.text })
     numbers a (inr none) = no_tag line (λ t text h. none (subst IsNumbered (sym (same_tagged a t text h)) h.numbered))
 
     go : Decided (Tagged line) → CommandRead line
@@ -300,16 +319,19 @@ first_same a b text e = ap (λ (x : ℕ). x ∷ text) e
 given_found : (text : List ℕ) (m : Mark) → given_of text ≡ Some m → IsMarkText (35 ∷ text) m
 given_found [] m e = absurd (no_mark m e)
 given_found (s ∷ text) m e = if_cases {A = Option Mark} (s == 32) (Some (mark.Given text)) None (Some m) (IsMarkText (35 ∷ s ∷ text) m) e
-    (λ is same. subst (IsMarkText (35 ∷ s ∷ text)) (some_mark (mark.Given text) m same) (ap (λ (l : List ℕ). 35 ∷ l) (first_same s 32 text (eqb-true s 32 is))))
+    (λ is same. subst (IsMarkText (35 ∷ s ∷ text)) (some_mark (mark.Given text) m same)
+        (ap (λ (l : List ℕ). 35 ∷ l) (first_same s 32 text (eqb-true s 32 is))))
     (λ is none. absurd (no_mark m none))
 
 error_found : (text : List ℕ) (m : Mark) → error_of text ≡ Some m → IsMarkText (33 ∷ text) m
 error_found [] m e = subst (IsMarkText (33 ∷ [])) (some_mark (mark.Error []) m e) (inr (refl, refl))
 error_found (s ∷ text) m e = if_cases {A = Option Mark} (s == 32) (Some (mark.Error text)) None (Some m) (IsMarkText (33 ∷ s ∷ text) m) e
-    (λ is same. subst (IsMarkText (33 ∷ s ∷ text)) (some_mark (mark.Error text) m same) (inl (ap (λ (l : List ℕ). 33 ∷ l) (first_same s 32 text (eqb-true s 32 is)))))
+    (λ is same. subst (IsMarkText (33 ∷ s ∷ text)) (some_mark (mark.Error text) m same)
+        (inl (ap (λ (l : List ℕ). 33 ∷ l) (first_same s 32 text (eqb-true s 32 is)))))
     (λ is none. absurd (no_mark m none))
 
-spaces_found : (c : ℕ) (text : List ℕ) (n m : Mark) → ((are_spaces text ≡ true) → IsMarkText (c ∷ text) n) → (if are_spaces text then Some n else None) ≡ Some m → IsMarkText (c ∷ text) m
+spaces_found : (c : ℕ) (text : List ℕ) (n m : Mark) → ((are_spaces text ≡ true) → IsMarkText (c ∷ text) n)
+    → (if are_spaces text then Some n else None) ≡ Some m → IsMarkText (c ∷ text) m
 spaces_found c text n m is_one e = if_cases {A = Option Mark} (are_spaces text) (Some n) None (Some m) (IsMarkText (c ∷ text) m) e
     (λ is same. subst (IsMarkText (c ∷ text)) (some_mark n m same) (is_one is))
     (λ is none. absurd (no_mark m none))
@@ -333,7 +355,8 @@ response_reading line = go (tagged line)
     text_is a r h = let same = (one_tag r.tag a.tag (32 ∷ h.text) (32 ∷ a.text) h.tagged a.is_tag (sym h.parts ∙ a.parts)).behind in cc
 
     none_in : (a : Tagged line) → mark_from a.text ≡ None → (r : Response) → IsResponseLine line r → ⊥
-    none_in a e r h = no_mark r.mark (sym e ∙ mark_only a.text r.mark (subst (λ (t : List ℕ). IsMarkText t r.mark) (text_is a r h) h.marked))
+    none_in a e r h = no_mark r.mark (sym e ∙ mark_only a.text r.mark
+        (subst (λ (t : List ℕ). IsMarkText t r.mark) (text_is a r h) h.marked))
 
     marks : (a : Tagged line) (o : Option Mark) → mark_from a.text ≡ o → ResponseRead line
     marks a None e = record { result = Err (record {}); reads = none_in a e }
@@ -344,7 +367,8 @@ response_reading line = go (tagged line)
 
     go : Decided (Tagged line) → ResponseRead line
     go (inl a) = marks a (mark_from a.text) refl
-    go (inr none) = record { result = Err (record {}); reads = λ r h. none (record { tag = r.tag; text = h.text; is_tag = h.tagged; parts = h.parts }) }
+    go (inr none) = record { result = Err (record {}); reads = λ r h. none
+        (record { tag = r.tag; text = h.text; is_tag = h.tagged; parts = h.parts }) }
 
 -- ---- points
 
@@ -371,7 +395,8 @@ flush (c ∷ text) = go (test (c == 32))
 
 -- the words of a point, and the names between them
 abbrev HasNames : List (List ℕ) → Type 0
-HasNames ws = (first_of ws ≡ codes "X") × ((first_of (others_of (others_of ws)) ≡ codes "Y") × (first_of (others_of (others_of (others_of (others_of ws)))) ≡ codes "Z"))
+HasNames ws = (first_of ws ≡ codes "X") × ((first_of (others_of (others_of ws)) ≡ codes "Y")
+    × (first_of (others_of (others_of (others_of (others_of ws)))) ≡ codes "Z"))
 
 abbrev x_of : List (List ℕ) → List ℕ
 x_of ws = first_of (others_of ws)
@@ -390,17 +415,21 @@ coordinates : (x y z : List ℕ) → Decided (Coordinates x y z)
 coordinates x y z = decided_by here there (both (length_is 3 wire_limit x) (both (length_is 3 wire_limit y) (length_is 3 wire_limit z)))
   where
     here : Length 3 wire_limit x × (Length 3 wire_limit y × Length 3 wire_limit z) → Coordinates x y z
-    here h = record { point = record { x = h.0.value; y = h.1.0.value; z = h.1.1.value }; has = record { x_reads = h.0.reads; y_reads = h.1.0.reads; z_reads = h.1.1.reads } }
+    here h = record { point = record { x = h.0.value; y = h.1.0.value; z = h.1.1.value };
+        has = record { x_reads = h.0.reads; y_reads = h.1.0.reads; z_reads = h.1.1.reads } }
 
     there : Coordinates x y z → Length 3 wire_limit x × (Length 3 wire_limit y × Length 3 wire_limit z)
-    there c = (record { value = c.point.x; reads = c.has.x_reads }, (record { value = c.point.y; reads = c.has.y_reads }, record { value = c.point.z; reads = c.has.z_reads }))
+    there c = (record { value = c.point.x; reads = c.has.x_reads },
+        (record { value = c.point.y; reads = c.has.y_reads }, record { value = c.point.z; reads = c.has.z_reads }))
 
 record Spelled (text : List ℕ) : Type 0 where
   pub point : Point
   pub is : IsPointText text point
 
 spelled_is : (text : List ℕ) → Decided (Spelled text)
-spelled_is text = decided_by here there (both (flush text) (both (has_shape point_shape ts) (both (both (same_bytes (first_of ws) (codes "X")) (both (same_bytes (first_of (others_of (others_of ws))) (codes "Y")) (same_bytes (first_of (others_of (others_of (others_of (others_of ws))))) (codes "Z")))) (coordinates (x_of ws) (y_of ws) (z_of ws)))))
+spelled_is text = decided_by here there (both (flush text) (both (has_shape point_shape ts)
+    (both (both (same_bytes (first_of ws) (codes "X")) (both (same_bytes (first_of (others_of (others_of ws))) (codes "Y"))
+    (same_bytes (first_of (others_of (others_of (others_of (others_of ws))))) (codes "Z")))) (coordinates (x_of ws) (y_of ws) (z_of ws)))))
   where
     ts : List Token
     ts = tokens text
@@ -408,7 +437,8 @@ spelled_is text = decided_by here there (both (flush text) (both (has_shape poin
     ws : List (List ℕ)
     ws = words ts
 
-    named_so : (x y z a b c : List ℕ) → a ≡ codes "X" → b ≡ codes "Y" → c ≡ codes "Z" → filled point_shape (a ∷ x ∷ b ∷ y ∷ c ∷ z ∷ []) ≡ point_tokens x y z
+    named_so : (x y z a b c : List ℕ) → a ≡ codes "X" → b ≡ codes "Y" → c ≡ codes "Z"
+        → filled point_shape (a ∷ x ∷ b ∷ y ∷ c ∷ z ∷ []) ≡ point_tokens x y z
     named_so x y z a b c e f g = λ i. filled point_shape (e i ∷ x ∷ f i ∷ y ∷ g i ∷ z ∷ [])
 
     here : IsFlush text × ((shapes ts ≡ point_shape) × (HasNames ws × Coordinates (x_of ws) (y_of ws) (z_of ws))) → Spelled text
@@ -431,7 +461,8 @@ spelled_is text = decided_by here there (both (flush text) (both (has_shape poin
         ap shapes s.is.spelled,
         (
           subst (λ (l : List Token). HasNames (words l)) (sym s.is.spelled) (refl, (refl, refl)),
-          subst (λ (l : List Token). Coordinates (x_of (words l)) (y_of (words l)) (z_of (words l))) (sym s.is.spelled) (record { point = s.point; has = s.is.reads }),
+          subst (λ (l : List Token). Coordinates (x_of (words l)) (y_of (words l)) (z_of (words l))) (sym s.is.spelled)
+              (record { point = s.point; has = s.is.reads }),
         ),
       ),
     )

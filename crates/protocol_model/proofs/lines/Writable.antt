@@ -24,7 +24,8 @@ use Rattle.dme_line.proofs.WireTexts.{point-wire}
 use Rattle.line_framing.specs.Content.{IsLine, AreLines, line_bytes}
 use Rattle.line_framing.proofs.Streams.{line_bytes-append}
 use Rattle.protocol_model.specs.Replies.{Reply}
-use Rattle.protocol_model.specs.Lines.{command_text, reply_text, command_texts, reply_texts, command_bytes, reply_bytes, Readers, AreReaders}
+use Rattle.protocol_model.specs.Lines.{command_text, reply_text, command_texts, reply_texts, command_bytes, reply_bytes, Readers,
+  AreReaders}
 use Rattle.protocol_model.specs.declared.lines.Line.{Line}
 
 -- ---- commands
@@ -56,7 +57,8 @@ pub command_bytes_more : (xs ys : List Line) → command_bytes (xs ++ ys) ≡ co
 command_bytes_more xs ys = ap line_bytes (texts_more xs ys) ∙ line_bytes-append (command_texts xs) (command_texts ys)
 
 pub command_read : (r : Readers) → AreReaders r → (t : Tag) (c : Command) → IsWritable t c → r.command (written_command t c) ≡ Ok (t, c)
-command_read r h t c w = one_command_reading (written_command t c) (r.command (written_command t c)) (Ok (t, c)) (h.command (written_command t c)) (command_reads_back t c w)
+command_read r h t c w = one_command_reading (written_command t c) (r.command (written_command t c)) (Ok (t, c))
+    (h.command (written_command t c)) (command_reads_back t c w)
 
 -- ---- replies
 
@@ -83,7 +85,8 @@ response_of (Reply.Error t code name) = record { tag = t; mark = mark.Error (err
 
 reply_wire : (r : Reply) → IsWritableReply r → IsWireText 200 (reply_text r)
 reply_wire (Reply.Ack t) h = response-wire (record { tag = t; mark = mark.Ack }) (record { tagged = h; texts = tt })
-reply_wire (Reply.Given t p) h = response-wire (record { tag = t; mark = mark.Given (written_point p) }) (record { tagged = h.0; texts = wire_weaker 49 192 (written_point p) (omega arith) (point-wire p h.1) })
+reply_wire (Reply.Given t p) h = response-wire (record { tag = t; mark = mark.Given (written_point p) })
+    (record { tagged = h.0; texts = wire_weaker 49 192 (written_point p) (omega arith) (point-wire p h.1) })
 reply_wire (Reply.Done t) h = response-wire (record { tag = t; mark = mark.Done }) (record { tagged = h; texts = tt })
 reply_wire (Reply.Error t code name) h = wire_weaker 80 200 (written_error t code name) (omega arith) (error-wire t code name)
 
@@ -99,17 +102,21 @@ pub reply_bytes_more : (xs ys : List Reply) → reply_bytes (xs ++ ys) ≡ reply
 reply_bytes_more xs ys = ap line_bytes (reply_texts_more xs ys) ∙ line_bytes-append (reply_texts xs) (reply_texts ys)
 
 response_back : (r : Readers) → AreReaders r → (x : Response) → IsTag x.tag → r.response (written_response x) ≡ Ok x
-response_back r h x t = one_response_reading (written_response x) (r.response (written_response x)) (Ok x) (h.response (written_response x)) (response_reads_back x t)
+response_back r h x t = one_response_reading (written_response x) (r.response (written_response x)) (Ok x) (h.response (written_response x))
+    (response_reads_back x t)
 
 pub reply_read : (r : Readers) → AreReaders r → (x : Reply) → IsWritableReply x → r.response (reply_text x) ≡ Ok (response_of x)
 reply_read r h (Reply.Ack t) w = response_back r h (record { tag = t; mark = mark.Ack }) w
 reply_read r h (Reply.Given t p) w = response_back r h (record { tag = t; mark = mark.Given (written_point p) }) w.0
 reply_read r h (Reply.Done t) w = response_back r h (record { tag = t; mark = mark.Done }) w
 reply_read r h (Reply.Error t code name) w =
-    one_response_reading (written_error t code name) (r.response (written_error t code name)) (Ok (record { tag = t; mark = mark.Error (error_report code name) })) (h.response (written_error t code name)) (error_reads_back t code name w)
+    one_response_reading (written_error t code name) (r.response (written_error t code name))
+        (Ok (record { tag = t; mark = mark.Error (error_report code name) })) (h.response (written_error t code name))
+        (error_reads_back t code name w)
 
 pub point_read : (r : Readers) → AreReaders r → (p : Point) → IsOnWire p → r.point (written_point p) ≡ Ok p
-point_read r h p w = one_point_reading (written_point p) (r.point (written_point p)) (Ok p) (h.point (written_point p)) (point_reads_back p w)
+point_read r h p w = one_point_reading (written_point p) (r.point (written_point p)) (Ok p) (h.point (written_point p))
+    (point_reads_back p w)
 
 -- ---- points
 
@@ -117,7 +124,8 @@ abs_difference : (a b : ℤ) → unsigned_abs a ≤ volume_limit → unsigned_ab
 abs_difference a b h g = omega (arith, ints)
 
 pub difference_on_wire : (p q : Point) → IsInVolume p → IsInVolume q → IsOnWire (point_difference p q)
-difference_on_wire p q h g = record { x = abs_difference p.x q.x h.x g.x; y = abs_difference p.y q.y h.y g.y; z = abs_difference p.z q.z h.z g.z }
+difference_on_wire p q h g = record { x = abs_difference p.x q.x h.x g.x; y = abs_difference p.y q.y h.y g.y;
+    z = abs_difference p.z q.z h.z g.z }
 
 abs_opposite : (a : ℤ) → unsigned_abs a ≤ volume_limit → unsigned_abs (neg_ℤ a) ≤ volume_limit
 abs_opposite a h = omega (arith, ints)

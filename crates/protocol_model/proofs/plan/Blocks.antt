@@ -46,7 +46,8 @@ some_left n (step.Recall p ∷ ss) h = some_left n ss h
 some_left n (step.End ∷ ss) h = let some : 0 < n = h.0 in omega arith
 
 not_none : (ss : List Step) → AreCounted (Some 0) ss → block_touches ss ≡ [] → ⊥
-not_none ss h e = let long : 1 ≤ 0 + length (block_touches ss) = some_left 0 ss h in let short : length (block_touches ss) ≡ 0 = ap length e in omega arith
+not_none ss h e = let long : 1 ≤ 0 + length (block_touches ss) = some_left 0 ss h in let short : length (block_touches ss) ≡ 0 = ap length e
+    in omega arith
 
 abbrev is_open : Option ℕ → Bool
 is_open None = false
@@ -78,4 +79,5 @@ selected_are tool frame (step.Recall p ∷ ss) h = selected_are tool (Part p) ss
 selected_are tool frame (step.End ∷ ss) h = selected_are tool frame ss h
 
 pub program_is_plain : (p : Program) → IsProgram p → IsPlain p
-program_is_plain p h = record { features = h.built; blocks = blocks_are None p.steps h.blocks; selected = selected_are None Machine p.steps h.selections }
+program_is_plain p h = record { features = h.built; blocks = blocks_are None p.steps h.blocks;
+    selected = selected_are None Machine p.steps h.selections }

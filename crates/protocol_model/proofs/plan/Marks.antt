@@ -1,5 +1,6 @@
 -- The touches of plans and of wanted features, each with whether it is the last of its feature.
-use Rattle.std.proofs.Common.{◌≡◌, ℕ, zero, suc, Bool, true, false, cond, List, [], ◌∷◌, ◌++◌, drop, refl, sym, ◌∙◌, ap, subst, append_assoc, append-nil, Option, Some, None}
+use Rattle.std.proofs.Common.{◌≡◌, ℕ, zero, suc, Bool, true, false, cond, List, [], ◌∷◌, ◌++◌, drop, refl, sym, ◌∙◌, ap, subst,
+  append_assoc, append-nil, Option, Some, None}
 use Rattle.std.proofs.lemmas.Bool.{false≢true}
 use Rattle.std.proofs.Math.IntN.{neg_ℤ-neg_ℤ}
 use Rattle.fixed_um.specs.declared.lengths.Point.{Point}
@@ -12,7 +13,8 @@ use Rattle.dmis_program.specs.Meaning.{Meaning as Program, features_of, block_to
 use Rattle.dmis_program.specs.declared.steps.Step.{Step}
 use Rattle.dmis_program.specs.declared.steps.Step.TheVariants as step
 use Rattle.protocol_model.proofs.plan.Blocks.{AreBlocks, AreSelected, IsPlain}
-use Rattle.protocol_model.specs.Plan.{tool_behind, frame_behind, is_empty, behind, up_to, planned, framing, tooling, stepping, measuring, starting, plan}
+use Rattle.protocol_model.specs.Plan.{tool_behind, frame_behind, is_empty, behind, up_to, planned, framing, tooling, stepping, measuring,
+  starting, plan}
 use Rattle.fixed_um.specs.Points.{point_opposite}
 use Rattle.std.proofs.Common.{Ok}
 use Rattle.protocol_model.specs.Server.{is_abort}
@@ -48,7 +50,8 @@ touches_in (p ∷ ps) = touch_in p.does ++ touches_in ps
 
 pub touches_more : (ps qs : List Planned) → touches_in (ps ++ qs) ≡ touches_in ps ++ touches_in qs
 touches_more [] qs = refl
-touches_more (p ∷ ps) qs = ap (λ (l : List Marked). touch_in p.does ++ l) (touches_more ps qs) ∙ sym (append_assoc (touch_in p.does) (touches_in ps) (touches_in qs))
+touches_more (p ∷ ps) qs = ap (λ (l : List Marked). touch_in p.does ++ l) (touches_more ps qs)
+    ∙ sym (append_assoc (touch_in p.does) (touches_in ps) (touches_in qs))
 
 -- ---- what is left from a position on
 
@@ -70,13 +73,17 @@ marks_left [] ws = refl
 marks_left (t ∷ ts) ws = refl
 
 -- the touches of the commands of steps are those that are left
-pub touches_left : (inside : Bool) (frame : Frame) (ss : List Step) → AreBlocks inside ss → touches_in (stepping frame ss) ≡ marks_of (left_of inside ss)
+pub touches_left : (inside : Bool) (frame : Frame) (ss : List Step) → AreBlocks inside ss
+    → touches_in (stepping frame ss) ≡ marks_of (left_of inside ss)
 touches_left inside frame [] h = sym (ap marks_of (left_none inside []))
 touches_left inside frame (step.Goto p ∷ ss) h = touches_left inside frame ss h
 touches_left inside frame (step.Begin l ∷ ss) h =
-    touches_left true frame ss h.2 ∙ (marks_left (block_touches ss) (features_of ss) ∙ sym (ap (λ (b : Bool). marks_of (left_with b (block_touches ss) (record { label = l; touches = block_touches ss } ∷ features_of ss))) h.0))
+    touches_left true frame ss h.2 ∙ (marks_left (block_touches ss) (features_of ss)
+        ∙ sym (ap (λ (b : Bool). marks_of (left_with b (block_touches ss)
+        (record { label = l; touches = block_touches ss } ∷ features_of ss))) h.0))
 touches_left inside frame (step.Touch t ∷ ss) h =
-    ap (λ (l : List Marked). (t, is_empty (block_touches ss)) ∷ l) (touches_left inside frame ss h.1 ∙ (ap (λ (b : Bool). marks_of (left_of b ss)) h.0 ∙ marks_left (block_touches ss) (features_of ss)))
+    ap (λ (l : List Marked). (t, is_empty (block_touches ss)) ∷ l) (touches_left inside frame ss h.1
+        ∙ (ap (λ (b : Bool). marks_of (left_of b ss)) h.0 ∙ marks_left (block_touches ss) (features_of ss)))
     ∙ sym (ap (λ (b : Bool). marks_of (left_of b (step.Touch t ∷ ss))) h.0)
 touches_left inside frame (step.Tool n ∷ ss) h = touches_left inside frame ss h
 touches_left inside frame (step.Recall p ∷ ss) h = touches_left inside (Part p) ss h
@@ -100,19 +107,26 @@ drop_none : (inside : Bool) (k : ℕ) → drop (suc k) (left_with inside [] []) 
 drop_none true k = refl
 drop_none false k = refl
 
-touch_place : (inside : Bool) (k : ℕ) (t : Touch) (ss : List Step) (b : Bool) → is_empty (block_touches ss) ≡ b → inside ≡ true → IsPlace inside ss k (behind k ss) → IsPlace inside ss (suc k) (behind (suc k) ss) → IsPlace inside (step.Touch t ∷ ss) (suc k) (cond b (behind k ss) (behind (suc k) ss))
+touch_place : (inside : Bool) (k : ℕ) (t : Touch) (ss : List Step) (b : Bool) → is_empty (block_touches ss) ≡ b → inside ≡ true
+    → IsPlace inside ss k (behind k ss) → IsPlace inside ss (suc k) (behind (suc k) ss)
+    → IsPlace inside (step.Touch t ∷ ss) (suc k) (cond b (behind k ss) (behind (suc k) ss))
 touch_place inside k t ss true e i here there = record {
   within = here.within;
   blocks = here.blocks;
-  left = here.left ∙ (ap (λ (a : Bool). marks_of (drop k (left_of a ss))) i ∙ (ap (λ (ts : List Touch). marks_of (drop k (left_with true ts (features_of ss)))) (empty_is (block_touches ss) e) ∙ sym (ap (λ (a : Bool). marks_of (drop (suc k) (left_of a (step.Touch t ∷ ss)))) i)));
+  left = here.left ∙ (ap (λ (a : Bool). marks_of (drop k (left_of a ss))) i
+      ∙ (ap (λ (ts : List Touch). marks_of (drop k (left_with true ts (features_of ss)))) (empty_is (block_touches ss) e)
+      ∙ sym (ap (λ (a : Bool). marks_of (drop (suc k) (left_of a (step.Touch t ∷ ss)))) i)));
 }
 touch_place inside k t ss false e i here there = record {
   within = there.within;
   blocks = there.blocks;
-  left = there.left ∙ (ap (λ (a : Bool). marks_of (drop (suc k) (left_of a ss))) i ∙ (ap marks_of (drop_more (block_touches ss) (features_of ss) k e) ∙ sym (ap (λ (a : Bool). marks_of (drop (suc k) (left_of a (step.Touch t ∷ ss)))) i)));
+  left = there.left ∙ (ap (λ (a : Bool). marks_of (drop (suc k) (left_of a ss))) i
+      ∙ (ap marks_of (drop_more (block_touches ss) (features_of ss) k e)
+      ∙ sym (ap (λ (a : Bool). marks_of (drop (suc k) (left_of a (step.Touch t ∷ ss)))) i)));
 }
 
-begin_is : (inside : Bool) (l : List ℕ) (ss : List Step) (k : ℕ) → inside ≡ false → (block_touches ss ≡ [] → ⊥) → drop (suc k) (left_of true ss) ≡ drop (suc k) (left_of inside (step.Begin l ∷ ss))
+begin_is : (inside : Bool) (l : List ℕ) (ss : List Step) (k : ℕ) → inside ≡ false → (block_touches ss ≡ [] → ⊥)
+    → drop (suc k) (left_of true ss) ≡ drop (suc k) (left_of inside (step.Begin l ∷ ss))
 begin_is inside l ss k i some = go (block_touches ss) refl ∙ sym (ap (λ (a : Bool). drop (suc k) (left_of a (step.Begin l ∷ ss))) i)
   where
     go : (ts : List Touch) → block_touches ss ≡ ts → drop (suc k) (left_of true ss) ≡ drop k (features_of ss)
@@ -121,27 +135,40 @@ begin_is inside l ss k i some = go (block_touches ss) refl ∙ sym (ap (λ (a : 
 
 pub place_at : (inside : Bool) (k : ℕ) (ss : List Step) → AreBlocks inside ss → IsPlace inside ss k (behind k ss)
 place_at inside zero ss h = record { within = inside; blocks = h; left = refl }
-place_at inside (suc k) [] h = record { within = inside; blocks = h; left = ap marks_of (left_none inside []) ∙ sym (ap marks_of (drop_none inside k)) }
-place_at inside (suc k) (step.Goto p ∷ ss) h = let at = place_at inside (suc k) ss h in record { within = at.within; blocks = at.blocks; left = at.left }
-place_at inside (suc k) (step.Begin l ∷ ss) h = let at = place_at true (suc k) ss h.2 in record { within = at.within; blocks = at.blocks; left = at.left ∙ ap marks_of (begin_is inside l ss k h.0 h.1) }
-place_at inside (suc k) (step.Touch t ∷ ss) h = touch_place inside k t ss (is_empty (block_touches ss)) refl h.0 (place_at inside k ss h.1) (place_at inside (suc k) ss h.1)
-place_at inside (suc k) (step.Tool n ∷ ss) h = let at = place_at inside (suc k) ss h in record { within = at.within; blocks = at.blocks; left = at.left }
-place_at inside (suc k) (step.Recall p ∷ ss) h = let at = place_at inside (suc k) ss h in record { within = at.within; blocks = at.blocks; left = at.left }
+place_at inside (suc k) [] h = record { within = inside; blocks = h; left = ap marks_of (left_none inside [])
+    ∙ sym (ap marks_of (drop_none inside k)) }
+place_at inside (suc k) (step.Goto p ∷ ss) h = let at = place_at inside (suc k) ss h
+    in record { within = at.within; blocks = at.blocks; left = at.left }
+place_at inside (suc k) (step.Begin l ∷ ss) h = let at = place_at true (suc k) ss h.2
+    in record { within = at.within; blocks = at.blocks; left = at.left ∙ ap marks_of (begin_is inside l ss k h.0 h.1) }
+place_at inside (suc k) (step.Touch t ∷ ss) h = touch_place inside k t ss (is_empty (block_touches ss)) refl h.0 (place_at inside k ss h.1)
+    (place_at inside (suc k) ss h.1)
+place_at inside (suc k) (step.Tool n ∷ ss) h = let at = place_at inside (suc k) ss h
+    in record { within = at.within; blocks = at.blocks; left = at.left }
+place_at inside (suc k) (step.Recall p ∷ ss) h = let at = place_at inside (suc k) ss h
+    in record { within = at.within; blocks = at.blocks; left = at.left }
 place_at inside (suc k) (step.End ∷ ss) h =
     let at = place_at false (suc k) ss h.1 in
-    record { within = at.within; blocks = at.blocks; left = at.left ∙ sym (ap (λ (ws : List Wanted). marks_of (drop (suc k) ws)) (left_none inside (features_of ss))) }
+    record { within = at.within; blocks = at.blocks; left = at.left
+        ∙ sym (ap (λ (ws : List Wanted). marks_of (drop (suc k) ws)) (left_none inside (features_of ss))) }
 
 -- what is selected at a position
-touch_selected : (k : ℕ) (tool : Option (List ℕ)) (frame : Frame) (t : Touch) (ss : List Step) (b : Bool) → AreSelected (tool_behind tool (up_to k ss)) (frame_behind frame (up_to k ss)) (behind k ss) → AreSelected (tool_behind tool (up_to (suc k) ss)) (frame_behind frame (up_to (suc k) ss)) (behind (suc k) ss) → AreSelected (tool_behind tool (step.Touch t ∷ cond b (up_to k ss) (up_to (suc k) ss))) (frame_behind frame (step.Touch t ∷ cond b (up_to k ss) (up_to (suc k) ss))) (cond b (behind k ss) (behind (suc k) ss))
+touch_selected : (k : ℕ) (tool : Option (List ℕ)) (frame : Frame) (t : Touch) (ss : List Step) (b : Bool)
+    → AreSelected (tool_behind tool (up_to k ss)) (frame_behind frame (up_to k ss)) (behind k ss)
+    → AreSelected (tool_behind tool (up_to (suc k) ss)) (frame_behind frame (up_to (suc k) ss)) (behind (suc k) ss)
+    → AreSelected (tool_behind tool (step.Touch t ∷ cond b (up_to k ss) (up_to (suc k) ss)))
+    (frame_behind frame (step.Touch t ∷ cond b (up_to k ss) (up_to (suc k) ss))) (cond b (behind k ss) (behind (suc k) ss))
 touch_selected k tool frame t ss true here there = here
 touch_selected k tool frame t ss false here there = there
 
-pub selected_at : (k : ℕ) (tool : Option (List ℕ)) (frame : Frame) (ss : List Step) → AreSelected tool frame ss → AreSelected (tool_behind tool (up_to k ss)) (frame_behind frame (up_to k ss)) (behind k ss)
+pub selected_at : (k : ℕ) (tool : Option (List ℕ)) (frame : Frame) (ss : List Step) → AreSelected tool frame ss
+    → AreSelected (tool_behind tool (up_to k ss)) (frame_behind frame (up_to k ss)) (behind k ss)
 selected_at zero tool frame ss h = h
 selected_at (suc k) tool frame [] h = tt
 selected_at (suc k) tool frame (step.Goto p ∷ ss) h = selected_at (suc k) tool frame ss h
 selected_at (suc k) tool frame (step.Begin l ∷ ss) h = selected_at (suc k) tool frame ss h
-selected_at (suc k) tool frame (step.Touch t ∷ ss) h = touch_selected k tool frame t ss (is_empty (block_touches ss)) (selected_at k tool frame ss h.2) (selected_at (suc k) tool frame ss h.2)
+selected_at (suc k) tool frame (step.Touch t ∷ ss) h = touch_selected k tool frame t ss (is_empty (block_touches ss))
+    (selected_at k tool frame ss h.2) (selected_at (suc k) tool frame ss h.2)
 selected_at (suc k) tool frame (step.Tool n ∷ ss) h = selected_at (suc k) (Some n) frame ss h
 selected_at (suc k) tool frame (step.Recall p ∷ ss) h = selected_at (suc k) tool (Part p) ss h
 selected_at (suc k) tool frame (step.End ∷ ss) h = selected_at (suc k) tool frame ss h
@@ -158,7 +185,8 @@ abbrev knows : Option (List ℕ) → Frame → Option Point → Know
 knows tool frame stored = record { tool = tool; frame = Some frame; stored = stored }
 
 -- commands that select a frame fit, where what follows fits in that frame
-fits_framing : (tool : Option (List ℕ)) (f : Option Frame) (stored : Option Point) (frame : Frame) (ps : List Planned) → ((s : Option Point) → Fits (knows tool frame s) ps) → Fits (record { tool = tool; frame = f; stored = stored }) (framing frame ++ ps)
+fits_framing : (tool : Option (List ℕ)) (f : Option Frame) (stored : Option Point) (frame : Frame) (ps : List Planned)
+    → ((s : Option Point) → Fits (knows tool frame s) ps) → Fits (record { tool = tool; frame = f; stored = stored }) (framing frame ++ ps)
 fits_framing tool f stored Machine ps h = (record { frame = Machine; known = refl; is = refl }, h stored)
 fits_framing tool f stored (Part p) ps h =
     let twice : point_opposite (point_opposite p) ≡ p = turned_twice p in (
@@ -169,22 +197,27 @@ fits_framing tool f stored (Part p) ps h =
       ),
     )
 
-fits_steps : (tool : Option (List ℕ)) (frame : Frame) (stored : Option Point) (ss : List Step) → AreSelected tool frame ss → Fits (knows tool frame stored) (stepping frame ss ++ finish)
+fits_steps : (tool : Option (List ℕ)) (frame : Frame) (stored : Option Point) (ss : List Step) → AreSelected tool frame ss
+    → Fits (knows tool frame stored) (stepping frame ss ++ finish)
 fits_steps tool frame stored [] h = (refl, tt)
 fits_steps tool frame stored (step.Goto p ∷ ss) h = (record { frame = frame; known = refl; is = refl }, fits_steps tool frame stored ss h)
 fits_steps tool frame stored (step.Begin l ∷ ss) h = fits_steps tool frame stored ss h
 fits_steps tool frame stored (step.Touch t ∷ ss) h =
-    (record { touch = t; last = is_empty (block_touches ss); tool = h.0; frame = ap (λ (f : Frame). Some f) h.1; target = refl; dir = refl; is = refl }, fits_steps tool frame stored ss h.2)
+    (record { touch = t; last = is_empty (block_touches ss); tool = h.0; frame = ap (λ (f : Frame). Some f) h.1; target = refl; dir = refl;
+        is = refl }, fits_steps tool frame stored ss h.2)
 fits_steps tool frame stored (step.Tool n ∷ ss) h = (refl, fits_steps (Some n) frame stored ss h)
 fits_steps tool frame stored (step.Recall p ∷ ss) h =
     fits_framing tool (Some frame) stored (Part p) (stepping (Part p) ss ++ finish) (λ s. fits_steps tool (Part p) s ss h)
 fits_steps tool frame stored (step.End ∷ ss) h = fits_steps tool frame stored ss h
 
-fits_measuring : (tool : Option (List ℕ)) (frame : Frame) (ss : List Step) → AreSelected tool frame ss → Fits unknown (measuring tool frame ss)
+fits_measuring : (tool : Option (List ℕ)) (frame : Frame) (ss : List Step) → AreSelected tool frame ss
+    → Fits unknown (measuring tool frame ss)
 fits_measuring None frame ss h = fits_framing None None None frame (stepping frame ss ++ finish) (λ s. fits_steps None frame s ss h)
-fits_measuring (Some n) frame ss h = (refl, fits_framing (Some n) None None frame (stepping frame ss ++ finish) (λ s. fits_steps (Some n) frame s ss h))
+fits_measuring (Some n) frame ss h = (refl, fits_framing (Some n) None None frame (stepping frame ss ++ finish)
+    (λ s. fits_steps (Some n) frame s ss h))
 
-fits_rest : (p : Program) (k : ℕ) → IsPlain p → Fits unknown (measuring (tool_behind None (up_to k p.steps)) (frame_behind Machine (up_to k p.steps)) (behind k p.steps))
+fits_rest : (p : Program) (k : ℕ) → IsPlain p → Fits unknown
+    (measuring (tool_behind None (up_to k p.steps)) (frame_behind Machine (up_to k p.steps)) (behind k p.steps))
 fits_rest p k h = fits_measuring _ _ (behind k p.steps) (selected_at k None Machine p.steps h.selected)
 
 -- a plan fits, whatever is known of the server
@@ -211,12 +244,14 @@ no_clear_steps frame (step.End ∷ ss) = no_clear_steps frame ss
 
 no_clear_measuring : (tool : Option (List ℕ)) (frame : Frame) (ss : List Step) → HasNoClear (measuring tool frame ss)
 no_clear_measuring tool frame ss =
-    no_clear_more (tooling tool) _ (no_clear_tooling tool) (no_clear_more (framing frame) _ (no_clear_framing frame) (no_clear_more (stepping frame ss) finish (no_clear_steps frame ss) (refl, tt)))
+    no_clear_more (tooling tool) _ (no_clear_tooling tool) (no_clear_more (framing frame) _ (no_clear_framing frame)
+        (no_clear_more (stepping frame ss) finish (no_clear_steps frame ss) (refl, tt)))
 
 -- and what follows its ClearAllErrors fits by itself
 sane_clearing : (p : Program) (k : ℕ) → IsPlain p → IsSane (plan p k SameConnection)
 sane_clearing p k h =
-    ((λ e know. (refl, (refl, (refl, fits_rest p k h)))), ((λ e know. absurd (false≢true e)), ((λ e know. absurd (false≢true e)), sane_without _ (no_clear_measuring _ _ (behind k p.steps)))))
+    ((λ e know. (refl, (refl, (refl, fits_rest p k h)))), ((λ e know. absurd (false≢true e)),
+        ((λ e know. absurd (false≢true e)), sane_without _ (no_clear_measuring _ _ (behind k p.steps)))))
 
 pub plan_sane : (p : Program) (k : ℕ) (start : Start) → IsPlain p → IsSane (plan p k start)
 plan_sane p k NewConnection h = ((λ e know. absurd (false≢true e)), sane_clearing p k h)
@@ -230,9 +265,12 @@ no_touch_tooling : (tool : Option (List ℕ)) (ps : List Planned) → touches_in
 no_touch_tooling None ps = refl
 no_touch_tooling (Some n) ps = refl
 
-measuring_touches : (tool : Option (List ℕ)) (frame : Frame) (ss : List Step) → touches_in (measuring tool frame ss) ≡ touches_in (stepping frame ss)
+measuring_touches : (tool : Option (List ℕ)) (frame : Frame) (ss : List Step)
+    → touches_in (measuring tool frame ss) ≡ touches_in (stepping frame ss)
 measuring_touches tool frame ss =
-    no_touch_tooling tool (framing frame ++ (stepping frame ss ++ finish)) ∙ (no_touch_framing frame (stepping frame ss ++ finish) ∙ (touches_more (stepping frame ss) finish ∙ append-nil (touches_in (stepping frame ss))))
+    no_touch_tooling tool (framing frame ++ (stepping frame ss ++ finish))
+        ∙ (no_touch_framing frame (stepping frame ss ++ finish) ∙ (touches_more (stepping frame ss) finish
+        ∙ append-nil (touches_in (stepping frame ss))))
 
 starting_touches : (start : Start) (ps : List Planned) → touches_in (starting start ps) ≡ touches_in ps
 starting_touches NewConnection ps = refl
@@ -243,7 +281,8 @@ pub plan_touches : (p : Program) (k : ℕ) (start : Start) → IsPlain p → tou
 plan_touches p k start h =
     let at : IsPlace false p.steps k (behind k p.steps) = place_at false k p.steps h.blocks in
     starting_touches start _ ∙ (measuring_touches _ _ (behind k p.steps)
-    ∙ (touches_left at.within _ (behind k p.steps) at.blocks ∙ (at.left ∙ sym (ap (λ (ws : List Wanted). marks_of (drop k ws)) h.features))))
+    ∙ (touches_left at.within _ (behind k p.steps) at.blocks ∙ (at.left
+    ∙ sym (ap (λ (ws : List Wanted). marks_of (drop k ws)) h.features))))
 
 -- no command of a plan is an abort
 abbrev pub HasNoAbort : List Planned → Type 0
@@ -273,7 +312,8 @@ no_abort_steps frame (step.End ∷ ss) = no_abort_steps frame ss
 
 no_abort_measuring : (tool : Option (List ℕ)) (frame : Frame) (ss : List Step) → HasNoAbort (measuring tool frame ss)
 no_abort_measuring tool frame ss =
-    no_abort_more (tooling tool) _ (no_abort_tooling tool) (no_abort_more (framing frame) _ (no_abort_framing frame) (no_abort_more (stepping frame ss) finish (no_abort_steps frame ss) (refl, tt)))
+    no_abort_more (tooling tool) _ (no_abort_tooling tool) (no_abort_more (framing frame) _ (no_abort_framing frame)
+        (no_abort_more (stepping frame ss) finish (no_abort_steps frame ss) (refl, tt)))
 
 pub plan_no_abort : (p : Program) (k : ℕ) (start : Start) → HasNoAbort (plan p k start)
 plan_no_abort p k NewConnection = (refl, (refl, (refl, (refl, no_abort_measuring _ _ (behind k p.steps)))))

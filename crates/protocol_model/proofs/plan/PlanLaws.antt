@@ -1,5 +1,6 @@
 -- What a plan measures, and in which order: the laws of plans.
-use Rattle.std.proofs.Common.{◌≡◌, ℕ, ◌≤◌, Bool, true, false, List, [], ◌∷◌, ◌++◌, drop, refl, sym, ◌∙◌, ap, arith, append_assoc, Option, Some, None, Ok}
+use Rattle.std.proofs.Common.{◌≡◌, ℕ, ◌≤◌, Bool, true, false, List, [], ◌∷◌, ◌++◌, drop, refl, sym, ◌∙◌, ap, arith, append_assoc, Option,
+  Some, None, Ok}
 use Rattle.std.proofs.lemmas.Bool.{false≢true}
 use Rattle.std.specs.List.{list_all, flat_map}
 use Rattle.fixed_um.specs.Shapes.{Direction}
@@ -21,11 +22,14 @@ use Rattle.dmis_program.specs.declared.features.Wanted.{Wanted}
 use Rattle.dmis_program.specs.declared.steps.Step.{Step}
 use Rattle.dmis_program.specs.declared.steps.Step.TheVariants as step
 use Rattle.protocol_model.specs.Plan.{tool_behind, frame_behind, behind, up_to, planned, framing, tooling, stepping, measuring, plan}
-use Rattle.protocol_model.specs.PlanReading.{touch_of, touches_of, end_of, ends_of, touch_ends, feature_ends, commands_of, Selected, nothing_selected, selected_frame, selected_by, read_touch, read_move, read_frame, read_as, is_last, ReadAsPlanned, touch_made, touches_made_by, touches_made, all_known, opening, is_measuring, IsInOrder, step_commands, whole_commands, CanBeWritten}
+use Rattle.protocol_model.specs.PlanReading.{touch_of, touches_of, end_of, ends_of, touch_ends, feature_ends, commands_of, Selected,
+  nothing_selected, selected_frame, selected_by, read_touch, read_move, read_frame, read_as, is_last, ReadAsPlanned, touch_made,
+  touches_made_by, touches_made, all_known, opening, is_measuring, IsInOrder, step_commands, whole_commands, CanBeWritten}
 use Rattle.protocol_model.specs.Server.{is_abort}
 use Rattle.protocol_model.proofs.plan.Blocks.{program_is_plain}
 use Rattle.protocol_model.proofs.plan.Fitting.{Know, unknown, known_frame, known_by, FitsMove, FitsTouch, FitsFrame, FitsOne, Fits}
-use Rattle.protocol_model.proofs.plan.Marks.{Marked, marks, marks_of, touch_in, touches_in, HasNoAbort, plan_touches, plan_fits, plan_no_abort}
+use Rattle.protocol_model.proofs.plan.Marks.{Marked, marks, marks_of, touch_in, touches_in, HasNoAbort, plan_touches, plan_fits,
+  plan_no_abort}
 use Rattle.protocol_model.proofs.lines.PlainClient.{HaveArguments, plan_arguments}
 use Rattle.protocol_model.specs.declared.plans.Planned.{Planned}
 use Rattle.protocol_model.specs.declared.plans.Does.{Does}
@@ -69,11 +73,13 @@ end_second (Does.Touches t last) = refl
 
 touches_first : (ps : List Planned) → touches_of ps ≡ firsts (touches_in ps)
 touches_first [] = refl
-touches_first (p ∷ ps) = ap (λ (l : List Touch). touch_of p.does ++ l) (touches_first ps) ∙ (ap (λ (l : List Touch). l ++ firsts (touches_in ps)) (touch_first p.does) ∙ sym (firsts_more (touch_in p.does) (touches_in ps)))
+touches_first (p ∷ ps) = ap (λ (l : List Touch). touch_of p.does ++ l) (touches_first ps)
+    ∙ (ap (λ (l : List Touch). l ++ firsts (touches_in ps)) (touch_first p.does) ∙ sym (firsts_more (touch_in p.does) (touches_in ps)))
 
 ends_second : (ps : List Planned) → ends_of ps ≡ seconds (touches_in ps)
 ends_second [] = refl
-ends_second (p ∷ ps) = ap (λ (l : List Bool). end_of p.does ++ l) (ends_second ps) ∙ (ap (λ (l : List Bool). l ++ seconds (touches_in ps)) (end_second p.does) ∙ sym (seconds_more (touch_in p.does) (touches_in ps)))
+ends_second (p ∷ ps) = ap (λ (l : List Bool). end_of p.does ++ l) (ends_second ps)
+    ∙ (ap (λ (l : List Bool). l ++ seconds (touches_in ps)) (end_second p.does) ∙ sym (seconds_more (touch_in p.does) (touches_in ps)))
 
 marks_first : (ts : List Touch) → firsts (marks ts) ≡ ts
 marks_first [] = refl
@@ -86,17 +92,24 @@ marks_second (t ∷ u ∷ ts) = ap (λ (l : List Bool). false ∷ l) (marks_seco
 
 features_first : (ws : List Wanted) → firsts (marks_of ws) ≡ feature_touches ws
 features_first [] = refl
-features_first (w ∷ ws) = firsts_more (marks w.touches) (marks_of ws) ∙ (ap (λ (l : List Touch). l ++ firsts (marks_of ws)) (marks_first w.touches) ∙ ap (λ (l : List Touch). w.touches ++ l) (features_first ws))
+features_first (w ∷ ws) = firsts_more (marks w.touches) (marks_of ws)
+    ∙ (ap (λ (l : List Touch). l ++ firsts (marks_of ws)) (marks_first w.touches)
+    ∙ ap (λ (l : List Touch). w.touches ++ l) (features_first ws))
 
 features_second : (ws : List Wanted) → seconds (marks_of ws) ≡ feature_ends ws
 features_second [] = refl
-features_second (w ∷ ws) = seconds_more (marks w.touches) (marks_of ws) ∙ (ap (λ (l : List Bool). l ++ seconds (marks_of ws)) (marks_second w.touches) ∙ ap (λ (l : List Bool). touch_ends w.touches ++ l) (features_second ws))
+features_second (w ∷ ws) = seconds_more (marks w.touches) (marks_of ws)
+    ∙ (ap (λ (l : List Bool). l ++ seconds (marks_of ws)) (marks_second w.touches)
+    ∙ ap (λ (l : List Bool). touch_ends w.touches ++ l) (features_second ws))
 
-pub plan_touches_left : (p : Program) (k : ℕ) (start : Start) → IsProgram p → touches_of (plan p k start) ≡ feature_touches (drop k p.features)
-plan_touches_left p k start h = touches_first (plan p k start) ∙ (ap firsts (plan_touches p k start (program_is_plain p h)) ∙ features_first (drop k p.features))
+pub plan_touches_left : (p : Program) (k : ℕ) (start : Start) → IsProgram p
+    → touches_of (plan p k start) ≡ feature_touches (drop k p.features)
+plan_touches_left p k start h = touches_first (plan p k start)
+    ∙ (ap firsts (plan_touches p k start (program_is_plain p h)) ∙ features_first (drop k p.features))
 
 pub plan_ends_left : (p : Program) (k : ℕ) (start : Start) → IsProgram p → ends_of (plan p k start) ≡ feature_ends (drop k p.features)
-plan_ends_left p k start h = ends_second (plan p k start) ∙ (ap seconds (plan_touches p k start (program_is_plain p h)) ∙ features_second (drop k p.features))
+plan_ends_left p k start h = ends_second (plan p k start) ∙ (ap seconds (plan_touches p k start (program_is_plain p h))
+    ∙ features_second (drop k p.features))
 
 -- ---- what commands do where they stand
 
@@ -109,7 +122,8 @@ record IsSelected (k : Know) (s : Selected) : Type 0 where
 nothing_known : (s : Selected) → IsSelected unknown s
 nothing_known s = record { tool = λ n e. absurd (cc); frame = λ f e. absurd (cc); stored = λ p e. absurd (cc) }
 
-frame_is_selected : (system : Csy) (s r : Option Point) → ((p : Point) → s ≡ Some p → r ≡ Some p) → (f : Frame) → known_frame system s ≡ Some f → selected_frame system r ≡ Some f
+frame_is_selected : (system : Csy) (s r : Option Point) → ((p : Point) → s ≡ Some p → r ≡ Some p) → (f : Frame)
+    → known_frame system s ≡ Some f → selected_frame system r ≡ Some f
 frame_is_selected MachineCsy s r more f e = e
 frame_is_selected PartCsy None r more f e = absurd (cc)
 frame_is_selected PartCsy (Some p) r more f e = ap (selected_frame PartCsy) (more p refl) ∙ e
@@ -124,7 +138,8 @@ selects k s (command.GoTo p) h = h
 selects k s (command.PtMeas p d) h = h
 selects k s (command.ChangeTool n) h = record { tool = λ m e. e; frame = h.frame; stored = h.stored }
 selects k s (command.SetCsyTransformation p) h = record { tool = h.tool; frame = h.frame; stored = λ q e. e }
-selects k s (command.SetCoordSystem system) h = record { tool = h.tool; frame = frame_is_selected system k.stored s.stored h.stored; stored = h.stored }
+selects k s (command.SetCoordSystem system) h = record { tool = h.tool; frame = frame_is_selected system k.stored s.stored h.stored;
+    stored = h.stored }
 selects k s command.AbortE h = h
 
 -- a command that fits what is known does what it is planned for
@@ -136,12 +151,14 @@ fits_as k s command.Home d h fits = ap (λ (x : Does). Some x) (sym fits)
 fits_as k s command.OnPtMeasReport d h fits = ap (λ (x : Does). Some x) (sym fits)
 fits_as k s (command.GoTo p) d h fits =
     let f : FitsMove k p d = fits in
-    ap (λ (o : Option Frame). read_as (record s { frame = o }) (is_last d) (command.GoTo p)) (h.frame f.frame f.known) ∙ ap (λ (x : Does). Some x) (sym f.is)
+    ap (λ (o : Option Frame). read_as (record s { frame = o }) (is_last d) (command.GoTo p)) (h.frame f.frame f.known)
+        ∙ ap (λ (x : Does). Some x) (sym f.is)
 fits_as k s (command.PtMeas p dir) d h fits =
     let f : FitsTouch k p dir d = fits in
     touched p dir d f.touch f.last (h.tool f.touch.tool f.tool) (h.frame f.touch.frame f.frame) f.target f.dir f.is
   where
-    touched : (q : Point) (e : Option Direction) (d : Does) (t : Touch) (last : Bool) → s.tool ≡ Some t.tool → s.frame ≡ Some t.frame → q ≡ t.target → e ≡ t.dir → d ≡ Does.Touches t last → read_as s (is_last d) (command.PtMeas q e) ≡ Some d
+    touched : (q : Point) (e : Option Direction) (d : Does) (t : Touch) (last : Bool) → s.tool ≡ Some t.tool → s.frame ≡ Some t.frame
+        → q ≡ t.target → e ≡ t.dir → d ≡ Does.Touches t last → read_as s (is_last d) (command.PtMeas q e) ≡ Some d
     touched q e d t last tool frame target dir is = rw (is, tool, frame, target, dir) refl
 fits_as k s (command.ChangeTool n) d h fits = ap (λ (x : Does). Some x) (sym fits)
 fits_as k s (command.SetCsyTransformation p) d h fits = ap (λ (x : Does). Some x) (sym fits)
@@ -152,10 +169,12 @@ fits_as k s command.AbortE d h fits = absurd fits
 
 as_planned : (ps : List Planned) (k : Know) (s : Selected) → IsSelected k s → Fits k ps → ReadAsPlanned s ps
 as_planned [] k s h fits = tt
-as_planned (p ∷ ps) k s h fits = (fits_as k s p.command p.does h fits.0, as_planned ps (known_by k p.command) (selected_by s p.command) (selects k s p.command h) fits.1)
+as_planned (p ∷ ps) k s h fits = (fits_as k s p.command p.does h fits.0,
+    as_planned ps (known_by k p.command) (selected_by s p.command) (selects k s p.command h) fits.1)
 
 pub plan_as_planned : (p : Program) (k : ℕ) (start : Start) → IsProgram p → ReadAsPlanned nothing_selected (plan p k start)
-plan_as_planned p k start h = as_planned (plan p k start) unknown nothing_selected (nothing_known nothing_selected) (plan_fits p k start unknown (program_is_plain p h))
+plan_as_planned p k start h = as_planned (plan p k start) unknown nothing_selected (nothing_known nothing_selected)
+    (plan_fits p k start unknown (program_is_plain p h))
 
 -- ---- the touches that commands make
 
@@ -166,16 +185,19 @@ made_as : (d : Option Does) (e : Does) → d ≡ Some e → touch_made d ≡ tou
 made_as d e is = ap touch_made is
 
 -- a touch that is read as the last of its feature is the same touch as one that is not
-made_same : (s : Selected) (p : Point) (d : Option Direction) (last : Bool) → touch_made (read_as s false (command.PtMeas p d)) ≡ touch_made (read_as s last (command.PtMeas p d))
+made_same : (s : Selected) (p : Point) (d : Option Direction) (last : Bool)
+    → touch_made (read_as s false (command.PtMeas p d)) ≡ touch_made (read_as s last (command.PtMeas p d))
 made_same s p d last = go s.tool s.frame
   where
-    go : (tool : Option (List ℕ)) (frame : Option Frame) → touch_made (read_touch p d false tool frame) ≡ touch_made (read_touch p d last tool frame)
+    go : (tool : Option (List ℕ)) (frame : Option Frame) → touch_made (read_touch p d false tool frame)
+        ≡ touch_made (read_touch p d last tool frame)
     go None frame = refl
     go (Some n) None = refl
     go (Some n) (Some f) = refl
 
 -- what stands for a touch is planned as one
-is_touch : (p : Point) (d : Option Direction) (tool : Option (List ℕ)) (frame : Option Frame) (last : Bool) (does : Does) → read_touch p d last tool frame ≡ Some does → touch_made (Some does) ∷ [] ≡ all_known (touch_of does)
+is_touch : (p : Point) (d : Option Direction) (tool : Option (List ℕ)) (frame : Option Frame) (last : Bool) (does : Does)
+    → read_touch p d last tool frame ≡ Some does → touch_made (Some does) ∷ [] ≡ all_known (touch_of does)
 is_touch p d (Some n) (Some f) last does e = go does e
   where
     go : (x : Does) → read_touch p d last (Some n) (Some f) ≡ Some x → touch_made (Some x) ∷ [] ≡ all_known (touch_of x)
@@ -204,7 +226,8 @@ makes s command.ClearAllErrors d e = ap (λ (x : Does). all_known (touch_of x)) 
 makes s command.Home d e = ap (λ (x : Does). all_known (touch_of x)) (some_does Does.Homes d e)
 makes s command.OnPtMeasReport d e = ap (λ (x : Does). all_known (touch_of x)) (some_does Does.Nothing d e)
 makes s (command.GoTo p) d e = no_touch_move p s.frame d e
-makes s (command.PtMeas p dir) d e = ap (λ (o : Option Touch). o ∷ []) (made_same s p dir (is_last d) ∙ made_as (read_as s (is_last d) (command.PtMeas p dir)) d e) ∙ is_touch p dir s.tool s.frame (is_last d) d e
+makes s (command.PtMeas p dir) d e = ap (λ (o : Option Touch). o ∷ []) (made_same s p dir (is_last d)
+    ∙ made_as (read_as s (is_last d) (command.PtMeas p dir)) d e) ∙ is_touch p dir s.tool s.frame (is_last d) d e
 makes s (command.ChangeTool n) d e = ap (λ (x : Does). all_known (touch_of x)) (some_does (Does.Changes n) d e)
 makes s (command.SetCsyTransformation p) d e = ap (λ (x : Does). all_known (touch_of x)) (some_does Does.Nothing d e)
 makes s (command.SetCoordSystem system) d e = no_touch_frame (selected_frame system s.stored) d e
@@ -218,10 +241,13 @@ all_makes : (ps : List Planned) (s : Selected) → ReadAsPlanned s ps → touche
 all_makes [] s h = refl
 all_makes (p ∷ ps) s h =
     ap (λ (l : List (Option Touch)). touches_made_by s p.command ++ l) (all_makes ps (selected_by s p.command) h.1)
-    ∙ (ap (λ (l : List (Option Touch)). l ++ all_known (touches_of ps)) (makes s p.command p.does h.0) ∙ sym (known_more (touch_of p.does) (touches_of ps)))
+    ∙ (ap (λ (l : List (Option Touch)). l ++ all_known (touches_of ps)) (makes s p.command p.does h.0)
+    ∙ sym (known_more (touch_of p.does) (touches_of ps)))
 
-pub plan_makes : (p : Program) (k : ℕ) (start : Start) → IsProgram p → touches_made nothing_selected (commands_of (plan p k start)) ≡ all_known (feature_touches (drop k p.features))
-plan_makes p k start h = all_makes (plan p k start) nothing_selected (plan_as_planned p k start h) ∙ ap all_known (plan_touches_left p k start h)
+pub plan_makes : (p : Program) (k : ℕ) (start : Start) → IsProgram p
+    → touches_made nothing_selected (commands_of (plan p k start)) ≡ all_known (feature_touches (drop k p.features))
+plan_makes p k start h = all_makes (plan p k start) nothing_selected (plan_as_planned p k start h)
+    ∙ ap all_known (plan_touches_left p k start h)
 
 -- ---- the order
 
@@ -267,19 +293,28 @@ record IsMeasured (commands : List Command) : Type 0 where
 measured_of : (tool : Option (List ℕ)) (frame : Frame) (ss : List Step) → IsMeasured (commands_of (measuring tool frame ss))
 measured_of tool frame ss = record {
   body = commands_of (tooling tool) ++ (commands_of (framing frame) ++ commands_of (stepping frame ss));
-  parts = commands_more (tooling tool) _ ∙ (ap (λ (l : List Command). commands_of (tooling tool) ++ l) (commands_more (framing frame) _ ∙ (ap (λ (l : List Command). commands_of (framing frame) ++ l) (commands_more (stepping frame ss) _) ∙ sym (append_assoc (commands_of (framing frame)) (commands_of (stepping frame ss)) _))) ∙ sym (append_assoc (commands_of (tooling tool)) (commands_of (framing frame) ++ commands_of (stepping frame ss)) _));
-  measures = measure_join (commands_of (tooling tool)) _ (tooling_measures tool) (measure_join (commands_of (framing frame)) _ (framing_measures frame) (stepping_measures frame ss));
+  parts = commands_more (tooling tool) _ ∙ (ap (λ (l : List Command). commands_of (tooling tool) ++ l) (commands_more (framing frame) _
+      ∙ (ap (λ (l : List Command). commands_of (framing frame) ++ l) (commands_more (stepping frame ss) _)
+      ∙ sym (append_assoc (commands_of (framing frame)) (commands_of (stepping frame ss)) _)))
+      ∙ sym (append_assoc (commands_of (tooling tool)) (commands_of (framing frame) ++ commands_of (stepping frame ss)) _));
+  measures = measure_join (commands_of (tooling tool)) _ (tooling_measures tool)
+      (measure_join (commands_of (framing frame)) _ (framing_measures frame) (stepping_measures frame ss));
 }
 
 pub plan_in_order : (p : Program) (k : ℕ) (start : Start) → IsInOrder start (commands_of (plan p k start))
 plan_in_order p k start = go start
   where
-    m : IsMeasured (commands_of (measuring (tool_behind None (up_to k p.steps)) (frame_behind Machine (up_to k p.steps)) (behind k p.steps)))
+    m : IsMeasured (commands_of (measuring (tool_behind None (up_to k p.steps)) (frame_behind Machine (up_to k p.steps))
+        (behind k p.steps)))
     m = measured_of (tool_behind None (up_to k p.steps)) (frame_behind Machine (up_to k p.steps)) (behind k p.steps)
 
     go : (s : Start) → IsInOrder s (commands_of (plan p k s))
-    go NewConnection = record { measuring = m.body; parts = ap (λ (l : List Command). command.StartSession ∷ command.ClearAllErrors ∷ command.Home ∷ command.OnPtMeasReport ∷ l) m.parts; measures = measure_all m.body m.measures }
-    go SameConnection = record { measuring = m.body; parts = ap (λ (l : List Command). command.ClearAllErrors ∷ command.Home ∷ command.OnPtMeasReport ∷ l) m.parts; measures = measure_all m.body m.measures }
+    go NewConnection = record { measuring = m.body; parts = ap
+        (λ (l : List Command). command.StartSession ∷ command.ClearAllErrors ∷ command.Home ∷ command.OnPtMeasReport ∷ l) m.parts;
+        measures = measure_all m.body m.measures }
+    go SameConnection = record { measuring = m.body; parts = ap
+        (λ (l : List Command). command.ClearAllErrors ∷ command.Home ∷ command.OnPtMeasReport ∷ l) m.parts; measures =
+        measure_all m.body m.measures }
 
 -- ---- the plan of a whole program
 
@@ -289,14 +324,17 @@ steps_commands frame (step.Goto p ∷ ss) = ap (λ (l : List Command). command.G
 steps_commands frame (step.Begin l ∷ ss) = steps_commands frame ss
 steps_commands frame (step.Touch t ∷ ss) = ap (λ (l : List Command). command.PtMeas t.target t.dir ∷ l) (steps_commands frame ss)
 steps_commands frame (step.Tool n ∷ ss) = ap (λ (l : List Command). command.ChangeTool n ∷ l) (steps_commands frame ss)
-steps_commands frame (step.Recall p ∷ ss) = ap (λ (l : List Command). command.SetCsyTransformation (point_opposite p) ∷ command.SetCoordSystem PartCsy ∷ l) (steps_commands (Part p) ss)
+steps_commands frame (step.Recall p ∷ ss) = ap (λ (l : List Command). command.SetCsyTransformation (point_opposite p)
+    ∷ command.SetCoordSystem PartCsy ∷ l) (steps_commands (Part p) ss)
 steps_commands frame (step.End ∷ ss) = steps_commands frame ss
 
 pub plan_whole : (p : Program) (start : Start) → commands_of (plan p 0 start) ≡ whole_commands start p.steps
 plan_whole p start = go start
   where
-    body : commands_of (stepping Machine p.steps ++ planned command.EndSession Does.Nothing ∷ []) ≡ flat_map step_commands p.steps ++ command.EndSession ∷ []
-    body = commands_more (stepping Machine p.steps) _ ∙ ap (λ (l : List Command). l ++ command.EndSession ∷ []) (steps_commands Machine p.steps)
+    body : commands_of (stepping Machine p.steps ++ planned command.EndSession Does.Nothing ∷ []) ≡ flat_map step_commands p.steps
+        ++ command.EndSession ∷ []
+    body = commands_more (stepping Machine p.steps) _ ∙ ap (λ (l : List Command). l ++ command.EndSession ∷ [])
+        (steps_commands Machine p.steps)
 
     go : (s : Start) → commands_of (plan p 0 s) ≡ whole_commands s p.steps
     go NewConnection = ap (λ (l : List Command). opening NewConnection ++ command.SetCoordSystem MachineCsy ∷ l) body
@@ -333,7 +371,9 @@ in_volume command.AbortE h = tt
 can_be_written : (ps : List Planned) (n : ℕ) → 1 ≤ n → n ≤ 9999 → HaveArguments ps → HasNoAbort ps → CanBeWritten (Std n) ps
 can_be_written [] n from to h g = tt
 can_be_written (p ∷ ps) n from to h g =
-    (record { tagged = record { numbered = (from, omega (arith, to)); sort = standard_kind p.command g.0 }; arguments = h.0 }, in_volume p.command h.0, can_be_written ps n from to h.1 g.1)
+    (record { tagged = record { numbered = (from, omega (arith, to)); sort = standard_kind p.command g.0 }; arguments = h.0 },
+        in_volume p.command h.0, can_be_written ps n from to h.1 g.1)
 
-pub plan_can_be_written : (p : Program) (k : ℕ) (start : Start) (n : ℕ) → IsProgram p → 1 ≤ n → n ≤ 9999 → CanBeWritten (Std n) (plan p k start)
+pub plan_can_be_written : (p : Program) (k : ℕ) (start : Start) (n : ℕ) → IsProgram p → 1 ≤ n → n ≤ 9999
+    → CanBeWritten (Std n) (plan p k start)
 plan_can_be_written p k start n h from to = can_be_written (plan p k start) n from to (plan_arguments p k start h) (plan_no_abort p k start)

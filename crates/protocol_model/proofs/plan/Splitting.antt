@@ -1,5 +1,6 @@
 -- A plan goes on behind the last touch of the last completed feature: the laws of its position.
-use Rattle.std.proofs.Common.{◌≡◌, ℕ, zero, suc, ◌<◌, ◌≤◌, Bool, true, false, cond, List, [], ◌∷◌, ◌++◌, take, drop, length, refl, sym, ◌∙◌, ap, arith, Option, Some, None}
+use Rattle.std.proofs.Common.{◌≡◌, ℕ, zero, suc, ◌<◌, ◌≤◌, Bool, true, false, cond, List, [], ◌∷◌, ◌++◌, take, drop, length, refl, sym, ◌∙◌,
+  ap, arith, Option, Some, None}
 use Rattle.std.proofs.lemmas.Bool.{false≢true}
 use Rattle.std.proofs.lemmas.List.{append_cancel_right, take-append-drop}
 use Rattle.std.proofs.lemmas.Grind.{flat_map-append}
@@ -15,7 +16,8 @@ use Rattle.dmis_program.specs.declared.features.Touch.{Touch}
 use Rattle.dmis_program.specs.declared.features.Wanted.{Wanted}
 use Rattle.dmis_program.specs.declared.steps.Step.{Step}
 use Rattle.dmis_program.specs.declared.steps.Step.TheVariants as step
-use Rattle.protocol_model.specs.Plan.{tool_behind, frame_behind, is_empty, behind, up_to, planned, framing, tooling, stepping, measuring, plan}
+use Rattle.protocol_model.specs.Plan.{tool_behind, frame_behind, is_empty, behind, up_to, planned, framing, tooling, stepping, measuring,
+  plan}
 use Rattle.protocol_model.specs.PlanReading.{touches_of, commands_of, opening, step_commands}
 use Rattle.protocol_model.specs.Positions.{EndInTouch, tool_commands, frame_commands, commands_from}
 use Rattle.protocol_model.proofs.plan.Blocks.{AreBlocks, IsPlain, program_is_plain}
@@ -28,7 +30,8 @@ use Rattle.protocol_model.specs.declared.plans.Start.TheVariants.{NewConnection,
 
 -- ---- both parts are all
 
-touch_parts : (b : Bool) (t : Touch) (here there here_behind there_behind ss : List Step) → here ++ here_behind ≡ ss → there ++ there_behind ≡ ss
+touch_parts : (b : Bool) (t : Touch) (here there here_behind there_behind ss : List Step) → here ++ here_behind ≡ ss
+    → there ++ there_behind ≡ ss
     → step.Touch t ∷ (cond b here there ++ cond b here_behind there_behind) ≡ step.Touch t ∷ ss
 touch_parts true t here there a b ss e f = ap (λ (l : List Step). step.Touch t ∷ l) e
 touch_parts false t here there a b ss e f = ap (λ (l : List Step). step.Touch t ∷ l) f
@@ -38,7 +41,8 @@ all_steps zero ss = refl
 all_steps (suc k) [] = refl
 all_steps (suc k) (step.Goto p ∷ ss) = ap (λ (l : List Step). step.Goto p ∷ l) (all_steps (suc k) ss)
 all_steps (suc k) (step.Begin l ∷ ss) = ap (λ (m : List Step). step.Begin l ∷ m) (all_steps (suc k) ss)
-all_steps (suc k) (step.Touch t ∷ ss) = touch_parts (is_empty (block_touches ss)) t (up_to k ss) (up_to (suc k) ss) (behind k ss) (behind (suc k) ss) ss (all_steps k ss) (all_steps (suc k) ss)
+all_steps (suc k) (step.Touch t ∷ ss) = touch_parts (is_empty (block_touches ss)) t (up_to k ss) (up_to (suc k) ss) (behind k ss)
+    (behind (suc k) ss) ss (all_steps k ss) (all_steps (suc k) ss)
 all_steps (suc k) (step.Tool n ∷ ss) = ap (λ (l : List Step). step.Tool n ∷ l) (all_steps (suc k) ss)
 all_steps (suc k) (step.Recall p ∷ ss) = ap (λ (l : List Step). step.Recall p ∷ l) (all_steps (suc k) ss)
 all_steps (suc k) (step.End ∷ ss) = ap (λ (l : List Step). step.End ∷ l) (all_steps (suc k) ss)
@@ -87,9 +91,11 @@ front_touches p k h =
     append_cancel_right (step_touches (up_to k p.steps)) (feature_touches (take k p.features)) (feature_touches (drop k p.features)) both
   where
     all : feature_touches p.features ≡ feature_touches (take k p.features) ++ feature_touches (drop k p.features)
-    all = sym (ap feature_touches (take-append-drop k p.features)) ∙ flat_map-append (λ (w : Wanted). w.touches) (take k p.features) (drop k p.features)
+    all = sym (ap feature_touches (take-append-drop k p.features))
+        ∙ flat_map-append (λ (w : Wanted). w.touches) (take k p.features) (drop k p.features)
 
-    both : step_touches (up_to k p.steps) ++ feature_touches (drop k p.features) ≡ feature_touches (take k p.features) ++ feature_touches (drop k p.features)
+    both : step_touches (up_to k p.steps) ++ feature_touches (drop k p.features) ≡ feature_touches (take k p.features)
+        ++ feature_touches (drop k p.features)
     both = ap (λ (l : List Touch). step_touches (up_to k p.steps) ++ l) (sym (left_touches p k h))
         ∙ (sym (touches_more (up_to k p.steps) (behind k p.steps)) ∙ (ap step_touches (all_steps k p.steps) ∙ (h.touches ∙ all)))
 
@@ -117,7 +123,8 @@ left_false : (ts : List Touch) (ws : List Wanted) (inside : Bool) → inside ≡
 left_false ts ws true e = absurd (false≢true (sym e))
 left_false ts ws false e = refl
 
-left_true : (t : Touch) (ts : List Touch) (ws : List Wanted) (inside : Bool) → inside ≡ true → length (left_with inside (t ∷ ts) ws) ≡ suc (length ws)
+left_true : (t : Touch) (ts : List Touch) (ws : List Wanted) (inside : Bool) → inside ≡ true
+    → length (left_with inside (t ∷ ts) ws) ≡ suc (length ws)
 left_true t ts ws true e = refl
 left_true t ts ws false e = absurd (false≢true e)
 
@@ -138,27 +145,35 @@ touch_ends_by false k t ss e long here there =
     let same : length (left_of true ss) ≡ suc (length (features_of ss)) = some_left (block_touches ss) (features_of ss) e in
     one_more (step.Touch t) (up_to (suc k) ss) (there (omega (arith, same, long)))
 
-ends_by : (inside : Bool) (k : ℕ) (ss : List Step) → AreBlocks inside ss → suc k ≤ length (left_of inside ss) → EndInTouch (up_to (suc k) ss)
+ends_by : (inside : Bool) (k : ℕ) (ss : List Step) → AreBlocks inside ss → suc k ≤ length (left_of inside ss)
+    → EndInTouch (up_to (suc k) ss)
 ends_by inside k [] h long = let none : length (left_of inside []) ≡ 0 = none_left inside [] in absurd (omega (arith, none, long))
 ends_by inside k (step.Goto p ∷ ss) h long = one_more (step.Goto p) _ (ends_by inside k ss h long)
 ends_by inside k (step.Begin l ∷ ss) h long =
-    let before : length (left_of inside (step.Begin l ∷ ss)) ≡ suc (length (features_of ss)) = left_false (block_touches ss) (record { label = l; touches = block_touches ss } ∷ features_of ss) inside h.0 in
-    let after : length (left_of true ss) ≡ suc (length (features_of ss)) = some_left (block_touches ss) (features_of ss) (not_empty (block_touches ss) h.1) in
+    let before : length (left_of inside (step.Begin l ∷ ss)) ≡ suc (length (features_of ss)) =
+        left_false (block_touches ss) (record { label = l; touches = block_touches ss } ∷ features_of ss) inside h.0 in
+    let after : length (left_of true ss) ≡ suc (length (features_of ss)) =
+        some_left (block_touches ss) (features_of ss) (not_empty (block_touches ss) h.1) in
     one_more (step.Begin l) _ (ends_by true k ss h.2 (omega (arith, before, after, long)))
 ends_by inside zero (step.Touch t ∷ ss) h long = touch_ends_by (is_empty (block_touches ss)) zero t ss refl (omega arith)
     (λ j e l. absurd (cc)) (λ l. ends_by inside zero ss h.1 (same_long l))
   where
     same_long : suc zero ≤ length (left_of true ss) → suc zero ≤ length (left_of inside ss)
-    same_long l = let e : length (left_of inside ss) ≡ length (left_of true ss) = ap (λ (b : Bool). length (left_of b ss)) h.0 in omega (arith, e, l)
+    same_long l = let e : length (left_of inside ss) ≡ length (left_of true ss) = ap (λ (b : Bool). length (left_of b ss)) h.0
+        in omega (arith, e, l)
 ends_by inside (suc j) (step.Touch t ∷ ss) h long =
-    let all : length (left_of inside (step.Touch t ∷ ss)) ≡ suc (length (features_of ss)) = left_true t (block_touches ss) (features_of ss) inside h.0 in
+    let all : length (left_of inside (step.Touch t ∷ ss)) ≡ suc (length (features_of ss)) =
+        left_true t (block_touches ss) (features_of ss) inside h.0 in
     touch_ends_by (is_empty (block_touches ss)) (suc j) t ss refl (omega (arith, all, long))
-    (λ i e l. same_index i e (λ m. ends_by inside j ss h.1 (same_long (suc j) m)) l) (λ l. ends_by inside (suc j) ss h.1 (same_long (suc (suc j)) l))
+    (λ i e l. same_index i e (λ m. ends_by inside j ss h.1 (same_long (suc j) m)) l)
+        (λ l. ends_by inside (suc j) ss h.1 (same_long (suc (suc j)) l))
   where
     same_long : (n : ℕ) → n ≤ length (left_of true ss) → n ≤ length (left_of inside ss)
-    same_long n l = let e : length (left_of inside ss) ≡ length (left_of true ss) = ap (λ (b : Bool). length (left_of b ss)) h.0 in omega (arith, e, l)
+    same_long n l = let e : length (left_of inside ss) ≡ length (left_of true ss) = ap (λ (b : Bool). length (left_of b ss)) h.0
+        in omega (arith, e, l)
 
-    same_index : (i : ℕ) → suc j ≡ suc i → (suc j ≤ length (left_of true ss) → EndInTouch (up_to (suc j) ss)) → suc i ≤ length (left_of true ss) → EndInTouch (up_to (suc i) ss)
+    same_index : (i : ℕ) → suc j ≡ suc i → (suc j ≤ length (left_of true ss) → EndInTouch (up_to (suc j) ss))
+        → suc i ≤ length (left_of true ss) → EndInTouch (up_to (suc i) ss)
     same_index i e run l = rw (sym e) (run (omega (arith, e, l)))
 ends_by inside k (step.Tool n ∷ ss) h long = one_more (step.Tool n) _ (ends_by inside k ss h long)
 ends_by inside k (step.Recall p ∷ ss) h long = one_more (step.Recall p) _ (ends_by inside k ss h long)
@@ -184,16 +199,20 @@ framing_commands Machine ps = refl
 framing_commands (Part p) ps = refl
 
 measuring_commands : (tool : Option (List ℕ)) (frame : Frame) (ss : List Step)
-    → commands_of (measuring tool frame ss) ≡ tool_commands tool ++ (frame_commands frame ++ (flat_map step_commands ss ++ command.EndSession ∷ []))
+    → commands_of (measuring tool frame ss) ≡ tool_commands tool
+    ++ (frame_commands frame ++ (flat_map step_commands ss ++ command.EndSession ∷ []))
 measuring_commands tool frame ss =
     tooling_commands tool _ ∙ ap (λ (l : List Command). tool_commands tool ++ l)
     (framing_commands frame _ ∙ ap (λ (l : List Command). frame_commands frame ++ l)
     (commands_more (stepping frame ss) finish ∙ ap (λ (l : List Command). l ++ command.EndSession ∷ []) (steps_commands frame ss)))
 
-pub plan_commands : (p : Program) (k : ℕ) (start : Start) → commands_of (plan p k start) ≡ commands_from start (up_to k p.steps) (behind k p.steps)
+pub plan_commands : (p : Program) (k : ℕ) (start : Start) → commands_of (plan p k start)
+    ≡ commands_from start (up_to k p.steps) (behind k p.steps)
 plan_commands p k start = go start
   where
-    body : commands_of (measuring (tool_behind None (up_to k p.steps)) (frame_behind Machine (up_to k p.steps)) (behind k p.steps)) ≡ tool_commands (tool_behind None (up_to k p.steps)) ++ (frame_commands (frame_behind Machine (up_to k p.steps)) ++ (flat_map step_commands (behind k p.steps) ++ command.EndSession ∷ []))
+    body : commands_of (measuring (tool_behind None (up_to k p.steps)) (frame_behind Machine (up_to k p.steps)) (behind k p.steps))
+        ≡ tool_commands (tool_behind None (up_to k p.steps)) ++ (frame_commands (frame_behind Machine (up_to k p.steps))
+        ++ (flat_map step_commands (behind k p.steps) ++ command.EndSession ∷ []))
     body = measuring_commands (tool_behind None (up_to k p.steps)) (frame_behind Machine (up_to k p.steps)) (behind k p.steps)
 
     go : (s : Start) → commands_of (plan p k s) ≡ commands_from s (up_to k p.steps) (behind k p.steps)

@@ -5,7 +5,8 @@ use Rattle.fixed_um.specs.declared.lengths.Point.{Point}
 use Rattle.dme_line.specs.declared.tags.Tag.{Tag}
 use Rattle.dme_line.specs.declared.commands.Kind.{Kind}
 use Rattle.protocol_model.specs.Replies.{Mark, tag_is}
-use Rattle.protocol_model.specs.Open.{Effect, Becomes, Breaks, Closes, Counts, Refused, judged, judged_ack, judged_given, judged_error, judged_done, settled, put_before, heard_in, is_failed, asks_data, count_open, is_held}
+use Rattle.protocol_model.specs.Open.{Effect, Becomes, Breaks, Closes, Counts, Refused, judged, judged_ack, judged_given, judged_error,
+  judged_done, settled, put_before, heard_in, is_failed, asks_data, count_open, is_held}
 use Rattle.protocol_model.proofs.table.Basics.{if_cases, if_true, if_false, tag_is-refl, tag_is-true}
 use Rattle.protocol_model.proofs.table.Walks.{two, heard_at, heard_past, staged, heard_cases, AreDistinct}
 use Rattle.protocol_model.specs.declared.states.Cause.{Cause}
@@ -20,7 +21,8 @@ data_failed false p = refl
 
 pub failed_stays : (b : Bool) (k : Kind) (m : Mark) (s : Stage) → judged b k Stage.Failed m ≡ Becomes s → s ≡ Stage.Failed
 failed_stays b k Mark.Ack s e = absurd (cc)
-failed_stays b k (Mark.Given p) s e = let d : judged_given (b && asks_data k) Stage.Failed p ≡ Refused Cause.OutOfOrder = data_failed (b && asks_data k) p in absurd (cc)
+failed_stays b k (Mark.Given p) s e = let d : judged_given (b && asks_data k) Stage.Failed p ≡ Refused Cause.OutOfOrder =
+    data_failed (b && asks_data k) p in absurd (cc)
 failed_stays b k Mark.Done s e = absurd (cc)
 failed_stays b k Mark.Error s e = cc
 
@@ -44,17 +46,20 @@ count_behind h hs = go (is_failed h.stage)
     go true = omega arith
     go false = omega arith
 
-count_becomes : (front : Bool) (h : Held) (hs : List Held) (m : Mark) (s : Stage) (b : Bool) → is_failed h.stage ≡ b → judged front h.kind h.stage m ≡ Becomes s → count_open (staged h s ∷ hs) ≤ count_open (h ∷ hs)
+count_becomes : (front : Bool) (h : Held) (hs : List Held) (m : Mark) (s : Stage) (b : Bool) → is_failed h.stage ≡ b
+    → judged front h.kind h.stage m ≡ Becomes s → count_open (staged h s ∷ hs) ≤ count_open (h ∷ hs)
 count_becomes front h hs m s true f v =
     let failed : h.stage ≡ Stage.Failed = is_failed-true h.stage f in
     let still : s ≡ Stage.Failed = failed_stays front h.kind m s (ap (λ (x : Stage). judged front h.kind x m) (sym failed) ∙ v) in
-    let one : count_open (staged h s ∷ hs) ≡ count_open hs = ap (λ (x : Stage). cond (is_failed x) (count_open hs) (suc (count_open hs))) still in
+    let one : count_open (staged h s ∷ hs) ≡ count_open hs = ap (λ (x : Stage). cond (is_failed x) (count_open hs) (suc (count_open hs)))
+        still in
     rw one (count_behind h hs)
 count_becomes front h hs m s false f v =
     let one : count_open (h ∷ hs) ≡ suc (count_open hs) = if_false {A = ℕ} (is_failed h.stage) (count_open hs) (suc (count_open hs)) f in
     rw one (count_cons (staged h s) hs)
 
-pub count_keeps : (front : Bool) (hs : List Held) (t : Tag) (m : Mark) (gs : List Held) (e : Effect) → heard_in front hs t m ≡ two gs e → count_open gs ≤ count_open hs
+pub count_keeps : (front : Bool) (hs : List Held) (t : Tag) (m : Mark) (gs : List Held) (e : Effect) → heard_in front hs t m ≡ two gs e
+    → count_open gs ≤ count_open hs
 count_keeps front [] t m gs e is = absurd (cc)
 count_keeps front (h ∷ hs) t m gs e is =
     heard_cases front h hs t m gs e (count_open gs ≤ count_open (h ∷ hs)) is
@@ -64,7 +69,8 @@ count_keeps front (h ∷ hs) t m gs e is =
     (λ given same v g f. rw g (count_behind h hs))
     (λ rest other later g. rw g (go (is_failed h.stage) rest (count_keeps (front && is_failed h.stage) hs t m rest e later)))
   where
-    go : (b : Bool) (rest : List Held) → count_open rest ≤ count_open hs → cond b (count_open rest) (suc (count_open rest)) ≤ cond b (count_open hs) (suc (count_open hs))
+    go : (b : Bool) (rest : List Held) → count_open rest ≤ count_open hs
+        → cond b (count_open rest) (suc (count_open rest)) ≤ cond b (count_open hs) (suc (count_open hs))
     go true rest le = le
     go false rest le = omega arith
 
@@ -98,25 +104,30 @@ judged_failed a b k Mark.Error = refl
 
 never_breaks : (b : Bool) (k : Kind) (m : Mark) → judged b k Stage.Failed m ≡ Breaks → ⊥
 never_breaks b k Mark.Ack e = cc
-never_breaks b k (Mark.Given p) e = let d : judged_given (b && asks_data k) Stage.Failed p ≡ Refused Cause.OutOfOrder = data_failed (b && asks_data k) p in cc
+never_breaks b k (Mark.Given p) e = let d : judged_given (b && asks_data k) Stage.Failed p ≡ Refused Cause.OutOfOrder =
+    data_failed (b && asks_data k) p in cc
 never_breaks b k Mark.Done e = cc
 never_breaks b k Mark.Error e = cc
 
 pub never_counts : (b : Bool) (k : Kind) (m : Mark) (given : Option Point) → judged b k Stage.Failed m ≡ Counts given → ⊥
 never_counts b k Mark.Ack given e = cc
-never_counts b k (Mark.Given p) given e = let d : judged_given (b && asks_data k) Stage.Failed p ≡ Refused Cause.OutOfOrder = data_failed (b && asks_data k) p in cc
+never_counts b k (Mark.Given p) given e = let d : judged_given (b && asks_data k) Stage.Failed p ≡ Refused Cause.OutOfOrder =
+    data_failed (b && asks_data k) p in cc
 never_counts b k Mark.Done given e = cc
 never_counts b k Mark.Error given e = cc
 
-pub only_ends : (front : Bool) (hs : List Held) (t : Tag) (m : Mark) (gs : List Held) (e : Effect) → heard_in front hs t m ≡ two gs e → AreFailed hs → OnlyEnds hs gs t m e
+pub only_ends : (front : Bool) (hs : List Held) (t : Tag) (m : Mark) (gs : List Held) (e : Effect) → heard_in front hs t m ≡ two gs e
+    → AreFailed hs → OnlyEnds hs gs t m e
 only_ends front [] t m gs e is failed = absurd (cc)
 only_ends front (h ∷ hs) t m gs e is failed =
     heard_cases front h hs t m gs e (OnlyEnds (h ∷ hs) gs t m e) is
     (λ s same v g f.
     let still : s ≡ Stage.Failed = failed_stays front h.kind m s (at_failed front ∙ v) in
-    record { quiet = f; left = rw g (still, failed.1); anywhere = λ (b : Bool). heard_at b h hs t m same ∙ (ap (settled h hs) (moved b ∙ v) ∙ rw (g, f) refl) })
+    record { quiet = f; left = rw g (still, failed.1); anywhere = λ (b : Bool). heard_at b h hs t m same
+        ∙ (ap (settled h hs) (moved b ∙ v) ∙ rw (g, f) refl) })
     (λ same v g f. absurd (never_breaks front h.kind m (at_failed front ∙ v)))
-    (λ same v g f. record { quiet = f; left = rw g failed.1; anywhere = λ (b : Bool). heard_at b h hs t m same ∙ (ap (settled h hs) (moved b ∙ v) ∙ rw (g, f) refl) })
+    (λ same v g f. record { quiet = f; left = rw g failed.1; anywhere = λ (b : Bool). heard_at b h hs t m same
+        ∙ (ap (settled h hs) (moved b ∙ v) ∙ rw (g, f) refl) })
     (λ given same v g f. absurd (never_counts front h.kind m given (at_failed front ∙ v)))
     (λ rest other later g.
     let behind_it : OnlyEnds hs rest t m e = only_ends (front && is_failed h.stage) hs t m rest e later failed.1 in
@@ -140,7 +151,8 @@ failed_tags (h ∷ hs) = cond (is_failed h.stage) (h.tag ∷ failed_tags hs) (fa
 
 -- the first has not failed, nor the others
 none_of : (h : Held) (hs : List Held) → failed_tags (h ∷ hs) ≡ [] → (is_failed h.stage ≡ false) × (failed_tags hs ≡ [])
-none_of h hs e = if_cases {A = List Tag} (is_failed h.stage) (h.tag ∷ failed_tags hs) (failed_tags hs) [] ((is_failed h.stage ≡ false) × (failed_tags hs ≡ [])) e
+none_of h hs e = if_cases {A = List Tag} (is_failed h.stage) (h.tag ∷ failed_tags hs) (failed_tags hs) [] ((is_failed h.stage ≡ false)
+    × (failed_tags hs ≡ [])) e
     (λ failed no_way. absurd (cc))
     (λ live others. (live, others))
 
@@ -212,16 +224,19 @@ no_break b k s Mark.Done n e = done_no_break b (asks_data k) s e
 no_break b k s Mark.Error n e = false≢true (sym n)
 
 -- where none has failed, a mark other than an error leaves it so
-pub none_fails : (front : Bool) (hs : List Held) (t : Tag) (m : Mark) (gs : List Held) (e : Effect) → heard_in front hs t m ≡ two gs e → is_error m ≡ false → failed_tags hs ≡ [] → failed_tags gs ≡ []
+pub none_fails : (front : Bool) (hs : List Held) (t : Tag) (m : Mark) (gs : List Held) (e : Effect) → heard_in front hs t m ≡ two gs e
+    → is_error m ≡ false → failed_tags hs ≡ [] → failed_tags gs ≡ []
 none_fails front [] t m gs e is n none = absurd (cc)
 none_fails front (h ∷ hs) t m gs e is n none =
     let parts = none_of h hs none in
     heard_cases front h hs t m gs e (failed_tags gs ≡ []) is
-    (λ s same v g f. rw g (if_false {A = List Tag} (is_failed s) (h.tag ∷ failed_tags hs) (failed_tags hs) (lives front h.kind h.stage s m n v) ∙ parts.1))
+    (λ s same v g f. rw g (if_false {A = List Tag} (is_failed s) (h.tag ∷ failed_tags hs) (failed_tags hs)
+        (lives front h.kind h.stage s m n v) ∙ parts.1))
     (λ same v g f. absurd (no_break front h.kind h.stage m n v))
     (λ same v g f. rw g parts.1)
     (λ given same v g f. rw g parts.1)
-    (λ rest other later g. rw g (if_false {A = List Tag} (is_failed h.stage) (h.tag ∷ failed_tags rest) (failed_tags rest) parts.0 ∙ none_fails (front && is_failed h.stage) hs t m rest e later n parts.1))
+    (λ rest other later g. rw g (if_false {A = List Tag} (is_failed h.stage) (h.tag ∷ failed_tags rest) (failed_tags rest) parts.0
+        ∙ none_fails (front && is_failed h.stage) hs t m rest e later n parts.1))
 
 error_moves : (s x : Stage) → is_failed s ≡ false → judged_error s ≡ Becomes x → ⊥
 error_moves Stage.Sent x l e = cc
@@ -242,7 +257,8 @@ error_no_close (Stage.Given p) e = cc
 error_no_close Stage.Failed e = cc
 
 -- where none has failed, an error makes its command the one that has, and is a failure
-pub one_fails : (front : Bool) (hs : List Held) (t : Tag) (gs : List Held) (e : Effect) → heard_in front hs t Mark.Error ≡ two gs e → failed_tags hs ≡ [] → (failed_tags gs ≡ t ∷ []) × (e ≡ Effect.Failure)
+pub one_fails : (front : Bool) (hs : List Held) (t : Tag) (gs : List Held) (e : Effect) → heard_in front hs t Mark.Error ≡ two gs e
+    → failed_tags hs ≡ [] → (failed_tags gs ≡ t ∷ []) × (e ≡ Effect.Failure)
 one_fails front [] t gs e is none = absurd (cc)
 one_fails front (h ∷ hs) t gs e is none =
     let parts = none_of h hs none in
@@ -258,8 +274,10 @@ one_fails front (h ∷ hs) t gs e is none =
 -- a tag that has failed is held
 failed_is_held : (t : Tag) (hs : List Held) (ts : List Tag) → failed_tags hs ≡ t ∷ ts → is_held t hs ≡ true
 failed_is_held t [] ts e = absurd (cc)
-failed_is_held t (h ∷ hs) ts e = if_cases {A = List Tag} (is_failed h.stage) (h.tag ∷ failed_tags hs) (failed_tags hs) (t ∷ ts) (is_held t (h ∷ hs) ≡ true) e
-    (λ failed here. let same : h.tag ≡ t = cc in if_true {A = Bool} (tag_is h.tag t) true (is_held t hs) (ap (λ (u : Tag). tag_is u t) same ∙ tag_is-refl t))
+failed_is_held t (h ∷ hs) ts e = if_cases {A = List Tag} (is_failed h.stage) (h.tag ∷ failed_tags hs) (failed_tags hs) (t ∷ ts)
+    (is_held t (h ∷ hs) ≡ true) e
+    (λ failed here. let same : h.tag ≡ t = cc in if_true {A = Bool} (tag_is h.tag t) true (is_held t hs) (ap (λ (u : Tag). tag_is u t) same
+        ∙ tag_is-refl t))
     (λ live there. go (tag_is h.tag t) (failed_is_held t hs ts there))
   where
     go : (b : Bool) → is_held t hs ≡ true → cond b true (is_held t hs) ≡ true
@@ -267,7 +285,8 @@ failed_is_held t (h ∷ hs) ts e = if_cases {A = List Tag} (is_failed h.stage) (
     go false yes_held = yes_held
 
 -- the end of the one that has failed leaves none
-pub none_left : (front : Bool) (hs : List Held) (t : Tag) (gs : List Held) (e : Effect) → heard_in front hs t Mark.Done ≡ two gs e → AreDistinct hs → failed_tags hs ≡ t ∷ [] → failed_tags gs ≡ []
+pub none_left : (front : Bool) (hs : List Held) (t : Tag) (gs : List Held) (e : Effect) → heard_in front hs t Mark.Done ≡ two gs e
+    → AreDistinct hs → failed_tags hs ≡ t ∷ [] → failed_tags gs ≡ []
 none_left front [] t gs e is d one = absurd (cc)
 none_left front (h ∷ hs) t gs e is d one =
     heard_cases front h hs t Mark.Done gs e (failed_tags gs ≡ []) is
@@ -278,14 +297,17 @@ none_left front (h ∷ hs) t gs e is d one =
     (λ rest other later g. rw g (elsewhere rest other later (none_left (front && is_failed h.stage) hs t rest e later d.1)))
   where
     behind_it : tag_is h.tag t ≡ true → failed_tags hs ≡ []
-    behind_it same = if_cases {A = List Tag} (is_failed h.stage) (h.tag ∷ failed_tags hs) (failed_tags hs) (t ∷ []) (failed_tags hs ≡ []) one
+    behind_it same = if_cases {A = List Tag} (is_failed h.stage) (h.tag ∷ failed_tags hs) (failed_tags hs) (t ∷ []) (failed_tags hs ≡ [])
+        one
         (λ failed here. cc)
         (λ live there.
         let held : is_held t hs ≡ true = failed_is_held t hs [] there in
         let free : is_held t hs ≡ false = subst (λ (u : Tag). is_held u hs ≡ false) (tag_is-true h.tag t same) d.0 in
         absurd (false≢true (sym free ∙ held)))
 
-    elsewhere : (rest : List Held) → tag_is h.tag t ≡ false → heard_in (front && is_failed h.stage) hs t Mark.Done ≡ two rest e → (failed_tags hs ≡ t ∷ [] → failed_tags rest ≡ []) → failed_tags (h ∷ rest) ≡ []
-    elsewhere rest other later deeper = if_cases {A = List Tag} (is_failed h.stage) (h.tag ∷ failed_tags hs) (failed_tags hs) (t ∷ []) (failed_tags (h ∷ rest) ≡ []) one
+    elsewhere : (rest : List Held) → tag_is h.tag t ≡ false → heard_in (front && is_failed h.stage) hs t Mark.Done ≡ two rest e
+        → (failed_tags hs ≡ t ∷ [] → failed_tags rest ≡ []) → failed_tags (h ∷ rest) ≡ []
+    elsewhere rest other later deeper = if_cases {A = List Tag} (is_failed h.stage) (h.tag ∷ failed_tags hs) (failed_tags hs) (t ∷ [])
+        (failed_tags (h ∷ rest) ≡ []) one
         (λ failed here. let same : h.tag ≡ t = cc in absurd (false≢true (sym other ∙ (ap (λ (u : Tag). tag_is u t) same ∙ tag_is-refl t))))
         (λ live there. if_false {A = List Tag} (is_failed h.stage) (h.tag ∷ failed_tags rest) (failed_tags rest) live ∙ deeper there)

@@ -43,7 +43,8 @@ nothing_left (x ∷ ms) e = absurd (cc)
 none_at_front : (failed : Bool) (ms : List Placed) → ms ≡ [] → AreAtFront failed ms
 none_at_front failed ms e = subst (AreAtFront failed) (sym e) tt
 
-accepts_goes : (k : Kind) (s : Stage) (ms : List Placed) → Accepts k s ms → Goes_on (asks_data k) s (marks_of ms) × AreAtFront (is_failed_now s) ms
+accepts_goes : (k : Kind) (s : Stage) (ms : List Placed) → Accepts k s ms → Goes_on (asks_data k) s (marks_of ms)
+    × AreAtFront (is_failed_now s) ms
 accepts_goes k Stage.Sent [] h = (tt, tt)
 accepts_goes k Stage.Received [] h = (tt, tt)
 accepts_goes k (Stage.Given q) [] h = (tt, tt)
@@ -63,14 +64,16 @@ accepts_goes k Stage.Sent ((front, Mark.Done) ∷ ms) h = absurd (go front (asks
 accepts_goes k Stage.Received ((front, Mark.Ack) ∷ ms) h = absurd h
 accepts_goes k Stage.Received ((front, Mark.Given p) ∷ ms) h = go (front && asks_data k) refl h (accepts_goes k (Stage.Given p) ms)
   where
-    go : (b : Bool) → (front && asks_data k) ≡ b → Goes k ms (judged_given b Stage.Received p) (λ next. Accepts k next ms) → (Accepts k (Stage.Given p) ms → Goes_on (asks_data k) (Stage.Given p) (marks_of ms) × AreAtFront false ms)
+    go : (b : Bool) → (front && asks_data k) ≡ b → Goes k ms (judged_given b Stage.Received p) (λ next. Accepts k next ms)
+        → (Accepts k (Stage.Given p) ms → Goes_on (asks_data k) (Stage.Given p) (marks_of ms) × AreAtFront false ms)
         → ((asks_data k ≡ true) × Goes_on (asks_data k) (Stage.Given p) (marks_of ms)) × ((front ≡ true) × AreAtFront false ms)
     go true e h deeper = let parts = and_parts _ _ e in let rest = deeper h in ((parts.1, rest.0), (parts.0, rest.1))
     go false e h deeper = absurd h
 accepts_goes k Stage.Received ((front, Mark.Error) ∷ ms) h = accepts_goes k Stage.Failed ms h
 accepts_goes k Stage.Received ((front, Mark.Done) ∷ ms) h = go front refl (asks_data k) refl h
   where
-    go : (b : Bool) → front ≡ b → (a : Bool) → asks_data k ≡ a → Goes k ms (judged_done b a Stage.Received) (λ next. Accepts k next ms) → ((asks_data k ≡ false) × (marks_of ms ≡ [])) × ((front ≡ true) × AreAtFront false ms)
+    go : (b : Bool) → front ≡ b → (a : Bool) → asks_data k ≡ a → Goes k ms (judged_done b a Stage.Received) (λ next. Accepts k next ms)
+        → ((asks_data k ≡ false) × (marks_of ms ≡ [])) × ((front ≡ true) × AreAtFront false ms)
     go true f true e h = absurd h
     go true f false e h = ((e, ap marks_of h), (f, none_at_front false ms h))
     go false f true e h = absurd h
@@ -84,7 +87,8 @@ accepts_goes k (Stage.Given q) ((front, Mark.Given p) ∷ ms) h = absurd (go (fr
 accepts_goes k (Stage.Given q) ((front, Mark.Error) ∷ ms) h = accepts_goes k Stage.Failed ms h
 accepts_goes k (Stage.Given q) ((front, Mark.Done) ∷ ms) h = go front refl (asks_data k) h
   where
-    go : (b : Bool) → front ≡ b → (a : Bool) → Goes k ms (judged_done b a (Stage.Given q)) (λ next. Accepts k next ms) → (marks_of ms ≡ []) × ((front ≡ true) × AreAtFront false ms)
+    go : (b : Bool) → front ≡ b → (a : Bool) → Goes k ms (judged_done b a (Stage.Given q)) (λ next. Accepts k next ms) → (marks_of ms ≡ [])
+        × ((front ≡ true) × AreAtFront false ms)
     go true f a h = (ap marks_of h, (f, none_at_front false ms h))
     go false f a h = absurd h
 accepts_goes k Stage.Failed ((front, Mark.Ack) ∷ ms) h = absurd h
@@ -96,7 +100,8 @@ accepts_goes k Stage.Failed ((front, Mark.Given p) ∷ ms) h = absurd (go (front
 accepts_goes k Stage.Failed ((front, Mark.Error) ∷ ms) h = accepts_goes k Stage.Failed ms h
 accepts_goes k Stage.Failed ((front, Mark.Done) ∷ ms) h = (ap marks_of h, none_at_front true ms h)
 
-goes_accepts : (k : Kind) (s : Stage) (ms : List Placed) → Goes_on (asks_data k) s (marks_of ms) → AreAtFront (is_failed_now s) ms → Accepts k s ms
+goes_accepts : (k : Kind) (s : Stage) (ms : List Placed) → Goes_on (asks_data k) s (marks_of ms) → AreAtFront (is_failed_now s) ms
+    → Accepts k s ms
 goes_accepts k s [] h f = tt
 goes_accepts k Stage.Sent ((front, Mark.Ack) ∷ ms) h f = goes_accepts k Stage.Received ms h f
 goes_accepts k Stage.Sent ((front, Mark.Given p) ∷ ms) h f = absurd h
@@ -105,7 +110,8 @@ goes_accepts k Stage.Sent ((front, Mark.Done) ∷ ms) h f = absurd h
 goes_accepts k Stage.Received ((front, Mark.Ack) ∷ ms) h f = absurd h
 goes_accepts k Stage.Received ((front, Mark.Given p) ∷ ms) h f =
     let both : (front && asks_data k) ≡ true = ap (λ (b : Bool). b && asks_data k) f.0 ∙ h.0 in
-    subst (λ (b : Bool). Goes k ms (judged_given b Stage.Received p) (λ next. Accepts k next ms)) (sym both) (goes_accepts k (Stage.Given p) ms h.1 f.1)
+    subst (λ (b : Bool). Goes k ms (judged_given b Stage.Received p) (λ next. Accepts k next ms)) (sym both)
+        (goes_accepts k (Stage.Given p) ms h.1 f.1)
 goes_accepts k Stage.Received ((front, Mark.Error) ∷ ms) h f = goes_accepts k Stage.Failed ms h f
 goes_accepts k Stage.Received ((front, Mark.Done) ∷ ms) h f =
     subst (λ (b : Bool). Goes k ms (judged_done b (asks_data k) Stage.Received) (λ next. Accepts k next ms)) (sym f.0)
@@ -147,7 +153,8 @@ goes_front asks Stage.Failed (Mark.Error ∷ ms) more h = goes_front asks Stage.
 goes_front asks Stage.Failed (Mark.Done ∷ ms) more h = none_before ms more h
 
 -- behind an error: errors, then nothing or the end
-failed_goes : (asks : Bool) (errors ending : List Mark) → AreErrors errors → (ending ≡ []) ⊎ (ending ≡ Mark.Done ∷ []) → Goes_on asks Stage.Failed (errors ++ ending)
+failed_goes : (asks : Bool) (errors ending : List Mark) → AreErrors errors → (ending ≡ []) ⊎ (ending ≡ Mark.Done ∷ [])
+    → Goes_on asks Stage.Failed (errors ++ ending)
 failed_goes asks [] ending h (inl e) = subst (λ (ms : List Mark). Goes_on asks Stage.Failed ms) (sym e) tt
 failed_goes asks [] ending h (inr e) = subst (λ (ms : List Mark). Goes_on asks Stage.Failed ms) (sym e) refl
 failed_goes asks (Mark.Error ∷ errors) ending h e = failed_goes asks errors ending h e
@@ -160,7 +167,8 @@ counted_goes false ms h = subst (λ (x : List Mark). Goes_on false Stage.Sent x)
 counted_goes true ms h = subst (λ (x : List Mark). Goes_on true Stage.Sent x) (sym h.1) (refl, refl)
 
 -- in place of the rest of a counted command's marks an error can come, and what may follow it
-instead : (asks : Bool) (s : Stage) (before : List Mark) (missing : Mark) (rest tail : List Mark) → Goes_on asks s (before ++ missing ∷ rest) → Goes_on asks Stage.Failed tail → Goes_on asks s (before ++ Mark.Error ∷ tail)
+instead : (asks : Bool) (s : Stage) (before : List Mark) (missing : Mark) (rest tail : List Mark)
+    → Goes_on asks s (before ++ missing ∷ rest) → Goes_on asks Stage.Failed tail → Goes_on asks s (before ++ Mark.Error ∷ tail)
 instead asks Stage.Sent [] missing rest tail h t = t
 instead asks Stage.Received [] missing rest tail h t = t
 instead asks (Stage.Given q) [] missing rest tail h t = t
@@ -170,7 +178,8 @@ instead asks Stage.Sent (Mark.Given p ∷ before) missing rest tail h t = h
 instead asks Stage.Sent (Mark.Error ∷ before) missing rest tail h t = instead asks Stage.Failed before missing rest tail h t
 instead asks Stage.Sent (Mark.Done ∷ before) missing rest tail h t = h
 instead asks Stage.Received (Mark.Ack ∷ before) missing rest tail h t = h
-instead asks Stage.Received (Mark.Given p ∷ before) missing rest tail h t = (h.0, instead asks (Stage.Given p) before missing rest tail h.1 t)
+instead asks Stage.Received (Mark.Given p ∷ before) missing rest tail h t =
+    (h.0, instead asks (Stage.Given p) before missing rest tail h.1 t)
 instead asks Stage.Received (Mark.Error ∷ before) missing rest tail h t = instead asks Stage.Failed before missing rest tail h t
 instead asks Stage.Received (Mark.Done ∷ before) missing rest tail h t = absurd (not_none before missing rest h.1)
   where
@@ -198,7 +207,8 @@ replies_go : (asks : Bool) (ms : List Mark) → IsReplies asks ms → Goes_on as
 replies_go asks ms (inl h) = counted_goes asks ms h
 replies_go asks ms (inr h) =
     subst (λ (x : List Mark). Goes_on asks Stage.Sent x) (sym h.ends.2)
-    (instead asks Stage.Sent h.before h.missing h.rest (h.errors ++ h.ends.0) (counted_goes asks (h.before ++ h.missing ∷ h.rest) h.proper) (failed_goes asks h.errors h.ends.0 h.are_errors h.ends.1))
+    (instead asks Stage.Sent h.before h.missing h.rest (h.errors ++ h.ends.0) (counted_goes asks (h.before ++ h.missing ∷ h.rest) h.proper)
+        (failed_goes asks h.errors h.ends.0 h.are_errors h.ends.1))
 
 -- ---- and back
 
@@ -217,10 +227,14 @@ tail_of : (asks : Bool) (ms : List Mark) → Goes_on asks Stage.Failed ms → Is
 tail_of asks [] h = record { errors = []; are_errors = tt; ending = []; ends = inl refl; is = refl }
 tail_of asks (Mark.Ack ∷ ms) h = absurd h
 tail_of asks (Mark.Given p ∷ ms) h = absurd h
-tail_of asks (Mark.Error ∷ ms) h = let t : IsTail ms = tail_of asks ms h in record { errors = Mark.Error ∷ t.errors; are_errors = t.are_errors; ending = t.ending; ends = t.ends; is = ap (λ (x : List Mark). Mark.Error ∷ x) t.is }
-tail_of asks (Mark.Done ∷ ms) h = record { errors = []; are_errors = tt; ending = Mark.Done ∷ []; ends = inr refl; is = ap (λ (x : List Mark). Mark.Done ∷ x) h }
+tail_of asks (Mark.Error ∷ ms) h = let t : IsTail ms = tail_of asks ms h
+    in record { errors = Mark.Error ∷ t.errors; are_errors = t.are_errors; ending = t.ending; ends = t.ends;
+    is = ap (λ (x : List Mark). Mark.Error ∷ x) t.is }
+tail_of asks (Mark.Done ∷ ms) h = record { errors = []; are_errors = tt; ending = Mark.Done ∷ []; ends = inr refl;
+    is = ap (λ (x : List Mark). Mark.Done ∷ x) h }
 
-failed_front : (asks : Bool) (before : List Mark) (missing : Mark) (rest ms : List Mark) → IsCounted asks (before ++ missing ∷ rest) → Goes_on asks Stage.Failed ms → IsRepliesFront asks (before ++ Mark.Error ∷ ms)
+failed_front : (asks : Bool) (before : List Mark) (missing : Mark) (rest ms : List Mark) → IsCounted asks (before ++ missing ∷ rest)
+    → Goes_on asks Stage.Failed ms → IsRepliesFront asks (before ++ Mark.Error ∷ ms)
 failed_front asks before missing rest ms proper h =
     let t : IsTail ms = tail_of asks ms h in
     record {
@@ -241,7 +255,8 @@ given_front p [] h = record { more = Mark.Done ∷ []; whole = inl (p, refl) }
 given_front p (Mark.Ack ∷ ms) h = absurd h
 given_front p (Mark.Given q ∷ ms) h = absurd h
 given_front p (Mark.Error ∷ ms) h = failed_front true (Mark.Ack ∷ Mark.Given p ∷ []) Mark.Done [] ms (p, refl) h
-given_front p (Mark.Done ∷ ms) h = record { more = []; whole = inl (p, ap (λ (x : List Mark). Mark.Ack ∷ Mark.Given p ∷ Mark.Done ∷ (x ++ [])) h) }
+given_front p (Mark.Done ∷ ms) h = record { more = []; whole = inl (p,
+    ap (λ (x : List Mark). Mark.Ack ∷ Mark.Given p ∷ Mark.Done ∷ (x ++ [])) h) }
 
 received_front : (asks : Bool) (ms : List Mark) → Goes_on asks Stage.Received ms → IsRepliesFront asks (Mark.Ack ∷ ms)
 received_front false [] h = record { more = Mark.Done ∷ []; whole = inl refl }
@@ -264,8 +279,10 @@ sent_front true (Mark.Error ∷ ms) h = failed_front true [] Mark.Ack (Mark.Give
 sent_front asks (Mark.Done ∷ ms) h = absurd h
 
 -- the law, both ways
-pub accepts_only : (k : Kind) (ms : List Placed) → Accepts k Stage.Sent ms → IsRepliesFront (asks_data k) (marks_of ms) × AreAtFront false ms
+pub accepts_only : (k : Kind) (ms : List Placed) → Accepts k Stage.Sent ms → IsRepliesFront (asks_data k) (marks_of ms)
+    × AreAtFront false ms
 accepts_only k ms h = let both = accepts_goes k Stage.Sent ms h in (sent_front (asks_data k) (marks_of ms) both.0, both.1)
 
 pub accepts_all : (k : Kind) (ms : List Placed) → IsRepliesFront (asks_data k) (marks_of ms) → AreAtFront false ms → Accepts k Stage.Sent ms
-accepts_all k ms h f = goes_accepts k Stage.Sent ms (goes_front (asks_data k) Stage.Sent (marks_of ms) h.more (replies_go (asks_data k) (marks_of ms ++ h.more) h.whole)) f
+accepts_all k ms h f = goes_accepts k Stage.Sent ms (goes_front (asks_data k) Stage.Sent (marks_of ms) h.more
+    (replies_go (asks_data k) (marks_of ms ++ h.more) h.whole)) f

@@ -3,7 +3,8 @@ use Rattle.std.proofs.Common.{◌≡◌, Bool, true, false, ◌&&◌, List, [], 
 use Rattle.fixed_um.specs.declared.lengths.Point.{Point}
 use Rattle.dme_line.specs.declared.tags.Tag.{Tag}
 use Rattle.protocol_model.specs.Replies.{Mark, tag_is}
-use Rattle.protocol_model.specs.Open.{Verdict, Effect, Heard, Becomes, Breaks, Closes, Counts, Refused, judged, settled, put_before, heard_in, is_failed, is_held}
+use Rattle.protocol_model.specs.Open.{Verdict, Effect, Heard, Becomes, Breaks, Closes, Counts, Refused, judged, settled, put_before,
+  heard_in, is_failed, is_held}
 use Rattle.protocol_model.proofs.table.Basics.{if_cases, if_true, if_false}
 use Rattle.protocol_model.specs.declared.held.Stage.{Stage}
 use Rattle.protocol_model.specs.declared.held.Held.{Held}
@@ -24,10 +25,12 @@ pub same_two : (hs gs : List Held) (e f : Effect) → two hs e ≡ two gs f → 
 same_two hs gs e f h = (ap (λ (r : Heard). hs_in r gs) h, ap (λ (r : Heard). effect_in r f) h)
 
 -- a mark at the first command, and behind it
-pub heard_at : (front : Bool) (h : Held) (hs : List Held) (t : Tag) (m : Mark) → tag_is h.tag t ≡ true → heard_in front (h ∷ hs) t m ≡ settled h hs (judged front h.kind h.stage m)
+pub heard_at : (front : Bool) (h : Held) (hs : List Held) (t : Tag) (m : Mark) → tag_is h.tag t ≡ true
+    → heard_in front (h ∷ hs) t m ≡ settled h hs (judged front h.kind h.stage m)
 heard_at front h hs t m e = if_true {A = Heard} (tag_is h.tag t) _ _ e
 
-pub heard_past : (front : Bool) (h : Held) (hs : List Held) (t : Tag) (m : Mark) → tag_is h.tag t ≡ false → heard_in front (h ∷ hs) t m ≡ put_before h (heard_in (front && is_failed h.stage) hs t m)
+pub heard_past : (front : Bool) (h : Held) (hs : List Held) (t : Tag) (m : Mark) → tag_is h.tag t ≡ false
+    → heard_in front (h ∷ hs) t m ≡ put_before h (heard_in (front && is_failed h.stage) hs t m)
 heard_past front h hs t m e = if_false {A = Heard} (tag_is h.tag t) _ _ e
 
 abbrev pub staged : Held → Stage → Held
@@ -40,32 +43,40 @@ settled_cases : (h : Held) (hs gs : List Held) (e : Effect) (v : Verdict) (P : T
     → (v ≡ Closes → gs ≡ hs → e ≡ Effect.Quiet → P)
     → ((given : Option Point) → v ≡ Counts given → gs ≡ hs → e ≡ Effect.Count h.kind given → P)
     → P
-settled_cases h hs gs e (Becomes s) P is becomes breaks closes counts = let same = same_two _ _ _ _ is in becomes s refl (sym same.0) (sym same.1)
+settled_cases h hs gs e (Becomes s) P is becomes breaks closes counts = let same = same_two _ _ _ _ is
+    in becomes s refl (sym same.0) (sym same.1)
 settled_cases h hs gs e Breaks P is becomes breaks closes counts = let same = same_two _ _ _ _ is in breaks refl (sym same.0) (sym same.1)
 settled_cases h hs gs e Closes P is becomes breaks closes counts = let same = same_two _ _ _ _ is in closes refl (sym same.0) (sym same.1)
-settled_cases h hs gs e (Counts given) P is becomes breaks closes counts = let same = same_two _ _ _ _ is in counts given refl (sym same.0) (sym same.1)
+settled_cases h hs gs e (Counts given) P is becomes breaks closes counts = let same = same_two _ _ _ _ is
+    in counts given refl (sym same.0) (sym same.1)
 settled_cases h hs gs e (Refused c) P is becomes breaks closes counts = absurd (cc)
 
-put_cases : (h : Held) (r : Heard) (gs : List Held) (e : Effect) (P : Type 0) → put_before h r ≡ two gs e → ((rest : List Held) → r ≡ two rest e → gs ≡ h ∷ rest → P) → P
+put_cases : (h : Held) (r : Heard) (gs : List Held) (e : Effect) (P : Type 0) → put_before h r ≡ two gs e
+    → ((rest : List Held) → r ≡ two rest e → gs ≡ h ∷ rest → P) → P
 put_cases h (Ok (hs, f)) gs e P is k = let same = same_two _ _ _ _ is in k hs (ap (λ (x : Effect). two hs x) same.1) (sym same.0)
 put_cases h (Err c) gs e P is k = absurd (cc)
 
 -- what a reply can have done to a list that is not empty
-pub heard_cases : (front : Bool) (h : Held) (hs : List Held) (t : Tag) (m : Mark) (gs : List Held) (e : Effect) (P : Type 0) → heard_in front (h ∷ hs) t m ≡ two gs e
+pub heard_cases : (front : Bool) (h : Held) (hs : List Held) (t : Tag) (m : Mark) (gs : List Held) (e : Effect) (P : Type 0)
+    → heard_in front (h ∷ hs) t m ≡ two gs e
     → ((s : Stage) → tag_is h.tag t ≡ true → judged front h.kind h.stage m ≡ Becomes s → gs ≡ staged h s ∷ hs → e ≡ Effect.Quiet → P)
     → (tag_is h.tag t ≡ true → judged front h.kind h.stage m ≡ Breaks → gs ≡ staged h Stage.Failed ∷ hs → e ≡ Effect.Failure → P)
     → (tag_is h.tag t ≡ true → judged front h.kind h.stage m ≡ Closes → gs ≡ hs → e ≡ Effect.Quiet → P)
-    → ((given : Option Point) → tag_is h.tag t ≡ true → judged front h.kind h.stage m ≡ Counts given → gs ≡ hs → e ≡ Effect.Count h.kind given → P)
+    → ((given : Option Point) → tag_is h.tag t ≡ true → judged front h.kind h.stage m ≡ Counts given → gs ≡ hs
+    → e ≡ Effect.Count h.kind given → P)
     → ((rest : List Held) → tag_is h.tag t ≡ false → heard_in (front && is_failed h.stage) hs t m ≡ two rest e → gs ≡ h ∷ rest → P)
     → P
 heard_cases front h hs t m gs e P is becomes breaks closes counts past =
-    if_cases {A = Heard} (tag_is h.tag t) (settled h hs (judged front h.kind h.stage m)) (put_before h (heard_in (front && is_failed h.stage) hs t m)) (two gs e) P is
-    (λ same now. settled_cases h hs gs e (judged front h.kind h.stage m) P now (λ s. becomes s same) (breaks same) (closes same) (λ given. counts given same))
+    if_cases {A = Heard} (tag_is h.tag t) (settled h hs (judged front h.kind h.stage m))
+        (put_before h (heard_in (front && is_failed h.stage) hs t m)) (two gs e) P is
+    (λ same now. settled_cases h hs gs e (judged front h.kind h.stage m) P now (λ s. becomes s same) (breaks same) (closes same)
+        (λ given. counts given same))
     (λ other later. put_cases h (heard_in (front && is_failed h.stage) hs t m) gs e P later (λ rest. past rest other))
 
 -- ---- with one command more at the end
 
-pub heard_more : (front : Bool) (hs : List Held) (x : Held) (t : Tag) (m : Mark) (gs : List Held) (e : Effect) → heard_in front hs t m ≡ two gs e → heard_in front (hs ++ x ∷ []) t m ≡ two (gs ++ x ∷ []) e
+pub heard_more : (front : Bool) (hs : List Held) (x : Held) (t : Tag) (m : Mark) (gs : List Held) (e : Effect)
+    → heard_in front hs t m ≡ two gs e → heard_in front (hs ++ x ∷ []) t m ≡ two (gs ++ x ∷ []) e
 heard_more front [] x t m gs e is = absurd (cc)
 heard_more front (h ∷ hs) x t m gs e is =
     heard_cases front h hs t m gs e (heard_in front (h ∷ (hs ++ x ∷ [])) t m ≡ two (gs ++ x ∷ []) e) is
@@ -73,11 +84,13 @@ heard_more front (h ∷ hs) x t m gs e is =
     (λ same v g f. heard_at front h (hs ++ x ∷ []) t m same ∙ (ap (settled h (hs ++ x ∷ [])) v ∙ rw (g, f) refl))
     (λ same v g f. heard_at front h (hs ++ x ∷ []) t m same ∙ (ap (settled h (hs ++ x ∷ [])) v ∙ rw (g, f) refl))
     (λ given same v g f. heard_at front h (hs ++ x ∷ []) t m same ∙ (ap (settled h (hs ++ x ∷ [])) v ∙ rw (g, f) refl))
-    (λ rest other later g. heard_past front h (hs ++ x ∷ []) t m other ∙ (ap (put_before h) (heard_more (front && is_failed h.stage) hs x t m rest e later) ∙ rw g refl))
+    (λ rest other later g. heard_past front h (hs ++ x ∷ []) t m other
+        ∙ (ap (put_before h) (heard_more (front && is_failed h.stage) hs x t m rest e later) ∙ rw g refl))
 
 -- ---- the tags that are held become no more
 
-pub not_held_keeps : (u : Tag) (front : Bool) (hs : List Held) (t : Tag) (m : Mark) (gs : List Held) (e : Effect) → heard_in front hs t m ≡ two gs e → is_held u hs ≡ false → is_held u gs ≡ false
+pub not_held_keeps : (u : Tag) (front : Bool) (hs : List Held) (t : Tag) (m : Mark) (gs : List Held) (e : Effect)
+    → heard_in front hs t m ≡ two gs e → is_held u hs ≡ false → is_held u gs ≡ false
 not_held_keeps u front [] t m gs e is free = absurd (cc)
 not_held_keeps u front (h ∷ hs) t m gs e is free =
     if_cases {A = Bool} (tag_is h.tag u) true (is_held u hs) false (is_held u gs ≡ false) free
@@ -88,14 +101,16 @@ not_held_keeps u front (h ∷ hs) t m gs e is free =
     (λ same v g f. rw g free)
     (λ same v g f. rw g behind_it)
     (λ given same v g f. rw g behind_it)
-    (λ rest other_tag later g. rw g (if_false {A = Bool} (tag_is h.tag u) true (is_held u rest) other ∙ not_held_keeps u (front && is_failed h.stage) hs t m rest e later behind_it)))
+    (λ rest other_tag later g. rw g (if_false {A = Bool} (tag_is h.tag u) true (is_held u rest) other
+        ∙ not_held_keeps u (front && is_failed h.stage) hs t m rest e later behind_it)))
 
 -- each tag is held once
 abbrev pub AreDistinct : List Held → Type 0
 AreDistinct [] = Unit {0}
 AreDistinct (h ∷ hs) = (is_held h.tag hs ≡ false) × AreDistinct hs
 
-pub distinct_keeps : (front : Bool) (hs : List Held) (t : Tag) (m : Mark) (gs : List Held) (e : Effect) → heard_in front hs t m ≡ two gs e → AreDistinct hs → AreDistinct gs
+pub distinct_keeps : (front : Bool) (hs : List Held) (t : Tag) (m : Mark) (gs : List Held) (e : Effect) → heard_in front hs t m ≡ two gs e
+    → AreDistinct hs → AreDistinct gs
 distinct_keeps front [] t m gs e is d = absurd (cc)
 distinct_keeps front (h ∷ hs) t m gs e is d =
     heard_cases front h hs t m gs e (AreDistinct gs) is
@@ -103,4 +118,5 @@ distinct_keeps front (h ∷ hs) t m gs e is d =
     (λ same v g f. rw g d)
     (λ same v g f. rw g d.1)
     (λ given same v g f. rw g d.1)
-    (λ rest other later g. rw g (not_held_keeps h.tag (front && is_failed h.stage) hs t m rest e later d.0, distinct_keeps (front && is_failed h.stage) hs t m rest e later d.1))
+    (λ rest other later g. rw g (not_held_keeps h.tag (front && is_failed h.stage) hs t m rest e later d.0,
+        distinct_keeps (front && is_failed h.stage) hs t m rest e later d.1))

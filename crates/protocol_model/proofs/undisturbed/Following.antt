@@ -1,5 +1,6 @@
 -- What a client has counted follows its plan, and so do the commands that are open: kept by every reply.
-use Rattle.std.proofs.Common.{◌≡◌, ℕ, suc, Bool, true, false, ◌&&◌, ◌||◌, not, List, [], ◌∷◌, ◌++◌, length, refl, sym, ◌∙◌, ap, subst, arith, append_assoc, append-nil, length-append, Option, Some, None}
+use Rattle.std.proofs.Common.{◌≡◌, ℕ, suc, Bool, true, false, ◌&&◌, ◌||◌, not, List, [], ◌∷◌, ◌++◌, length, refl, sym, ◌∙◌, ap, subst,
+  arith, append_assoc, append-nil, length-append, Option, Some, None}
 use Rattle.std.proofs.lemmas.Bool.{false≢true}
 use Rattle.fixed_um.specs.declared.lengths.Point.{Point}
 use Rattle.dme_line.specs.Kinds.{kind_of}
@@ -53,7 +54,8 @@ one_asked k (command.GoTo p) d h is = let f : FitsMove k p d = h in absurd (no_t
 one_asked k (command.PtMeas p dir) d h is = refl
 one_asked k (command.ChangeTool n) d h is = absurd (no_touch d (Does.Changes n) h refl is)
 one_asked k (command.SetCsyTransformation p) d h is = absurd (no_touch d Does.Nothing h refl is)
-one_asked k (command.SetCoordSystem system) d h is = let f : FitsFrame k system d = h in absurd (no_touch d (Does.Frames f.frame) f.is refl is)
+one_asked k (command.SetCoordSystem system) d h is = let f : FitsFrame k system d = h
+    in absurd (no_touch d (Does.Frames f.frame) f.is refl is)
 one_asked k command.AbortE d h is = absurd h
 
 pub fits_asked : (ps : List Planned) (k : Know) → Fits k ps → AreAsked ps
@@ -79,7 +81,8 @@ first_acts (a ∷ xs) (d ∷ ds) es h = (h.0, first_acts xs ds es h.1)
 
 pub planned_more : (ps qs : List Planned) → acts_planned (ps ++ qs) ≡ acts_planned ps ++ acts_planned qs
 planned_more [] qs = refl
-planned_more (p ∷ ps) qs = ap (λ (l : List Does). act_in p.does ++ l) (planned_more ps qs) ∙ sym (append_assoc (act_in p.does) (acts_planned ps) (acts_planned qs))
+planned_more (p ∷ ps) qs = ap (λ (l : List Does). act_in p.does ++ l) (planned_more ps qs)
+    ∙ sym (append_assoc (act_in p.does) (acts_planned ps) (acts_planned qs))
 
 -- what is counted stands for what was planned; a touch is counted with its point
 pub act_stands : (d : Does) (given : Option Point) → (given ≡ None → is_touch d ≡ true → ⊥) → AreActs (act_of d given) (act_in d)
@@ -110,14 +113,17 @@ abbrev pub kinds_of : List Planned → List Kind
 kinds_of [] = []
 kinds_of (p ∷ ps) = kind_of p.command ∷ kinds_of ps
 
--- what a reply does to them: nothing to their tags and kinds, or one of them fails, or the first is counted, with its point where it asks for one
+-- what a reply does to them: nothing to their tags and kinds, or one of them fails, or the first is counted, with its point where it asks
+-- for one
 data Kept (hs gs : List Held) (e : Effect) : Type 0 where
-  Same : e ≡ Effect.Quiet → AreCalm gs → ((place : ℕ) → HaveTags place hs → HaveTags place gs) → kinds_held gs ≡ kinds_held hs → Kept hs gs e
+  Same : e ≡ Effect.Quiet → AreCalm gs → ((place : ℕ) → HaveTags place hs → HaveTags place gs) → kinds_held gs ≡ kinds_held hs
+      → Kept hs gs e
   Broke : e ≡ Effect.Failure → Kept hs gs e
 
 data Moved (hs gs : List Held) (e : Effect) : Type 0 where
   Stays : Kept hs gs e → Moved hs gs e
-  Counted : (h : Held) (given : Option Point) → hs ≡ h ∷ gs → e ≡ Effect.Count h.kind given → (given ≡ None → asks_data h.kind ≡ false) → Moved hs gs e
+  Counted : (h : Held) (given : Option Point) → hs ≡ h ∷ gs → e ≡ Effect.Count h.kind given → (given ≡ None → asks_data h.kind ≡ false)
+      → Moved hs gs e
 
 -- a stage that has not failed becomes none that has
 data_calm : (b : Bool) (stage : Stage) (p : Point) (s : Stage) → judged_given b stage p ≡ Becomes s → is_failed s ≡ false
@@ -127,7 +133,8 @@ data_calm true (Stage.Given q) p s e = absurd (cc)
 data_calm true Stage.Failed p s e = absurd (cc)
 data_calm false stage p s e = absurd (cc)
 
-pub becomes_calm : (front : Bool) (kind : Kind) (stage : Stage) (m : Mark) (s : Stage) → is_failed stage ≡ false → judged front kind stage m ≡ Becomes s → is_failed s ≡ false
+pub becomes_calm : (front : Bool) (kind : Kind) (stage : Stage) (m : Mark) (s : Stage) → is_failed stage ≡ false
+    → judged front kind stage m ≡ Becomes s → is_failed s ≡ false
 becomes_calm front kind stage (Mark.Given p) s calm e = data_calm (front && asks_data kind) stage p s e
 becomes_calm front kind Stage.Sent Mark.Ack s calm e = let same : Stage.Received ≡ s = cc in ap is_failed (sym same)
 becomes_calm front kind Stage.Received Mark.Ack s calm e = absurd (cc)
@@ -228,14 +235,18 @@ counts_given kind stage Mark.Done e = go (asks_data kind) stage e
     go true (Stage.Given q) e = absurd (cc)
     go true Stage.Failed e = absurd (cc)
 
-first_kept : (front : Bool) (h : Held) (hs gs : List Held) (m : Mark) (e : Effect) (s : Stage) → AreCalm (h ∷ hs) → judged front h.kind h.stage m ≡ Becomes s → gs ≡ staged h s ∷ hs → e ≡ Effect.Quiet → Kept (h ∷ hs) gs e
-first_kept front h hs gs m e s calm v g f = subst (λ (l : List Held). Kept (h ∷ hs) l e) (sym g) (Same f (becomes_calm front h.kind h.stage m s calm.0 v, calm.1) (λ place tags. tags) refl)
+first_kept : (front : Bool) (h : Held) (hs gs : List Held) (m : Mark) (e : Effect) (s : Stage) → AreCalm (h ∷ hs)
+    → judged front h.kind h.stage m ≡ Becomes s → gs ≡ staged h s ∷ hs → e ≡ Effect.Quiet → Kept (h ∷ hs) gs e
+first_kept front h hs gs m e s calm v g f = subst (λ (l : List Held). Kept (h ∷ hs) l e) (sym g)
+    (Same f (becomes_calm front h.kind h.stage m s calm.0 v, calm.1) (λ place tags. tags) refl)
 
 kept_behind : (h : Held) (hs rest : List Held) (e : Effect) → is_failed h.stage ≡ false → Kept hs rest e → Kept (h ∷ hs) (h ∷ rest) e
-kept_behind h hs rest e calm (Same quiet others tags kinds) = Same quiet (calm, others) (λ place t. (t.0, tags (suc place) t.1)) (ap (λ (l : List Kind). h.kind ∷ l) kinds)
+kept_behind h hs rest e calm (Same quiet others tags kinds) =
+    Same quiet (calm, others) (λ place t. (t.0, tags (suc place) t.1)) (ap (λ (l : List Kind). h.kind ∷ l) kinds)
 kept_behind h hs rest e calm (Broke failure) = Broke failure
 
-behind_kept : (hs : List Held) (t : Tag) (m : Mark) (gs : List Held) (e : Effect) → AreCalm hs → heard_in false hs t m ≡ two gs e → Kept hs gs e
+behind_kept : (hs : List Held) (t : Tag) (m : Mark) (gs : List Held) (e : Effect) → AreCalm hs → heard_in false hs t m ≡ two gs e
+    → Kept hs gs e
 behind_kept [] t m gs e calm is = absurd (cc)
 behind_kept (h ∷ hs) t m gs e calm is =
     heard_cases false h hs t m gs e (Kept (h ∷ hs) gs e) is
@@ -243,21 +254,27 @@ behind_kept (h ∷ hs) t m gs e calm is =
     (λ same v g f. Broke f)
     (λ same v g f. absurd (no_closes false h.kind h.stage m calm.0 v))
     (λ given same v g f. absurd (no_counts h.kind h.stage m given v))
-    (λ rest other later g. subst (λ (l : List Held). Kept (h ∷ hs) l e) (sym g) (kept_behind h hs rest e calm.0 (behind_kept hs t m rest e calm.1 later)))
+    (λ rest other later g. subst (λ (l : List Held). Kept (h ∷ hs) l e) (sym g)
+        (kept_behind h hs rest e calm.0 (behind_kept hs t m rest e calm.1 later)))
 
-front_moved : (hs : List Held) (t : Tag) (m : Mark) (gs : List Held) (e : Effect) → AreCalm hs → heard_in true hs t m ≡ two gs e → Moved hs gs e
+front_moved : (hs : List Held) (t : Tag) (m : Mark) (gs : List Held) (e : Effect) → AreCalm hs → heard_in true hs t m ≡ two gs e
+    → Moved hs gs e
 front_moved [] t m gs e calm is = absurd (cc)
 front_moved (h ∷ hs) t m gs e calm is =
     heard_cases true h hs t m gs e (Moved (h ∷ hs) gs e) is
     (λ s same v g f. Stays (first_kept true h hs gs m e s calm v g f))
     (λ same v g f. Stays (Broke f))
     (λ same v g f. absurd (no_closes true h.kind h.stage m calm.0 v))
-    (λ given same v g f. Counted h given (ap (λ (l : List Held). h ∷ l) (sym g)) f (λ none. counts_given h.kind h.stage m (v ∙ ap (λ (o : Option Point). Counts o) none)))
-    (λ rest other later g. Stays (subst (λ (l : List Held). Kept (h ∷ hs) l e) (sym g) (kept_behind h hs rest e calm.0 (behind_kept hs t m rest e calm.1 (subst (λ (b : Bool). heard_in b hs t m ≡ two rest e) calm.0 later)))))
+    (λ given same v g f. Counted h given (ap (λ (l : List Held). h ∷ l) (sym g)) f
+        (λ none. counts_given h.kind h.stage m (v ∙ ap (λ (o : Option Point). Counts o) none)))
+    (λ rest other later g. Stays (subst (λ (l : List Held). Kept (h ∷ hs) l e) (sym g)
+        (kept_behind h hs rest e calm.0 (behind_kept hs t m rest e calm.1
+        (subst (λ (b : Bool). heard_in b hs t m ≡ two rest e) calm.0 later)))))
 
 -- ---- a client's open commands and its tally follow a plan
 
--- where nothing has failed: none of the open commands has, their tags are those of their places, and with the unsent ones they are what is to be counted
+-- where nothing has failed: none of the open commands has, their tags are those of their places, and with the unsent ones they are what is
+-- to be counted
 pub record IsCalm (finished unsent : List Planned) (hs : List Held) (todo : List Planned) : Type 0 where
   pub calm : AreCalm hs
   pub tags : HaveTags (length finished) hs
@@ -280,8 +297,10 @@ other_kinds [] = []
 other_kinds (k ∷ ks) = ks
 
 -- the first command of a list that is to be counted
-counts : (ws : List Wanted) (steps unsent : List Planned) (h : Held) (gs : List Held) (y : Tally) (given : Option Point) (finished todo : List Planned)
-    → AreAsked steps → finished ++ todo ≡ steps → AreActs y.counted (acts_planned finished) → (y.failed ≡ false) → IsCalm finished unsent (h ∷ gs) todo
+counts : (ws : List Wanted) (steps unsent : List Planned) (h : Held) (gs : List Held) (y : Tally) (given : Option Point)
+    (finished todo : List Planned)
+    → AreAsked steps → finished ++ todo ≡ steps → AreActs y.counted (acts_planned finished) → (y.failed ≡ false)
+    → IsCalm finished unsent (h ∷ gs) todo
     → (given ≡ None → asks_data h.kind ≡ false) → IsFollowing steps unsent gs (counted_next ws h.kind given todo y)
 counts ws steps unsent h gs y given finished [] asked parts acts failed calm given_one = absurd (go calm.kinds)
   where
@@ -291,7 +310,8 @@ counts ws steps unsent h gs y given finished (p ∷ rest) asked parts acts faile
     let same : kind_of p.command ≡ h.kind = sym (ap (λ (l : List Kind). first_kind l h.kind) calm.kinds) in
     let others : kinds_held gs ++ kinds_of unsent ≡ kinds_of rest = ap other_kinds calm.kinds in
     let one : IsAsked p = asked_at finished p rest (subst AreAsked (sym parts) asked) in
-    let mid : Tally = record y { session = y.session || begins_session h.kind; todo = rest; counted = y.counted ++ act_of p.does given; completed = suc y.completed } in
+    let mid : Tally = record y { session = y.session || begins_session h.kind; todo = rest; counted = y.counted ++ act_of p.does given;
+        completed = suc y.completed } in
     let keeps : Keeps mid (measured ws p.does given mid) = measured_keeps ws p.does given mid in
     record {
       finished = finished ++ p ∷ [];
@@ -329,40 +349,53 @@ uncounted (h ∷ hs) t m gs e is =
     (λ given same v g f. absurd (no_counts h.kind h.stage m given v))
     (λ rest other later g. uncounted hs t m rest e later)
 
-stays_failed : (ws : List Wanted) (steps unsent : List Planned) (hs gs : List Held) (y : Tally) (e : Effect) → IsFollowing steps unsent hs y → y.failed ≡ true → IsUncounted e → IsFollowing steps unsent gs (tallied ws e y)
-stays_failed ws steps unsent hs gs y Effect.Quiet f failed un = record { finished = f.finished; parts = f.parts; acts = f.acts; calm = λ e. absurd (false≢true (sym e ∙ failed)) }
-stays_failed ws steps unsent hs gs y Effect.Failure f failed un = record { finished = f.finished; parts = f.parts; acts = f.acts; calm = λ e. absurd (false≢true (sym e)) }
+stays_failed : (ws : List Wanted) (steps unsent : List Planned) (hs gs : List Held) (y : Tally) (e : Effect) → IsFollowing steps unsent hs y
+    → y.failed ≡ true → IsUncounted e → IsFollowing steps unsent gs (tallied ws e y)
+stays_failed ws steps unsent hs gs y Effect.Quiet f failed un =
+    record { finished = f.finished; parts = f.parts; acts = f.acts; calm = λ e. absurd (false≢true (sym e ∙ failed)) }
+stays_failed ws steps unsent hs gs y Effect.Failure f failed un =
+    record { finished = f.finished; parts = f.parts; acts = f.acts; calm = λ e. absurd (false≢true (sym e)) }
 stays_failed ws steps unsent hs gs y (Effect.Count k given) f failed un = absurd un
 
-moved_follows : (ws : List Wanted) (steps unsent : List Planned) (hs gs : List Held) (y : Tally) (e : Effect) → AreAsked steps → (f : IsFollowing steps unsent hs y) → y.failed ≡ false → Moved hs gs e → IsFollowing steps unsent gs (tallied ws e y)
+moved_follows : (ws : List Wanted) (steps unsent : List Planned) (hs gs : List Held) (y : Tally) (e : Effect) → AreAsked steps
+    → (f : IsFollowing steps unsent hs y) → y.failed ≡ false → Moved hs gs e → IsFollowing steps unsent gs (tallied ws e y)
 moved_follows ws steps unsent hs gs y e asked f failed (Stays (Same quiet calm tags kinds)) =
     let c : IsCalm f.finished unsent hs y.todo = f.calm failed in
     subst (λ (x : Effect). IsFollowing steps unsent gs (tallied ws x y)) (sym quiet) (record {
       finished = f.finished;
       parts = f.parts;
       acts = f.acts;
-      calm = λ still. record { calm = calm; tags = tags (length f.finished) c.tags; kinds = ap (λ (l : List Kind). l ++ kinds_of unsent) kinds ∙ c.kinds };
+      calm = λ still. record { calm = calm; tags = tags (length f.finished) c.tags;
+          kinds = ap (λ (l : List Kind). l ++ kinds_of unsent) kinds ∙ c.kinds };
     })
 moved_follows ws steps unsent hs gs y e asked f failed (Stays (Broke failure)) =
-    subst (λ (x : Effect). IsFollowing steps unsent gs (tallied ws x y)) (sym failure) (record { finished = f.finished; parts = f.parts; acts = f.acts; calm = λ still. absurd (false≢true (sym still)) })
+    subst (λ (x : Effect). IsFollowing steps unsent gs (tallied ws x y)) (sym failure)
+        (record { finished = f.finished; parts = f.parts; acts = f.acts; calm = λ still. absurd (false≢true (sym still)) })
 moved_follows ws steps unsent hs gs y e asked f failed (Counted h given is count given_one) =
     subst (λ (x : Effect). IsFollowing steps unsent gs (tallied ws x y)) (sym count)
-    (counts ws steps unsent h gs y given f.finished y.todo asked f.parts f.acts failed (subst (λ (l : List Held). IsCalm f.finished unsent l y.todo) is (f.calm failed)) given_one)
+    (counts ws steps unsent h gs y given f.finished y.todo asked f.parts f.acts failed
+        (subst (λ (l : List Held). IsCalm f.finished unsent l y.todo) is (f.calm failed)) given_one)
 
-standard_follows : (ws : List Wanted) (steps unsent : List Planned) (hs gs : List Held) (y : Tally) (t : Tag) (m : Mark) (e : Effect) → AreAsked steps → IsFollowing steps unsent hs y → (b : Bool) → y.failed ≡ b → heard_in (not y.failed) hs t m ≡ two gs e → IsFollowing steps unsent gs (tallied ws e y)
+standard_follows : (ws : List Wanted) (steps unsent : List Planned) (hs gs : List Held) (y : Tally) (t : Tag) (m : Mark) (e : Effect)
+    → AreAsked steps → IsFollowing steps unsent hs y → (b : Bool) → y.failed ≡ b → heard_in (not y.failed) hs t m ≡ two gs e
+    → IsFollowing steps unsent gs (tallied ws e y)
 standard_follows ws steps unsent hs gs y t m e asked f true failed is =
-    stays_failed ws steps unsent hs gs y e f failed (uncounted hs t m gs e (subst (λ (b : Bool). heard_in (not b) hs t m ≡ two gs e) failed is))
+    stays_failed ws steps unsent hs gs y e f failed (uncounted hs t m gs e
+        (subst (λ (b : Bool). heard_in (not b) hs t m ≡ two gs e) failed is))
 standard_follows ws steps unsent hs gs y t m e asked f false calm is =
     let c : IsCalm f.finished unsent hs y.todo = f.calm calm in
-    moved_follows ws steps unsent hs gs y e asked f calm (front_moved hs t m gs e c.calm (subst (λ (b : Bool). heard_in (not b) hs t m ≡ two gs e) calm is))
+    moved_follows ws steps unsent hs gs y e asked f calm (front_moved hs t m gs e c.calm
+        (subst (λ (b : Bool). heard_in (not b) hs t m ≡ two gs e) calm is))
 
 -- each reply leaves a table that follows the plan
 abbrev pub Follows : List Planned → List Planned → Table → Type 0
 Follows steps unsent b = IsFollowing steps unsent b.standard b.tally
 
-pub heard_follows : (ws : List Wanted) (steps unsent : List Planned) → AreAsked steps → (b : Table) (t : Tag) (m : Mark) (c : Table) → heard ws b t m ≡ fine c → Follows steps unsent b → Follows steps unsent c
+pub heard_follows : (ws : List Wanted) (steps unsent : List Planned) → AreAsked steps → (b : Table) (t : Tag) (m : Mark) (c : Table)
+    → heard ws b t m ≡ fine c → Follows steps unsent b → Follows steps unsent c
 heard_follows ws steps unsent asked b t m c is f =
     step_cases ws b t m c (Follows steps unsent c) is
     (λ zero_tag same. subst (Follows steps unsent) same f)
-    (λ n hs e tag here after. subst (Follows steps unsent) (sym after) (standard_follows ws steps unsent b.standard hs b.tally (Std n) m e asked f b.tally.failed refl here))
+    (λ n hs e tag here after. subst (Follows steps unsent) (sym after)
+        (standard_follows ws steps unsent b.standard hs b.tally (Std n) m e asked f b.tally.failed refl here))
     (λ n hs e tag other here after. subst (Follows steps unsent) (sym after) f)

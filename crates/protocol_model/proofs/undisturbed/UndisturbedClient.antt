@@ -1,5 +1,6 @@
 -- A client that follows one plan from its first command on: what it has sent are the first lines of the plan.
-use Rattle.std.proofs.Common.{◌≡◌, ℕ, suc, ◌+◌, Bool, true, false, cond, List, [], ◌∷◌, ◌++◌, length, refl, sym, ◌∙◌, ap, subst, arith, append_assoc, length-append, Option, Some, None, Result, Ok, Err, eqb}
+use Rattle.std.proofs.Common.{◌≡◌, ℕ, suc, ◌+◌, Bool, true, false, cond, List, [], ◌∷◌, ◌++◌, length, refl, sym, ◌∙◌, ap, subst, arith,
+  append_assoc, length-append, Option, Some, None, Result, Ok, Err, eqb}
 use Rattle.fixed_um.specs.declared.lengths.Point.{Point}
 use Rattle.dme_line.specs.Kinds.{kind_of}
 use Rattle.dme_line.specs.declared.tags.Tag.{Tag}
@@ -15,7 +16,8 @@ use Rattle.line_framing.specs.declared.faults.FramingFault.TheVariants as framin
 use Rattle.protocol_model.specs.Replies.{Mark, tag_is}
 use Rattle.protocol_model.specs.Lines.{Readers, command_bytes}
 use Rattle.protocol_model.specs.Open.{asks_data, count_open}
-use Rattle.protocol_model.specs.Client.{Client, Table, faulted, is_apart, held_now, sends_next, client_hears, client_read, heard_on, heard, first_state, last_state, is_whole, ends_abort, client_connected}
+use Rattle.protocol_model.specs.Client.{Client, Table, faulted, is_apart, held_now, sends_next, client_hears, client_read, heard_on, heard,
+  first_state, last_state, is_whole, ends_abort, client_connected}
 use Rattle.protocol_model.specs.Ends.{held_under, given_point, given_under, response_read, line_read, front_read}
 use Rattle.protocol_model.specs.Plan.{plan}
 use Rattle.protocol_model.specs.Undisturbed.{tag_at, lines_from}
@@ -70,13 +72,17 @@ first_away State.Halted ends failed h = refl
 first_away State.Done ends failed h = refl
 first_away State.Faulted ends failed h = refl
 
-pub stays_faulted : (steps : List Planned) (c : Client) (written : List ℕ) (cause : Cause) → IsOnPlan steps c written → IsOnPlan steps (faulted cause c) written
-stays_faulted steps c written cause h = record { on = h.on; away = refl; first = h.first; follows = h.follows; sent = h.sent; whole = h.whole; drawn = h.drawn; written_is = h.written_is }
+pub stays_faulted : (steps : List Planned) (c : Client) (written : List ℕ) (cause : Cause) → IsOnPlan steps c written
+    → IsOnPlan steps (faulted cause c) written
+stays_faulted steps c written cause h = record { on = h.on; away = refl; first = h.first; follows = h.follows; sent = h.sent;
+    whole = h.whole; drawn = h.drawn; written_is = h.written_is }
 
-hears_on : (steps : List Planned) (c : Client) (written : List ℕ) (t : Tag) (m : Mark) → AreAsked steps → IsOnPlan steps c written → (r : Result Table Cause) → heard c.program.features c.table t m ≡ r → IsOnPlan steps (client_hears c t m r) written
+hears_on : (steps : List Planned) (c : Client) (written : List ℕ) (t : Tag) (m : Mark) → AreAsked steps → IsOnPlan steps c written
+    → (r : Result Table Cause) → heard c.program.features c.table t m ≡ r → IsOnPlan steps (client_hears c t m r) written
 hears_on steps c written t m asked h (Ok b) e = record {
   on = h.on;
-  away = last_away (first_state c.state (ends_abort c.abort t m) b.tally.failed) (is_whole b) (count_open b.standard) (first_away c.state (ends_abort c.abort t m) b.tally.failed h.away);
+  away = last_away (first_state c.state (ends_abort c.abort t m) b.tally.failed) (is_whole b) (count_open b.standard)
+      (first_away c.state (ends_abort c.abort t m) b.tally.failed h.away);
   first = h.first;
   follows = heard_follows c.program.features steps c.unsent asked c.table t m b e h.follows;
   sent = h.sent;
@@ -86,40 +92,51 @@ hears_on steps c written t m asked h (Ok b) e = record {
 }
 hears_on steps c written t m asked h (Err cause) e = stays_faulted steps c written cause h
 
-pub read_on : (steps : List Planned) (c : Client) (written : List ℕ) (t : Tag) (m : Mark) → AreAsked steps → IsOnPlan steps c written → IsOnPlan steps (client_read c t m) written
+pub read_on : (steps : List Planned) (c : Client) (written : List ℕ) (t : Tag) (m : Mark) → AreAsked steps → IsOnPlan steps c written
+    → IsOnPlan steps (client_read c t m) written
 read_on steps c written t m asked h = go (tag_is t (tag.Event 0)) refl
   where
-    go : (b : Bool) → tag_is t (tag.Event 0) ≡ b → IsOnPlan steps (cond b c (client_hears c t m (heard_on c.program.features c.table t m))) written
+    go : (b : Bool) → tag_is t (tag.Event 0) ≡ b → IsOnPlan steps (cond b c (client_hears c t m (heard_on c.program.features c.table t m)))
+        written
     go true e = h
-    go false e = hears_on steps c written t m asked h (heard_on c.program.features c.table t m) (if_false {A = Result Table Cause} (tag_is t (tag.Event 0)) (fine c.table) (heard_on c.program.features c.table t m) e)
+    go false e = hears_on steps c written t m asked h (heard_on c.program.features c.table t m)
+        (if_false {A = Result Table Cause} (tag_is t (tag.Event 0)) (fine c.table) (heard_on c.program.features c.table t m) e)
 
 -- ---- whatever is read
 
-one_of : (steps : List Planned) (written : List ℕ) (b : Bool) (d e : Client) → IsOnPlan steps d written → IsOnPlan steps e written → IsOnPlan steps (cond b d e) written
+one_of : (steps : List Planned) (written : List ℕ) (b : Bool) (d e : Client) → IsOnPlan steps d written → IsOnPlan steps e written
+    → IsOnPlan steps (cond b d e) written
 one_of steps written true d e p q = p
 one_of steps written false d e p q = q
 
-point_on : (steps : List Planned) (c : Client) (written : List ℕ) (t : Tag) (r : Result Point NotPoint) → AreAsked steps → IsOnPlan steps c written → IsOnPlan steps (given_point c t r) written
+point_on : (steps : List Planned) (c : Client) (written : List ℕ) (t : Tag) (r : Result Point NotPoint) → AreAsked steps
+    → IsOnPlan steps c written → IsOnPlan steps (given_point c t r) written
 point_on steps c written t (Ok p) asked h = read_on steps c written t (Mark.Given p) asked h
 point_on steps c written t (Err why) asked h = stays_faulted steps c written Cause.NotResponse h
 
-under_on : (readers : Readers) (steps : List Planned) (c : Client) (written : List ℕ) (t : Tag) (text : List ℕ) (kind : Option Kind) → AreAsked steps → IsOnPlan steps c written → IsOnPlan steps (given_under readers c t text kind) written
+under_on : (readers : Readers) (steps : List Planned) (c : Client) (written : List ℕ) (t : Tag) (text : List ℕ) (kind : Option Kind)
+    → AreAsked steps → IsOnPlan steps c written → IsOnPlan steps (given_under readers c t text kind) written
 under_on readers steps c written t text None asked h = stays_faulted steps c written Cause.UnknownTag h
 under_on readers steps c written t text (Some k) asked h =
-    one_of steps written (asks_data k) (given_point c t (readers.point text)) (faulted Cause.OutOfOrder c) (point_on steps c written t (readers.point text) asked h) (stays_faulted steps c written Cause.OutOfOrder h)
+    one_of steps written (asks_data k) (given_point c t (readers.point text)) (faulted Cause.OutOfOrder c)
+        (point_on steps c written t (readers.point text) asked h) (stays_faulted steps c written Cause.OutOfOrder h)
 
-response_on : (readers : Readers) (steps : List Planned) (c : Client) (written : List ℕ) (t : Tag) (m : Marked) → AreAsked steps → IsOnPlan steps c written → IsOnPlan steps (response_read readers c t m) written
+response_on : (readers : Readers) (steps : List Planned) (c : Client) (written : List ℕ) (t : Tag) (m : Marked) → AreAsked steps
+    → IsOnPlan steps c written → IsOnPlan steps (response_read readers c t m) written
 response_on readers steps c written t mark.Ack asked h = read_on steps c written t Mark.Ack asked h
 response_on readers steps c written t (mark.Given text) asked h =
-    one_of steps written (tag_is t (tag.Event 0)) c (given_under readers c t text (held_under t c)) h (under_on readers steps c written t text (held_under t c) asked h)
+    one_of steps written (tag_is t (tag.Event 0)) c (given_under readers c t text (held_under t c)) h
+        (under_on readers steps c written t text (held_under t c) asked h)
 response_on readers steps c written t mark.Done asked h = read_on steps c written t Mark.Done asked h
 response_on readers steps c written t (mark.Error text) asked h = read_on steps c written t Mark.Error asked h
 
-line_on : (readers : Readers) (steps : List Planned) (c : Client) (written : List ℕ) (r : Result Response NotResponse) → AreAsked steps → IsOnPlan steps c written → IsOnPlan steps (line_read readers c r) written
+line_on : (readers : Readers) (steps : List Planned) (c : Client) (written : List ℕ) (r : Result Response NotResponse) → AreAsked steps
+    → IsOnPlan steps c written → IsOnPlan steps (line_read readers c r) written
 line_on readers steps c written (Ok r) asked h = response_on readers steps c written r.tag r.mark asked h
 line_on readers steps c written (Err refused) asked h = stays_faulted steps c written Cause.NotResponse h
 
-pub front_on : (readers : Readers) (steps : List Planned) (c : Client) (written : List ℕ) (f : Front) → AreAsked steps → IsOnPlan steps c written → IsOnPlan steps (front_read readers c f) written
+pub front_on : (readers : Readers) (steps : List Planned) (c : Client) (written : List ℕ) (f : Front) → AreAsked steps
+    → IsOnPlan steps c written → IsOnPlan steps (front_read readers c f) written
 front_on readers steps c written (Ok None) asked h = h
 front_on readers steps c written (Ok (Some (line, rest))) asked h = line_on readers steps c written (readers.response line) asked h
 front_on readers steps c written (Err framing.LineTooLong) asked h = stays_faulted steps c written Cause.LineTooLong h
@@ -140,18 +157,23 @@ kinds_long [] = refl
 kinds_long (p ∷ ps) = ap suc (kinds_long ps)
 
 -- what is counted and what is open was sent
-pub places : (finished todo sent unsent steps : List Planned) (hs : List Held) → finished ++ todo ≡ steps → sent ++ unsent ≡ steps → kinds_held hs ++ kinds_of unsent ≡ kinds_of todo → length finished + length hs ≡ length sent
+pub places : (finished todo sent unsent steps : List Planned) (hs : List Held) → finished ++ todo ≡ steps → sent ++ unsent ≡ steps
+    → kinds_held hs ++ kinds_of unsent ≡ kinds_of todo → length finished + length hs ≡ length sent
 places finished todo sent unsent steps hs f s k =
     let a : length finished + length todo ≡ length steps = sym (length-append finished todo) ∙ ap length f in
     let b : length sent + length unsent ≡ length steps = sym (length-append sent unsent) ∙ ap length s in
-    let c : length (kinds_held hs) + length (kinds_of unsent) ≡ length (kinds_of todo) = sym (length-append (kinds_held hs) (kinds_of unsent)) ∙ ap length k in
+    let c : length (kinds_held hs) + length (kinds_of unsent) ≡ length (kinds_of todo) =
+        sym (length-append (kinds_held hs) (kinds_of unsent)) ∙ ap length k in
     omega (arith, a, b, c, held_long hs, kinds_long unsent, kinds_long todo)
 
 -- the next command, under the tag of its place
-pub sends_on : (steps : List Planned) (c : Client) (written : List ℕ) (p : Planned) (others : List Planned) (number : Option ℕ) (h : IsOnPlan steps c written) → c.unsent ≡ p ∷ others → c.table.tally.failed ≡ false
-    → number ≡ Some (number_at (length h.sent)) → IsOnPlan steps (sends_next c (p ∷ others) number).client (written ++ command_bytes (sends_next c (p ∷ others) number).lines)
+pub sends_on : (steps : List Planned) (c : Client) (written : List ℕ) (p : Planned) (others : List Planned) (number : Option ℕ)
+    (h : IsOnPlan steps c written) → c.unsent ≡ p ∷ others → c.table.tally.failed ≡ false
+    → number ≡ Some (number_at (length h.sent)) → IsOnPlan steps (sends_next c (p ∷ others) number).client (written
+    ++ command_bytes (sends_next c (p ∷ others) number).lines)
 sends_on steps c written p others number h unsent failed is =
-    subst (λ (o : Option ℕ). IsOnPlan steps (sends_next c (p ∷ others) o).client (written ++ command_bytes (sends_next c (p ∷ others) o).lines)) (sym is) (record {
+    subst (λ (o : Option ℕ). IsOnPlan steps (sends_next c (p ∷ others) o).client (written
+        ++ command_bytes (sends_next c (p ∷ others) o).lines)) (sym is) (record {
       on = h.on;
       away = h.away;
       first = h.first;
@@ -161,11 +183,13 @@ sends_on steps c written p others number h unsent failed is =
         acts = h.follows.acts;
         calm = λ e.
             let k : IsCalm h.follows.finished c.unsent c.table.standard c.table.tally.todo = h.follows.calm e in
-            let at : length h.follows.finished + length c.table.standard ≡ length h.sent = places h.follows.finished c.table.tally.todo h.sent c.unsent steps c.table.standard h.follows.parts h.whole k.kinds in
+            let at : length h.follows.finished + length c.table.standard ≡ length h.sent =
+                places h.follows.finished c.table.tally.todo h.sent c.unsent steps c.table.standard h.follows.parts h.whole k.kinds in
             record {
               calm = calm_more c.table.standard x k.calm refl;
               tags = tags_more c.table.standard (length h.follows.finished) (length h.sent) x k.tags at refl;
-              kinds = ap (λ (l : List Kind). l ++ kinds_of others) (kinds_more c.table.standard x) ∙ (append_assoc (kinds_held c.table.standard) (kind_of p.command ∷ []) (kinds_of others)
+              kinds = ap (λ (l : List Kind). l ++ kinds_of others) (kinds_more c.table.standard x)
+                  ∙ (append_assoc (kinds_held c.table.standard) (kind_of p.command ∷ []) (kinds_of others)
                   ∙ (ap (λ (l : List Planned). kinds_held c.table.standard ++ kinds_of l) (sym unsent) ∙ k.kinds));
             };
       };
@@ -187,7 +211,8 @@ sends_on steps c written p others number h unsent failed is =
 
 -- ---- the plan begins
 
-pub begins_on : (c : Client) → c.last ≡ 0 → IsOnPlan (plan c.program (length c.table.tally.features) Start.NewConnection) (client_connected (suc c.last) c) []
+pub begins_on : (c : Client) → c.last ≡ 0 → IsOnPlan (plan c.program (length c.table.tally.features) Start.NewConnection)
+    (client_connected (suc c.last) c) []
 begins_on c last = record {
   on = refl;
   away = refl;

@@ -1,5 +1,6 @@
 -- A server that has read commands that can be written answers replies that can be written.
-use Rattle.std.proofs.Common.{◌≡◌, ℕ, Bool, true, false, cond, not, ◌&&◌, ◌||◌, List, [], ◌∷◌, ◌++◌, length, refl, sym, ◌∙◌, ap, subst, arith, Option, Some, None, Ok, nat_le}
+use Rattle.std.proofs.Common.{◌≡◌, ℕ, Bool, true, false, cond, not, ◌&&◌, ◌||◌, List, [], ◌∷◌, ◌++◌, length, refl, sym, ◌∙◌, ap, subst,
+  arith, Option, Some, None, Ok, nat_le}
 use Rattle.std.proofs.lemmas.Bool.{false≢true, and_parts, leb-true}
 use Rattle.fixed_um.specs.Shapes.{Direction}
 use Rattle.fixed_um.specs.Points.{IsInVolume}
@@ -16,10 +17,13 @@ use Rattle.dme_line.specs.declared.commands.Command.{Command}
 use Rattle.dme_line.specs.declared.commands.Command.TheVariants as command
 use Rattle.dme_line.specs.declared.commands.Kind.{Kind}
 use Rattle.protocol_model.specs.Replies.{Reply}
-use Rattle.protocol_model.specs.Server.{Server, Answer, origin, fails, all_fail, in_error, queued, runs_under, waits_under, is_abort, is_clear, running_fails, aborted, stands, server_read, refusal, frame_of, carried_out, taken, turned_to, server_turned, offset, in_volume, stopped, idle, finished, touched, machined, server_machined, has_outcome, may_end, server_left}
+use Rattle.protocol_model.specs.Server.{Server, Answer, origin, fails, all_fail, in_error, queued, runs_under, waits_under, is_abort,
+  is_clear, running_fails, aborted, stands, server_read, refusal, frame_of, carried_out, taken, turned_to, server_turned, offset, in_volume,
+  stopped, idle, finished, touched, machined, server_machined, has_outcome, may_end, server_left}
 use Rattle.protocol_model.proofs.invariant.Holding.{listed, waits, all_wait}
 use Rattle.protocol_model.proofs.invariant.LineFacts.{wait_more}
-use Rattle.protocol_model.proofs.lines.Writable.{AreWritable, writable_join, AreReplies, replies_join, difference_on_wire, opposite_in_volume}
+use Rattle.protocol_model.proofs.lines.Writable.{AreWritable, writable_join, AreReplies, replies_join, difference_on_wire,
+  opposite_in_volume}
 use Rattle.protocol_model.specs.declared.lines.Line.{Line}
 use Rattle.protocol_model.specs.declared.lines.Waiting.{Waiting}
 use Rattle.protocol_model.specs.declared.machine.Outcome.{Outcome}
@@ -89,7 +93,8 @@ either P false x y p q = q
 failed_server : (s : Server) → IsPlainServer s → IsPlainServer (in_error s)
 failed_server s h = record { lines = []; waiting_is = refl; running = h.running; waiting = tt; stored = h.stored; frame = h.frame }
 
-queued_server : (s : Server) (t : Tag) (c : Command) (error : Bool) → IsPlainServer s → IsWritable t c → IsPlainServer (queued t (Ok c) (record s { error = error }))
+queued_server : (s : Server) (t : Tag) (c : Command) (error : Bool) → IsPlainServer s → IsWritable t c
+    → IsPlainServer (queued t (Ok c) (record s { error = error }))
 queued_server s t c error h w =
     let l : Line = record { tag = t; command = c } in
     record {
@@ -104,10 +109,12 @@ queued_server s t c error h w =
 stands_plain : (s : Server) (t : Tag) (c : Command) → IsPlainServer s → IsWritable t c → IsPlainAnswer (stands s t (Ok c))
 stands_plain s t c h w =
     let tag : IsTag t = tag_of_numbered t w.tagged.numbered in
-    either IsPlainAnswer (s.error && not (is_clear (Ok c))) _ _ (record { server = h; said = (tag, fails_plain t 9008 (Some (kind_of c)) tag) })
+    either IsPlainAnswer (s.error && not (is_clear (Ok c))) _ _
+        (record { server = h; said = (tag, fails_plain t 9008 (Some (kind_of c)) tag) })
     (either IsPlainAnswer s.error _ _ (record { server = queued_server s t c false h w; said = (tag, tt) })
     (either IsPlainAnswer (nat_le 64 (length s.waiting)) _ _
-    (record { server = failed_server s h; said = (tag, replies_join (fails t 9009 (Some (kind_of c))) (all_fail 9007 s.waiting) (fails_plain t 9009 (Some (kind_of c)) tag) (all_fail_by 9007 s.waiting h.lines h.waiting_is h.waiting)) })
+    (record { server = failed_server s h; said = (tag, replies_join (fails t 9009 (Some (kind_of c))) (all_fail 9007 s.waiting)
+        (fails_plain t 9009 (Some (kind_of c)) tag) (all_fail_by 9007 s.waiting h.lines h.waiting_is h.waiting)) })
     (record { server = queued_server s t c s.error h w; said = (tag, tt) })))
 
 aborted_plain : (s : Server) (t : Tag) → IsPlainServer s → IsTag t → IsPlainAnswer (aborted s t)
@@ -129,23 +136,33 @@ read_plain s l h w =
 -- ---- a turn
 
 runs_plain : (s : Server) (l : Line) → IsPlainServer s → IsWritable l.tag l.command → IsPlainServer (record s { running = Some l })
-runs_plain s l h w = record { lines = h.lines; waiting_is = h.waiting_is; running = (w, tt); waiting = h.waiting; stored = h.stored; frame = h.frame }
+runs_plain s l h w = record { lines = h.lines; waiting_is = h.waiting_is; running = (w, tt); waiting = h.waiting; stored = h.stored;
+    frame = h.frame }
 
 frame_plain : (system : Csy) (stored : Point) → IsInVolume stored → IsInVolume (offset (frame_of system stored))
 frame_plain MachineCsy stored h = origin_in_volume
 frame_plain PartCsy stored h = h
 
 carried_plain : (s : Server) (t : Tag) (c : Command) → IsPlainServer s → IsWritable t c → IsPlainAnswer (carried_out s t c)
-carried_plain s t command.StartSession h w = record { server = record { lines = h.lines; waiting_is = h.waiting_is; running = h.running; waiting = h.waiting; stored = h.stored; frame = h.frame }; said = (tag_of_numbered t w.tagged.numbered, tt) }
-carried_plain s t command.EndSession h w = record { server = record { lines = h.lines; waiting_is = h.waiting_is; running = h.running; waiting = h.waiting; stored = h.stored; frame = h.frame }; said = (tag_of_numbered t w.tagged.numbered, tt) }
+carried_plain s t command.StartSession h w = record { server = record { lines = h.lines; waiting_is = h.waiting_is; running = h.running;
+    waiting = h.waiting; stored = h.stored; frame = h.frame }; said = (tag_of_numbered t w.tagged.numbered, tt) }
+carried_plain s t command.EndSession h w = record { server = record { lines = h.lines; waiting_is = h.waiting_is; running = h.running;
+    waiting = h.waiting; stored = h.stored; frame = h.frame }; said = (tag_of_numbered t w.tagged.numbered, tt) }
 carried_plain s t command.ClearAllErrors h w = record { server = h; said = (tag_of_numbered t w.tagged.numbered, tt) }
 carried_plain s t command.OnPtMeasReport h w = record { server = h; said = (tag_of_numbered t w.tagged.numbered, tt) }
-carried_plain s t (command.SetCsyTransformation p) h w = record { server = record { lines = h.lines; waiting_is = h.waiting_is; running = h.running; waiting = h.waiting; stored = opposite_in_volume p w.arguments; frame = h.frame }; said = (tag_of_numbered t w.tagged.numbered, tt) }
-carried_plain s t (command.SetCoordSystem system) h w = record { server = record { lines = h.lines; waiting_is = h.waiting_is; running = h.running; waiting = h.waiting; stored = h.stored; frame = frame_plain system s.stored h.stored }; said = (tag_of_numbered t w.tagged.numbered, tt) }
-carried_plain s t command.Home h w = record { server = record { lines = h.lines; waiting_is = h.waiting_is; running = (w, tt); waiting = h.waiting; stored = h.stored; frame = h.frame }; said = tt }
-carried_plain s t (command.ChangeTool n) h w = record { server = record { lines = h.lines; waiting_is = h.waiting_is; running = (w, tt); waiting = h.waiting; stored = h.stored; frame = h.frame }; said = tt }
+carried_plain s t (command.SetCsyTransformation p) h w = record
+    { server = record { lines = h.lines; waiting_is = h.waiting_is; running = h.running; waiting = h.waiting;
+    stored = opposite_in_volume p w.arguments; frame = h.frame }; said = (tag_of_numbered t w.tagged.numbered, tt) }
+carried_plain s t (command.SetCoordSystem system) h w = record
+    { server = record { lines = h.lines; waiting_is = h.waiting_is; running = h.running; waiting = h.waiting; stored = h.stored;
+    frame = frame_plain system s.stored h.stored }; said = (tag_of_numbered t w.tagged.numbered, tt) }
+carried_plain s t command.Home h w = record { server = record { lines = h.lines; waiting_is = h.waiting_is; running = (w, tt);
+    waiting = h.waiting; stored = h.stored; frame = h.frame }; said = tt }
+carried_plain s t (command.ChangeTool n) h w = record { server = record { lines = h.lines; waiting_is = h.waiting_is; running = (w, tt);
+    waiting = h.waiting; stored = h.stored; frame = h.frame }; said = tt }
 carried_plain s t (command.GoTo p) h w = record { server = runs_plain s (record { tag = t; command = command.GoTo p }) h w; said = tt }
-carried_plain s t (command.PtMeas p d) h w = record { server = runs_plain s (record { tag = t; command = command.PtMeas p d }) h w; said = tt }
+carried_plain s t (command.PtMeas p d) h w = record { server = runs_plain s (record { tag = t; command = command.PtMeas p d }) h w;
+    said = tt }
 carried_plain s t command.AbortE h w = record { server = h; said = tt }
 
 turned_by : (s : Server) (ls : List Line) → IsPlainServer s → AreWritable ls → IsPlainAnswer (turned_to s (all_wait ls))
@@ -153,8 +170,10 @@ turned_by s [] h w = record { server = h; said = tt }
 turned_by s (l ∷ ls) h w = go (refusal s (Ok l.command))
   where
     go : (number : Option ℕ) → IsPlainAnswer (taken s (waits l) (all_wait ls) number)
-    go (Some number) = record { server = failed_server s h; said = replies_join (fails l.tag number (Some (kind_of l.command))) (all_fail 9007 (all_wait ls)) (fails_plain l.tag number (Some (kind_of l.command)) (line_tag l w.0)) (all_fail_plain 9007 ls w.1) }
-    go None = carried_plain (record s { waiting = all_wait ls }) l.tag l.command (record { lines = ls; waiting_is = refl; running = h.running; waiting = w.1; stored = h.stored; frame = h.frame }) w.0
+    go (Some number) = record { server = failed_server s h; said = replies_join (fails l.tag number (Some (kind_of l.command)))
+        (all_fail 9007 (all_wait ls)) (fails_plain l.tag number (Some (kind_of l.command)) (line_tag l w.0)) (all_fail_plain 9007 ls w.1) }
+    go None = carried_plain (record s { waiting = all_wait ls }) l.tag l.command
+        (record { lines = ls; waiting_is = refl; running = h.running; waiting = w.1; stored = h.stored; frame = h.frame }) w.0
 
 pub turned_plain : (s : Server) → IsPlainServer s → IsPlainAnswer (server_turned s)
 turned_plain s h = subst (λ (ws : List Waiting). IsPlainAnswer (turned_to s ws)) (sym h.waiting_is) (turned_by s h.lines h h.waiting)
@@ -164,16 +183,23 @@ turned_plain s h = subst (λ (ws : List Waiting). IsPlainAnswer (turned_to s ws)
 stopped_plain : (s : Server) (l : Line) (number : ℕ) → IsPlainServer s → IsWritable l.tag l.command → IsPlainAnswer (stopped s l number)
 stopped_plain s l number h w = record {
   server = record { lines = []; waiting_is = refl; running = tt; waiting = tt; stored = h.stored; frame = h.frame };
-  said = replies_join (fails l.tag number (Some (kind_of l.command))) (all_fail 9007 s.waiting) (fails_plain l.tag number (Some (kind_of l.command)) (line_tag l w)) (all_fail_by 9007 s.waiting h.lines h.waiting_is h.waiting);
+  said = replies_join (fails l.tag number (Some (kind_of l.command))) (all_fail 9007 s.waiting)
+      (fails_plain l.tag number (Some (kind_of l.command)) (line_tag l w)) (all_fail_by 9007 s.waiting h.lines h.waiting_is h.waiting);
 }
 
 idle_plain : (s : Server) → IsPlainServer s → IsPlainServer (idle s)
-idle_plain s h = record { lines = h.lines; waiting_is = h.waiting_is; running = tt; waiting = h.waiting; stored = h.stored; frame = h.frame }
+idle_plain s h = record { lines = h.lines; waiting_is = h.waiting_is; running = tt; waiting = h.waiting; stored = h.stored;
+    frame = h.frame }
 
-finished_plain : (s : Server) (t : Tag) (c : Command) → IsPlainServer s → IsTag t → has_outcome c Outcome.Done ≡ true → IsPlainAnswer (finished s t c)
-finished_plain s t command.Home h tag can = record { server = record { lines = h.lines; waiting_is = h.waiting_is; running = tt; waiting = h.waiting; stored = h.stored; frame = h.frame }; said = (tag, tt) }
-finished_plain s t (command.ChangeTool n) h tag can = record { server = record { lines = h.lines; waiting_is = h.waiting_is; running = tt; waiting = h.waiting; stored = h.stored; frame = h.frame }; said = (tag, tt) }
-finished_plain s t (command.GoTo p) h tag can = record { server = record { lines = h.lines; waiting_is = h.waiting_is; running = tt; waiting = h.waiting; stored = h.stored; frame = h.frame }; said = (tag, tt) }
+finished_plain : (s : Server) (t : Tag) (c : Command) → IsPlainServer s → IsTag t → has_outcome c Outcome.Done ≡ true
+    → IsPlainAnswer (finished s t c)
+finished_plain s t command.Home h tag can = record { server = record { lines = h.lines; waiting_is = h.waiting_is; running = tt;
+    waiting = h.waiting; stored = h.stored; frame = h.frame }; said = (tag, tt) }
+finished_plain s t (command.ChangeTool n) h tag can = record
+    { server = record { lines = h.lines; waiting_is = h.waiting_is; running = tt; waiting = h.waiting; stored = h.stored; frame = h.frame };
+    said = (tag, tt) }
+finished_plain s t (command.GoTo p) h tag can = record { server = record { lines = h.lines; waiting_is = h.waiting_is; running = tt;
+    waiting = h.waiting; stored = h.stored; frame = h.frame }; said = (tag, tt) }
 finished_plain s t command.StartSession h tag can = record { server = h; said = tt }
 finished_plain s t command.EndSession h tag can = record { server = h; said = tt }
 finished_plain s t command.ClearAllErrors h tag can = record { server = h; said = tt }
@@ -189,14 +215,16 @@ volume_is p e =
     let others = and_parts _ _ parts.1 in
     record { x = leb-true _ _ parts.0; y = leb-true _ _ others.0; z = leb-true _ _ others.1 }
 
-touch_plain : (s : Server) (t : Tag) (p : Point) (d : Option Direction) (at : Point) (tool : Option (List ℕ)) → IsPlainServer s → IsTag t → in_volume at ≡ true → IsPlainAnswer (touched s t (command.PtMeas p d) at tool)
+touch_plain : (s : Server) (t : Tag) (p : Point) (d : Option Direction) (at : Point) (tool : Option (List ℕ)) → IsPlainServer s → IsTag t
+    → in_volume at ≡ true → IsPlainAnswer (touched s t (command.PtMeas p d) at tool)
 touch_plain s t p d at (Some n) h tag can = record {
   server = record { lines = h.lines; waiting_is = h.waiting_is; running = tt; waiting = h.waiting; stored = h.stored; frame = h.frame };
   said = ((tag, difference_on_wire at (offset s.frame) (volume_is at can) h.frame), (tag, tt));
 }
 touch_plain s t p d at None h tag can = record { server = h; said = tt }
 
-touched_plain : (s : Server) (t : Tag) (c : Command) (at : Point) (tool : Option (List ℕ)) → IsPlainServer s → IsTag t → has_outcome c (Outcome.Touched at) ≡ true → IsPlainAnswer (touched s t c at tool)
+touched_plain : (s : Server) (t : Tag) (c : Command) (at : Point) (tool : Option (List ℕ)) → IsPlainServer s → IsTag t
+    → has_outcome c (Outcome.Touched at) ≡ true → IsPlainAnswer (touched s t c at tool)
 touched_plain s t (command.PtMeas p d) at tool h tag can = touch_plain s t p d at tool h tag can
 touched_plain s t command.Home at tool h tag can = absurd (false≢true can)
 touched_plain s t (command.ChangeTool n) at tool h tag can = absurd (false≢true can)
@@ -209,22 +237,27 @@ touched_plain s t (command.SetCsyTransformation p) at tool h tag can = absurd (f
 touched_plain s t (command.SetCoordSystem system) at tool h tag can = absurd (false≢true can)
 touched_plain s t command.AbortE at tool h tag can = absurd (false≢true can)
 
-machined_by : (s : Server) (outcome : Outcome) (l : Line) → IsPlainServer s → IsWritable l.tag l.command → has_outcome l.command outcome ≡ true → IsPlainAnswer (machined s outcome (Some l))
+machined_by : (s : Server) (outcome : Outcome) (l : Line) → IsPlainServer s → IsWritable l.tag l.command
+    → has_outcome l.command outcome ≡ true → IsPlainAnswer (machined s outcome (Some l))
 machined_by s Outcome.Done l h w can = finished_plain s l.tag l.command h (line_tag l w) can
 machined_by s (Outcome.Touched at) l h w can = touched_plain s l.tag l.command at s.tool h (line_tag l w) can
 machined_by s Outcome.Missed l h w can = stopped_plain s l 9014 h w
 machined_by s Outcome.Fault l h w can = stopped_plain s l 9015 h w
 
-pub machined_plain : (s : Server) (outcome : Outcome) → IsPlainServer s → may_end s.running outcome ≡ true → IsPlainAnswer (server_machined s outcome)
+pub machined_plain : (s : Server) (outcome : Outcome) → IsPlainServer s → may_end s.running outcome ≡ true
+    → IsPlainAnswer (server_machined s outcome)
 machined_plain s outcome h can = go s.running refl
   where
     go : (o : Option Line) → s.running ≡ o → IsPlainAnswer (machined s outcome s.running)
     go None e = absurd (false≢true (subst (λ (o : Option Line). may_end o outcome ≡ true) e can))
     go (Some l) e =
         let running : AreWritable (l ∷ []) = subst (λ (o : Option Line). AreWritable (listed o)) e h.running in
-        subst (λ (o : Option Line). IsPlainAnswer (machined s outcome o)) (sym e) (machined_by s outcome l h running.0 (subst (λ (o : Option Line). may_end o outcome ≡ true) e can))
+        subst (λ (o : Option Line). IsPlainAnswer (machined s outcome o)) (sym e)
+            (machined_by s outcome l h running.0 (subst (λ (o : Option Line). may_end o outcome ≡ true) e can))
 
 -- ---- leaving
 
-pub left_plain : (s : Server) (homed : Bool) (tool : Option (List ℕ)) → IsPlainServer (record (server_left s) { homed = homed; tool = tool })
-left_plain s homed tool = record { lines = []; waiting_is = refl; running = tt; waiting = tt; stored = origin_in_volume; frame = origin_in_volume }
+pub left_plain : (s : Server) (homed : Bool) (tool : Option (List ℕ))
+    → IsPlainServer (record (server_left s) { homed = homed; tool = tool })
+left_plain s homed tool = record { lines = []; waiting_is = refl; running = tt; waiting = tt; stored = origin_in_volume;
+    frame = origin_in_volume }

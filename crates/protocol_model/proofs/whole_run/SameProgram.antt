@@ -19,7 +19,8 @@ use Rattle.protocol_model.specs.Client.{Client, Table, sends_next, sends_abort, 
 use Rattle.protocol_model.specs.Ends.{held_under, given_point, given_under, response_read, line_read, front_read}
 use Rattle.protocol_model.specs.World.{World, can, happens, after, run_of}
 use Rattle.protocol_model.specs.declared.events.Event.{Event}
-use Rattle.protocol_model.specs.declared.events.Event.TheVariants.{Connect, Accept, ClientSends, Up, ServerReads, ServerTurn, Machine, Down, ClientReads, ClientLeaves, ServerLeaves, Abort, Resume, ClientRestart, ServerRestart}
+use Rattle.protocol_model.specs.declared.events.Event.TheVariants.{Connect, Accept, ClientSends, Up, ServerReads, ServerTurn, Machine, Down,
+  ClientReads, ClientLeaves, ServerLeaves, Abort, Resume, ClientRestart, ServerRestart}
 use Rattle.protocol_model.specs.declared.plans.Planned.{Planned}
 use Rattle.protocol_model.specs.declared.states.Cause.{Cause}
 
@@ -49,7 +50,8 @@ one_of c true d e p q = p
 one_of c false d e p q = q
 
 read_same : (c : Client) (t : Tag) (m : Mark) → Same c (client_read c t m)
-read_same c t m = one_of c (tag_is t (tag.Event 0)) c (client_hears c t m (heard_on c.program.features c.table t m)) refl (hears_same c t m (heard_on c.program.features c.table t m))
+read_same c t m = one_of c (tag_is t (tag.Event 0)) c (client_hears c t m (heard_on c.program.features c.table t m)) refl
+    (hears_same c t m (heard_on c.program.features c.table t m))
 
 point_same : (c : Client) (t : Tag) (r : Result Point NotPoint) → Same c (given_point c t r)
 point_same c t (Ok p) = read_same c t (Mark.Given p)
@@ -57,11 +59,13 @@ point_same c t (Err why) = refl
 
 under_same : (readers : Readers) (c : Client) (t : Tag) (text : List ℕ) (kind : Option Kind) → Same c (given_under readers c t text kind)
 under_same readers c t text None = refl
-under_same readers c t text (Some k) = one_of c (asks_data k) (given_point c t (readers.point text)) (faulted Cause.OutOfOrder c) (point_same c t (readers.point text)) refl
+under_same readers c t text (Some k) = one_of c (asks_data k) (given_point c t (readers.point text)) (faulted Cause.OutOfOrder c)
+    (point_same c t (readers.point text)) refl
 
 response_same : (readers : Readers) (c : Client) (t : Tag) (m : Marked) → Same c (response_read readers c t m)
 response_same readers c t mark.Ack = read_same c t Mark.Ack
-response_same readers c t (mark.Given text) = one_of c (tag_is t (tag.Event 0)) c (given_under readers c t text (held_under t c)) refl (under_same readers c t text (held_under t c))
+response_same readers c t (mark.Given text) = one_of c (tag_is t (tag.Event 0)) c (given_under readers c t text (held_under t c)) refl
+    (under_same readers c t text (held_under t c))
 response_same readers c t mark.Done = read_same c t Mark.Done
 response_same readers c t (mark.Error text) = read_same c t Mark.Error
 
@@ -78,7 +82,8 @@ front_same readers c (Err framing.BadByte) = refl
 happens_same : (readers : Readers) (e : Event) (b : World) → Same b.client.client (happens readers e b).client.client
 happens_same readers Connect b = refl
 happens_same readers (Accept n) b = refl
-happens_same readers ClientSends b = sends_same b.client.client b.client.client.unsent (next_number tag.Std b.client.client.table.standard b.client.client.drawn)
+happens_same readers ClientSends b = sends_same b.client.client b.client.client.unsent
+    (next_number tag.Std b.client.client.table.standard b.client.client.drawn)
 happens_same readers (Up k) b = refl
 happens_same readers ServerReads b = refl
 happens_same readers ServerTurn b = refl

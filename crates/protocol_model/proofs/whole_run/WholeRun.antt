@@ -8,7 +8,8 @@ use Rattle.protocol_model.specs.Server.{may_end}
 use Rattle.protocol_model.specs.Claims.{Sound, Told}
 use Rattle.protocol_model.specs.World.{World, start, can, happens, after, run_of}
 use Rattle.protocol_model.specs.declared.events.Event.{Event}
-use Rattle.protocol_model.specs.declared.events.Event.TheVariants.{Connect, Accept, ClientSends, Up, ServerReads, ServerTurn, Machine, Down, ClientReads, ClientLeaves, ServerLeaves, Abort, Resume, ClientRestart, ServerRestart}
+use Rattle.protocol_model.specs.declared.events.Event.TheVariants.{Connect, Accept, ClientSends, Up, ServerReads, ServerTurn, Machine, Down,
+  ClientReads, ClientLeaves, ServerLeaves, Abort, Resume, ClientRestart, ServerRestart}
 use Rattle.protocol_model.proofs.plan.Blocks.{program_is_plain}
 use Rattle.protocol_model.proofs.whole_run.SameProgram.{run_same}
 use Rattle.protocol_model.proofs.invariant.Served.{served_sound}
@@ -16,24 +17,31 @@ use Rattle.protocol_model.proofs.events.ClientEvents.{served_now, told_now, neve
 use Rattle.protocol_model.proofs.events.ServerEvents.{not_nothing, on_by}
 use Rattle.protocol_model.proofs.events.Whole.{start_holds}
 use Rattle.protocol_model.proofs.whole_run.PlainServer.{plain_new}
-use Rattle.protocol_model.proofs.whole_run.Carrying.{lined, IsCarried, reads_carried, turn_carried, machine_carried, up_carried, down_carried}
-use Rattle.protocol_model.proofs.whole_run.CarryingClient.{connect_carried, accept_carried, client_left_carried, client_restart_carried, server_left_carried, server_restart_carried, sends_carried, abort_carried, resume_carried, hears_carried}
+use Rattle.protocol_model.proofs.whole_run.Carrying.{lined, IsCarried, reads_carried, turn_carried, machine_carried, up_carried,
+  down_carried}
+use Rattle.protocol_model.proofs.whole_run.CarryingClient.{connect_carried, accept_carried, client_left_carried, client_restart_carried,
+  server_left_carried, server_restart_carried, sends_carried, abort_carried, resume_carried, hears_carried}
 use Rattle.protocol_model.specs.declared.lines.Line.{Line}
 use Rattle.protocol_model.specs.declared.states.State.{State}
 
-pub happens_carried : (readers : Readers) → AreReaders readers → (e : Event) (b : World) → IsCarried b → can e b ≡ true → IsCarried (happens readers e b)
+pub happens_carried : (readers : Readers) → AreReaders readers → (e : Event) (b : World) → IsCarried b → can e b ≡ true
+    → IsCarried (happens readers e b)
 happens_carried readers are Connect b h can = connect_carried b h
 happens_carried readers are (Accept n) b h can = accept_carried b n h can
 happens_carried readers are ClientSends b h can = sends_carried b h can
 happens_carried readers are (Up k) b h can = up_carried b k h (and_parts _ _ can).0
-happens_carried readers are ServerReads b h can = let parts = and_parts _ _ can in reads_carried readers are b h parts.0 (and_parts _ _ parts.1).1
+happens_carried readers are ServerReads b h can = let parts = and_parts _ _ can
+    in reads_carried readers are b h parts.0 (and_parts _ _ parts.1).1
 happens_carried readers are ServerTurn b h can =
     let parts = and_parts _ _ can in
     turn_carried b h (on_by (lined b h.up h.down) h.inv b.server.server.on refl (λ r e. not_nothing b.server.server.waiting parts.1 e)) can
 happens_carried readers are (Machine outcome) b h can =
-    machine_carried b outcome h (on_by (lined b h.up h.down) h.inv b.server.server.on refl (λ r e. let no_end : may_end None outcome ≡ true = subst (λ (o : Option Line). may_end o outcome ≡ true) r can in false≢true no_end)) can
+    machine_carried b outcome h (on_by (lined b h.up h.down) h.inv b.server.server.on refl
+        (λ r e. let no_end : may_end None outcome ≡ true = subst (λ (o : Option Line). may_end o outcome ≡ true) r can
+        in false≢true no_end)) can
 happens_carried readers are (Down k) b h can = down_carried b k h (and_parts _ _ can).0
-happens_carried readers are ClientReads b h can = let parts = and_parts _ _ can in hears_carried readers are b h parts.0 (and_parts _ _ parts.1).1
+happens_carried readers are ClientReads b h can = let parts = and_parts _ _ can
+    in hears_carried readers are b h parts.0 (and_parts _ _ parts.1).1
 happens_carried readers are ClientLeaves b h can = client_left_carried b h
 happens_carried readers are ServerLeaves b h can = server_left_carried b h
 happens_carried readers are Abort b h can = abort_carried b h can
@@ -41,7 +49,8 @@ happens_carried readers are Resume b h can = resume_carried b h can
 happens_carried readers are (ClientRestart k) b h can = client_restart_carried b k h
 happens_carried readers are ServerRestart b h can = server_restart_carried b h
 
-after_by : (readers : Readers) → AreReaders readers → (e : Event) (b : World) → IsCarried b → (t : Bool) → can e b ≡ t → IsCarried (cond t (happens readers e b) b)
+after_by : (readers : Readers) → AreReaders readers → (e : Event) (b : World) → IsCarried b → (t : Bool) → can e b ≡ t
+    → IsCarried (cond t (happens readers e b) b)
 after_by readers are e b h true is = happens_carried readers are e b h is
 after_by readers are e b h false is = h
 
@@ -84,29 +93,38 @@ start_carried p rack window program le = record {
 
 -- ---- the claims
 
-pub always_sound : (readers : Readers) → AreReaders readers → (p : Meaning) (rack : List (List ℕ)) (window : ℕ) (es : List Event) → IsProgram p → window ≤ 16
-    → Sound p.features (run_of readers es (start p rack window)).client.client.table.tally.features (run_of readers es (start p rack window)).server.server.ledger
+pub always_sound : (readers : Readers) → AreReaders readers → (p : Meaning) (rack : List (List ℕ)) (window : ℕ) (es : List Event)
+    → IsProgram p → window ≤ 16
+    → Sound p.features (run_of readers es (start p rack window)).client.client.table.tally.features
+    (run_of readers es (start p rack window)).server.server.ledger
 always_sound readers are p rack window es program le =
     let b : World = run_of readers es (start p rack window) in
     let h : IsCarried b = run_carried readers are es (start p rack window) (start_carried p rack window program le) in
-    subst (λ (q : Meaning). Sound q.features b.client.client.table.tally.features b.server.server.ledger) (run_same readers es (start p rack window))
-    (served_sound b.client.client.program.features b.client.client.table.tally.features b.server.server.ledger (served_now (lined b h.up h.down) h.inv))
+    subst (λ (q : Meaning). Sound q.features b.client.client.table.tally.features b.server.server.ledger)
+        (run_same readers es (start p rack window))
+    (served_sound b.client.client.program.features b.client.client.table.tally.features b.server.server.ledger
+        (served_now (lined b h.up h.down) h.inv))
 
-pub always_told : (readers : Readers) → AreReaders readers → (p : Meaning) (rack : List (List ℕ)) (window : ℕ) (es : List Event) → IsProgram p → window ≤ 16
-    → Told (run_of readers es (start p rack window)).client.client.table.tally.counted (run_of readers es (start p rack window)).server.server.ledger (run_of readers es (start p rack window)).client.client.last
+pub always_told : (readers : Readers) → AreReaders readers → (p : Meaning) (rack : List (List ℕ)) (window : ℕ) (es : List Event)
+    → IsProgram p → window ≤ 16
+    → Told (run_of readers es (start p rack window)).client.client.table.tally.counted
+    (run_of readers es (start p rack window)).server.server.ledger (run_of readers es (start p rack window)).client.client.last
 always_told readers are p rack window es program le =
     let b : World = run_of readers es (start p rack window) in
     let h : IsCarried b = run_carried readers are es (start p rack window) (start_carried p rack window program le) in
     let told = told_now (lined b h.up h.down) h.inv in
     record { more = told.0; whole = told.1 }
 
-pub never_faulted_run : (readers : Readers) → AreReaders readers → (p : Meaning) (rack : List (List ℕ)) (window : ℕ) (es : List Event) → IsProgram p → window ≤ 16
+pub never_faulted_run : (readers : Readers) → AreReaders readers → (p : Meaning) (rack : List (List ℕ)) (window : ℕ) (es : List Event)
+    → IsProgram p → window ≤ 16
     → (run_of readers es (start p rack window)).client.client.state ≢ State.Faulted
 never_faulted_run readers are p rack window es program le =
     let b : World = run_of readers es (start p rack window) in
     let h : IsCarried b = run_carried readers are es (start p rack window) (start_carried p rack window program le) in
     never_faulted (lined b h.up h.down) h.inv
 
-pub no_framing_fault : (readers : Readers) → AreReaders readers → (p : Meaning) (rack : List (List ℕ)) (window : ℕ) (es : List Event) → IsProgram p → window ≤ 16
+pub no_framing_fault : (readers : Readers) → AreReaders readers → (p : Meaning) (rack : List (List ℕ)) (window : ℕ) (es : List Event)
+    → IsProgram p → window ≤ 16
     → (run_of readers es (start p rack window)).server.input.fault ≡ None
-no_framing_fault readers are p rack window es program le = (run_carried readers are es (start p rack window) (start_carried p rack window program le)).server_fault
+no_framing_fault readers are p rack window es program le = (run_carried readers are es (start p rack window)
+    (start_carried p rack window program le)).server_fault

@@ -1,5 +1,6 @@
 -- What the claim allows and refuses beside ledgers that are written out.
-use Rattle.std.proofs.Common.{◌≡◌, ℕ, zero, suc, pos, unsigned_abs, ◌+◌, Bool, true, false, List, [], ◌∷◌, codes, take, drop, refl, sym, ◌∙◌, ap, arith, Option, Some, None}
+use Rattle.std.proofs.Common.{◌≡◌, ℕ, zero, suc, pos, unsigned_abs, ◌+◌, Bool, true, false, List, [], ◌∷◌, codes, take, drop, refl, sym,
+  ◌∙◌, ap, arith, Option, Some, None}
 use Rattle.std.specs.Prelude.{bytes_eq}
 use Rattle.std.proofs.lemmas.Bool.{false≢true}
 use Rattle.fixed_um.specs.Shapes.{Direction}
@@ -11,29 +12,34 @@ use Rattle.contact_ledger.specs.declared.acts.Act.TheVariants as act
 use Rattle.dmis_program.specs.declared.features.Touch.{Touch}
 use Rattle.protocol_model.specs.Claims.{Made, IsServed, Serves, AreRuns, Sound, Told}
 use Rattle.protocol_model.specs.Rows.{at, along, from_above, tool, part, feature}
-use Rattle.protocol_model.specs.LedgerRows.{contact_of, first_touch, second_touch, one_wanted, two_wanted, first_point, second_point, first_contact, second_contact, ledger_with, right_ledger, measured_as, two_connections}
+use Rattle.protocol_model.specs.LedgerRows.{contact_of, first_touch, second_touch, one_wanted, two_wanted, first_point, second_point,
+  first_contact, second_contact, ledger_with, right_ledger, measured_as, two_connections}
 
 -- ---- what is allowed
 
-served : (touch : Touch) (point : Point) → IsServed 1 touch point (record { connection = 1; target = touch.target; dir = touch.dir; tool = touch.tool; frame = touch.frame; point = point })
+served : (touch : Touch) (point : Point) → IsServed 1 touch point
+    (record { connection = 1; target = touch.target; dir = touch.dir; tool = touch.tool; frame = touch.frame; point = point })
 served touch point = record { on = refl; target = refl; dir = refl; tool = refl; frame = refl; point_is = refl }
 
 pub right_is : Sound one_wanted (measured_as (codes "A") ∷ []) right_ledger
 right_is = record {
   starts = 0 ∷ [];
-  runs = (omega arith, record { label = refl; connection = 1; serves = (served first_touch first_point, (served second_touch second_point, tt)) }, tt);
+  runs = (omega arith, record { label = refl; connection = 1;
+      serves = (served first_touch first_point, (served second_touch second_point, tt)) }, tt);
 }
 
 pub nothing_is : Sound one_wanted [] []
 nothing_is = record { starts = []; runs = tt }
 
-pub both_are : Sound two_wanted (measured_as (codes "A") ∷ measured_as (codes "B") ∷ []) (first_contact ∷ second_contact ∷ first_contact ∷ second_contact ∷ [])
+pub both_are : Sound two_wanted (measured_as (codes "A") ∷ measured_as (codes "B") ∷ [])
+    (first_contact ∷ second_contact ∷ first_contact ∷ second_contact ∷ [])
 both_are = record {
   starts = 0 ∷ 2 ∷ [];
   runs = (
     omega arith,
     record { label = refl; connection = 1; serves = (served first_touch first_point, (served second_touch second_point, tt)) },
-    (omega arith, record { label = refl; connection = 1; serves = (served first_touch first_point, (served second_touch second_point, tt)) }, tt),
+    (omega arith, record { label = refl; connection = 1; serves = (served first_touch first_point, (served second_touch second_point, tt))
+        }, tt),
   );
 }
 
@@ -48,13 +54,15 @@ record HasBoth (touches : List Touch) (points : List Point) (one two : Made) : T
 abbrev both : List Touch
 both = first_touch ∷ second_touch ∷ []
 
-both_at : (p q : Point) (one two : Made) (n s : ℕ) → Serves n both (p ∷ q ∷ []) (take 2 (drop s (one ∷ two ∷ []))) → HasBoth both (p ∷ q ∷ []) one two
+both_at : (p q : Point) (one two : Made) (n s : ℕ) → Serves n both (p ∷ q ∷ []) (take 2 (drop s (one ∷ two ∷ [])))
+    → HasBoth both (p ∷ q ∷ []) one two
 both_at p q one two n zero h = record { connection = n; serves = h }
 both_at p q one two n (suc zero) h = absurd h.1
 both_at p q one two n (suc (suc zero)) h = absurd h
 both_at p q one two n (suc (suc (suc k))) h = absurd h
 
-has_both : (p q : Point) (one two : Made) (starts : List ℕ) → AreRuns one_wanted (feature (codes "A") (p ∷ q ∷ []) ∷ []) starts 0 (one ∷ two ∷ []) → HasBoth both (p ∷ q ∷ []) one two
+has_both : (p q : Point) (one two : Made) (starts : List ℕ)
+    → AreRuns one_wanted (feature (codes "A") (p ∷ q ∷ []) ∷ []) starts 0 (one ∷ two ∷ []) → HasBoth both (p ∷ q ∷ []) one two
 has_both p q one two [] h = absurd h
 has_both p q one two (s ∷ starts) h = both_at p q one two h.1.connection s h.1.serves
 
@@ -84,43 +92,50 @@ abbrev size_of : Option Direction → ℕ
 size_of None = 0
 size_of (Some d) = unsigned_abs d.i + 1
 
-pub other_tool_is_none : Sound one_wanted (measured_as (codes "A") ∷ []) (ledger_with (contact_of 1 (at (pos 20000) (pos 0) (pos 0)) from_above (codes "P2") frame.Machine second_point)) → ⊥
+pub other_tool_is_none : Sound one_wanted (measured_as (codes "A") ∷ [])
+    (ledger_with (contact_of 1 (at (pos 20000) (pos 0) (pos 0)) from_above (codes "P2") frame.Machine second_point)) → ⊥
 other_tool_is_none h =
     let served = has_second 1 (at (pos 20000) (pos 0) (pos 0)) from_above (codes "P2") frame.Machine second_point h in
     let e : false ≡ true = ap (λ (name : List ℕ). bytes_eq name tool) served.serves.1.0.tool in
     absurd (false≢true e)
 
-pub other_frame_is_none : Sound one_wanted (measured_as (codes "A") ∷ []) (ledger_with (contact_of 1 (at (pos 20000) (pos 0) (pos 0)) from_above tool (frame.Part part) second_point)) → ⊥
+pub other_frame_is_none : Sound one_wanted (measured_as (codes "A") ∷ [])
+    (ledger_with (contact_of 1 (at (pos 20000) (pos 0) (pos 0)) from_above tool (frame.Part part) second_point)) → ⊥
 other_frame_is_none h =
     let served = has_second 1 (at (pos 20000) (pos 0) (pos 0)) from_above tool (frame.Part part) second_point h in
     let e : false ≡ true = ap is_machine served.serves.1.0.frame in
     absurd (false≢true e)
 
-pub other_target_is_none : Sound one_wanted (measured_as (codes "A") ∷ []) (ledger_with (contact_of 1 (at (pos 20001) (pos 0) (pos 0)) from_above tool frame.Machine second_point)) → ⊥
+pub other_target_is_none : Sound one_wanted (measured_as (codes "A") ∷ [])
+    (ledger_with (contact_of 1 (at (pos 20001) (pos 0) (pos 0)) from_above tool frame.Machine second_point)) → ⊥
 other_target_is_none h =
     let served = has_second 1 (at (pos 20001) (pos 0) (pos 0)) from_above tool frame.Machine second_point h in
     let e : ◌≡◌ {A = ℕ} 20001 20000 = ap (λ (q : Point). unsigned_abs q.x) served.serves.1.0.target in
     absurd (omega arith)
 
-pub other_direction_is_none : Sound one_wanted (measured_as (codes "A") ∷ []) (ledger_with (contact_of 1 (at (pos 20000) (pos 0) (pos 0)) (along (pos 1000000) (pos 0) (pos 0)) tool frame.Machine second_point)) → ⊥
+pub other_direction_is_none : Sound one_wanted (measured_as (codes "A") ∷ [])
+    (ledger_with (contact_of 1 (at (pos 20000) (pos 0) (pos 0)) (along (pos 1000000) (pos 0) (pos 0)) tool frame.Machine second_point)) → ⊥
 other_direction_is_none h =
     let served = has_second 1 (at (pos 20000) (pos 0) (pos 0)) (along (pos 1000000) (pos 0) (pos 0)) tool frame.Machine second_point h in
     let e : ◌≡◌ {A = ℕ} 1000001 1 = ap size_of served.serves.1.0.dir in
     absurd (omega arith)
 
-pub no_direction_is_none : Sound one_wanted (measured_as (codes "A") ∷ []) (ledger_with (contact_of 1 (at (pos 20000) (pos 0) (pos 0)) None tool frame.Machine second_point)) → ⊥
+pub no_direction_is_none : Sound one_wanted (measured_as (codes "A") ∷ [])
+    (ledger_with (contact_of 1 (at (pos 20000) (pos 0) (pos 0)) None tool frame.Machine second_point)) → ⊥
 no_direction_is_none h =
     let served = has_second 1 (at (pos 20000) (pos 0) (pos 0)) None tool frame.Machine second_point h in
     let e : ◌≡◌ {A = ℕ} 0 1 = ap size_of served.serves.1.0.dir in
     absurd (omega arith)
 
-pub other_point_is_none : Sound one_wanted (measured_as (codes "A") ∷ []) (ledger_with (contact_of 1 (at (pos 20000) (pos 0) (pos 0)) from_above tool frame.Machine (at (pos 20000) (pos 0) (pos 5)))) → ⊥
+pub other_point_is_none : Sound one_wanted (measured_as (codes "A") ∷ [])
+    (ledger_with (contact_of 1 (at (pos 20000) (pos 0) (pos 0)) from_above tool frame.Machine (at (pos 20000) (pos 0) (pos 5)))) → ⊥
 other_point_is_none h =
     let served = has_second 1 (at (pos 20000) (pos 0) (pos 0)) from_above tool frame.Machine (at (pos 20000) (pos 0) (pos 5)) h in
     let e : ◌≡◌ {A = ℕ} 5 4 = ap (λ (q : Point). unsigned_abs q.z) served.serves.1.0.point_is in
     absurd (omega arith)
 
-pub two_connections_are_none : Sound one_wanted (measured_as (codes "A") ∷ []) (ledger_with (contact_of 2 (at (pos 20000) (pos 0) (pos 0)) from_above tool frame.Machine second_point)) → ⊥
+pub two_connections_are_none : Sound one_wanted (measured_as (codes "A") ∷ [])
+    (ledger_with (contact_of 2 (at (pos 20000) (pos 0) (pos 0)) from_above tool frame.Machine second_point)) → ⊥
 two_connections_are_none h =
     let served = has_second 2 (at (pos 20000) (pos 0) (pos 0)) from_above tool frame.Machine second_point h in
     let e : ◌≡◌ {A = ℕ} 1 2 = served.serves.0.on ∙ sym served.serves.1.0.on in
@@ -128,19 +143,23 @@ two_connections_are_none h =
 
 -- ---- each word of a feature
 
-label_by : (starts : List ℕ) → AreRuns one_wanted (measured_as (codes "B") ∷ []) starts 0 (first_made ∷ second_made ∷ []) → ◌≡◌ {A = List ℕ} (codes "B") (codes "A")
+label_by : (starts : List ℕ) → AreRuns one_wanted (measured_as (codes "B") ∷ []) starts 0 (first_made ∷ second_made ∷ [])
+    → ◌≡◌ {A = List ℕ} (codes "B") (codes "A")
 label_by [] h = absurd h
 label_by (s ∷ starts) h = h.1.label
 
 pub other_label_is_none : Sound one_wanted (measured_as (codes "B") ∷ []) right_ledger → ⊥
-other_label_is_none h = let e : false ≡ true = ap (λ (name : List ℕ). bytes_eq name (codes "A")) (label_by h.starts h.runs) in absurd (false≢true e)
+other_label_is_none h = let e : false ≡ true = ap (λ (name : List ℕ). bytes_eq name (codes "A")) (label_by h.starts h.runs)
+    in absurd (false≢true e)
 
-first_label_by : (starts : List ℕ) → AreRuns two_wanted (measured_as (codes "B") ∷ []) starts 0 (first_made ∷ second_made ∷ []) → ◌≡◌ {A = List ℕ} (codes "B") (codes "A")
+first_label_by : (starts : List ℕ) → AreRuns two_wanted (measured_as (codes "B") ∷ []) starts 0 (first_made ∷ second_made ∷ [])
+    → ◌≡◌ {A = List ℕ} (codes "B") (codes "A")
 first_label_by [] h = absurd h
 first_label_by (s ∷ starts) h = h.1.label
 
 pub first_left_out_is_none : Sound two_wanted (measured_as (codes "B") ∷ []) right_ledger → ⊥
-first_left_out_is_none h = let e : false ≡ true = ap (λ (name : List ℕ). bytes_eq name (codes "A")) (first_label_by h.starts h.runs) in absurd (false≢true e)
+first_left_out_is_none h = let e : false ≡ true = ap (λ (name : List ℕ). bytes_eq name (codes "A")) (first_label_by h.starts h.runs)
+    in absurd (false≢true e)
 
 one_of_two : (n s : ℕ) → Serves n both (first_point ∷ []) (take 1 (drop s (first_made ∷ second_made ∷ []))) → ⊥
 one_of_two n zero h = h.1
@@ -162,18 +181,21 @@ no_points_by (s ∷ starts) h = h.1.serves
 pub no_points_are_none : Sound one_wanted (feature (codes "A") [] ∷ []) right_ledger → ⊥
 no_points_are_none h = no_points_by h.starts h.runs
 
-three_of_two : (n s : ℕ) → Serves n both (first_point ∷ second_point ∷ second_point ∷ []) (take 3 (drop s (first_made ∷ second_made ∷ second_made ∷ []))) → ⊥
+three_of_two : (n s : ℕ) → Serves n both (first_point ∷ second_point ∷ second_point ∷ [])
+    (take 3 (drop s (first_made ∷ second_made ∷ second_made ∷ []))) → ⊥
 three_of_two n zero h = h.1.1
 three_of_two n (suc zero) h = h.1.1
 three_of_two n (suc (suc zero)) h = h.1
 three_of_two n (suc (suc (suc zero))) h = h
 three_of_two n (suc (suc (suc (suc k)))) h = h
 
-more_by : (starts : List ℕ) → AreRuns one_wanted (feature (codes "A") (first_point ∷ second_point ∷ second_point ∷ []) ∷ []) starts 0 (first_made ∷ second_made ∷ second_made ∷ []) → ⊥
+more_by : (starts : List ℕ) → AreRuns one_wanted (feature (codes "A") (first_point ∷ second_point ∷ second_point ∷ []) ∷ []) starts 0
+    (first_made ∷ second_made ∷ second_made ∷ []) → ⊥
 more_by [] h = h
 more_by (s ∷ starts) h = three_of_two h.1.connection s h.1.serves
 
-pub more_points_are_none : Sound one_wanted (feature (codes "A") (first_point ∷ second_point ∷ second_point ∷ []) ∷ []) (first_contact ∷ second_contact ∷ second_contact ∷ []) → ⊥
+pub more_points_are_none : Sound one_wanted (feature (codes "A") (first_point ∷ second_point ∷ second_point ∷ []) ∷ [])
+    (first_contact ∷ second_contact ∷ second_contact ∷ []) → ⊥
 more_points_are_none h = more_by h.starts h.runs
 
 pub exchanged_points_are_none : Sound one_wanted (feature (codes "A") (second_point ∷ first_point ∷ []) ∷ []) right_ledger → ⊥
@@ -193,12 +215,14 @@ no_contact_by (s ∷ starts) h = no_contact_at h.1.connection s h.1.serves
 pub no_contact_is_none : Sound one_wanted (measured_as (codes "A") ∷ []) [] → ⊥
 no_contact_is_none h = no_contact_by h.starts h.runs
 
-more_features_by : (starts : List ℕ) → AreRuns one_wanted (measured_as (codes "A") ∷ measured_as (codes "A") ∷ []) starts 0 (first_made ∷ second_made ∷ first_made ∷ second_made ∷ []) → ⊥
+more_features_by : (starts : List ℕ) → AreRuns one_wanted (measured_as (codes "A") ∷ measured_as (codes "A") ∷ []) starts 0
+    (first_made ∷ second_made ∷ first_made ∷ second_made ∷ []) → ⊥
 more_features_by [] h = h
 more_features_by (s ∷ []) h = h.2
 more_features_by (s ∷ t ∷ starts) h = h.2
 
-pub more_features_are_none : Sound one_wanted (measured_as (codes "A") ∷ measured_as (codes "A") ∷ []) (first_contact ∷ second_contact ∷ first_contact ∷ second_contact ∷ []) → ⊥
+pub more_features_are_none : Sound one_wanted (measured_as (codes "A") ∷ measured_as (codes "A") ∷ [])
+    (first_contact ∷ second_contact ∷ first_contact ∷ second_contact ∷ []) → ⊥
 more_features_are_none h = more_features_by h.starts h.runs
 
 -- ---- counted acts

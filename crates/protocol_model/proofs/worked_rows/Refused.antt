@@ -21,13 +21,15 @@ one_contact_serves_once (s ∷ []) h = h.2
 one_contact_serves_once (s ∷ t ∷ more) h = second_start s h.2.1.connection t h.2.0 h.2.1.serves
 
 -- of three contacts the first and the last do not follow one another
-two_of_three : (n s : ℕ) → Serves n (alike ∷ alike ∷ []) (at (pos 10002) (pos 0) (pos 0) ∷ at (pos 10004) (pos 0) (pos 0) ∷ []) (take 2 (drop s (made 10002 ∷ made 10003 ∷ made 10004 ∷ []))) → ⊥
+two_of_three : (n s : ℕ) → Serves n (alike ∷ alike ∷ []) (at (pos 10002) (pos 0) (pos 0) ∷ at (pos 10004) (pos 0) (pos 0) ∷ [])
+    (take 2 (drop s (made 10002 ∷ made 10003 ∷ made 10004 ∷ []))) → ⊥
 two_of_three n zero h = let e : ◌≡◌ {A = ℕ} 10003 10004 = ap (λ (q : Point). unsigned_abs q.x) h.1.0.point_is in absurd (omega arith)
 two_of_three n (suc zero) h = let e : ◌≡◌ {A = ℕ} 10003 10002 = ap (λ (q : Point). unsigned_abs q.x) h.0.point_is in absurd (omega arith)
 two_of_three n (suc (suc zero)) h = h.1
 two_of_three n (suc (suc (suc zero))) h = h
 two_of_three n (suc (suc (suc (suc k)))) h = h
 
-pub no_contact_is_left_out : (starts : List ℕ) → AreRuns twice_wanted twice_features starts 0 (made 10002 ∷ made 10003 ∷ made 10004 ∷ []) → ⊥
+pub no_contact_is_left_out : (starts : List ℕ) → AreRuns twice_wanted twice_features starts 0 (made 10002 ∷ made 10003 ∷ made 10004 ∷ [])
+    → ⊥
 no_contact_is_left_out [] h = h
 no_contact_is_left_out (s ∷ starts) h = two_of_three h.1.connection s h.1.serves

@@ -9,4 +9,5 @@ returns-in-None c p = c.in-None.ensures p None
 pub returns-in-Some-default-Some : goal.returns-in-Some-default-Some
 returns-in-Some-default-Some c =
     let some = c.in-Some-default-Some.field-0-1-is in
-    no_move (tokens c.args.bytes.now) c.in-Some-default-Some.field-0-0 c.in-Some-default-Some.field-0-1 c.in-Some-default-Some.ensures (λ e. cc)
+    no_move (tokens c.args.bytes.now) c.in-Some-default-Some.field-0-0 c.in-Some-default-Some.field-0-1 c.in-Some-default-Some.ensures
+        (λ e. cc)

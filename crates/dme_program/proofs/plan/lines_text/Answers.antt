@@ -4,4 +4,6 @@ use Rattle.dme_program.proofs.PlanLemmas.{lines_counted}
 use Rattle.dme_program.proofs.plan.lines_text.Goals as goal
 
 pub returns : goal.returns
-returns c = sym (append-nil c.loop-planned.lines.text.items) ∙ rw (drop_all c.loop-planned.planned-index c.args.commands.now (omega arith)) at c.loop-planned.invariant ∙ lines_counted 0 c.args.commands.now
+returns c = sym (append-nil c.loop-planned.lines.text.items)
+    ∙ rw (drop_all c.loop-planned.planned-index c.args.commands.now (omega arith)) at c.loop-planned.invariant
+    ∙ lines_counted 0 c.args.commands.now

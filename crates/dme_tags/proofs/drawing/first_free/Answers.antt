@@ -10,6 +10,7 @@ loop-number-preserved c =
     let here : is_held (numbered c.args.sort c.loop-number.number) c.args.commands.now ≡ true =
     ap (λ (t : Tag). is_held t c.args.commands.now) (sym c.tag.ensures) ∙ sym c.is_held.ensures ∙ c.if-not-is_held.false in
     record {
-      same = c.loop-number.invariant.same ∙ held_next (numbered c.args.sort) c.args.commands.now c.loop-number.number 10000 (omega arith) here;
+      same = c.loop-number.invariant.same ∙ held_next (numbered c.args.sort) c.args.commands.now c.loop-number.number 10000 (omega arith)
+          here;
       held = held_more (numbered c.args.sort) c.args.commands.now c.args.from c.loop-number.number c.loop-number.invariant.held here;
     }
