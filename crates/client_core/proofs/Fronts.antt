@@ -12,7 +12,7 @@ use Rattle.protocol_model.specs.declared.held.Held.{Held}
 use Rattle.protocol_model.proofs.table.Walks.{two, staged, heard_cases}
 use Rattle.protocol_model.proofs.table.Basics.{if_true, if_false, and_false}
 use Rattle.protocol_model.proofs.table.Counts.{failed_stays, is_failed-true, never_counts}
-use Rattle.protocol_model.proofs.undisturbed.Following.{becomes_calm, no_closes, no_counts, counts_given}
+use Rattle.protocol_model.proofs.undisturbed_run.Following.{becomes_calm, no_closes, no_counts, counts_given}
 
 -- the kinds of those that have not failed, in sending order
 abbrev pub live_kinds : List Held → List Kind

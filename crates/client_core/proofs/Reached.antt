@@ -13,7 +13,7 @@ use Rattle.protocol_model.specs.Open.{count_open}
 use Rattle.protocol_model.specs.Client.{Client, new_client, due, may_abort, may_resume, client_connected, client_sent, client_aborted,
   client_resumed, client_left, client_restarted}
 use Rattle.protocol_model.specs.Ends.{ClientEnd, new_client_end, line_read, front_read, end_read}
-use Rattle.protocol_model.proofs.lines.ReadersExist.{some_are_readers}
+use Rattle.protocol_model.proofs.written_lines.ReadersExist.{some_are_readers}
 use Rattle.client_core.specs.Calls.{Call, Connected, Send, Feed, ReadOne, Abort, Resume, Leave, Restart, Sent, possible, done_by,
   behind_call, behind_calls}
 use Rattle.client_core.specs.Clients.{are_ours, is_faulted, may_connect, may_read}

@@ -46,7 +46,7 @@ use Rattle.protocol_model.proofs.plan.Fitting.{unknown}
 use Rattle.protocol_model.proofs.table.Counts.{count_keeps}
 use Rattle.protocol_model.proofs.table.Replying.{fine, step_cases}
 use Rattle.protocol_model.proofs.invariant.Touching.{Keeps, measured_keeps}
-use Rattle.protocol_model.proofs.undisturbed.Following.{is_touch, AreAsked, IsAsked, fits_asked, asked_at, acts_join, act_stands,
+use Rattle.protocol_model.proofs.undisturbed_run.Following.{is_touch, AreAsked, IsAsked, fits_asked, asked_at, acts_join, act_stands,
   planned_more, kinds_of}
 use Rattle.client_core.specs.Calls.{Call, Connected, Send, Feed, ReadOne, Abort, Resume, Leave, Restart, Sent, possible, done_by,
   behind_call, behind_calls, Begun, start_behind, acts_of_fronts, Plans, first_plan, plans_by, plans_behind, client_behind, plans_begun,

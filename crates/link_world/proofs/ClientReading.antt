@@ -11,7 +11,7 @@ use Rattle.protocol_model.specs.World as world
 use Rattle.protocol_model.specs.declared.events.Event.TheVariants as event
 use Rattle.protocol_model.specs.declared.states.State.{State}
 use Rattle.protocol_model.proofs.whole_run.Carrying.{IsCarried}
-use Rattle.protocol_model.proofs.lines.LineTaking.{no_reply_fault}
+use Rattle.protocol_model.proofs.written_lines.LineTaking.{no_reply_fault}
 use Rattle.client_core.specs.Clients.{is_faulted, may_read}
 use Rattle.client_core.specs.Refusals.{IsReadRefused}
 use Rattle.client_core.specs.declared.faults.ClientFault.{ClientFault}

@@ -8,8 +8,8 @@ use Rattle.protocol_model.specs.Typed.{World as Lined}
 use Rattle.protocol_model.specs.declared.events.Event.TheVariants as event
 use Rattle.protocol_model.specs.declared.states.State.{State}
 use Rattle.protocol_model.proofs.invariant.Holding.{Inv, IsOff, IsLive, IsAtRest}
-use Rattle.protocol_model.proofs.events.ClientWrites.{IsDue, due_is}
-use Rattle.protocol_model.proofs.events.ClientResumes.{never_off}
+use Rattle.protocol_model.proofs.each_event.ClientWrites.{IsDue, due_is}
+use Rattle.protocol_model.proofs.each_event.ClientResumes.{never_off}
 use Rattle.protocol_model.proofs.whole_run.Carrying.{lined, IsCarried}
 use Rattle.client_core.specs.Clients.{is_faulted}
 use Rattle.server_core.specs.Serving.{Serving}

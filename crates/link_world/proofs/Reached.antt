@@ -14,11 +14,11 @@ use Rattle.protocol_model.specs.World.{World, start, can, happens, after, run_of
 use Rattle.protocol_model.specs.declared.events.Event.{Event}
 use Rattle.protocol_model.specs.declared.states.State.{State}
 use Rattle.protocol_model.proofs.whole_run.Carrying.{lined, IsCarried}
-use Rattle.protocol_model.proofs.events.ClientEvents.{served_now, told_now, never_faulted}
+use Rattle.protocol_model.proofs.each_event.ClientEvents.{served_now, told_now, never_faulted}
 use Rattle.protocol_model.proofs.invariant.Served.{served_sound}
 use Rattle.protocol_model.proofs.whole_run.Wires.{IsWhole}
-use Rattle.protocol_model.proofs.lines.Writable.{command_lines}
-use Rattle.protocol_model.proofs.lines.ReadersExist.{some_are_readers}
+use Rattle.protocol_model.proofs.written_lines.Writable.{command_lines}
+use Rattle.protocol_model.proofs.written_lines.ReadersExist.{some_are_readers}
 use Rattle.protocol_model.proofs.whole_run.WholeRun.{run_carried, start_carried}
 use Rattle.server_core.specs.Serving.{Serving, new_serving}
 use Rattle.link_world.specs.declared.connection.Connection.{Connection}

@@ -4,7 +4,7 @@ use Rattle.std.specs.Prelude.{OnOk, OnErr}
 use Rattle.protocol_model.specs.Lines.{Readers, AreReaders}
 use Rattle.protocol_model.specs.World.{World, can, happens}
 use Rattle.protocol_model.specs.declared.events.Event.{Event}
-use Rattle.protocol_model.proofs.lines.ReadersExist.{some_are_readers}
+use Rattle.protocol_model.proofs.written_lines.ReadersExist.{some_are_readers}
 use Rattle.protocol_model.proofs.whole_run.SameProgram.{run_same, run_window}
 use Rattle.link_world.specs.Links.{Linked, with_world}
 use Rattle.link_world.specs.declared.faults.WorldFault.{WorldFault}

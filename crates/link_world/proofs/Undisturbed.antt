@@ -7,9 +7,9 @@ use Rattle.protocol_model.specs.World.{World, start, can, happens, run_of}
 use Rattle.protocol_model.specs.declared.events.Event.{Event}
 use Rattle.protocol_model.specs.Undisturbed.{AreUndisturbed, AreFirstLines, acts_planned, AreFirstActs, acts_in, AreFirstOf}
 use Rattle.protocol_model.proofs.whole_run.Carrying.{IsCarried}
-use Rattle.protocol_model.proofs.lines.ReadersExist.{some_are_readers}
+use Rattle.protocol_model.proofs.written_lines.ReadersExist.{some_are_readers}
 use Rattle.protocol_model.proofs.whole_run.SameProgram.{run_same}
-use Rattle.protocol_model.proofs.undisturbed.UndisturbedRun.{undisturbed_lines, undisturbed_acts, undisturbed_counts}
+use Rattle.protocol_model.proofs.undisturbed_run.UndisturbedRun.{undisturbed_lines, undisturbed_acts, undisturbed_counts}
 use Rattle.link_world.specs.Claims.{IsNew, first_plan}
 use Rattle.link_world.specs.Links.{Linked, IsReached}
 use Rattle.link_world.specs.Runs.{Answer, Happened, Refused, Wanting, Leads, wanting, HasRun}

@@ -6,7 +6,7 @@ use Rattle.dme_line.specs.declared.tags.Tag.{Tag}
 use Rattle.protocol_model.specs.Replies.{Reply}
 use Rattle.protocol_model.specs.declared.lines.Line.{Line}
 use Rattle.protocol_model.specs.declared.lines.Waiting.{Waiting}
-use Rattle.protocol_model.proofs.lines.Writable.{reply_bytes_more}
+use Rattle.protocol_model.proofs.written_lines.Writable.{reply_bytes_more}
 
 pub aborted_more : (out more done : List ℕ) (ws rest : List Waiting) (w : Waiting) → ws ≡ w ∷ rest
     → more ≡ out ++ reply_bytes (fails w.tag 9007 (kind_in w.reading)) → out ++ reply_bytes (all_fail 9007 ws) ≡ done

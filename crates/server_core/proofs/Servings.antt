@@ -9,7 +9,7 @@ use Rattle.protocol_model.specs.Server.{Server, Answer, server_read, server_turn
 use Rattle.protocol_model.specs.Ends.{ServerEnd, front_served, serving_accepted, serving_fed, serving_left, serving_restarted,
   serving_taken, new_server_end}
 use Rattle.protocol_model.specs.declared.machine.Outcome.{Outcome}
-use Rattle.protocol_model.proofs.lines.ReadersExist.{some_are_readers}
+use Rattle.protocol_model.proofs.written_lines.ReadersExist.{some_are_readers}
 use Rattle.server_core.specs.Serving.{Controlled, with_answered, may_accept, may_feed, may_turn}
 use Rattle.server_core.specs.Steady.{IsSteady, AreStandard, IsServing}
 use Rattle.server_core.proofs.Steadies.{new_steady, accepted_steady, fed_steady, fault_steady, read_steady, turned_steady, machined_steady,

@@ -30,7 +30,7 @@ use Rattle.protocol_model.proofs.plan.Blocks.{program_is_plain}
 use Rattle.protocol_model.proofs.plan.Fitting.{Know, unknown, known_frame, known_by, FitsMove, FitsTouch, FitsFrame, FitsOne, Fits}
 use Rattle.protocol_model.proofs.plan.Marks.{Marked, marks, marks_of, touch_in, touches_in, HasNoAbort, plan_touches, plan_fits,
   plan_no_abort}
-use Rattle.protocol_model.proofs.lines.PlainClient.{HaveArguments, plan_arguments}
+use Rattle.protocol_model.proofs.written_lines.PlainClient.{HaveArguments, plan_arguments}
 use Rattle.protocol_model.specs.declared.plans.Planned.{Planned}
 use Rattle.protocol_model.specs.declared.plans.Does.{Does}
 use Rattle.protocol_model.specs.declared.plans.Start.{Start}

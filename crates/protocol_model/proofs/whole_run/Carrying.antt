@@ -17,12 +17,12 @@ use Rattle.protocol_model.specs.World.{World, Link, link_of, with_link, client_l
 use Rattle.protocol_model.proofs.table.Basics.{if_true, if_false}
 use Rattle.protocol_model.proofs.invariant.Holding.{Inv, IsIdle}
 use Rattle.protocol_model.proofs.invariant.Moves.{Moves, read_moves, turned_moves, machined_moves}
-use Rattle.protocol_model.proofs.events.ServerEvents.{reads_event, reads_old_event, turn_event, machine_event}
-use Rattle.protocol_model.proofs.lines.Writable.{AreReplies, replies_join, reply_bytes_more, command_read}
+use Rattle.protocol_model.proofs.each_event.ServerEvents.{reads_event, reads_old_event, turn_event, machine_event}
+use Rattle.protocol_model.proofs.written_lines.Writable.{AreReplies, replies_join, reply_bytes_more, command_read}
 use Rattle.protocol_model.proofs.whole_run.PlainServer.{IsPlainServer, IsPlainAnswer, read_plain, turned_plain, machined_plain}
-use Rattle.protocol_model.proofs.lines.PlainClient.{IsPlainClient}
+use Rattle.protocol_model.proofs.written_lines.PlainClient.{IsPlainClient}
 use Rattle.protocol_model.proofs.whole_run.Wires.{IsWhole, IsWired, wired_answers, wired_up, wired_down}
-use Rattle.protocol_model.proofs.lines.LineTaking.{NextCommand, next_command}
+use Rattle.protocol_model.proofs.written_lines.LineTaking.{NextCommand, next_command}
 use Rattle.protocol_model.specs.declared.lines.Line.{Line}
 use Rattle.protocol_model.specs.declared.machine.Outcome.{Outcome}
 
@@ -118,7 +118,7 @@ shorter : (b : World) (h : IsCarried b) (line rest : List ℕ) → b.server.serv
     → (b.server.server.last ≡ b.client.client.last → rest ++ (link_of b.links b.client.client.last).up ≡ command_bytes up)
     → (b.server.server.last < b.client.client.last → up ≡ h.up)
     → IsWhole (rest ++ (link_of b.links b.server.server.last).up)
-    → Rattle.protocol_model.proofs.lines.Writable.AreWritable up
+    → Rattle.protocol_model.proofs.written_lines.Writable.AreWritable up
     → IsWired b.links b.client.client.last b.client.client.on b.client.input.rest b.server.server.last b.server.server.on rest up h.down
 shorter b h line rest on next up here elsewhere serves writable = record {
   made = h.wired.made;
@@ -159,7 +159,7 @@ reads_carried readers are b h on due = go (next_of b.server.input.rest) refl due
         let equal : b.server.server.last ≡ b.client.client.last = eqb-true _ _ same in
         let t : NextCommand h.up line rest (link_of b.links n).up =
             next_command h.up b.server.input.rest (link_of b.links n).up line rest h.wired.lines (h.wired.newest_serves on equal) next in
-        let writable = subst Rattle.protocol_model.proofs.lines.Writable.AreWritable t.lines_are h.wired.lines in
+        let writable = subst Rattle.protocol_model.proofs.written_lines.Writable.AreWritable t.lines_are h.wired.lines in
         let inv : Inv (answered (lined b (t.first ∷ t.others) h.down) t.others (server_read s (Ok t.first))) =
         reads_event (lined b (t.first ∷ t.others) h.down) (subst (λ (ls : List Line). Inv (lined b ls h.down)) t.lines_are h.inv) on same in
         subst IsCarried (ap (λ (e : ServerEnd). server_writes b e)
@@ -176,7 +176,7 @@ reads_carried readers are b h on due = go (next_of b.server.input.rest) refl due
         let whole : IsWhole (b.server.input.rest ++ (link_of b.links b.server.server.last).up) = h.wired.serves on in
         let t : NextCommand whole.lines line rest (link_of b.links b.server.server.last).up =
             next_command whole.lines b.server.input.rest (link_of b.links b.server.server.last).up line rest whole.writable whole.is next in
-        let writable = subst Rattle.protocol_model.proofs.lines.Writable.AreWritable t.lines_are whole.writable in
+        let writable = subst Rattle.protocol_model.proofs.written_lines.Writable.AreWritable t.lines_are whole.writable in
         let differs : b.server.server.last ≡ b.client.client.last → ⊥ = eqb-false _ _ other in
         subst IsCarried (ap (λ (e : ServerEnd). server_writes b e)
             (sym (serving_is readers are b.server line rest t.first next t.text writable.0)))

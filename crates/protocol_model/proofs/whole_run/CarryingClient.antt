@@ -16,16 +16,16 @@ use Rattle.protocol_model.specs.Ends.{with_lines, end_sent, end_aborted, end_rea
 use Rattle.protocol_model.specs.Typed.{World as Lined, sent}
 use Rattle.protocol_model.specs.World.{World, Link, with_link, client_link, client_writes, connected, is_any}
 use Rattle.protocol_model.proofs.invariant.Holding.{Inv, IsOff, IsLive, IsAtRest}
-use Rattle.protocol_model.proofs.events.ServerEvents.{accept_event, gone_event}
-use Rattle.protocol_model.proofs.events.ClientEvents.{connect_event, client_left_event, client_restart_event}
-use Rattle.protocol_model.proofs.events.ClientWrites.{IsDue, due_is, sends_event}
-use Rattle.protocol_model.proofs.events.ClientResumes.{never_off, abort_event, resume_event}
-use Rattle.protocol_model.proofs.events.Hearing.{hear_event}
+use Rattle.protocol_model.proofs.each_event.ServerEvents.{accept_event, gone_event}
+use Rattle.protocol_model.proofs.each_event.ClientEvents.{connect_event, client_left_event, client_restart_event}
+use Rattle.protocol_model.proofs.each_event.ClientWrites.{IsDue, due_is, sends_event}
+use Rattle.protocol_model.proofs.each_event.ClientResumes.{never_off, abort_event, resume_event}
+use Rattle.protocol_model.proofs.each_event.Hearing.{hear_event}
 use Rattle.protocol_model.proofs.whole_run.PlainServer.{IsPlainServer, left_plain}
-use Rattle.protocol_model.proofs.lines.PlainClient.{IsPlainSends, plain_connected, plain_sent, plain_aborted, plain_read, plain_resumed,
+use Rattle.protocol_model.proofs.written_lines.PlainClient.{IsPlainSends, plain_connected, plain_sent, plain_aborted, plain_read, plain_resumed,
   plain_left, plain_restarted}
 use Rattle.protocol_model.proofs.whole_run.Wires.{IsWired, wired_connect, wired_accept, wired_left, wired_gone, wired_writes}
-use Rattle.protocol_model.proofs.lines.LineTaking.{NextReply, next_reply, no_reply_fault, reply_heard}
+use Rattle.protocol_model.proofs.written_lines.LineTaking.{NextReply, next_reply, no_reply_fault, reply_heard}
 use Rattle.protocol_model.proofs.whole_run.Carrying.{lined, IsCarried}
 use Rattle.protocol_model.specs.declared.states.Cause.{Cause}
 use Rattle.protocol_model.specs.declared.plans.Planned.{Planned}
@@ -258,7 +258,7 @@ heard_carried : (b : World) (h : IsCarried b) (r : Reply) (others : List Reply) 
 heard_carried b h r others rest on down_is behind =
     let stays : StaysOn b.client.client (client_read b.client.client (tag_of r) (mark_of r)) =
         read_stays b.client.client (tag_of r) (mark_of r) in
-    let replies = subst Rattle.protocol_model.proofs.lines.Writable.AreReplies down_is h.wired.replies in
+    let replies = subst Rattle.protocol_model.proofs.written_lines.Writable.AreReplies down_is h.wired.replies in
     let wired : IsWired b.links b.client.client.last b.client.client.on rest b.server.server.last b.server.server.on b.server.input.rest
         h.up others = record {
       made = h.wired.made;
@@ -302,7 +302,7 @@ hears_carried readers are b h on due_now = go (next_of b.client.input.rest) refl
     line_case line rest next =
         let t : NextReply h.down line rest (client_link b).down =
             next_reply h.down b.client.input.rest (client_link b).down line rest h.wired.replies bytes next in
-        let replies = subst Rattle.protocol_model.proofs.lines.Writable.AreReplies t.replies_are h.wired.replies in
+        let replies = subst Rattle.protocol_model.proofs.written_lines.Writable.AreReplies t.replies_are h.wired.replies in
         let client_is : front_read readers b.client.client (next_of b.client.input.rest)
             ≡ client_read b.client.client (tag_of t.first) (mark_of t.first) =
         ap (front_read readers b.client.client) next ∙ (ap (λ (l : List ℕ). line_read readers b.client.client (readers.response l)) t.text

@@ -22,7 +22,7 @@ use Rattle.protocol_model.specs.Server.{Server, Answer, origin, fails, all_fail,
   stopped, idle, finished, touched, machined, server_machined, has_outcome, may_end, server_left}
 use Rattle.protocol_model.proofs.invariant.Holding.{listed, waits, all_wait}
 use Rattle.protocol_model.proofs.invariant.LineFacts.{wait_more}
-use Rattle.protocol_model.proofs.lines.Writable.{AreWritable, writable_join, AreReplies, replies_join, difference_on_wire,
+use Rattle.protocol_model.proofs.written_lines.Writable.{AreWritable, writable_join, AreReplies, replies_join, difference_on_wire,
   opposite_in_volume}
 use Rattle.protocol_model.specs.declared.lines.Line.{Line}
 use Rattle.protocol_model.specs.declared.lines.Waiting.{Waiting}

@@ -13,9 +13,9 @@ use Rattle.protocol_model.specs.declared.events.Event.TheVariants.{Connect, Acce
 use Rattle.protocol_model.proofs.plan.Blocks.{program_is_plain}
 use Rattle.protocol_model.proofs.whole_run.SameProgram.{run_same}
 use Rattle.protocol_model.proofs.invariant.Served.{served_sound}
-use Rattle.protocol_model.proofs.events.ClientEvents.{served_now, told_now, never_faulted}
-use Rattle.protocol_model.proofs.events.ServerEvents.{not_nothing, on_by}
-use Rattle.protocol_model.proofs.events.Whole.{start_holds}
+use Rattle.protocol_model.proofs.each_event.ClientEvents.{served_now, told_now, never_faulted}
+use Rattle.protocol_model.proofs.each_event.ServerEvents.{not_nothing, on_by}
+use Rattle.protocol_model.proofs.each_event.Whole.{start_holds}
 use Rattle.protocol_model.proofs.whole_run.PlainServer.{plain_new}
 use Rattle.protocol_model.proofs.whole_run.Carrying.{lined, IsCarried, reads_carried, turn_carried, machine_carried, up_carried,
   down_carried}

@@ -6,7 +6,7 @@ use Rattle.protocol_model.specs.Replies.{Reply}
 use Rattle.protocol_model.specs.Lines.{command_bytes, reply_bytes}
 use Rattle.protocol_model.specs.World.{Link, no_link, link_of, with_link}
 use Rattle.protocol_model.proofs.whole_run.Links.{link_same, link_other, link_long, link_old, link_new}
-use Rattle.protocol_model.proofs.lines.Writable.{AreWritable, writable_join, command_bytes_more, AreReplies}
+use Rattle.protocol_model.proofs.written_lines.Writable.{AreWritable, writable_join, command_bytes_more, AreReplies}
 use Rattle.protocol_model.specs.declared.lines.Line.{Line}
 
 -- bytes are whole lines of commands that can be written

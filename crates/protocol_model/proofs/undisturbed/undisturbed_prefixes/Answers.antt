@@ -1,5 +1,5 @@
 -- Undisturbed runs follow the plan.
-use Rattle.protocol_model.proofs.undisturbed.UndisturbedRun.{undisturbed_lines, undisturbed_acts, undisturbed_counts}
+use Rattle.protocol_model.proofs.undisturbed_run.UndisturbedRun.{undisturbed_lines, undisturbed_acts, undisturbed_counts}
 use Rattle.protocol_model.proofs.undisturbed.undisturbed_prefixes.Goals as goal
 
 -- src/undisturbed.rt:23:1

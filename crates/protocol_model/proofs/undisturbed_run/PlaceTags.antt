@@ -9,7 +9,7 @@ use Rattle.protocol_model.specs.Open.{count_open, is_failed, is_held}
 use Rattle.protocol_model.specs.Client.{first_free, or_else, next_number}
 use Rattle.protocol_model.specs.Undisturbed.{tag_at, lines_from}
 use Rattle.protocol_model.proofs.table.Basics.{if_false}
-use Rattle.protocol_model.proofs.undisturbed.Following.{AreCalm, HaveTags}
+use Rattle.protocol_model.proofs.undisturbed_run.Following.{AreCalm, HaveTags}
 use Rattle.protocol_model.specs.declared.lines.Line.{Line}
 use Rattle.protocol_model.specs.declared.held.Held.{Held}
 use Rattle.protocol_model.specs.declared.plans.Planned.{Planned}

@@ -15,9 +15,9 @@ use Rattle.protocol_model.proofs.table.Replying.{reads_counts, reads_distinct}
 use Rattle.protocol_model.proofs.plan.Fitting.{Know, unknown, KnowsMore, more_than_nothing, fits_more}
 use Rattle.protocol_model.proofs.invariant.Served.{up_to_above}
 use Rattle.protocol_model.proofs.invariant.Moves.{Moves, read_moves, turned_moves, machined_moves}
-use Rattle.protocol_model.proofs.events.Answers.{IsAnswered, off_answers, old_answers, here_answers}
-use Rattle.protocol_model.proofs.events.ReadEvent.{reads_standard, reads_abort}
-use Rattle.protocol_model.proofs.events.WorkEvent.{turned_here, machined_here}
+use Rattle.protocol_model.proofs.each_event.Answers.{IsAnswered, off_answers, old_answers, here_answers}
+use Rattle.protocol_model.proofs.each_event.ReadEvent.{reads_standard, reads_abort}
+use Rattle.protocol_model.proofs.each_event.WorkEvent.{turned_here, machined_here}
 use Rattle.protocol_model.proofs.invariant.Holding.{abort_line, abort_lines, IsNearBy, IsNear, IsLive, IsOff, IsHere, IsAhead, IsGone,
   IsIdle, Inv, know_of}
 use Rattle.protocol_model.specs.declared.lines.Line.{Line}

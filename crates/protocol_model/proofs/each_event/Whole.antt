@@ -9,14 +9,14 @@ use Rattle.protocol_model.specs.Typed.{World, Event, Connect, Accept, ClientSend
   ClientReads, ClientLeaves, ServerLeaves, Abort, Resume, ClientRestart, ServerRestart, start, can, happens, after, run_of}
 use Rattle.protocol_model.proofs.invariant.Served.{served_sound}
 use Rattle.protocol_model.proofs.invariant.Holding.{Inv}
-use Rattle.protocol_model.proofs.events.ServerEvents.{reads_event, reads_old_event, turn_event, machine_event, accept_event, left_event,
+use Rattle.protocol_model.proofs.each_event.ServerEvents.{reads_event, reads_old_event, turn_event, machine_event, accept_event, left_event,
   restart_event}
-use Rattle.protocol_model.proofs.events.ClientEvents.{served_now, told_now, never_faulted, connect_event, client_left_event,
+use Rattle.protocol_model.proofs.each_event.ClientEvents.{served_now, told_now, never_faulted, connect_event, client_left_event,
   client_restart_event}
-use Rattle.protocol_model.proofs.events.ClientWrites.{sends_event}
-use Rattle.protocol_model.proofs.events.ClientResumes.{abort_event, resume_event}
-use Rattle.protocol_model.proofs.events.Hearing.{hear_event}
-use Rattle.protocol_model.proofs.events.Constant.{run_program}
+use Rattle.protocol_model.proofs.each_event.ClientWrites.{sends_event}
+use Rattle.protocol_model.proofs.each_event.ClientResumes.{abort_event, resume_event}
+use Rattle.protocol_model.proofs.each_event.Hearing.{hear_event}
+use Rattle.protocol_model.proofs.each_event.Constant.{run_program}
 use Rattle.std.proofs.Common.{◌≢◌}
 use Rattle.protocol_model.specs.declared.states.State.{State}
 

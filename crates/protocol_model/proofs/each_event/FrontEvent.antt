@@ -16,8 +16,8 @@ use Rattle.protocol_model.proofs.plan.Marks.{touch_in, touches_in, marks_of}
 use Rattle.protocol_model.proofs.invariant.Served.{IsProgress}
 use Rattle.protocol_model.proofs.invariant.Moves.{done_on, Moves}
 use Rattle.protocol_model.proofs.invariant.Pairs.{broken, pair_and_pairs}
-use Rattle.protocol_model.proofs.events.Answers.{IsAnswered}
-use Rattle.protocol_model.proofs.events.ReadEvent.{quiet_answer, tidy_pair_and_pairs}
+use Rattle.protocol_model.proofs.each_event.Answers.{IsAnswered}
+use Rattle.protocol_model.proofs.each_event.ReadEvent.{quiet_answer, tidy_pair_and_pairs}
 use Rattle.protocol_model.proofs.invariant.Touching.{HasPoint, Keeps, measured_keeps, Goes, does_goes}
 use Rattle.protocol_model.proofs.invariant.Holding.{listed, received, all_received, all_sent, all_wait, abort_lines, abort_helds,
   commands_of, commands_in, AreStandard, AreNoClears, IsClearFirst, IsClean, IsNearBy, IsTidy, know_of}

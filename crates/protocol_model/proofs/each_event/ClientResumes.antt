@@ -21,7 +21,7 @@ use Rattle.protocol_model.proofs.invariant.Served.{IsProgress, progress_anew, pr
 use Rattle.protocol_model.proofs.table.Drawing.{IsDrawn, drawn, none_drawn, event_apart}
 use Rattle.protocol_model.proofs.invariant.Holding.{listed, abort_line, abort_lines, abort_held, commands_in, IsClearFirst, IsNear,
   HasEvents, HasState, IsLive, IsOff, IsAtRest, IsHere, IsAhead, IsGone, Inv, know_of}
-use Rattle.protocol_model.proofs.events.ClientEvents.{no_aborts, none_received}
+use Rattle.protocol_model.proofs.each_event.ClientEvents.{no_aborts, none_received}
 use Rattle.protocol_model.specs.declared.lines.Line.{Line}
 use Rattle.protocol_model.specs.declared.plans.Planned.{Planned}
 use Rattle.protocol_model.specs.declared.plans.Start.{Start}

@@ -23,7 +23,7 @@ use Rattle.protocol_model.proofs.plan.Fitting.{Know, Fits, IsSane}
 use Rattle.protocol_model.proofs.invariant.Served.{IsProgress}
 use Rattle.protocol_model.proofs.invariant.Moves.{done_on, Moves}
 use Rattle.protocol_model.proofs.invariant.Pairs.{broken, breaks, pair, ack, abort_reads}
-use Rattle.protocol_model.proofs.events.Answers.{IsAnswered, tidy_more}
+use Rattle.protocol_model.proofs.each_event.Answers.{IsAnswered, tidy_more}
 use Rattle.protocol_model.proofs.invariant.Holding.{listed, received, sent_now, all_received, all_sent, waits, all_wait, abort_tag,
   abort_line, abort_lines, abort_held, abort_helds, commands_in, AreStandard, IsClearFirst, IsClean, IsNearBy, IsNear, IsTidy, know_of}
 use Rattle.protocol_model.proofs.invariant.LineFacts.{apart_from, not_in_use, event_not_in_use, standard_behind, clear_first_none,

@@ -29,14 +29,14 @@ use Rattle.protocol_model.proofs.plan.Marks.{plan_fits}
 use Rattle.protocol_model.proofs.table.Replying.{reads_keeps, IsFront}
 use Rattle.protocol_model.proofs.invariant.Moves.{Moves, done_on, read_moves, turned_moves, machined_moves}
 use Rattle.protocol_model.proofs.invariant.Holding.{Inv, IsLive, IsOff, IsAtRest, HasState}
-use Rattle.protocol_model.proofs.events.ServerEvents.{not_nothing, on_by}
-use Rattle.protocol_model.proofs.events.ClientEvents.{told_now}
-use Rattle.protocol_model.proofs.events.ClientWrites.{IsDue, due_is}
+use Rattle.protocol_model.proofs.each_event.ServerEvents.{not_nothing, on_by}
+use Rattle.protocol_model.proofs.each_event.ClientEvents.{told_now}
+use Rattle.protocol_model.proofs.each_event.ClientWrites.{IsDue, due_is}
 use Rattle.protocol_model.proofs.whole_run.Carrying.{lined, IsCarried}
 use Rattle.protocol_model.proofs.whole_run.WholeRun.{happens_carried, start_carried}
-use Rattle.protocol_model.proofs.undisturbed.Following.{AreAsked, fits_asked, first_acts, planned_more, IsCalm, Follows, heard_follows}
-use Rattle.protocol_model.proofs.undisturbed.PlaceTags.{number_at, next_is, count_calm, lines_start}
-use Rattle.protocol_model.proofs.undisturbed.UndisturbedClient.{IsOnPlan, front_on, places, sends_on, begins_on}
+use Rattle.protocol_model.proofs.undisturbed_run.Following.{AreAsked, fits_asked, first_acts, planned_more, IsCalm, Follows, heard_follows}
+use Rattle.protocol_model.proofs.undisturbed_run.PlaceTags.{number_at, next_is, count_calm, lines_start}
+use Rattle.protocol_model.proofs.undisturbed_run.UndisturbedClient.{IsOnPlan, front_on, places, sends_on, begins_on}
 use Rattle.protocol_model.specs.declared.lines.Line.{Line}
 use Rattle.protocol_model.specs.declared.machine.Outcome.{Outcome}
 use Rattle.protocol_model.specs.declared.plans.Does.{Does}

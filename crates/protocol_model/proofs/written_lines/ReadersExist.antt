@@ -31,7 +31,7 @@ use Rattle.dme_line.proofs.NameCutLemmas.{name_cut}
 use Rattle.dme_line.proofs.CommandLemmas.{SaysHere, says_here}
 use Rattle.protocol_model.specs.Lines.{Readers, AreReaders}
 use Rattle.protocol_model.proofs.table.Basics.{if_cases}
-use Rattle.protocol_model.proofs.lines.Deciding.{Decided, decided_by, both, test, same_bytes, shapes, words, first_of, others_of, filled,
+use Rattle.protocol_model.proofs.written_lines.Deciding.{Decided, decided_by, both, test, same_bytes, shapes, words, first_of, others_of, filled,
   filled_of, has_shape, Length, length_is, Saying, saying}
 
 -- ---- tags

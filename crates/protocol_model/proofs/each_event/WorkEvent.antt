@@ -27,10 +27,10 @@ use Rattle.protocol_model.proofs.plan.Fitting.{known_by, known_frame, KnowsMore,
 use Rattle.protocol_model.proofs.invariant.Served.{IsProgress}
 use Rattle.protocol_model.proofs.invariant.Moves.{Moves}
 use Rattle.protocol_model.proofs.invariant.Pairs.{done_first, given_first}
-use Rattle.protocol_model.proofs.events.Answers.{IsAnswered}
-use Rattle.protocol_model.proofs.events.ReadEvent.{quiet_answer}
+use Rattle.protocol_model.proofs.each_event.Answers.{IsAnswered}
+use Rattle.protocol_model.proofs.each_event.ReadEvent.{quiet_answer}
 use Rattle.protocol_model.proofs.invariant.Touching.{HasPoint}
-use Rattle.protocol_model.proofs.events.FrontEvent.{IsAtFront, at_front, front_fails, front_done}
+use Rattle.protocol_model.proofs.each_event.FrontEvent.{IsAtFront, at_front, front_fails, front_done}
 use Rattle.protocol_model.proofs.invariant.Holding.{listed, received, all_received, all_sent, waits, all_wait, commands_in, AreStandard,
   IsClearFirst, IsNearBy, know_of}
 use Rattle.protocol_model.specs.declared.lines.Line.{Line}

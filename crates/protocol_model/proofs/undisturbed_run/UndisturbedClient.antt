@@ -23,9 +23,9 @@ use Rattle.protocol_model.specs.Plan.{plan}
 use Rattle.protocol_model.specs.Undisturbed.{tag_at, lines_from}
 use Rattle.protocol_model.proofs.table.Basics.{if_false}
 use Rattle.protocol_model.proofs.table.Replying.{fine}
-use Rattle.protocol_model.proofs.lines.Writable.{command_bytes_more}
-use Rattle.protocol_model.proofs.undisturbed.Following.{AreAsked, IsCalm, Follows, kinds_held, kinds_of, heard_follows}
-use Rattle.protocol_model.proofs.undisturbed.PlaceTags.{number_at, drawn_at, tags_more, calm_more, lines_start}
+use Rattle.protocol_model.proofs.written_lines.Writable.{command_bytes_more}
+use Rattle.protocol_model.proofs.undisturbed_run.Following.{AreAsked, IsCalm, Follows, kinds_held, kinds_of, heard_follows}
+use Rattle.protocol_model.proofs.undisturbed_run.PlaceTags.{number_at, drawn_at, tags_more, calm_more, lines_start}
 use Rattle.protocol_model.specs.declared.states.State.{State}
 use Rattle.protocol_model.specs.declared.states.Cause.{Cause}
 use Rattle.protocol_model.specs.declared.lines.Line.{Line}

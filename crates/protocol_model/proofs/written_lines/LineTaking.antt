@@ -18,7 +18,7 @@ use Rattle.protocol_model.specs.Open.{Heard, Refused, judged, judged_given, sett
 use Rattle.protocol_model.specs.Client.{Client, heard_standard, heard_event, heard_on, client_hears, client_read, faulted}
 use Rattle.protocol_model.specs.Ends.{held_kind, held_under, given_point, given_under, given, response_read, line_read}
 use Rattle.protocol_model.proofs.table.Basics.{if_cases, if_true, if_false, and_false}
-use Rattle.protocol_model.proofs.lines.Writable.{AreWritable, command_lines, IsWritableReply, AreReplies, reply_lines, response_of,
+use Rattle.protocol_model.proofs.written_lines.Writable.{AreWritable, command_lines, IsWritableReply, AreReplies, reply_lines, response_of,
   reply_read, point_read}
 use Rattle.protocol_model.specs.declared.lines.Line.{Line}
 use Rattle.protocol_model.specs.declared.states.Cause.{Cause}

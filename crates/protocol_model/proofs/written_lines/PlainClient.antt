@@ -26,7 +26,7 @@ use Rattle.protocol_model.specs.Client.{Client, Table, Sends, first_free, or_els
 use Rattle.protocol_model.specs.Server.{is_abort}
 use Rattle.protocol_model.proofs.plan.Marks.{HasNoAbort, plan_no_abort}
 use Rattle.protocol_model.proofs.table.Drawing.{IsFound, found, or_cases}
-use Rattle.protocol_model.proofs.lines.Writable.{AreWritable, opposite_in_volume}
+use Rattle.protocol_model.proofs.written_lines.Writable.{AreWritable, opposite_in_volume}
 use Rattle.protocol_model.specs.declared.states.Cause.{Cause}
 use Rattle.protocol_model.specs.declared.held.Held.{Held}
 use Rattle.protocol_model.specs.declared.plans.Planned.{Planned}
