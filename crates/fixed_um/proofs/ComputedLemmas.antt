@@ -1,6 +1,37 @@
 -- The computing functions meet the relations.
-use Rattle.std.proofs.Common.{◌≡◌, ℕ, zero, suc, ◌+◌, ◌*◌, ◌/◌, ◌%◌, ◌^◌, ◌<◌, ◌≤◌, Bool, true, false, cond, ◌&&◌, List, length, Result, Ok,
-  Err, Option, Some, None, refl, ap, sym, subst, ◌∙◌, arith, ℤ}
+use Rattle.std.proofs.Common.{
+  ◌≡◌,
+  ℕ,
+  zero,
+  suc,
+  ◌+◌,
+  ◌*◌,
+  ◌/◌,
+  ◌%◌,
+  ◌^◌,
+  ◌<◌,
+  ◌≤◌,
+  Bool,
+  true,
+  false,
+  cond,
+  ◌&&◌,
+  List,
+  length,
+  Result,
+  Ok,
+  Err,
+  Option,
+  Some,
+  None,
+  refl,
+  ap,
+  sym,
+  subst,
+  ◌∙◌,
+  arith,
+  ℤ,
+}
 use Rattle.std.specs.Prelude.{unsigned_abs, IsTrue, ◌↔◌, ◌==◌, nat_le, if◌then◌else◌}
 use Rattle.std.specs.Str.Parse.{digits_value}
 use Rattle.std.proofs.Math.Nat.{one-le-pow}
@@ -26,7 +57,7 @@ magnitude_stands : (scale : ℕ) (text : List ℕ) (n : Numeral) → IsNumeral t
 magnitude_stands scale text n spelled short =
     stands scale text n (digits_value 10 n.digits) (magnitude_of scale n) spelled short refl
     (rounded_rounds (digits_value 10 n.digits * 10 ^ (scale + n.raised)) (10 ^ (n.places + n.lowered))
-        (omega (arith, one-le-pow (n.places + n.lowered) 10 (omega arith))))
+    (omega (arith, one-le-pow (n.places + n.lowered) 10 (omega arith))))
 
 value_reads : (scale limit : ℕ) (text : List ℕ) (n : Numeral) (m : ℕ) (b : Bool) → nat_le m limit ≡ b
     → StandsFor scale text (signed n.negative m) → Reads scale limit text (cond b (Ok (signed n.negative m)) (Err TooLarge))

@@ -1,6 +1,34 @@
 -- Digits and the numbers that they write.
-use Rattle.std.proofs.Common.{◌≡◌, ℕ, zero, suc, ◌+◌, ◌-◌, ◌*◌, ◌^◌, ◌<◌, ◌≤◌, Bool, true, false, cond, List, [], ◌∷◌, ◌++◌, length, get_or,
-  take, drop, refl, ap, sym, ◌∙◌, arith, add-one}
+use Rattle.std.proofs.Common.{
+  ◌≡◌,
+  ℕ,
+  zero,
+  suc,
+  ◌+◌,
+  ◌-◌,
+  ◌*◌,
+  ◌^◌,
+  ◌<◌,
+  ◌≤◌,
+  Bool,
+  true,
+  false,
+  cond,
+  List,
+  [],
+  ◌∷◌,
+  ◌++◌,
+  length,
+  get_or,
+  take,
+  drop,
+  refl,
+  ap,
+  sym,
+  ◌∙◌,
+  arith,
+  add-one,
+}
 use Rattle.std.specs.Char.{digit_value, is_ascii_digit}
 use Rattle.std.specs.Str.Parse.{AllDigits, digits_value, digits_value_after}
 use Rattle.std.specs.List.{list_all, prefix_len}
@@ -118,5 +146,11 @@ short_number-below ds h = (short_number ds h).below
 pub short_number-digits : (ds : List ℕ) → is_short_number ds ≡ true → AllDigits 10 ds
 short_number-digits ds h = (short_number ds h).all
 
-pub ruleset numbers = (short_number-below, short_number-digits, digits_value-parts, digits_value-both_below, digits_value-first_below,
-    AllDigits-front)
+pub ruleset numbers = (
+  short_number-below,
+  short_number-digits,
+  digits_value-parts,
+  digits_value-both_below,
+  digits_value-first_below,
+  AllDigits-front,
+)

@@ -1,7 +1,46 @@
 -- The steps of the readers find a numeral exactly where the grammar has one, so a text says one numeral at most.
-use Rattle.std.proofs.Common.{◌≡◌, ℕ, zero, suc, ◌+◌, ◌-◌, ◌*◌, ◌^◌, ◌<◌, ◌≤◌, ◌≢◌, Bool, true, false, cond, ◌&&◌, ◌||◌, ◌⊎◌, List, [], ◌∷◌,
-  ◌++◌, length, take, drop, Option, Some, None, refl, ap, sym, subst, ◌∙◌, arith, inl, inr, codes, append-nil, take-append-drop,
-  length-append}
+use Rattle.std.proofs.Common.{
+  ◌≡◌,
+  ℕ,
+  zero,
+  suc,
+  ◌+◌,
+  ◌-◌,
+  ◌*◌,
+  ◌^◌,
+  ◌<◌,
+  ◌≤◌,
+  ◌≢◌,
+  Bool,
+  true,
+  false,
+  cond,
+  ◌&&◌,
+  ◌||◌,
+  ◌⊎◌,
+  List,
+  [],
+  ◌∷◌,
+  ◌++◌,
+  length,
+  take,
+  drop,
+  Option,
+  Some,
+  None,
+  refl,
+  ap,
+  sym,
+  subst,
+  ◌∙◌,
+  arith,
+  inl,
+  inr,
+  codes,
+  append-nil,
+  take-append-drop,
+  length-append,
+}
 use Rattle.std.specs.Prelude.{◌==◌, nat_le, nat_lt, slice_index, if◌then◌else◌}
 use Rattle.std.specs.Char.{digit_value, is_ascii_digit}
 use Rattle.std.specs.List.{list_all, prefix_len}
@@ -11,8 +50,18 @@ use Rattle.std.proofs.lemmas.Bool.Decides.{nat_tests}
 use Rattle.std.proofs.lemmas.List.{take_at, drop_at}
 use Rattle.std.proofs.lemmas.Option.{same_Some, cond_some}
 use Rattle.fixed_um.specs.Numerals.{Numeral, IsSign, none, plus, minus, IsFraction, absent, pointed, IsExponent, nothing, given, IsNumeral}
-use Rattle.fixed_um.specs.Scan.{digits_front, digits_behind, fraction_front, fraction_behind, is_short_number, exponent_digits, exponent_of,
-  numeral_with, unsigned_numeral_of, numeral_of}
+use Rattle.fixed_um.specs.Scan.{
+  digits_front,
+  digits_behind,
+  fraction_front,
+  fraction_behind,
+  is_short_number,
+  exponent_digits,
+  exponent_of,
+  numeral_with,
+  unsigned_numeral_of,
+  numeral_of,
+}
 use Rattle.fixed_um.proofs.DigitLemmas.{AllDigits-front, AllDigits-to_test, IsShortNumber, short_number, digit-to_test, value-digit}
 
 -- ---- from the steps to the grammar
@@ -44,9 +93,11 @@ record FractionSplit (text : List ℕ) : Type 0 where
 fraction_step : (c : ℕ) (cs : List ℕ) (b : Bool) → (c == 46) ≡ b → (point : List ℕ)
     × ((c ∷ cs) ≡ point ++ cond b (digits_behind (drop 1 (c ∷ cs))) (c ∷ cs))
     × IsFraction point (cond b (digits_front (drop 1 (c ∷ cs))) [])
-fraction_step c cs true p =
-    (46 ∷ digits_front cs, rw (eqb-true c 46 p) (ap (λ (x : List ℕ). 46 ∷ x) (sym (take-append-drop (prefix_len is_ascii_digit cs) cs))),
-        pointed (digits_front cs) (AllDigits-front cs) refl)
+fraction_step c cs true p = (
+  46 ∷ digits_front cs,
+  rw (eqb-true c 46 p) (ap (λ (x : List ℕ). 46 ∷ x) (sym (take-append-drop (prefix_len is_ascii_digit cs) cs))),
+  pointed (digits_front cs) (AllDigits-front cs) refl,
+)
 fraction_step c cs false p = ([], refl, absent refl)
 
 fraction_split : (text : List ℕ) → FractionSplit text
@@ -60,16 +111,18 @@ the_exponent e = Some e
 
 exponent_digits_found : (mark more : List ℕ) (b : Bool) (e : ℕ × ℕ) → (mark ≡ codes "E") ⊎ (mark ≡ codes "e")
     → is_short_number (without_leading_sign more) ≡ b → cond b
-    (the_exponent (if (starts_with_minus more) then 0 else (digits_value 10 (without_leading_sign more)),
-    if (starts_with_minus more) then (digits_value 10 (without_leading_sign more)) else 0)) None ≡ Some e
+    (the_exponent (
+      if (starts_with_minus more) then 0 else (digits_value 10 (without_leading_sign more)),
+      if (starts_with_minus more) then (digits_value 10 (without_leading_sign more)) else 0,
+    )) None ≡ Some e
     → IsExponent (mark ++ more) e.0 e.1
 exponent_digits_found mark more false e m h p = absurd cc
 exponent_digits_found mark more true e m h p =
     let s = sign_split more in
     let n = short_number (without_leading_sign more) h in
     subst (λ (x : ℕ × ℕ). IsExponent (mark ++ more) x.0 x.1) (same_Some _ _ p)
-        (given mark s.sign (without_leading_sign more) (starts_with_minus more) m s.is n.all n.some n.few
-        (ap (λ (x : List ℕ). mark ++ x) s.whole))
+    (given mark s.sign (without_leading_sign more) (starts_with_minus more) m s.is n.all n.some n.few
+    (ap (λ (x : List ℕ). mark ++ x) s.whole))
 
 mark_is : (c : ℕ) → (c == 69 || c == 101) ≡ true → ((c ∷ []) ≡ codes "E") ⊎ ((c ∷ []) ≡ codes "e")
 mark_is c h =
@@ -104,7 +157,7 @@ numeral_found text n p =
     let body = without_leading_sign text in
     let f = fraction_split (digits_behind body) in
     let q = numeral_with_found (starts_with_minus text) (digits_front body) (fraction_front (digits_behind body))
-        (exponent_of (fraction_behind (digits_behind body))) n p in
+    (exponent_of (fraction_behind (digits_behind body))) n p in
     subst (λ (m : Numeral). IsNumeral text m) q.3 (record {
       sign = s.sign;
       whole = digits_front body;
@@ -235,14 +288,22 @@ numeral_only text n h =
     let some : 0 < length (h.whole ++ h.fraction) = subst (λ (ds : List ℕ). 0 < length ds) h.digits_are h.some_digit in
     let body : List ℕ = h.whole ++ (h.point ++ h.exponent) in
     let sign = sign_exact h.sign body n.negative h.is_sign (plain_start h.whole h.point h.fraction h.exponent h.is_whole h.is_fraction some)
-        in
+    in
     let stops = fraction_stops h.point h.fraction h.exponent h.is_fraction starts in
     let fraction = fraction_exact h.point h.fraction h.exponent h.is_fraction starts in
-    rw (h.parts, sign.1, sign.0, front_exact h.whole (h.point ++ h.exponent) h.is_whole stops,
-        behind_exact h.whole (h.point ++ h.exponent) h.is_whole stops, fraction.0, fraction.1,
-        exponent_exact h.exponent n.raised n.lowered h.is_exponent, lt-ltb 0 (length (h.whole ++ h.fraction)) some)
+    rw (
+      h.parts,
+      sign.1,
+      sign.0,
+      front_exact h.whole (h.point ++ h.exponent) h.is_whole stops,
+      behind_exact h.whole (h.point ++ h.exponent) h.is_whole stops,
+      fraction.0,
+      fraction.1,
+      exponent_exact h.exponent n.raised n.lowered h.is_exponent,
+      lt-ltb 0 (length (h.whole ++ h.fraction)) some,
+    )
     (ap (λ (m : Numeral). Some m) (same_numeral n.negative (h.whole ++ h.fraction) (length h.fraction) n.raised n.lowered n refl
-        (sym h.digits_are) (sym h.places_are) refl refl))
+    (sym h.digits_are) (sym h.places_are) refl refl))
 
 -- a text says one numeral at most
 pub one_numeral : (text : List ℕ) (m n : Numeral) → IsNumeral text m → IsNumeral text n → m ≡ n

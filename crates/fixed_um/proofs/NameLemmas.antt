@@ -1,6 +1,32 @@
 -- A folded name text is a name.
-use Rattle.std.proofs.Common.{◌≡◌, ℕ, suc, ◌-◌, ◌<◌, ◌≤◌, Bool, true, false, cond, ◌&&◌, List, [], ◌∷◌, length, map, refl, ap, sym, ◌∙◌,
-  arith, nat_lt, nat_le, inl, inr, codes}
+use Rattle.std.proofs.Common.{
+  ◌≡◌,
+  ℕ,
+  suc,
+  ◌-◌,
+  ◌<◌,
+  ◌≤◌,
+  Bool,
+  true,
+  false,
+  cond,
+  ◌&&◌,
+  List,
+  [],
+  ◌∷◌,
+  length,
+  map,
+  refl,
+  ap,
+  sym,
+  ◌∙◌,
+  arith,
+  nat_lt,
+  nat_le,
+  inl,
+  inr,
+  codes,
+}
 use Rattle.std.specs.List.{list_all}
 use Rattle.std.specs.Char.{to_ascii_uppercase}
 use Rattle.std.proofs.lemmas.Bool.{and_parts, and_from, cases_lt, lt-ltb, le-ltb, cond-true}
@@ -48,5 +74,7 @@ pub name-from_folded : (text : List ℕ) → is_name_text text ≡ true → IsNa
 name-from_folded text h =
     let p = and_parts (nat_le 1 (length text)) (nat_le (length text) 64 && list_all is_name_byte text) h in
     let q = and_parts (nat_le (length text) 64) (list_all is_name_byte text) p.1 in
-    record { named = rw (length-folded text) (and_from _ _ p.0 (and_from _ _ q.0 (all_name_bytes-folded text q.1)));
-        capitals = folded-folded text }
+    record {
+      named = rw (length-folded text) (and_from _ _ p.0 (and_from _ _ q.0 (all_name_bytes-folded text q.1)));
+      capitals = folded-folded text;
+    }

@@ -1,6 +1,31 @@
 -- A text is read in one way.
-use Rattle.std.proofs.Common.{◌≡◌, ℕ, zero, suc, ◌+◌, ◌*◌, ◌^◌, ◌<◌, ◌≤◌, List, length, Result, Ok, Err, Option, Some, None, refl, ap, sym,
-  subst, ◌∙◌, arith, ℤ, pos}
+use Rattle.std.proofs.Common.{
+  ◌≡◌,
+  ℕ,
+  zero,
+  suc,
+  ◌+◌,
+  ◌*◌,
+  ◌^◌,
+  ◌<◌,
+  ◌≤◌,
+  List,
+  length,
+  Result,
+  Ok,
+  Err,
+  Option,
+  Some,
+  None,
+  refl,
+  ap,
+  sym,
+  subst,
+  ◌∙◌,
+  arith,
+  ℤ,
+  pos,
+}
 use Rattle.std.specs.Prelude.{unsigned_abs, IsTrue, ◌↔◌, ◌==◌, Bool, true, false}
 use Rattle.std.proofs.lemmas.Bool.{eqb-true, eq-eqb, both_ways}
 use Rattle.std.proofs.lemmas.Option.{same_Some}
@@ -20,7 +45,7 @@ one_value scale text r s f g =
     let same = one_numeral text g.numeral f.numeral g.spelled f.spelled in
     let value = subst (λ (n : Numeral). IsRounded (numerator scale n) (denominator n) s) same g.value in
     one_rounded (numerator scale f.numeral) (denominator f.numeral) r s
-        (omega (arith, one-le-pow (f.numeral.places + f.numeral.lowered) 10 (omega arith))) f.value value
+    (omega (arith, one-le-pow (f.numeral.places + f.numeral.lowered) 10 (omega arith))) f.value value
 
 -- a text of more than 30 digits stands for no number
 too_many : (scale : ℕ) (text : List ℕ) (r : ℤ) (n : Numeral) → StandsFor scale text r → IsNumeral text n → 30 < length n.digits → ⊥
@@ -56,9 +81,14 @@ pub stands : (scale : ℕ) (text : List ℕ) (n : Numeral) (value m : ℕ) → I
     → value ≡ digits_value 10 n.digits → RoundsUp (value * 10 ^ (scale + n.raised)) (10 ^ (n.places + n.lowered)) m
     → StandsFor scale text (signed n.negative m)
 stands scale text n value m spelled short is h =
-    record { numeral = n; spelled = spelled; short = short; value = subst
-        (λ (v : ℕ). IsRounded (signed n.negative (v * 10 ^ (scale + n.raised))) (denominator n) (signed n.negative m)) is
-        (rounded_signed n.negative (value * 10 ^ (scale + n.raised)) (10 ^ (n.places + n.lowered)) m h) }
+    record {
+      numeral = n;
+      spelled = spelled;
+      short = short;
+      value = subst
+          (λ (v : ℕ). IsRounded (signed n.negative (v * 10 ^ (scale + n.raised))) (denominator n) (signed n.negative m)) is
+          (rounded_signed n.negative (value * 10 ^ (scale + n.raised)) (10 ^ (n.places + n.lowered)) m h);
+    }
 
 -- ---- zeros
 

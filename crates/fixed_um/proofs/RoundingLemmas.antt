@@ -1,6 +1,34 @@
 -- Rounded fractions: halves up without a sign is nearest and away from zero with one, and there is one nearest number.
-use Rattle.std.proofs.Common.{◌≡◌, ℕ, zero, suc, ◌+◌, ◌-◌, ◌*◌, ◌^◌, ◌<◌, ◌≤◌, Bool, true, false, ◌⊎◌, refl, ap, sym, subst, ◌∙◌, arith,
-  inl, inr, ℤ, pos, negsuc, ◌*ℤ◌, ◌-ℤ◌, neg_ℤ}
+use Rattle.std.proofs.Common.{
+  ◌≡◌,
+  ℕ,
+  zero,
+  suc,
+  ◌+◌,
+  ◌-◌,
+  ◌*◌,
+  ◌^◌,
+  ◌<◌,
+  ◌≤◌,
+  Bool,
+  true,
+  false,
+  ◌⊎◌,
+  refl,
+  ap,
+  sym,
+  subst,
+  ◌∙◌,
+  arith,
+  inl,
+  inr,
+  ℤ,
+  pos,
+  negsuc,
+  ◌*ℤ◌,
+  ◌-ℤ◌,
+  neg_ℤ,
+}
 use Rattle.std.specs.Prelude.{unsigned_abs, ◌<ℤ◌, ◌≤ℤ◌, ◌+ℤ◌, Option, Some, None, SomeIff, IfSome, IfNone}
 use Rattle.std.proofs.Math.Nat.{mul-le-mul_right, one-le-pow}
 use Rattle.std.proofs.lemmas.Nat.{pow-add}
@@ -105,7 +133,7 @@ below a b r s some f g lt =
 pub one_rounded : (a : ℤ) (b : ℕ) (r s : ℤ) → 0 < b → IsRounded a b r → IsRounded a b s → r ≡ s
 one_rounded a b r s some f g =
     by_lt_z r s (λ lt. absurd (below a b r s some f g lt)) (λ le. by_lt_z s r (λ lt. absurd (below a b s r some g f lt))
-        (λ ge. omega (arith, ints)))
+    (λ ge. omega (arith, ints)))
 
 -- digits times and divided by powers of ten, by the difference of the two powers alone
 ten_pos : (n : ℕ) → 0 < 10 ^ n
@@ -121,7 +149,7 @@ rounds_up digits up down le =
     let power : 10 ^ (up - down) * 10 ^ down ≡ 10 ^ up = sym (pow-add 10 (up - down) down) ∙ ap (λ (n : ℕ). 10 ^ n) (omega arith) in
     let same : digits * 10 ^ (up - down) * 10 ^ down ≡ digits * 10 ^ up = omega (arith, ap (λ (n : ℕ). digits * n) power) in
     subst (λ (a : ℕ). RoundsUp a (10 ^ down) (digits * 10 ^ (up - down))) same
-        (rounds_exact (digits * 10 ^ (up - down)) (10 ^ down) (ten_pos down))
+    (rounds_exact (digits * 10 ^ (up - down)) (10 ^ down) (ten_pos down))
 
 pub scaled_some : (digits up down : ℕ) (o : Option ℕ) → down ≤ up
     → SomeIff o (digits * 10 ^ (up - down) < 2 ^ 128) (digits * 10 ^ (up - down))
@@ -134,5 +162,8 @@ pub scaled_none : (digits up down : ℕ) (o : Option ℕ) → down ≤ up
     → SomeIff o (digits * 10 ^ (up - down) < 2 ^ 128) (digits * 10 ^ (up - down))
     → IfNone o ((m : ℕ) × RoundsUp (digits * 10 ^ up) (10 ^ down) m × (2 ^ 128 ≤ m))
 scaled_none digits up down (Some m) le h = tt
-scaled_none digits up down None le h = (digits * 10 ^ (up - down), rounds_up digits up down le,
-    elim (cases_lt (digits * 10 ^ (up - down)) (2 ^ 128)) [ inl lt ↦ absurd (h lt) | inr ge ↦ ge ])
+scaled_none digits up down None le h = (
+  digits * 10 ^ (up - down),
+  rounds_up digits up down le,
+  elim (cases_lt (digits * 10 ^ (up - down)) (2 ^ 128)) [ inl lt ↦ absurd (h lt) | inr ge ↦ ge ],
+)

@@ -1,6 +1,42 @@
 -- What is written is short, and reads back.
-use Rattle.std.proofs.Common.{◌≡◌, ℕ, zero, suc, ◌+◌, ◌-◌, ◌*◌, ◌/◌, ◌%◌, ◌^◌, ◌<◌, ◌≤◌, Bool, true, false, List, [], ◌∷◌, ◌++◌, length,
-  refl, ap, sym, subst, ◌∙◌, arith, codes, append_assoc, append-nil, add-zero, length-append, ℤ, pos, negsuc, Ok, Some}
+use Rattle.std.proofs.Common.{
+  ◌≡◌,
+  ℕ,
+  zero,
+  suc,
+  ◌+◌,
+  ◌-◌,
+  ◌*◌,
+  ◌/◌,
+  ◌%◌,
+  ◌^◌,
+  ◌<◌,
+  ◌≤◌,
+  Bool,
+  true,
+  false,
+  List,
+  [],
+  ◌∷◌,
+  ◌++◌,
+  length,
+  refl,
+  ap,
+  sym,
+  subst,
+  ◌∙◌,
+  arith,
+  codes,
+  append_assoc,
+  append-nil,
+  add-zero,
+  length-append,
+  ℤ,
+  pos,
+  negsuc,
+  Ok,
+  Some,
+}
 use Rattle.std.specs.Prelude.{unsigned_abs, decimal}
 use Rattle.std.specs.Char.{digit_value}
 use Rattle.std.specs.Str.Parse.{AllDigits, digits_value, digits_value_after}
@@ -8,8 +44,21 @@ use Rattle.std.proofs.lemmas.Fmt.{length-decimal-le, decimal_is_IsNumeral}
 use Rattle.std.proofs.lemmas.Bool.Decides.{nat_tests}
 use Rattle.fixed_um.specs.Limits.{wire_limit, component_limit}
 use Rattle.fixed_um.specs.Written.{minus_sign, last_digit, three_digits, six_digits, written, written_component}
-use Rattle.fixed_um.specs.Numerals.{Numeral, IsSign, none, minus, IsFraction, pointed, IsExponent, nothing, IsNumeral, StandsFor, Reads,
-  ReadsDirection, signed}
+use Rattle.fixed_um.specs.Numerals.{
+  Numeral,
+  IsSign,
+  none,
+  minus,
+  IsFraction,
+  pointed,
+  IsExponent,
+  nothing,
+  IsNumeral,
+  StandsFor,
+  Reads,
+  ReadsDirection,
+  signed,
+}
 use Rattle.fixed_um.specs.Shapes.{Direction, IsDirection}
 use Rattle.fixed_um.proofs.DigitLemmas.{AllDigits-append, digits_value_after-append, digits_value_after-ge}
 use Rattle.fixed_um.proofs.RoundingLemmas.{rounds_exact}
@@ -71,8 +120,13 @@ written_stands : (scale : ℕ) (z : ℤ) (whole : ℕ) (decimals : List ℕ) →
 written_stands scale z whole decimals small all long few value =
     let text = minus_sign z ++ (decimal whole ++ (codes "." ++ decimals)) in
     let d = decimal_is_IsNumeral whole (omega arith) in
-    let n : Numeral = record { negative = is_minus z; digits = decimal whole ++ decimals; places = length decimals; raised = 0;
-        lowered = 0 } in
+    let n : Numeral = record {
+      negative = is_minus z;
+      digits = decimal whole ++ decimals;
+      places = length decimals;
+      raised = 0;
+      lowered = 0;
+    } in
     let short = whole-short whole small in
     let spelled : IsNumeral text n = record {
       sign = minus_sign z;
@@ -90,23 +144,33 @@ written_stands scale z whole decimals small all long few value =
       some_digit = omega (arith, length-append (decimal whole) decimals, d.0.0);
     } in
     let digits : unsigned_abs z ≡ digits_value 10 n.digits = sym (digits_value_after-append 0 (decimal whole) decimals
-        ∙ ap (λ (v : ℕ). digits_value_after 10 v decimals) d.1 ∙ value) in
+    ∙ ap (λ (v : ℕ). digits_value_after 10 v decimals) d.1 ∙ value) in
     let exact = rounds_exact (unsigned_abs z) (10 ^ scale) (omega (arith, one-le-pow scale 10 (omega arith))) in
     subst (λ (r : ℤ). StandsFor scale text r) (signed_is z) (stands scale text n (unsigned_abs z) (unsigned_abs z) spelled
-        (omega (arith, length-append (decimal whole) decimals, short, long, few)) digits (rw (long, add-zero) exact))
+    (omega (arith, length-append (decimal whole) decimals, short, long, few)) digits (rw (long, add-zero) exact))
 
 pub written_reads_back : (limit : ℕ) (z : ℤ) → unsigned_abs z ≤ limit → limit ≤ wire_limit → Reads 3 limit (written z) (Ok z)
 unfolding written
-written_reads_back limit z within most = (written_stands 3 z (unsigned_abs z / 1000) (three_digits (unsigned_abs z)) (omega arith)
-    (three_digits-digits (unsigned_abs z)) refl (omega arith) (three_digits-value (unsigned_abs z / 1000) (unsigned_abs z) refl), within)
+written_reads_back limit z within most = (
+  written_stands 3 z (unsigned_abs z / 1000) (three_digits (unsigned_abs z)) (omega arith)
+      (three_digits-digits (unsigned_abs z)) refl (omega arith) (three_digits-value (unsigned_abs z / 1000) (unsigned_abs z) refl),
+  within,
+)
 
 pub component_reads_back : (z : ℤ) → unsigned_abs z ≤ component_limit → Reads 6 component_limit (written_component z) (Ok z)
 unfolding written_component
-component_reads_back z within = (written_stands 6 z (unsigned_abs z / 1000000) (six_digits (unsigned_abs z)) (omega arith)
-    (AllDigits-append (three_digits (unsigned_abs z / 1000)) (three_digits (unsigned_abs z)) (three_digits-digits (unsigned_abs z / 1000))
-    (three_digits-digits (unsigned_abs z))) refl (omega arith) (six_digits-value (unsigned_abs z / 1000000) (unsigned_abs z) refl), within)
+component_reads_back z within = (
+  written_stands 6 z (unsigned_abs z / 1000000) (six_digits (unsigned_abs z)) (omega arith)
+      (AllDigits-append (three_digits (unsigned_abs z / 1000)) (three_digits (unsigned_abs z)) (three_digits-digits (unsigned_abs z / 1000))
+      (three_digits-digits (unsigned_abs z))) refl (omega arith) (six_digits-value (unsigned_abs z / 1000000) (unsigned_abs z) refl),
+  within,
+)
 
 pub direction_reads_back : (d : Direction) → IsDirection d → ReadsDirection (written_component d.i) (written_component d.j)
     (written_component d.k) (Ok (Some d))
-direction_reads_back d h = (component_reads_back d.i h.i_within, component_reads_back d.j h.j_within, component_reads_back d.k h.k_within,
-    h)
+direction_reads_back d h = (
+  component_reads_back d.i h.i_within,
+  component_reads_back d.j h.j_within,
+  component_reads_back d.k h.k_within,
+  h,
+)

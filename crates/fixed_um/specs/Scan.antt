@@ -1,6 +1,26 @@
 -- The steps by which the readers of numerals take a text apart, as functions of lists. Public clauses cite Numerals instead.
-use Rattle.std.specs.Prelude.{ℕ, ◌+◌, Bool, ◌&&◌, ◌||◌, List, [], ◌∷◌, ◌++◌, length, take, drop, Option, Some, None, nat_le, nat_lt, ◌==◌,
-  slice_index, if◌then◌else◌}
+use Rattle.std.specs.Prelude.{
+  ℕ,
+  ◌+◌,
+  Bool,
+  ◌&&◌,
+  ◌||◌,
+  List,
+  [],
+  ◌∷◌,
+  ◌++◌,
+  length,
+  take,
+  drop,
+  Option,
+  Some,
+  None,
+  nat_le,
+  nat_lt,
+  ◌==◌,
+  slice_index,
+  if◌then◌else◌,
+}
 use Rattle.std.specs.Char.{is_ascii_digit}
 use Rattle.std.specs.List.{prefix_len, list_all}
 use Rattle.std.specs.Str.Parse.{digits_value, starts_with_minus, without_leading_sign}
@@ -26,8 +46,10 @@ is_short_number ds = list_all is_ascii_digit ds && (nat_le 1 (length ds) && nat_
 
 -- the powers of ten, up and down, that an exponent says
 abbrev pub exponent_digits : Bool → List ℕ → Option (ℕ × ℕ)
-exponent_digits negative ds = if is_short_number ds then Some (if negative then 0 else digits_value 10 ds,
-    if negative then digits_value 10 ds else 0) else None
+exponent_digits negative ds = if is_short_number ds then Some (
+  if negative then 0 else digits_value 10 ds,
+  if negative then digits_value 10 ds else 0,
+) else None
 
 unfoldable pub exponent_of : List ℕ → Option (ℕ × ℕ)
 exponent_of [] = Some (0, 0)

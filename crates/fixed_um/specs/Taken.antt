@@ -4,5 +4,10 @@ use Rattle.fixed_um.specs.Numerals.{Numeral}
 use Rattle.fixed_um.specs.declared.scanning.Parts.{Parts}
 
 abbrev pub the_numeral : Parts → Numeral
-the_numeral p = record { negative = p.negative; digits = p.whole.now ++ p.fraction.now; places = length p.fraction.now; raised = p.raised;
-    lowered = p.lowered }
+the_numeral p = record {
+  negative = p.negative;
+  digits = p.whole.now ++ p.fraction.now;
+  places = length p.fraction.now;
+  raised = p.raised;
+  lowered = p.lowered;
+}

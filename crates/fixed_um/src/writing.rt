@@ -4,6 +4,7 @@
 // so that want of memory changes nothing.
 
 ghost use Rattle.std.specs.Prelude.{◌≡◌, ◌≤◌, ◌+◌, ◌*◌, ◌%◌, ◌^◌, ◌++◌, ◌∷◌, [], ℕ, length, vec_len, vec_capacity, IfSome, IfNone, OnOk, OnErr, Ok, Some, unsigned_abs, decimal, ◌<◌};
+ghost use Rattle.fixed_um.specs.Calls.{Grows, HasRoom, Writes};
 ghost use Rattle.fixed_um.specs.Limits.{wire_limit, component_limit};
 ghost use Rattle.fixed_um.specs.Numerals.{Reads, ReadsDirection};
 ghost use Rattle.fixed_um.specs.Shapes.{IsDirection};
@@ -15,10 +16,9 @@ use itoa::Buffer;
 use std::alloc::AllocError;
 
 fn write_minus(out: &mut Vec<u8>, value: i64)
-    requires { vec_len out.old + 1 ≤ vec_capacity out.old }
+    requires { HasRoom out.old 1 }
     ensures text { out.new.items ≡ out.old.items ++ minus_sign value }
-    ensures len { vec_len out.new ≤ vec_len out.old + 1 }
-    ensures capacity { vec_capacity out.old ≤ vec_capacity out.new }
+    ensures grows { Grows out.old out.new 1 }
 {
     if value < 0 {
         out.push_reserved(b'-');
@@ -28,10 +28,9 @@ fn write_minus(out: &mut Vec<u8>, value: i64)
 #[tactic(auto, using(crate::proofs::WrittenLemmas::short))]
 fn write_whole(out: &mut Vec<u8>, value: u64)
     requires value { value < 10 ^ 7 }
-    requires room { vec_len out.old + 7 ≤ vec_capacity out.old }
+    requires room { HasRoom out.old 7 }
     ensures text { out.new.items ≡ out.old.items ++ decimal value }
-    ensures len { vec_len out.new ≤ vec_len out.old + 7 }
-    ensures capacity { vec_capacity out.old ≤ vec_capacity out.new }
+    ensures grows { Grows out.old out.new 7 }
 {
     let mut buffer = Buffer::new();
     out.extend_from_slice(buffer.format(value).as_bytes())
@@ -45,7 +44,7 @@ fn last_digit(value: u64) -> u8
 }
 
 fn write_three_digits(out: &mut Vec<u8>, value: u64)
-    requires { vec_len out.old + 3 ≤ vec_capacity out.old }
+    requires { HasRoom out.old 3 }
     ensures text { out.new.items ≡ out.old.items ++ three_digits value }
     ensures len { vec_len out.new ≡ vec_len out.old + 3 }
     ensures capacity { vec_capacity out.old ≤ vec_capacity out.new }
@@ -58,10 +57,9 @@ fn write_three_digits(out: &mut Vec<u8>, value: u64)
 /// Appends a length in millimetres with three decimals, as `-0.001`, at most 12 bytes, where the caller has made room for them.
 #[tactic(auto, unfolding(crate::specs::Written::written))]
 pub fn write_um_reserved(out: &mut Vec<u8>, value: Um)
-    requires { vec_len out.old + 12 ≤ vec_capacity out.old }
+    requires { HasRoom out.old 12 }
     ensures text { out.new.items ≡ out.old.items ++ written value }
-    ensures len { vec_len out.new ≤ vec_len out.old + 12 }
-    ensures capacity { vec_capacity out.old ≤ vec_capacity out.new }
+    ensures grows { Grows out.old out.new 12 }
 {
     let micrometres = value.get();
     let magnitude = micrometres.unsigned_abs();
@@ -74,10 +72,9 @@ pub fn write_um_reserved(out: &mut Vec<u8>, value: Um)
 #[tactic(auto, unfolding(crate::specs::Written::written_component))]
 fn write_component_reserved(out: &mut Vec<u8>, value: i64)
     requires value { unsigned_abs value ≤ component_limit }
-    requires room { vec_len out.old + 15 ≤ vec_capacity out.old }
+    requires room { HasRoom out.old 15 }
     ensures text { out.new.items ≡ out.old.items ++ written_component value }
-    ensures len { vec_len out.new ≤ vec_len out.old + 15 }
-    ensures capacity { vec_capacity out.old ≤ vec_capacity out.new }
+    ensures grows { Grows out.old out.new 15 }
 {
     let magnitude = value.unsigned_abs();
     write_minus(out, value);
@@ -90,10 +87,9 @@ fn write_component_reserved(out: &mut Vec<u8>, value: i64)
 /// Appends the three components of a direction with six decimals each, as `0.577350`, with a text between each two,
 /// at most 45 bytes beside those texts, where the caller has made room for them.
 pub fn write_dir_reserved(out: &mut Vec<u8>, direction: Dir, between: &[u8])
-    requires { vec_len out.old + 45 + 2 * length between.now ≤ vec_capacity out.old }
+    requires { HasRoom out.old (45 + 2 * length between.now) }
     ensures text { out.new.items ≡ out.old.items ++ written_direction direction between.now }
-    ensures len { vec_len out.new ≤ vec_len out.old + 45 + 2 * length between.now }
-    ensures capacity { vec_capacity out.old ≤ vec_capacity out.new }
+    ensures grows { Grows out.old out.new (45 + 2 * length between.now) }
 {
     write_component_reserved(out, direction.i);
     out.extend_from_slice(between).unwrap();
@@ -104,8 +100,7 @@ pub fn write_dir_reserved(out: &mut Vec<u8>, direction: Dir, between: &[u8])
 
 /// Appends a length in millimetres with three decimals, as `-0.001`. Only want of memory is an `Err`, and then nothing is appended.
 pub fn write_um(out: &mut Vec<u8>, value: Um) -> Result<(), AllocError>
-    ensures ok { OnOk result (out.new.items ≡ out.old.items ++ written value) }
-    ensures err { OnErr result (out.new.items ≡ out.old.items) }
+    ensures writes { Writes result out.old out.new (written value) }
     ensures reads_back { (limit : ℕ) → unsigned_abs value ≤ limit → limit ≤ wire_limit
         → Reads 3 limit (written value) (Ok value) }
 {
@@ -125,9 +120,7 @@ fn room_with(between: &[u8]) -> Option<usize>
 /// Appends the three components of a direction with six decimals each, with any text between each two.
 /// Only want of memory is an `Err`, and then nothing is appended; it is the answer too where no memory has room for such a text.
 pub fn write_dir(out: &mut Vec<u8>, direction: Dir, between: &[u8]) -> Result<(), AllocError>
-    ensures ok { OnOk result (out.new.items ≡ out.old.items
-        ++ written_direction direction between.now) }
-    ensures err { OnErr result (out.new.items ≡ out.old.items) }
+    ensures writes { Writes result out.old out.new (written_direction direction between.now) }
     ensures reads_back { IsDirection direction → ReadsDirection (written_component direction.i)
         (written_component direction.j) (written_component direction.k) (Ok (Some direction)) }
 {

@@ -7,7 +7,7 @@ pub returns-then-is_short : goal.returns-then-is_short
 returns-then-is_short c =
     let short : length (the_numeral c.in-Some.parts).digits ≤ 30 = search rules in
     zero_here c.args.bytes.now (the_numeral c.in-Some.parts) c.digits_value.result (sym c.in-Some.ensures.parts) short
-        c.digits_value.ensures.value
+    c.digits_value.ensures.value
 
 pub returns-else-is_short : goal.returns-else-is_short
 returns-else-is_short c = zero_long c.args.bytes.now (the_numeral c.in-Some.parts) c.is_short.result (sym c.in-Some.ensures.parts)
