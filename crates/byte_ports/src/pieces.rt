@@ -57,8 +57,11 @@ impl Pieces {
     /// and all later ones answer `Failed`.
     pub fn failing_at(alloc: Global, call: u64) -> Self
         requires { 0 < call }
-        ensures { result ≡ record { pieces = []; calls_left = Some (call - 1);
-            has_failed = false } }
+        ensures { result ≡ record {
+          pieces = [];
+          calls_left = Some (call - 1);
+          has_failed = false;
+        } }
     {
         Pieces {
             alloc,

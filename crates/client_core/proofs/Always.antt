@@ -1,6 +1,6 @@
 -- What holds of a client at any time: its state and connection, its cause, its window and numbers, and what it holds on no connection.
-use Rattle.std.proofs.Common.{◌≡◌, ℕ, zero, suc, ◌≤◌, ◌<◌, ◌==◌, Bool, true, false, cond, not, is_some, nat_lt, List, [], ◌∷◌, ◌++◌, drop,
-  refl, sym, ◌∙◌, ap, subst, arith, Option, Some, None, Result, Ok, Err, le_refl}
+use Rattle.std.proofs.Common.{◌≡◌, ℕ, zero, suc, ◌≤◌, ◌<◌, ◌==◌, Bool, true, false, cond, not, is_some, nat_lt, List, [], ◌∷◌, ◌++◌, drop}
+use Rattle.std.proofs.Common.{refl, sym, ◌∙◌, ap, subst, arith, Option, Some, None, Result, Ok, Err, le_refl}
 use Rattle.std.proofs.lemmas.Bool.{false≢true, ltb-true, leb-true}
 use Rattle.fixed_um.specs.declared.lengths.Point.{Point}
 use Rattle.dme_line.specs.Kinds.{kind_of}
@@ -22,9 +22,10 @@ use Rattle.dmis_program.specs.declared.features.Wanted.{Wanted}
 use Rattle.protocol_model.specs.Replies.{Mark, tag_is}
 use Rattle.protocol_model.specs.Lines.{Readers}
 use Rattle.protocol_model.specs.Open.{asks_data, is_failed, count_open}
-use Rattle.protocol_model.specs.Client.{Client, Table, heard, heard_on, faulted, new_client, client_connected, may_go, first_due, due,
-  held_now, sends_next, next_number, sends_abort, may_abort, first_state, last_state, state_behind, is_running, is_whole, ends_abort,
-  client_hears, client_read, client_resumed, client_left, left_state, client_restarted}
+use Rattle.protocol_model.specs.Client.{Client, Table, heard, heard_on, faulted, new_client, client_connected, may_go, first_due, due}
+use Rattle.protocol_model.specs.Client.{held_now, sends_next, next_number, sends_abort, may_abort, first_state, last_state, state_behind}
+use Rattle.protocol_model.specs.Client.{is_running, is_whole, ends_abort, client_hears, client_read, client_resumed, client_left}
+use Rattle.protocol_model.specs.Client.{left_state, client_restarted}
 use Rattle.protocol_model.specs.Ends.{ClientEnd, new_client_end, held_under, given_point, given_under, response_read, line_read, front_read}
 use Rattle.protocol_model.specs.declared.held.Held.{Held}
 use Rattle.protocol_model.specs.declared.plans.Planned.{Planned}
@@ -33,8 +34,8 @@ use Rattle.protocol_model.specs.declared.states.Cause.{Cause}
 use Rattle.protocol_model.proofs.table.Basics.{if_false}
 use Rattle.protocol_model.proofs.table.Counts.{count_keeps}
 use Rattle.protocol_model.proofs.table.Replying.{fine, step_cases}
-use Rattle.client_core.specs.Calls.{Call, Connected, Send, Feed, ReadOne, Abort, Resume, Leave, Restart, Sent, possible, done_by,
-  behind_call, behind_calls}
+use Rattle.client_core.specs.Calls.{Call, Connected, Send, Feed, ReadOne, Abort, Resume, Leave, Restart, Sent, possible, done_by}
+use Rattle.client_core.specs.Calls.{behind_call, behind_calls}
 use Rattle.client_core.specs.Clients.{is_faulted, may_connect, may_read}
 use Rattle.client_core.specs.Clients as clients
 use Rattle.client_core.specs.Always.{IsReached, FitsState, IsQuiet}
@@ -81,9 +82,9 @@ heard_fewer ws b c t m is =
     step_cases ws b t m c (count_open c.standard ≤ count_open b.standard) is
     (λ zero_tag same. subst (λ (x : Table). count_open x.standard ≤ count_open b.standard) same (le_refl (count_open b.standard)))
     (λ n hs e sort here after. subst (λ (x : Table). count_open x.standard ≤ count_open b.standard) (sym after)
-        (count_keeps (not b.tally.failed) b.standard (tag.Std n) m hs e here))
+    (count_keeps (not b.tally.failed) b.standard (tag.Std n) m hs e here))
     (λ n hs e sort other here after. subst (λ (x : Table). count_open x.standard ≤ count_open b.standard) (sym after)
-        (le_refl (count_open b.standard)))
+    (le_refl (count_open b.standard)))
 
 -- a reply leaves it on its connection, and not Faulted
 record Stays (s : State) : Type 0 where
@@ -116,7 +117,7 @@ hears_live : (c : Client) (t : Tag) (m : Mark) → Reads c → IsLive c → (r :
 hears_live c t m reads h (Ok b) is =
     let s : Stays (state_behind c.state (ends_abort c.abort t m) b) =
     stays c.state (ends_abort c.abort t m) b.tally.failed (is_whole b) (count_open b.standard)
-        (subst (λ (on : Bool). FitsState c.state on) (Reads.on reads) (IsSteady.connected (IsLive.steady h))) (Reads.awake reads) in
+    (subst (λ (on : Bool). FitsState c.state on) (Reads.on reads) (IsSteady.connected (IsLive.steady h))) (Reads.awake reads) in
     let fewer = heard_fewer c.program.features c.table b t m is in
     let before : IsSteady c = IsLive.steady h in
     let opened = before.opened in
@@ -155,13 +156,13 @@ under_live : (readers : Readers) (c : Client) (t : Tag) (text : List ℕ) (kind 
 under_live readers c t text None reads h = faulted_live c Cause.UnknownTag h
 under_live readers c t text (Some k) reads h =
     either_live (asks_data k) (given_point c t (readers.point text)) (faulted Cause.OutOfOrder c)
-        (point_live c t (readers.point text) reads h) (faulted_live c Cause.OutOfOrder h)
+    (point_live c t (readers.point text) reads h) (faulted_live c Cause.OutOfOrder h)
 
 response_live : (readers : Readers) (c : Client) (t : Tag) (m : Marked) → Reads c → IsLive c → IsLive (response_read readers c t m)
 response_live readers c t mark.Ack reads h = reply_live c t Mark.Ack reads h
 response_live readers c t (mark.Given text) reads h =
     either_live (tag_is t (tag.Event 0)) c (given_under readers c t text (held_under t c)) h
-        (under_live readers c t text (held_under t c) reads h)
+    (under_live readers c t text (held_under t c) reads h)
 response_live readers c t mark.Done reads h = reply_live c t Mark.Done reads h
 response_live readers c t (mark.Error text) reads h = reply_live c t Mark.Error reads h
 
@@ -234,8 +235,15 @@ aborts_by c State.Faulted is e h = absurd (false≢true e)
 
 aborts_steady : (c : Client) (number : Option ℕ) → Aborts c → IsSteady c → IsSteady (sends_abort c number).client
 aborts_steady c None a h = faulted_steady c Cause.TagsSpent (Aborts.on a) h
-aborts_steady c (Some n) a h = record { connected = Aborts.on a; cause = h.cause
-    ∙ Aborts.awake a; some = h.some; few = h.few; last = h.last; opened = h.opened }
+aborts_steady c (Some n) a h = record {
+  connected = Aborts.on a;
+  cause = h.cause
+      ∙ Aborts.awake a;
+  some = h.some;
+  few = h.few;
+  last = h.last;
+  opened = h.opened;
+}
 
 -- ---- the connection
 
@@ -253,8 +261,15 @@ connected_steady n c may h =
 
 resumed_steady : (c : Client) → c.state ≡ State.Halted → IsSteady c → IsSteady (client_resumed c)
 resumed_steady c halted h =
-    record { connected = subst (λ (s : State). FitsState s c.on) halted h.connected; cause = h.cause
-        ∙ ap is_faulted halted; some = h.some; few = h.few; last = h.last; opened = h.opened }
+    record {
+      connected = subst (λ (s : State). FitsState s c.on) halted h.connected;
+      cause = h.cause
+          ∙ ap is_faulted halted;
+      some = h.some;
+      few = h.few;
+      last = h.last;
+      opened = h.opened;
+    }
 
 left_fits : (s : State) → FitsState (left_state s) false
 left_fits State.Done = tt
@@ -275,12 +290,24 @@ left_awake State.Halted = refl
 left_awake State.Faulted = refl
 
 left_steady : (c : Client) → IsSteady c → IsSteady (client_left c)
-left_steady c h = record { connected = left_fits c.state; cause = left_awake c.state; some = h.some; few = h.few; last = h.last;
-    opened = h.opened }
+left_steady c h = record {
+  connected = left_fits c.state;
+  cause = left_awake c.state;
+  some = h.some;
+  few = h.few;
+  last = h.last;
+  opened = h.opened;
+}
 
 pub new_steady : (p : Meaning) (fs : List Feature) (window : ℕ) → 1 ≤ window → window ≤ 16 → IsSteady (new_client p fs window)
-new_steady p fs window some few = record { connected = refl; cause = refl; some = some; few = few; last = omega (arith);
-    opened = omega (arith) }
+new_steady p fs window some few = record {
+  connected = refl;
+  cause = refl;
+  some = some;
+  few = few;
+  last = omega (arith);
+  opened = omega (arith);
+}
 
 restarted_steady : (k : ℕ) (c : Client) → IsSteady c → IsSteady (client_restarted k c)
 restarted_steady k c h = record { connected = refl; cause = refl; some = h.some; few = h.few; last = h.last; opened = omega (arith) }
@@ -330,32 +357,38 @@ done_sound readers Send e may h =
     let number : Option ℕ = next_number tag.Std e.client.table.standard e.client.drawn in
     live_sound (done_by readers Send e) (sends_on e.client e.client.unsent number ∙ running_on e.client running (IsSound.steady h))
     (sends_steady e.client e.client.unsent number running (may_fewer e.client may) (IsSound.steady h))
-        (λ awake. IsSound.unmet h (ap is_faulted running))
+    (λ awake. IsSound.unmet h (ap is_faulted running))
 done_sound readers (Feed bytes) e may h =
     let r : Reads e.client = reads_by e.client may in
     live_sound (done_by readers (Feed bytes) e) (Reads.on r) (IsSound.steady h)
-        (λ awake. fed_unmet e.input.fault e.input.rest bytes (IsSound.unmet h (Reads.awake r)))
+    (λ awake. fed_unmet e.input.fault e.input.rest bytes (IsSound.unmet h (Reads.awake r)))
 done_sound readers ReadOne e may h =
     let r : Reads e.client = reads_by e.client may in
     let l : IsLive (front_read readers e.client (next_of e.input.rest)) =
-        front_live readers e.client (next_of e.input.rest) r (record { steady = IsSound.steady h; on = Reads.on r }) in
+    front_live readers e.client (next_of e.input.rest) r (record { steady = IsSound.steady h; on = Reads.on r }) in
     live_sound (done_by readers ReadOne e) (IsLive.on l) (IsLive.steady l)
-        (read_unmet readers e (next_of e.input.rest) refl (IsSound.unmet h (Reads.awake r)))
+    (read_unmet readers e (next_of e.input.rest) refl (IsSound.unmet h (Reads.awake r)))
 done_sound readers Abort e may h =
     let a : Aborts e.client = aborts_by e.client e.client.state refl may (IsSteady.connected (IsSound.steady h)) in
     let number : Option ℕ = next_number tag.Event e.client.table.event e.client.event_drawn in
     live_sound (done_by readers Abort e) (aborts_on e.client number
-        ∙ Aborts.on a) (aborts_steady e.client number a (IsSound.steady h)) (λ awake. IsSound.unmet h (Aborts.awake a))
+    ∙ Aborts.on a) (aborts_steady e.client number a (IsSound.steady h)) (λ awake. IsSound.unmet h (Aborts.awake a))
 done_sound readers Resume e may h =
     let halted : e.client.state ≡ State.Halted = resumed_state e.client e.client.state may in
     live_sound (done_by readers Resume e) (subst (λ (s : State). FitsState s e.client.on) halted (IsSteady.connected (IsSound.steady h)))
     (resumed_steady e.client halted (IsSound.steady h)) (λ awake. IsSound.unmet h (ap is_faulted halted))
 done_sound readers Leave e may h =
-    record { steady = left_steady e.client (IsSound.steady h); quiet = λ off. record { input = refl; out = refl; points = refl };
-        unmet = λ awake. refl }
+    record {
+      steady = left_steady e.client (IsSound.steady h);
+      quiet = λ off. record { input = refl; out = refl; points = refl };
+      unmet = λ awake. refl;
+    }
 done_sound readers (Restart k) e may h =
-    record { steady = restarted_steady k e.client (IsSound.steady h); quiet = λ off. record { input = refl; out = refl; points = refl };
-        unmet = λ awake. refl }
+    record {
+      steady = restarted_steady k e.client (IsSound.steady h);
+      quiet = λ off. record { input = refl; out = refl; points = refl };
+      unmet = λ awake. refl;
+    }
 done_sound readers (Sent k) e may h =
     record {
       steady = IsSound.steady h;
@@ -377,8 +410,11 @@ calls_sound readers (call ∷ calls) e h = calls_sound readers calls (behind_cal
 
 new_sound : (p : Meaning) (fs : List Feature) (window : ℕ) → 1 ≤ window → window ≤ 16 → IsSound (new_client_end p fs window)
 new_sound p fs window some few =
-    record { steady = new_steady p fs window some few; quiet = λ off. record { input = refl; out = refl; points = refl };
-        unmet = λ awake. refl }
+    record {
+      steady = new_steady p fs window some few;
+      quiet = λ off. record { input = refl; out = refl; points = refl };
+      unmet = λ awake. refl;
+    }
 
 pub sound : (e : ClientEnd) → IsReached e → IsSound e
 sound e h = subst IsSound (sym h.reached) (calls_sound h.readers h.calls (new_client_end h.program h.kept h.window)

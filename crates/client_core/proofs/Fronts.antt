@@ -43,7 +43,7 @@ becomes_front : (front : Bool) (h : Held) (hs : List Held) (m : Mark) (s : Stage
     → Fronted front (live_kinds (h ∷ hs)) (live_kinds (staged h s ∷ hs)) Effect.Quiet
 becomes_front front h hs m s true failed v =
     let still : s ≡ Stage.Failed = failed_stays front h.kind m s
-        (ap (λ (x : Stage). judged front h.kind x m) (sym (is_failed-true h.stage failed)) ∙ v) in
+    (ap (λ (x : Stage). judged front h.kind x m) (sym (is_failed-true h.stage failed)) ∙ v) in
     live_failed (staged h s) hs (ap is_failed still) ∙ sym (live_failed h hs failed)
 becomes_front front h hs m s false calm v = live_calm (staged h s) hs (becomes_calm front h.kind h.stage m s calm v)
     ∙ sym (live_calm h hs calm)
@@ -59,8 +59,11 @@ counts_front : (front : Bool) (h : Held) (hs : List Held) (m : Mark) (given : Op
     → Fronted front (live_kinds (h ∷ hs)) (live_kinds hs) (Effect.Count h.kind given)
 counts_front front h hs m given true failed v = absurd (never_counts front h.kind m given
     (ap (λ (x : Stage). judged front h.kind x m) (sym (is_failed-true h.stage failed)) ∙ v))
-counts_front true h hs m given false calm v = (refl, live_calm h hs calm,
-    λ none. counts_given h.kind h.stage m (v ∙ ap (λ (o : Option Point). Counts o) none))
+counts_front true h hs m given false calm v = (
+  refl,
+  live_calm h hs calm,
+  λ none. counts_given h.kind h.stage m (v ∙ ap (λ (o : Option Point). Counts o) none),
+)
 counts_front false h hs m given false calm v = absurd (no_counts h.kind h.stage m given v)
 
 -- the mark stands behind it
@@ -76,7 +79,7 @@ past_front front h hs rest e false calm later =
     (subst (λ (ks : List Kind). Fronted false ks (live_kinds (h ∷ rest)) e) (sym (live_calm h hs calm))
     (subst (λ (ls : List Kind). Fronted false (h.kind ∷ live_kinds hs) ls e) (sym (live_calm h rest calm))
     (behind_one h.kind (live_kinds hs) (live_kinds rest) e (subst (λ (f : Bool). Fronted f (live_kinds hs) (live_kinds rest) e)
-        (and_false front) later))))
+    (and_false front) later))))
   where
     looser : (f : Bool) (ks ls : List Kind) (x : Effect) → Fronted false ks ls x → Fronted f ks ls x
     looser f ks ls Effect.Quiet g = g
@@ -93,7 +96,7 @@ fronted front (h ∷ hs) t m gs e is =
     (λ same v g f. rw (g, f) (closes_front front h hs m (is_failed h.stage) refl v))
     (λ given same v g f. rw (g, f) (counts_front front h hs m given (is_failed h.stage) refl v))
     (λ rest other later g. rw g (past_front front h hs rest e (is_failed h.stage) refl
-        (fronted (front && is_failed h.stage) hs t m rest e later)))
+    (fronted (front && is_failed h.stage) hs t m rest e later)))
 
 -- where none is open, none is left that has not failed
 pub none_live : (hs : List Held) → count_open hs ≡ 0 → live_kinds hs ≡ []

@@ -1,6 +1,6 @@
 -- A feature joins the others as the next that the program wants.
-use Rattle.std.proofs.Common.{◌≡◌, ◌≤◌, ◌<◌, ◌++◌, ◌∷◌, [], ℕ, List, length, refl, sym, ap, suc, Option, Some, None, take, arith,
-  slice_index_or, nat_le, drop, zero, ◌∙◌, Bool, true, false, ◌&&◌}
+use Rattle.std.proofs.Common.{◌≡◌, ◌≤◌, ◌<◌, ◌++◌, ◌∷◌, [], ℕ, List, length, refl, sym, ap, suc, Option, Some, None, take, arith}
+use Rattle.std.proofs.Common.{slice_index_or, nat_le, drop, zero, ◌∙◌, Bool, true, false, ◌&&◌}
 use Rattle.std.proofs.Math.Seq.{take-append_seam}
 use Rattle.std.proofs.Math.Dec.{leb-suc-zero, leb-suc-suc}
 use Rattle.std.proofs.lemmas.Bool.{le-leb}

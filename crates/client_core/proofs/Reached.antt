@@ -1,6 +1,6 @@
 -- What a client's calls lead to.
-use Rattle.std.proofs.Common.{◌≡◌, ℕ, ◌≤◌, Bool, true, false, cond, is_some, Some, None, Ok, List, [], ◌∷◌, ◌++◌, length, drop, refl, sym,
-  ◌∙◌, ap, subst}
+use Rattle.std.proofs.Common.{◌≡◌, ℕ, ◌≤◌, Bool, true, false, cond, is_some, Some, None, Ok, List, [], ◌∷◌, ◌++◌, length, drop, refl, sym}
+use Rattle.std.proofs.Common.{◌∙◌, ap, subst}
 use Rattle.std.proofs.lemmas.Bool.{false≢true, le-leb}
 use Rattle.contact_ledger.specs.declared.features.Feature.{Feature}
 use Rattle.dmis_program.specs.Meaning.{Meaning}
@@ -10,12 +10,12 @@ use Rattle.line_framing.specs.Next.{next_of}
 use Rattle.line_framing.specs.declared.faults.FramingFault.{FramingFault}
 use Rattle.protocol_model.specs.Lines.{Readers, AreReaders, command_bytes}
 use Rattle.protocol_model.specs.Open.{count_open}
-use Rattle.protocol_model.specs.Client.{Client, new_client, due, may_abort, may_resume, client_connected, client_sent, client_aborted,
-  client_resumed, client_left, client_restarted}
+use Rattle.protocol_model.specs.Client.{Client, new_client, due, may_abort, may_resume, client_connected, client_sent, client_aborted}
+use Rattle.protocol_model.specs.Client.{client_resumed, client_left, client_restarted}
 use Rattle.protocol_model.specs.Ends.{ClientEnd, new_client_end, line_read, front_read, end_read}
 use Rattle.protocol_model.proofs.written_lines.ReadersExist.{some_are_readers}
-use Rattle.client_core.specs.Calls.{Call, Connected, Send, Feed, ReadOne, Abort, Resume, Leave, Restart, Sent, possible, done_by,
-  behind_call, behind_calls}
+use Rattle.client_core.specs.Calls.{Call, Connected, Send, Feed, ReadOne, Abort, Resume, Leave, Restart, Sent, possible, done_by}
+use Rattle.client_core.specs.Calls.{behind_call, behind_calls}
 use Rattle.client_core.specs.Clients.{are_ours, is_faulted, may_connect, may_read}
 use Rattle.client_core.specs.Always.{IsReached, FitsState, IsQuiet}
 use Rattle.client_core.proofs.Always.{IsSteady, IsSound, sound, Reads, reads_by}
@@ -92,7 +92,7 @@ pub connected_reached : (number : ℕ) (client after : Client) (input now : Fram
     → after ≡ client_connected number client → now ≡ no_bytes → written ≡ [] → IsReached (end_of after now written)
 connected_reached number client after input now out written h may c i o =
     reached_more (end_of client input out) (end_of after now written) (Connected number) h may
-        (λ readers are. parts_are (client_connected number client) after no_bytes now [] written c i o)
+    (λ readers are. parts_are (client_connected number client) after no_bytes now [] written c i o)
 
 pub sent_reached : (client after : Client) (input : Framing) (out written : List ℕ) → IsReached (end_of client input out)
     → is_some (due client) ≡ true
@@ -101,7 +101,7 @@ pub sent_reached : (client after : Client) (input : Framing) (out written : List
 sent_reached client after input out written h may c o =
     reached_more (end_of client input out) (end_of after input written) Send h may
     (λ readers are. parts_are (client_sent client).client after input input (out ++ command_bytes (client_sent client).lines) written c refl
-        o)
+    o)
 
 pub aborted_reached : (client after : Client) (input : Framing) (out written : List ℕ) → IsReached (end_of client input out)
     → may_abort client.state ≡ true
@@ -110,14 +110,14 @@ pub aborted_reached : (client after : Client) (input : Framing) (out written : L
 aborted_reached client after input out written h may c o =
     reached_more (end_of client input out) (end_of after input written) Abort h may
     (λ readers are. parts_are (client_aborted client).client after input input (out ++ command_bytes (client_aborted client).lines) written
-        c refl o)
+    c refl o)
 
 pub fed_reached : (bytes : List ℕ) (client : Client) (input now : Framing) (out : List ℕ) → IsReached (end_of client input out)
     → may_read client ≡ true
     → now ≡ fed input bytes → IsReached (end_of client now out)
 fed_reached bytes client input now out h may i =
     reached_more (end_of client input out) (end_of client now out) (Feed bytes) h may
-        (λ readers are. ap (λ (x : Framing). end_of client x out) i)
+    (λ readers are. ap (λ (x : Framing). end_of client x out) i)
 
 pub read_reached : (client : Client) (input : Framing) (out : List ℕ) (f : ClientEnd) → IsReached (end_of client input out)
     → may_read client ≡ true
@@ -145,14 +145,14 @@ pub left_reached : (client after : Client) (input now : Framing) (out written : 
     → after ≡ client_left client → now ≡ no_bytes → written ≡ [] → IsReached (end_of after now written)
 left_reached client after input now out written h c i o =
     reached_more (end_of client input out) (end_of after now written) Leave h refl
-        (λ readers are. parts_are (client_left client) after no_bytes now [] written c i o)
+    (λ readers are. parts_are (client_left client) after no_bytes now [] written c i o)
 
 pub restarted_reached : (count : ℕ) (client after : Client) (input now : Framing) (out written : List ℕ)
     → IsReached (end_of client input out) → count ≤ length client.table.tally.features
     → after ≡ client_restarted count client → now ≡ no_bytes → written ≡ [] → IsReached (end_of after now written)
 restarted_reached count client after input now out written h le c i o =
     reached_more (end_of client input out) (end_of after now written) (Restart count) h
-        (le-leb count (length client.table.tally.features) le)
+    (le-leb count (length client.table.tally.features) le)
     (λ readers are. parts_are (client_restarted count client) after no_bytes now [] written c i o)
 
 pub taken_reached : (count : ℕ) (client : Client) (input : Framing) (out written : List ℕ) → IsReached (end_of client input out)
@@ -160,7 +160,7 @@ pub taken_reached : (count : ℕ) (client : Client) (input : Framing) (out writt
     → written ≡ drop count out → IsReached (end_of client input written)
 taken_reached count client input out written h le o =
     reached_more (end_of client input out) (end_of client input written) (Sent count) h (le-leb count (length out) le)
-        (λ readers are. ap (λ (x : List ℕ). end_of client input x) o)
+    (λ readers are. ap (λ (x : List ℕ). end_of client input x) o)
 
 -- ---- what holds at any time
 

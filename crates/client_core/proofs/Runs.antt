@@ -1,7 +1,7 @@
 -- What a client holds and counts behind every list of calls.
-use Rattle.std.proofs.Common.{◌≡◌, ℕ, suc, ◌+◌, ◌≤◌, Bool, true, false, cond, ◌||◌, not, is_some, if◌then◌else◌, List, [], ◌∷◌, ◌++◌,
-  length, take, refl, sym, ◌∙◌, ap, subst, arith, append_assoc, append-nil, length-append, Option, Some, None, Result, Ok, Err, eqb,
-  eqb-true, le_refl}
+use Rattle.std.proofs.Common.{◌≡◌, ℕ, suc, ◌+◌, ◌≤◌, Bool, true, false, cond, ◌||◌, not, is_some, if◌then◌else◌, List, [], ◌∷◌, ◌++◌}
+use Rattle.std.proofs.Common.{length, take, refl, sym, ◌∙◌, ap, subst, arith, append_assoc, append-nil, length-append, Option, Some, None}
+use Rattle.std.proofs.Common.{Result, Ok, Err, eqb, eqb-true, le_refl}
 use Rattle.std.proofs.Math.Seq.{take-append_seam}
 use Rattle.std.proofs.lemmas.Bool.{false≢true}
 use Rattle.fixed_um.specs.declared.lengths.Point.{Point}
@@ -24,10 +24,10 @@ use Rattle.dmis_program.specs.declared.features.Wanted.{Wanted}
 use Rattle.protocol_model.specs.Replies.{Mark, tag_is}
 use Rattle.protocol_model.specs.Lines.{Readers}
 use Rattle.protocol_model.specs.Open.{Effect, Heard as Heardings, heard_in, asks_data, count_open}
-use Rattle.protocol_model.specs.Client.{Client, Table, Tally, act_of, measured, counted_next, begins_session, tallied, heard, heard_on,
-  faulted, new_client, client_connected, is_running, first_due, due, held_now, sends_next, next_number, sends_abort, may_abort, first_state,
-  last_state, state_behind, is_whole, ends_abort, client_hears, client_read, may_resume, client_resumed, client_left, left_state,
-  client_restarted}
+use Rattle.protocol_model.specs.Client.{Client, Table, Tally, act_of, measured, counted_next, begins_session, tallied, heard, heard_on}
+use Rattle.protocol_model.specs.Client.{faulted, new_client, client_connected, is_running, first_due, due, held_now, sends_next}
+use Rattle.protocol_model.specs.Client.{next_number, sends_abort, may_abort, first_state, last_state, state_behind, is_whole, ends_abort}
+use Rattle.protocol_model.specs.Client.{client_hears, client_read, may_resume, client_resumed, client_left, left_state, client_restarted}
 use Rattle.protocol_model.specs.Ends.{ClientEnd, new_client_end, held_under, given_point, given_under, response_read, line_read, front_read}
 use Rattle.protocol_model.specs.Plan.{plan}
 use Rattle.protocol_model.specs.PlanReading.{end_of, ends_of}
@@ -46,11 +46,12 @@ use Rattle.protocol_model.proofs.plan.Fitting.{unknown}
 use Rattle.protocol_model.proofs.table.Counts.{count_keeps}
 use Rattle.protocol_model.proofs.table.Replying.{fine, step_cases}
 use Rattle.protocol_model.proofs.invariant.Touching.{Keeps, measured_keeps}
-use Rattle.protocol_model.proofs.undisturbed_run.Following.{is_touch, AreAsked, IsAsked, fits_asked, asked_at, acts_join, act_stands,
-  planned_more, kinds_of}
-use Rattle.client_core.specs.Calls.{Call, Connected, Send, Feed, ReadOne, Abort, Resume, Leave, Restart, Sent, possible, done_by,
-  behind_call, behind_calls, Begun, start_behind, acts_of_fronts, Plans, first_plan, plans_by, plans_behind, client_behind, plans_begun,
-  is_last, features_ended, AreCounted, next_kind, kind_counted, counted_by}
+use Rattle.protocol_model.proofs.undisturbed_run.Following.{is_touch, AreAsked, IsAsked, fits_asked, asked_at, acts_join, act_stands}
+use Rattle.protocol_model.proofs.undisturbed_run.Following.{planned_more, kinds_of}
+use Rattle.client_core.specs.Calls.{Call, Connected, Send, Feed, ReadOne, Abort, Resume, Leave, Restart, Sent, possible, done_by}
+use Rattle.client_core.specs.Calls.{behind_call, behind_calls, Begun, start_behind, acts_of_fronts, Plans, first_plan, plans_by}
+use Rattle.client_core.specs.Calls.{plans_behind, client_behind, plans_begun, is_last, features_ended, AreCounted, next_kind, kind_counted}
+use Rattle.client_core.specs.Calls.{counted_by}
 use Rattle.client_core.specs.Clients.{are_ours, may_read}
 use Rattle.client_core.proofs.Fits.{Fits, both, fits_ours, plan_fits_features, joined_more, point_fits, last_fits, fewer_are_ours}
 use Rattle.client_core.proofs.Fronts.{live_kinds, Fronted, fronted, none_live, live_more}
@@ -97,7 +98,7 @@ measured_fits : (p : Meaning) → IsProgram p → (does : Does) (given : Option 
     → Fits p.features (measured p.features does given y).features (length (measured p.features does given y).points) (ends_of rest)
 measured_fits p program (Does.Touches t false) (Some q) y rest has h =
     subst (λ (n : ℕ). Fits p.features y.features n (ends_of rest)) (omega (arith, length-append y.points (q ∷ [])))
-        (point_fits p.features y.features (length y.points) (ends_of rest) h)
+    (point_fits p.features y.features (length y.points) (ends_of rest) h)
 measured_fits p program (Does.Touches t true) (Some q) y rest has h =
     last_fits p.features y.features y.points q (ends_of rest) (IsProgram.features program) h
 measured_fits p program (Does.Touches t last) None y rest has h = absurd (has refl refl)
@@ -152,15 +153,19 @@ counts_on p program y gs kind given (q ∷ rest) finished unsent features earlie
     let others : live_kinds gs ++ kinds_of unsent ≡ kinds_of rest = ap other_kinds kinds in
     let one : IsAsked q = asked_at finished q rest (subst AreAsked (sym parts) (plan_asked p features (start_behind earlier) program)) in
     let has : given ≡ None → is_touch q.does ≡ true → ⊥ = λ none touch. false≢true (sym (given_one none)
-        ∙ (ap asks_data (sym same) ∙ one touch)) in
-    let mid : Tally = record y { session = y.session || begins_session kind; todo = rest; counted = y.counted ++ act_of q.does given;
-        completed = suc y.completed } in
+    ∙ (ap asks_data (sym same) ∙ one touch)) in
+    let mid : Tally = record y {
+      session = y.session || begins_session kind;
+      todo = rest;
+      counted = y.counted ++ act_of q.does given;
+      completed = suc y.completed;
+    } in
     let keeps : Keeps mid (measured p.features q.does given mid) = measured_keeps p.features q.does given mid in
     let stands : AreActs (y.counted ++ act_of q.does given) ((acts_of_fronts p earlier ++ acts_planned finished) ++ act_in q.does) =
     acts_join y.counted (act_of q.does given) (acts_of_fronts p earlier ++ acts_planned finished) (act_in q.does) acts
-        (act_stands q.does given has) in
+    (act_stands q.does given has) in
     let longer : (acts_of_fronts p earlier ++ acts_planned finished) ++ act_in q.does ≡ acts_of_fronts p earlier
-        ++ acts_planned (finished ++ q ∷ []) =
+    ++ acts_planned (finished ++ q ∷ []) =
     append_assoc (acts_of_fronts p earlier) (acts_planned finished) (act_in q.does)
     ∙ ap (λ (l : List Does). acts_of_fronts p earlier ++ l) (ap (λ (l : List Does). acts_planned finished ++ l)
     (sym (append-nil (act_in q.does))) ∙ sym (planned_more finished (q ∷ []))) in
@@ -189,11 +194,25 @@ effect_on : (p : Meaning) → IsProgram p → (hs gs : List Held) (y : Tally) (u
     → IsOnPlan p hs y unsent features earlier → Fronted (not y.failed) (live_kinds hs) (live_kinds gs) e
     → IsOnPlan p gs (tallied p.features e y) unsent features earlier
 effect_on p program hs gs y unsent features earlier Effect.Quiet f h =
-    record { finished = f.finished; parts = f.parts; many = f.many; acts = f.acts; fits = f.fits; joined = f.joined;
-        calm = λ still. ap (λ (l : List Kind). l ++ kinds_of unsent) h ∙ f.calm still }
+    record {
+      finished = f.finished;
+      parts = f.parts;
+      many = f.many;
+      acts = f.acts;
+      fits = f.fits;
+      joined = f.joined;
+      calm = λ still. ap (λ (l : List Kind). l ++ kinds_of unsent) h ∙ f.calm still;
+    }
 effect_on p program hs gs y unsent features earlier Effect.Failure f h =
-    record { finished = f.finished; parts = f.parts; many = f.many; acts = f.acts; fits = f.fits; joined = f.joined;
-        calm = λ still. absurd (false≢true (sym still)) }
+    record {
+      finished = f.finished;
+      parts = f.parts;
+      many = f.many;
+      acts = f.acts;
+      fits = f.fits;
+      joined = f.joined;
+      calm = λ still. absurd (false≢true (sym still));
+    }
 effect_on p program hs gs y unsent features earlier (Effect.Count kind given) f h =
     counts_on p program y gs kind given y.todo f.finished unsent features earlier f.parts f.many f.acts f.fits f.joined
     (ap (λ (l : List Kind). l ++ kinds_of unsent) (sym h.1) ∙ f.calm (not_true y.failed h.0)) h.2
@@ -211,7 +230,7 @@ heard_on_plan : (p : Meaning) → IsProgram p → (b c : Table) (t : Tag) (m : M
 heard_on_plan p program b c t m unsent features earlier is f =
     step_cases p.features b t m c (Heard p b c unsent features earlier) is
     (λ zero_tag same. subst (λ (x : Table). Heard p b x unsent features earlier) same
-        (record { plan_is = f; fewer = le_refl (count_open b.standard) }))
+    (record { plan_is = f; fewer = le_refl (count_open b.standard) }))
     (λ n hs e sort here after. subst (λ (x : Table). Heard p b x unsent features earlier) (sym after)
     (record {
       plan_is = effect_on p program b.standard hs b.tally unsent features earlier e f
@@ -219,7 +238,7 @@ heard_on_plan p program b c t m unsent features earlier is f =
       fewer = count_keeps (not b.tally.failed) b.standard (tag.Std n) m hs e here;
     }))
     (λ n hs e sort other here after. subst (λ (x : Table). Heard p b x unsent features earlier) (sym after)
-        (record { plan_is = f; fewer = le_refl (count_open b.standard) }))
+    (record { plan_is = f; fewer = le_refl (count_open b.standard) }))
 
 -- ---- states
 
@@ -300,7 +319,7 @@ counted_front : (p : Meaning) (y : Tally) (hs : List Held) (unsent : List Planne
     → AreActs y.counted (acts_of_fronts p (record { features = features; completed = y.completed } ∷ earlier))
 counted_front p y hs unsent features earlier f =
     subst (λ (l : List Planned). AreActs y.counted (acts_of_fronts p earlier ++ acts_planned l))
-        (sym (front_is p y hs unsent features earlier f)) f.acts
+    (sym (front_is p y hs unsent features earlier f)) f.acts
 
 -- what holds on a connection holds
 read_holds : (p : Meaning) (plans : Plans) (c : Client) → IsProgram c.program → c.program ≡ p → c.on ≡ true → (r : Reads c plans)
@@ -337,7 +356,7 @@ hears_holds : (p : Meaning) (plans : Plans) (c : Client) (t : Tag) (m : Mark) �
 hears_holds p plans c t m on h (Ok b) is =
     let r : Reads c plans = h.live on in
     let now : Heard c.program c.table b c.unsent plans.features plans.earlier =
-        heard_on_plan c.program h.program c.table b t m c.unsent plans.features plans.earlier is r in
+    heard_on_plan c.program h.program c.table b t m c.unsent plans.features plans.earlier is r in
     read_holds p plans (client_hears c t m (Ok b)) h.program h.same on now.plan_is
     (behind_rests c.state (ends_abort c.abort t m) b c.table.standard h.rests now.fewer)
 hears_holds p plans c t m on h (Err cause) is = faulted_holds p plans c cause on h
@@ -365,14 +384,14 @@ under_holds : (readers : Readers) (p : Meaning) (plans : Plans) (c : Client) (t 
 under_holds readers p plans c t text None on h = faulted_holds p plans c Cause.UnknownTag on h
 under_holds readers p plans c t text (Some k) on h =
     either_holds p plans (asks_data k) (given_point c t (readers.point text)) (faulted Cause.OutOfOrder c)
-        (point_holds p plans c t (readers.point text) on h) (faulted_holds p plans c Cause.OutOfOrder on h)
+    (point_holds p plans c t (readers.point text) on h) (faulted_holds p plans c Cause.OutOfOrder on h)
 
 response_holds : (readers : Readers) (p : Meaning) (plans : Plans) (c : Client) (t : Tag) (m : Marked) → c.on ≡ true → Holds p c plans
     → Holds p (response_read readers c t m) plans
 response_holds readers p plans c t mark.Ack on h = reply_holds p plans c t Mark.Ack on h
 response_holds readers p plans c t (mark.Given text) on h =
     either_holds p plans (tag_is t (tag.Event 0)) c (given_under readers c t text (held_under t c)) h
-        (under_holds readers p plans c t text (held_under t c) on h)
+    (under_holds readers p plans c t text (held_under t c) on h)
 response_holds readers p plans c t mark.Done on h = reply_holds p plans c t Mark.Done on h
 response_holds readers p plans c t (mark.Error text) on h = reply_holds p plans c t Mark.Error on h
 
@@ -450,8 +469,8 @@ aborts_holds p plans c None on h = faulted_holds p plans c Cause.TagsSpent on h
 aborts_holds p plans c (Some n) on h =
     let r : Reads c plans = h.live on in
     read_holds p plans (sends_abort c (Some n)).client h.program h.same on
-        (record { finished = r.finished; parts = r.parts; many = r.many; acts = r.acts; fits = r.fits; joined = r.joined; calm = r.calm })
-        tt
+    (record { finished = r.finished; parts = r.parts; many = r.many; acts = r.acts; fits = r.fits; joined = r.joined; calm = r.calm })
+    tt
 
 -- ---- plans are begun
 
@@ -459,7 +478,7 @@ begins_fit : (p : Meaning) (fs : List Feature) (start : Start) → IsProgram p �
     → Fits p.features fs 0 (ends_of (plan p (length fs) start))
 begins_fit p fs start program ours =
     subst (λ (l : List Bool). Fits p.features fs 0 l) (sym (plan_ends_left p (length fs) start program))
-        (plan_fits_features p.features fs (IsProgram.features program) ours)
+    (plan_fits_features p.features fs (IsProgram.features program) ours)
 
 connected_holds : (p : Meaning) (plans : Plans) (n : ℕ) (c : Client) → Holds p c plans
     → Holds p (client_connected n c) (first_plan c.table.tally.features)
@@ -495,7 +514,7 @@ resumed_holds p plans c halted h =
     let on : c.on ≡ true = on_unless_off c (λ off. subst IsOff halted (h.off off)) in
     let r : Reads c plans = h.live on in
     let none : live_kinds c.table.standard ≡ [] = none_live c.table.standard
-        (subst (λ (s : State). Rests s c.table.standard) halted h.rests) in
+    (subst (λ (s : State). Rests s c.table.standard) halted h.rests) in
     let steps : List Planned = plan c.program (length c.table.tally.features) Start.SameConnection in
     read_holds p (resumed_plans c plans) (client_resumed c) h.program h.same on (record {
       finished = [];
@@ -579,7 +598,7 @@ done_holds readers p plans (Feed bytes) e may h = h
 done_holds readers p plans ReadOne e may h = front_holds readers p plans e.client (next_of e.input.rest) (read_on e.client may) h
 done_holds readers p plans Abort e may h =
     aborts_holds p plans e.client (next_number tag.Event e.client.table.event e.client.event_drawn)
-        (on_unless_off e.client (λ off. may_abort_on e.client.state may (h.off off))) h
+    (on_unless_off e.client (λ off. may_abort_on e.client.state may (h.off off))) h
 done_holds readers p plans Resume e may h = resumed_holds p plans e.client (resumed_state e.client e.client.state may) h
 done_holds readers p plans Leave e may h = left_holds p plans e.client h
 done_holds readers p plans (Restart k) e may h = restarted_holds p plans k e.client h
@@ -598,7 +617,7 @@ calls_hold : (readers : Readers) (p : Meaning) (plans : Plans) (calls : List Cal
 calls_hold readers p plans [] e h = h
 calls_hold readers p plans (call ∷ calls) e h =
     calls_hold readers p (if possible call e then plans_by call e plans else plans) calls (behind_call readers call e)
-        (call_holds readers p plans call e h)
+    (call_holds readers p plans call e h)
 
 pub behind_holds : (readers : Readers) (p : Meaning) (kept : List Feature) (window : ℕ) (calls : List Call) → IsProgram p
     → are_ours p.features kept ≡ true
@@ -612,7 +631,7 @@ pub program_stays : (readers : Readers) (p : Meaning) (kept : List Feature) (win
     → (client_behind readers calls p kept window).program ≡ p
 program_stays readers p kept window calls program ours =
     let h : Holds p (client_behind readers calls p kept window) (plans_begun readers calls p kept window) =
-        behind_holds readers p kept window calls program ours in
+    behind_holds readers p kept window calls program ours in
     h.same
 
 -- the features that a client holds are the first of its program
@@ -621,7 +640,7 @@ pub features_are_ours : (readers : Readers) (p : Meaning) (kept : List Feature) 
     → are_ours p.features (client_behind readers calls p kept window).table.tally.features ≡ true
 features_are_ours readers p kept window calls program ours =
     let h : Holds p (client_behind readers calls p kept window) (plans_begun readers calls p kept window) =
-        behind_holds readers p kept window calls program ours in
+    behind_holds readers p kept window calls program ours in
     subst (λ (q : Meaning). are_ours q.features (client_behind readers calls p kept window).table.tally.features ≡ true) h.same h.ours
 
 -- and what it has counted is that of its plans
@@ -630,9 +649,9 @@ pub counted_are_planned : (readers : Readers) (p : Meaning) (kept : List Feature
     → AreCounted p (plans_begun readers calls p kept window) (client_behind readers calls p kept window).table.tally
 counted_are_planned readers p kept window calls program ours =
     let h : Holds p (client_behind readers calls p kept window) (plans_begun readers calls p kept window) =
-        behind_holds readers p kept window calls program ours in
+    behind_holds readers p kept window calls program ours in
     subst (λ (q : Meaning). AreCounted q (plans_begun readers calls p kept window) (client_behind readers calls p kept window).table.tally)
-        h.same h.counted
+    h.same h.counted
 
 -- a counted command is the next of the plan, by its kind
 first_is_next : (todo : List Planned) (k : Kind) (ks : List Kind) → k ∷ ks ≡ kinds_of todo → next_kind todo ≡ Some k
@@ -655,7 +674,7 @@ counted_is_next readers p kept window calls program ours on n m kind is =
     let h : Holds p c (plans_begun readers calls p kept window) = behind_holds readers p kept window calls program ours in
     let r : Reads c (plans_begun readers calls p kept window) = h.live on in
     go c.table.standard c.table.tally c.unsent (plans_begun readers calls p kept window) c.program r
-        (heard_in (not c.table.tally.failed) c.table.standard (tag.Std n) m) refl is
+    (heard_in (not c.table.tally.failed) c.table.standard (tag.Std n) m) refl is
   where
     go : (hs : List Held) (y : Tally) (unsent : List Planned) (plans : Plans) (program : Meaning)
         → IsOnPlan program hs y unsent plans.features plans.earlier
@@ -665,8 +684,8 @@ counted_is_next readers p kept window calls program ours on n m kind is =
     go hs y unsent plans program r (Ok (gs, Effect.Failure)) here e = absurd (cc)
     go hs y unsent plans program r (Ok (gs, Effect.Count k given)) here e =
         let f : Fronted (not y.failed) (live_kinds hs) (live_kinds gs) (Effect.Count k given) =
-            fronted (not y.failed) hs (tag.Std n) m gs (Effect.Count k given) here in
+        fronted (not y.failed) hs (tag.Std n) m gs (Effect.Count k given) here in
         first_is_next y.todo k (live_kinds gs ++ kinds_of unsent) (ap (λ (l : List Kind). l ++ kinds_of unsent) (sym f.1)
-            ∙ r.calm (not_true y.failed f.0))
+        ∙ r.calm (not_true y.failed f.0))
         ∙ ap (λ (x : Kind). Some x) (kind_is k kind e)
     go hs y unsent plans program r (Err cause) here e = absurd (cc)

@@ -1,6 +1,6 @@
 -- A command that goes out under the tag that was drawn for it is what `protocol_model` sends.
-use Rattle.std.proofs.Common.{◌≡◌, ◌<◌, ℕ, suc, Bool, false, List, [], ◌∷◌, drop, slice_index_or, length, Option, Some, None, refl, ap, sym,
-  ◌∙◌}
+use Rattle.std.proofs.Common.{◌≡◌, ◌<◌, ℕ, suc, Bool, false, List, [], ◌∷◌, drop, slice_index_or, length, Option, Some, None, refl, ap, sym}
+use Rattle.std.proofs.Common.{◌∙◌}
 use Rattle.std.proofs.Math.Seq.{drop-cons}
 use Rattle.std.proofs.lemmas.Option.{none-some}
 use Rattle.dme_line.specs.Kinds.{kind_of, is_event_kind}
@@ -78,9 +78,9 @@ pub sent_client : (program : Meaning) (window : ℕ) (on : Bool) (last : ℕ) (s
     ≡ (client_sent (seen program window on last state cause o y sent abort)).client
 sent_client program window on last state cause o after y sent abort p tag within is standard next held =
     let d : IsDrawn Std (next_number Std o.standard o.drawn) tag =
-        drawn_as _ _ _ (standard_tag o (kind_of p.command) (Some tag) standard next) in
+    drawn_as _ _ _ (standard_tag o (kind_of p.command) (Some tag) standard next) in
     client_at program window on last state cause o after y sent abort p tag d.n (first_left y.plan.items sent p within is) d.number_is
-        d.tag_is held
+    d.tag_is held
 
 pub sent_lines : (program : Meaning) (window : ℕ) (on : Bool) (last : ℕ) (state : State) (cause : Option Cause) (o : Opened) (y : Progress)
     (sent : ℕ) (abort : Option Tag) (p : Planned) (tag : Tag)
@@ -89,7 +89,7 @@ pub sent_lines : (program : Meaning) (window : ℕ) (on : Bool) (last : ℕ) (st
     → (client_sent (seen program window on last state cause o y sent abort)).lines ≡ record { tag = tag; command = p.command } ∷ []
 sent_lines program window on last state cause o y sent abort p tag within is standard next =
     let d : IsDrawn Std (next_number Std o.standard o.drawn) tag =
-        drawn_as _ _ _ (standard_tag o (kind_of p.command) (Some tag) standard next) in
+    drawn_as _ _ _ (standard_tag o (kind_of p.command) (Some tag) standard next) in
     lines_at program window on last state cause o y sent abort p tag d.n (first_left y.plan.items sent p within is) d.number_is d.tag_is
 
 -- no tag is free

@@ -35,7 +35,7 @@ on_standard ws o after y effect (Ok (hs, e)) is =
     let same : e ≡ effect = snd_of _ _ _ _ is in
     subst (λ (a : Opened). client.heard_standard ws (table_of o y) (Ok (hs, e)) ≡ Ok (table_of a (client.tallied ws effect y))) whole
     (subst (λ (f : Effect). client.heard_standard ws (table_of o y) (Ok (hs, e))
-        ≡ Ok (record { standard = hs; event = o.event; tally = client.tallied ws f y })) same refl)
+    ≡ Ok (record { standard = hs; event = o.event; tally = client.tallied ws f y })) same refl)
 on_standard ws o after y effect (Err cause) is = absurd (never _ _ (sym is))
 
 on_event : (ws : List Wanted) (o after : Opened) (y : client.Tally) (effect : Effect) (h : Heard) → heard_event o h ≡ Ok (after, effect)

@@ -1,6 +1,6 @@
 -- Lists of calls of a client, whatever its peer sends, and what is claimed of them (this profile).
-use Rattle.std.specs.Prelude.{◌≡◌, ℕ, suc, ◌+◌, nat_le, Bool, true, false, not, if◌then◌else◌, is_some, Option, Some, None, List, [], ◌∷◌,
-  ◌++◌, length, take, Ok, Err}
+use Rattle.std.specs.Prelude.{◌≡◌, ℕ, suc, ◌+◌, nat_le, Bool, true, false, not, if◌then◌else◌, is_some, Option, Some, None, List, [], ◌∷◌}
+use Rattle.std.specs.Prelude.{◌++◌, length, take, Ok, Err}
 use Rattle.contact_ledger.specs.declared.features.Feature.{Feature}
 use Rattle.dme_line.specs.Kinds.{kind_of}
 use Rattle.dme_line.specs.declared.commands.Kind.{Kind}
@@ -11,8 +11,8 @@ use Rattle.protocol_model.specs.Open.{Effect, Heard, heard_in}
 use Rattle.protocol_model.specs.Lines.{Readers}
 use Rattle.protocol_model.specs.Plan.{plan}
 use Rattle.protocol_model.specs.Client.{Client, Tally, due, may_abort, may_resume}
-use Rattle.protocol_model.specs.Ends.{ClientEnd, new_client_end, end_connected, end_sent, end_aborted, end_fed, end_read, end_resumed,
-  end_left, end_restarted, end_taken}
+use Rattle.protocol_model.specs.Ends.{ClientEnd, new_client_end, end_connected, end_sent, end_aborted, end_fed, end_read, end_resumed}
+use Rattle.protocol_model.specs.Ends.{end_left, end_restarted, end_taken}
 use Rattle.protocol_model.specs.Undisturbed.{acts_planned, AreActs}
 use Rattle.protocol_model.specs.declared.plans.Does.{Does}
 use Rattle.protocol_model.specs.declared.plans.Planned.{Planned}

@@ -113,8 +113,10 @@ impl Executor {
 
     /// The state after a reply; `ends`: the reply ends the abort.
     pub(crate) fn settle(&mut self, ends: bool)
-        ensures { self.new ≡ record self.old { state = state_behind self.old.state ends
-            self.old.table } }
+        ensures { self.new ≡ record self.old {
+          state = state_behind self.old.state ends
+              self.old.table;
+        } }
     {
         let first = first_state(self.state, ends, self.commands.has_failed());
         self.state = last_state(first, self.is_whole(), self.commands.count());

@@ -94,7 +94,7 @@ impl Progress {
         requires { self.old.completed ≤ length self.old.plan.items }
         ensures ok { OnOk result ((failed : Bool) → tally_of failed self.new
             ≡ counted_next wanted.now kind given.now (tally_of failed self.old).todo
-                (tally_of failed self.old)) }
+            (tally_of failed self.old)) }
         ensures plan { self.new.plan ≡ self.old.plan }
         ensures within { self.new.completed ≤ length self.old.plan.items }
         ensures features { length self.old.features ≤ length wanted.now

@@ -14,7 +14,7 @@ pub list_tokens-tail : (a : Argument) (more : List Argument)
 list_tokens-tail a [] = refl
 list_tokens-tail a (b ∷ more) =
     append_assoc (argument_tokens a) (Comma ∷ list_tokens (b ∷ more)) (Close ∷ [])
-        ∙ ap (λ (ts : List Token). argument_tokens a ++ (Comma ∷ ts)) (list_tokens-tail b more)
+    ∙ ap (λ (ts : List Token). argument_tokens a ++ (Comma ∷ ts)) (list_tokens-tail b more)
 
 -- an argument and what follows it
 pub record SamePair (a b : Argument) (us vs : List Token) : Type 0 where
@@ -105,7 +105,7 @@ pub no_first : (ts us : List Token) → ts ≡ Open ∷ us → NoArgument us →
 no_first ts us o none args long e =
     let l = is_long args long in
     none l.a (tail_tokens (l.b ∷ l.d ∷ l.more)) (enclosed-tail l.a (l.b ∷ l.d ∷ l.more) us (sym o ∙ e
-        ∙ ap (λ (x : List Argument). enclosed (list_tokens x)) l.is))
+    ∙ ap (λ (x : List Argument). enclosed (list_tokens x)) l.is))
 
 -- what is left behind the first argument
 behind_first : (ts us vs : List Token) (x a : Argument) (more : List Argument) → ts ≡ Open ∷ us → us ≡ argument_tokens x ++ vs
@@ -123,7 +123,7 @@ pub no_second : (ts us vs : List Token) (x : Argument) → ts ≡ Open ∷ us �
 no_second ts us vs x o f none args long e =
     let l = is_long args long in
     none l.b (tail_tokens (l.d ∷ l.more)) (behind_first ts us vs x l.a (l.b ∷ l.d ∷ l.more) o f (e
-        ∙ ap (λ (y : List Argument). enclosed (list_tokens y)) l.is))
+    ∙ ap (λ (y : List Argument). enclosed (list_tokens y)) l.is))
 
 pub no_third : (ts us vs ws : List Token) (x y : Argument) → ts ≡ Open ∷ us → us ≡ argument_tokens x ++ vs
     → vs ≡ Comma ∷ (argument_tokens y ++ ws) → NoNext ws → NoPlace ts

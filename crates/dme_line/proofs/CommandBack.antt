@@ -1,6 +1,6 @@
 -- The written form of a command can stand in a line, and reads back.
-use Rattle.std.proofs.Common.{◌≡◌, ℕ, ◌≤◌, inr, true, false, List, [], ◌∷◌, ◌++◌, map, Option, Some, None, Ok, refl, ap, sym, subst, ◌∙◌,
-  arith, codes, append_assoc, append-nil, ℤ}
+use Rattle.std.proofs.Common.{◌≡◌, ℕ, ◌≤◌, inr, true, false, List, [], ◌∷◌, ◌++◌, map, Option, Some, None, Ok, refl, ap, sym, subst, ◌∙◌}
+use Rattle.std.proofs.Common.{arith, codes, append_assoc, append-nil, ℤ}
 use Rattle.std.specs.Prelude.{unsigned_abs}
 use Rattle.std.specs.Char.{to_ascii_lowercase}
 use Rattle.std.specs.List.{list_all}
@@ -26,8 +26,8 @@ use Rattle.dme_line.specs.declared.commands.Csy.TheVariants.{MachineCsy, PartCsy
 use Rattle.dme_line.specs.declared.commands.Kind.{Kind}
 use Rattle.dme_line.specs.declared.commands.Kind.TheVariants as kind
 use Rattle.dme_line.specs.declared.commands.Command.{Command}
-use Rattle.dme_line.specs.declared.commands.Command.TheVariants.{StartSession, EndSession, ClearAllErrors, Home, OnPtMeasReport, GoTo,
-  PtMeas, ChangeTool, SetCsyTransformation, SetCoordSystem, AbortE}
+use Rattle.dme_line.specs.declared.commands.Command.TheVariants.{StartSession, EndSession, ClearAllErrors, Home, OnPtMeasReport, GoTo}
+use Rattle.dme_line.specs.declared.commands.Command.TheVariants.{PtMeas, ChangeTool, SetCsyTransformation, SetCoordSystem, AbortE}
 use Rattle.dme_line.proofs.TokenLemmas.{tokens-word}
 use Rattle.dme_line.proofs.WireTexts.{IsPlainWord, word_bytes, written-word, component-word, name-word}
 
@@ -52,7 +52,7 @@ point-tokens p tail h =
     let z = word_before 12 (written p.z) (41 ∷ tail) (written-word p.z h.z) refl in
     let y = word_before 12 (written p.y) (41 ∷ 44 ∷ 32 ∷ 90 ∷ 40 ∷ (written p.z ++ (41 ∷ tail))) (written-word p.y h.y) refl in
     let x = word_before 12 (written p.x) (41 ∷ 44 ∷ 32 ∷ 89 ∷ 40 ∷ (written p.y ++ (41 ∷ 44 ∷ 32 ∷ 90 ∷ 40 ∷ (written p.z ++ (41 ∷ tail)))))
-        (written-word p.x h.x) refl in
+    (written-word p.x h.x) refl in
     rw (x, y, z) refl
 
 -- a direction behind a point, and the closing parenthesis
@@ -68,9 +68,9 @@ ijk-tokens : (d : Direction) → IsDirection d → tokens (ijk_before d) ≡ Com
 ijk-tokens d h =
     let k = word_before 15 (written_component d.k) (41 ∷ 41 ∷ []) (component-word d.k h.k_within) refl in
     let j = word_before 15 (written_component d.j) (44 ∷ 32 ∷ (written_component d.k ++ (41 ∷ 41 ∷ []))) (component-word d.j h.j_within)
-        refl in
+    refl in
     let i = word_before 15 (written_component d.i) (44 ∷ 32 ∷ (written_component d.j
-        ++ (44 ∷ 32 ∷ (written_component d.k ++ (41 ∷ 41 ∷ []))))) (component-word d.i h.i_within) refl in
+    ++ (44 ∷ 32 ∷ (written_component d.k ++ (41 ∷ 41 ∷ []))))) (component-word d.i h.i_within) refl in
     rw (i, j, k) refl
 
 -- a transformation and the closing parenthesis
@@ -87,7 +87,7 @@ transformation-tokens p h =
     let z = word_before 12 (written p.z) (codes ", 0, 0, 0)") (written-word p.z h.z) refl in
     let y = word_before 12 (written p.y) (44 ∷ 32 ∷ (written p.z ++ codes ", 0, 0, 0)")) (written-word p.y h.y) refl in
     let x = word_before 12 (written p.x) (44 ∷ 32 ∷ (written p.y ++ (44 ∷ 32 ∷ (written p.z ++ codes ", 0, 0, 0)")))) (written-word p.x h.x)
-        refl in
+    refl in
     rw (x, y, z) refl
 
 -- ---- what the written arguments say
@@ -106,9 +106,27 @@ zero_numeral = record { negative = false; digits = 48 ∷ []; places = 0; raised
 
 zero_is : IsZero (codes "0")
 unfolding zero_numeral
-zero_is = (zero_numeral, record { sign = []; whole = 48 ∷ []; point = []; fraction = []; exponent = []; parts = refl; is_sign = none refl;
-    is_whole = (omega arith, tt); is_fraction = absent refl; is_exponent = nothing refl; digits_are = refl; places_are = refl; some_digit =
-    omega arith }, omega arith, refl)
+zero_is = (
+  zero_numeral,
+  record {
+    sign = [];
+    whole = 48 ∷ [];
+    point = [];
+    fraction = [];
+    exponent = [];
+    parts = refl;
+    is_sign = none refl;
+    is_whole = (omega arith, tt);
+    is_fraction = absent refl;
+    is_exponent = nothing refl;
+    digits_are = refl;
+    places_are = refl;
+    some_digit =
+        omega arith;
+  },
+  omega arith,
+  refl,
+)
 
 -- the tokens behind a command's name
 abbrev written_tokens : Command → List Token
@@ -123,9 +141,12 @@ move_back : (p : Point) → IsOnWire p → IsPlace (written_tokens (GoTo p)) p N
 move_back p h = record {
   arguments = Single (codes "X") (written p.x) ∷ Single (codes "Y") (written p.y) ∷ Single (codes "Z") (written p.z) ∷ [];
   spelled = move-tokens p h;
-  target = record { x = record { numeral = written p.x; found = refl; reads = reads_back p.x h.x };
-      y = record { numeral = written p.y; found = refl; reads = reads_back p.y h.y }; z =
-      record { numeral = written p.z; found = refl; reads = reads_back p.z h.z } };
+  target = record {
+    x = record { numeral = written p.x; found = refl; reads = reads_back p.x h.x };
+    y = record { numeral = written p.y; found = refl; reads = reads_back p.y h.y };
+    z =
+        record { numeral = written p.z; found = refl; reads = reads_back p.z h.z };
+  };
   ijk = refl;
 }
 
@@ -135,21 +156,30 @@ touch-tokens : (p : Point) (d : Direction) → IsOnWire p → IsDirection d
     ∷ Word (written_component d.i) ∷ Comma ∷ Word (written_component d.j) ∷ Comma ∷ Word (written_component d.k) ∷ Close ∷ Close ∷ []
 touch-tokens p d h g =
     let whole : (written_point p ++ written_ijk (Some d)) ++ codes ")" ≡ point_before p (ijk_before d) =
-        append_assoc (written_point p) (written_ijk (Some d)) (codes ")") ∙ ap (λ (t : List ℕ). written_point p ++ t) (ijk-append d)
-        ∙ point-append p (ijk_before d) in
+    append_assoc (written_point p) (written_ijk (Some d)) (codes ")") ∙ ap (λ (t : List ℕ). written_point p ++ t) (ijk-append d)
+    ∙ point-append p (ijk_before d) in
     ap (λ (t : List ℕ). tokens (40 ∷ t)) whole ∙ ap (λ (ts : List Token). Open ∷ ts) (point-tokens p (ijk_before d) h
-        ∙ rw (ijk-tokens d g) refl)
+    ∙ rw (ijk-tokens d g) refl)
 
 touch_back : (p : Point) (d : Direction) → IsOnWire p → IsDirection d → IsPlace (written_tokens (PtMeas p (Some d))) p (Some d)
 touch_back p d h g = record {
   arguments = Single (codes "X") (written p.x) ∷ Single (codes "Y") (written p.y) ∷ Single (codes "Z") (written p.z)
       ∷ Triple (codes "IJK") (written_component d.i) (written_component d.j) (written_component d.k) ∷ [];
   spelled = touch-tokens p d h g;
-  target = record { x = record { numeral = written p.x; found = refl; reads = reads_back p.x h.x };
-      y = record { numeral = written p.y; found = refl; reads = reads_back p.y h.y }; z =
-      record { numeral = written p.z; found = refl; reads = reads_back p.z h.z } };
-  ijk = (refl, record { words = (written_component d.i, written_component d.j, written_component d.k); found = refl;
-      reads = direction_reads_back d g });
+  target = record {
+    x = record { numeral = written p.x; found = refl; reads = reads_back p.x h.x };
+    y = record { numeral = written p.y; found = refl; reads = reads_back p.y h.y };
+    z =
+        record { numeral = written p.z; found = refl; reads = reads_back p.z h.z };
+  };
+  ijk = (
+    refl,
+    record {
+      words = (written_component d.i, written_component d.j, written_component d.k);
+      found = refl;
+      reads = direction_reads_back d g;
+    },
+  );
 }
 
 -- a touch without a direction is written as a move
@@ -167,11 +197,18 @@ transformation_says : (p : Point) → IsInVolume p → Says kind.SetCsyTransform
     (SetCsyTransformation p)
 transformation_says p h =
     let spelled = ap (λ (t : List ℕ). tokens (40 ∷ t)) (transformation-append p)
-        ∙ ap (λ (ts : List Token). Open ∷ ts) (transformation-tokens p (volume_on_wire p h)) in (
+    ∙ ap (λ (ts : List Token). Open ∷ ts) (transformation-tokens p (volume_on_wire p h)) in (
       p,
       record {
-        words = record { system = codes "PartCsy"; x = written p.x; y = written p.y; z = written p.z; a = codes "0"; b = codes "0";
-            c = codes "0" };
+        words = record {
+          system = codes "PartCsy";
+          x = written p.x;
+          y = written p.y;
+          z = written p.z;
+          a = codes "0";
+          b = codes "0";
+          c = codes "0";
+        };
         spelled = spelled;
         named = refl;
         lengths = record { x = volume_back p.x h.x; y = volume_back p.y h.y; z = volume_back p.z h.z };
@@ -189,12 +226,29 @@ arguments_say StartSession h = (refl, refl)
 arguments_say EndSession h = (refl, refl)
 arguments_say ClearAllErrors h = (refl, refl)
 arguments_say Home h = (refl, refl)
-arguments_say OnPtMeasReport h = (record { x = codes "X"; y = codes "Y"; z = codes "Z"; spelled = refl; x_named = refl; y_named = refl;
-    z_named = refl }, refl)
+arguments_say OnPtMeasReport h = (
+  record {
+    x = codes "X";
+    y = codes "Y";
+    z = codes "Z";
+    spelled = refl;
+    x_named = refl;
+    y_named = refl;
+    z_named = refl;
+  },
+  refl,
+)
 arguments_say (GoTo p) h = (p, move_back p h, refl)
 arguments_say (PtMeas p d) h = (p, d, place_back p d h.0 h.1, refl)
-arguments_say (ChangeTool n) h = (n, record { word = quoted n; spelled = tool-tokens n h;
-    reads = record { bare = n; spelled = inr refl; named = h.named; is_folded = sym h.capitals } }, refl)
+arguments_say (ChangeTool n) h = (
+  n,
+  record {
+    word = quoted n;
+    spelled = tool-tokens n h;
+    reads = record { bare = n; spelled = inr refl; named = h.named; is_folded = sym h.capitals };
+  },
+  refl,
+)
 arguments_say (SetCsyTransformation p) h = transformation_says p h
 arguments_say (SetCoordSystem s) h = system_says s
 arguments_say AbortE h = (refl, refl)
@@ -233,8 +287,11 @@ command_reads_back tag command h =
       begins = record {
         text = name ++ rest;
         tagged = record { numbered = h.tagged.numbered; parts = refl };
-        named = record { parts = refl; whole = name_whole (kind_of command);
-            stop = at_parenthesis (written_arguments command ++ codes ")") };
+        named = record {
+          parts = refl;
+          whole = name_whole (kind_of command);
+          stop = at_parenthesis (written_arguments command ++ codes ")");
+        };
       };
       known = own_name name;
       fits = h.tagged;

@@ -11,8 +11,8 @@ use Rattle.dme_line.specs.CommandText.{Begins, IsCommandText, is_name_part}
 use Rattle.dme_line.specs.Arguments.{Says}
 use Rattle.dme_line.specs.declared.tags.Tag.{Tag}
 use Rattle.dme_line.specs.declared.commands.Kind.{Kind}
-use Rattle.dme_line.specs.declared.commands.Kind.TheVariants.{StartSession, EndSession, ClearAllErrors, Home, OnPtMeasReport, GoTo, PtMeas,
-  ChangeTool, SetCsyTransformation, SetCoordSystem, AbortE}
+use Rattle.dme_line.specs.declared.commands.Kind.TheVariants.{StartSession, EndSession, ClearAllErrors, Home, OnPtMeasReport, GoTo, PtMeas}
+use Rattle.dme_line.specs.declared.commands.Kind.TheVariants.{ChangeTool, SetCsyTransformation, SetCoordSystem, AbortE}
 use Rattle.dme_line.specs.declared.commands.Command.{Command}
 use Rattle.dme_line.proofs.TagLemmas.{one_tag, tag_numbered}
 use Rattle.dme_line.proofs.NameCutLemmas.{one_cut}
@@ -71,10 +71,10 @@ cons_same c xs ys e = cc
 pub one_front : (line : List ℕ) (t u : Tag) (a b r s : List ℕ) → Begins line t a r → Begins line u b s → SameFront t u a b r s
 one_front line t u a b r s f g =
     let tags = one_tag t u (32 ∷ f.text) (32 ∷ g.text) (tag_numbered t f.tagged.numbered) (tag_numbered u g.tagged.numbered)
-        (sym f.tagged.parts ∙ g.tagged.parts) in
+    (sym f.tagged.parts ∙ g.tagged.parts) in
     let texts = cons_same 32 f.text g.text tags.behind in
     let cut = one_cut is_name_part a b r s (sym f.named.parts ∙ texts ∙ g.named.parts) f.named.whole g.named.whole f.named.stop g.named.stop
-        in
+    in
     record { tag = tags.tag; name = cut.front; rest = cut.behind }
 
 -- what a line says where its name and kind are known
@@ -89,8 +89,10 @@ says_here line tag other name rest kind command f known h =
     let kinds = one_kind h.kind kind name (subst (λ (n : List ℕ). is_word (kind_name h.kind) n ≡ true) front.name h.known) known in
     let fits = subst (λ (k : Kind). IsTagOf k other) kinds h.fits in
     let says = subst (λ (k : Kind). Says k (tokens h.rest) command) kinds h.says in
-    record { fits = subst (λ (t : Tag). IsTagOf kind t) front.tag fits;
-        says = subst (λ (r : List ℕ). Says kind (tokens r) command) front.rest says }
+    record {
+      fits = subst (λ (t : Tag). IsTagOf kind t) front.tag fits;
+      says = subst (λ (r : List ℕ). Says kind (tokens r) command) front.rest says;
+    }
 
 pub wrong_sort : (a b : Bool) → a ≡ b → not (beq a b) ≡ true → ⊥
 wrong_sort true true e h = cc

@@ -14,8 +14,8 @@ use Rattle.dme_line.specs.declared.commands.Csy.TheVariants.{MachineCsy, PartCsy
 use Rattle.dme_line.specs.declared.commands.Kind.{Kind}
 use Rattle.dme_line.specs.declared.commands.Kind.TheVariants as kind
 use Rattle.dme_line.specs.declared.commands.Command.{Command}
-use Rattle.dme_line.specs.declared.commands.Command.TheVariants.{StartSession, EndSession, ClearAllErrors, Home, OnPtMeasReport, GoTo,
-  PtMeas, ChangeTool, SetCsyTransformation, SetCoordSystem, AbortE}
+use Rattle.dme_line.specs.declared.commands.Command.TheVariants.{StartSession, EndSession, ClearAllErrors, Home, OnPtMeasReport, GoTo}
+use Rattle.dme_line.specs.declared.commands.Command.TheVariants.{PtMeas, ChangeTool, SetCsyTransformation, SetCoordSystem, AbortE}
 use Rattle.dme_line.proofs.WireTexts.{wire_append, word_wire, written-word, component-word, tag-wire, point-wire, name-word}
 use Rattle.dme_line.proofs.CommandBack.{volume_on_wire}
 
@@ -46,17 +46,17 @@ direction-wire d h =
     let k_text = wire_append 2 15 17 (codes ", ") (written_component d.k) comma k (omega arith) in
     let j_text = wire_append 15 17 32 (written_component d.j) (codes ", " ++ written_component d.k) j k_text (omega arith) in
     let j_all = wire_append 2 32 34 (codes ", ") (written_component d.j ++ (codes ", " ++ written_component d.k)) comma j_text (omega arith)
-        in
+    in
     wire_append 15 34 49 (written_component d.i) (codes ", " ++ (written_component d.j ++ (codes ", " ++ written_component d.k))) i j_all
-        (omega arith)
+    (omega arith)
 
 ijk-wire : (d : Option Direction) → IsIjk d → IsWireText 56 (written_ijk d)
 ijk-wire None h = record { free = refl; short = omega arith }
 ijk-wire (Some d) h =
     let whole = wire_append 49 1 50 (written_direction d (codes ", ")) (codes ")") (direction-wire d h)
-        (record { free = refl; short = omega arith }) (omega arith) in
+    (record { free = refl; short = omega arith }) (omega arith) in
     wire_append 6 50 56 (codes ", IJK(") (written_direction d (codes ", ") ++ codes ")") (record { free = refl; short = omega arith }) whole
-        (omega arith)
+    (omega arith)
 
 transformation-wire : (p : Point) → IsOnWire p → IsWireText 58 (written_transformation p)
 transformation-wire p h =
@@ -68,12 +68,12 @@ transformation-wire p h =
     let z_all = wire_append 2 21 23 (codes ", ") (written p.z ++ codes ", 0, 0, 0") comma z_text (omega arith) in
     let y_text = wire_append 12 23 35 (written p.y) (codes ", " ++ (written p.z ++ codes ", 0, 0, 0")) y z_all (omega arith) in
     let y_all = wire_append 2 35 37 (codes ", ") (written p.y ++ (codes ", " ++ (written p.z ++ codes ", 0, 0, 0"))) comma y_text
-        (omega arith) in
+    (omega arith) in
     let x_text = wire_append 12 37 49 (written p.x) (codes ", " ++ (written p.y ++ (codes ", " ++ (written p.z ++ codes ", 0, 0, 0")))) x
-        y_all (omega arith) in
+    y_all (omega arith) in
     wire_append 9 49 58 (codes "PartCsy, ") (written p.x ++ (codes ", "
-        ++ (written p.y ++ (codes ", " ++ (written p.z ++ codes ", 0, 0, 0"))))) (record { free = refl; short = omega arith }) x_text
-        (omega arith)
+    ++ (written p.y ++ (codes ", " ++ (written p.z ++ codes ", 0, 0, 0"))))) (record { free = refl; short = omega arith }) x_text
+    (omega arith)
 
 system-wire : (s : Csy) → IsWireText 105 (csy_name s)
 system-wire MachineCsy = record { free = refl; short = omega arith }
@@ -98,12 +98,12 @@ unfolding written_command
 command-wire tag command h =
     let arguments = arguments-wire command h.arguments in
     let closed = wire_append 105 1 106 (written_arguments command) (codes ")") arguments (record { free = refl; short = omega arith })
-        (omega arith) in
+    (omega arith) in
     let opened = wire_append 1 106 107 (codes "(") (written_arguments command ++ codes ")") (record { free = refl; short = omega arith })
-        closed (omega arith) in
+    closed (omega arith) in
     let named = wire_append 20 107 127 (kind_name (kind_of command)) (40 ∷ (written_arguments command ++ codes ")"))
-        (name-wire (kind_of command)) opened (omega arith) in
+    (name-wire (kind_of command)) opened (omega arith) in
     let spaced = wire_append 1 127 128 (codes " ") (kind_name (kind_of command) ++ (40 ∷ (written_arguments command ++ codes ")")))
-        (record { free = refl; short = omega arith }) named (omega arith) in
+    (record { free = refl; short = omega arith }) named (omega arith) in
     wire_append 5 128 200 (written_tag tag) (32 ∷ (kind_name (kind_of command) ++ (40 ∷ (written_arguments command ++ codes ")"))))
-        (tag-wire tag) spaced (omega arith)
+    (tag-wire tag) spaced (omega arith)

@@ -4,8 +4,9 @@ use Rattle.dme_line.specs.Words.{quoted}
 use Rattle.dme_line.specs.Tags.{four_digits}
 use Rattle.dme_line.specs.Errors.{number_of, text_of, numbered, error_text}
 use Rattle.dme_line.specs.declared.errors.ErrorNumber.{ErrorNumber}
-use Rattle.dme_line.specs.declared.errors.ErrorNumber.TheVariants.{NoTag, TagInUse, UnknownCommand, BadArguments, NoSession, SessionOpen,
-  Aborted, ErrorState, QueueFull, NotHomed, NoTool, UnknownTool, OutOfVolume, NoSurface, MachineFault}
+use Rattle.dme_line.specs.declared.errors.ErrorNumber.TheVariants.{NoTag, TagInUse, UnknownCommand, BadArguments, NoSession, SessionOpen}
+use Rattle.dme_line.specs.declared.errors.ErrorNumber.TheVariants.{Aborted, ErrorState, QueueFull, NotHomed, NoTool, UnknownTool}
+use Rattle.dme_line.specs.declared.errors.ErrorNumber.TheVariants.{OutOfVolume, NoSurface, MachineFault}
 
 -- five texts appended one after another
 five_texts : (a b c d e f : List ℕ) → ((((a ++ b) ++ c) ++ d) ++ e) ++ f ≡ a ++ (b ++ (c ++ (d ++ (e ++ f))))
@@ -17,7 +18,7 @@ pub report_text : (old first second third fourth new : List ℕ) (code : ℕ) (n
     ++ (four_digits code ++ (codes ", " ++ (quoted name ++ (codes ", " ++ (quoted text ++ codes ")"))))))
 report_text old first second third fourth new code name text p q r s t =
     t ∙ rw (s, r, q, p) (five_texts old (codes "Error(3, ") (four_digits code) (codes ", " ++ quoted name) (codes ", " ++ quoted text)
-        (codes ")"))
+    (codes ")"))
 
 -- the text of an error's number is that of the error
 pub text_by_number : (e : ErrorNumber) → error_text (number_of e) ≡ text_of e

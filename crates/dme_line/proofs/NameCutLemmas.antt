@@ -9,8 +9,11 @@ starts : (p : ℕ → Bool) (rest : List ℕ) → begins p rest ≡ false → (c
 starts p rest h c more e = subst (λ (t : List ℕ). begins p t ≡ false) e h
 
 pub name_cut : (text : List ℕ) → IsNamed text (take (prefix_len is_name_part text) text) (drop (prefix_len is_name_part text) text)
-name_cut text = record { parts = sym (take-append-drop (prefix_len is_name_part text) text); whole = list_all-front is_name_part text;
-    stop = starts is_name_part (drop (prefix_len is_name_part text) text) (begins-behind is_name_part text) }
+name_cut text = record {
+  parts = sym (take-append-drop (prefix_len is_name_part text) text);
+  whole = list_all-front is_name_part text;
+  stop = starts is_name_part (drop (prefix_len is_name_part text) text) (begins-behind is_name_part text);
+}
 
 -- two cuts of one text are one
 pub record SameCut (a b r s : List ℕ) : Type 0 where

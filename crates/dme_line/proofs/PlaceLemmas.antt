@@ -1,6 +1,6 @@
 -- A place is read in one way.
-use Rattle.std.proofs.Common.{◌≡◌, ℕ, List, length, Option, Some, None, Ok, Err, refl, ap, sym, subst, ◌∙◌, arith, ℤ, pos, codes, inl, inr,
-  MatchOption}
+use Rattle.std.proofs.Common.{◌≡◌, ℕ, List, length, Option, Some, None, Ok, Err, refl, ap, sym, subst, ◌∙◌, arith, ℤ, pos, codes, inl, inr}
+use Rattle.std.proofs.Common.{MatchOption}
 use Rattle.std.proofs.lemmas.Option.{same_Some}
 use Rattle.fixed_um.specs.Limits.{wire_limit, component_limit}
 use Rattle.fixed_um.specs.Numerals.{Reads, ReadsDirection}
@@ -8,8 +8,8 @@ use Rattle.fixed_um.specs.Shapes.{Direction}
 use Rattle.fixed_um.specs.declared.lengths.Point.{Point}
 use Rattle.fixed_um.specs.declared.numerals.NumeralFault.{NumeralFault}
 use Rattle.fixed_um.proofs.ReadLemmas.{one_reading}
-use Rattle.dme_line.specs.Arguments.{Argument, single_named, triple_named, IsAxis, IsAlong, IsTarget, HasIjk, IsPlace, list_tokens,
-  enclosed}
+use Rattle.dme_line.specs.Arguments.{Argument, single_named, triple_named, IsAxis, IsAlong, IsTarget, HasIjk, IsPlace, list_tokens}
+use Rattle.dme_line.specs.Arguments.{enclosed}
 use Rattle.dme_line.proofs.ArgumentLemmas.{same_arguments}
 use Rattle.dme_line.specs.Tokens.{Token}
 
@@ -52,7 +52,7 @@ direction_refused i j k d fault f (inr (inr g)) = not_refused 6 component_limit 
 direction_zero : (i j k : List ℕ) (d : Direction) → ReadsDirection i j k (Ok (Some d)) → ReadsDirection i j k (Ok None) → ⊥
 direction_zero i j k d f g =
     f.3.not_zero (one_length 6 component_limit i d.i (pos 0) f.0 g.0) (one_length 6 component_limit j d.j (pos 0) f.1 g.1)
-        (one_length 6 component_limit k d.k (pos 0) f.2 g.2)
+    (one_length 6 component_limit k d.k (pos 0) f.2 g.2)
 
 along_words : (args : List Argument) (words : List ℕ × List ℕ × List ℕ) (d : Direction) → Some words ≡ triple_named (codes "IJK") args
     → IsAlong args d → ReadsDirection words.0 words.1 words.2 (Ok (Some d))
@@ -115,8 +115,10 @@ pub record SamePlace (p q : Point) (d e : Option Direction) : Type 0 where
 
 pub one_place : (ts : List Token) (p q : Point) (d e : Option Direction) → IsPlace ts p d → IsPlace ts q e → SamePlace p q d e
 one_place ts p q d e f g =
-    record { target = one_target g.arguments p q (place_target ts g.arguments p d g.spelled f) g.target;
-        ijk = same_ijk g.arguments d e (place_ijk ts g.arguments p d g.spelled f) g.ijk }
+    record {
+      target = one_target g.arguments p q (place_target ts g.arguments p d g.spelled f) g.target;
+      ijk = same_ijk g.arguments d e (place_ijk ts g.arguments p d g.spelled f) g.ijk;
+    }
 
 -- a place with a direction is no place without one
 pub no_move : (ts : List Token) (p : Point) (d : Option Direction) → IsPlace ts p d → (d ≡ None → ⊥) → (q : Point) → IsPlace ts q None → ⊥

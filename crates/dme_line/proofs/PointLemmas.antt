@@ -32,7 +32,7 @@ one_point text p q f g =
     let y = subst (λ (w : List ℕ). Reads 3 wire_limit w (Ok p.y)) same.1 f.reads.y_reads in
     let z = subst (λ (w : List ℕ). Reads 3 wire_limit w (Ok p.z)) same.2 f.reads.z_reads in
     same_point p q (one_length 3 wire_limit g.x p.x q.x x g.reads.x_reads) (one_length 3 wire_limit g.y p.y q.y y g.reads.y_reads)
-        (one_length 3 wire_limit g.z p.z q.z z g.reads.z_reads)
+    (one_length 3 wire_limit g.z p.z q.z z g.reads.z_reads)
 
 one_fault : (a b : NotPoint) → a ≡ b
 one_fault a b = λ n. record {}

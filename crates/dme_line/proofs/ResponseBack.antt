@@ -1,6 +1,6 @@
 -- What is written of responses, points and errors can stand in a line, and reads back.
-use Rattle.std.proofs.Common.{◌≡◌, ℕ, ◌+◌, inl, List, [], ◌∷◌, ◌++◌, Option, Some, None, Ok, refl, ap, sym, subst, ◌∙◌, arith, codes,
-  append-nil}
+use Rattle.std.proofs.Common.{◌≡◌, ℕ, ◌+◌, inl, List, [], ◌∷◌, ◌++◌, Option, Some, None, Ok, refl, ap, sym, subst, ◌∙◌, arith, codes}
+use Rattle.std.proofs.Common.{append-nil}
 use Rattle.fixed_um.specs.declared.lengths.Point.{Point}
 use Rattle.fixed_um.specs.Written.{written}
 use Rattle.dme_line.specs.Words.{IsWireText, quoted}
@@ -10,8 +10,9 @@ use Rattle.dme_line.specs.Points.{written_point, IsOnWire, ReadsPoint}
 use Rattle.dme_line.specs.Responses.{data_response, written_mark, written_response, HasText, IsWritableResponse, IsMarkText, ReadsResponse}
 use Rattle.dme_line.specs.Errors.{text_of, numbered, said_of, error_text, error_name, error_report, written_error, error_response}
 use Rattle.dme_line.specs.declared.errors.ErrorNumber.{ErrorNumber}
-use Rattle.dme_line.specs.declared.errors.ErrorNumber.TheVariants.{NoTag, TagInUse, UnknownCommand, BadArguments, NoSession, SessionOpen,
-  Aborted, ErrorState, QueueFull, NotHomed, NoTool, UnknownTool, OutOfVolume, NoSurface, MachineFault}
+use Rattle.dme_line.specs.declared.errors.ErrorNumber.TheVariants.{NoTag, TagInUse, UnknownCommand, BadArguments, NoSession, SessionOpen}
+use Rattle.dme_line.specs.declared.errors.ErrorNumber.TheVariants.{Aborted, ErrorState, QueueFull, NotHomed, NoTool, UnknownTool}
+use Rattle.dme_line.specs.declared.errors.ErrorNumber.TheVariants.{OutOfVolume, NoSurface, MachineFault}
 use Rattle.dme_line.specs.declared.tags.Tag.{Tag}
 use Rattle.dme_line.specs.declared.commands.Kind.{Kind}
 use Rattle.dme_line.specs.declared.responses.Mark.{Mark}
@@ -41,7 +42,7 @@ mark-wire (Error text) h = wire_append 2 192 194 (codes "! ") text (record { fre
 pub response-wire : (r : Response) → IsWritableResponse r → IsWireText 200 (written_response r)
 response-wire r h =
     let mark = wire_append 1 194 195 (codes " ") (written_mark r.mark) (record { free = refl; short = omega arith })
-        (mark-wire r.mark h.texts) (omega arith) in
+    (mark-wire r.mark h.texts) (omega arith) in
     wire_append 5 195 200 (written_tag r.tag) (32 ∷ written_mark r.mark) (tag-wire r.tag) mark (omega arith)
 
 -- ---- points
@@ -109,31 +110,34 @@ error_text-wire code = said-wire (numbered code)
 pub report-wire : (code : ℕ) (kind : Option Kind) → IsWireText 57 (error_report code kind)
 report-wire code kind =
     let text = wire_append 17 1 18 (quoted (error_text code)) (codes ")") (quoted-wire 15 (error_text code) (error_text-wire code))
-        (record { free = refl; short = omega arith }) (omega arith) in
+    (record { free = refl; short = omega arith }) (omega arith) in
     let text_all = wire_append 2 18 20 (codes ", ") (quoted (error_text code) ++ codes ")") (record { free = refl; short = omega arith })
-        text (omega arith) in
+    text (omega arith) in
     let name = wire_append 22 20 42 (quoted (error_name kind)) (codes ", " ++ (quoted (error_text code) ++ codes ")"))
-        (quoted-wire 20 (error_name kind) (error_name-wire kind)) text_all (omega arith) in
+    (quoted-wire 20 (error_name kind) (error_name-wire kind)) text_all (omega arith) in
     let name_all = wire_append 2 42 44 (codes ", ") (quoted (error_name kind) ++ (codes ", " ++ (quoted (error_text code) ++ codes ")")))
-        (record { free = refl; short = omega arith }) name (omega arith) in
+    (record { free = refl; short = omega arith }) name (omega arith) in
     let number = wire_append 4 44 48 (four_digits code) (codes ", "
-        ++ (quoted (error_name kind) ++ (codes ", " ++ (quoted (error_text code) ++ codes ")")))) (four_digits-wire code) name_all
-        (omega arith) in
+    ++ (quoted (error_name kind) ++ (codes ", " ++ (quoted (error_text code) ++ codes ")")))) (four_digits-wire code) name_all
+    (omega arith) in
     wire_append 9 48 57 (codes "Error(3, ") (four_digits code ++ (codes ", "
-        ++ (quoted (error_name kind) ++ (codes ", " ++ (quoted (error_text code) ++ codes ")")))))
-        (record { free = refl; short = omega arith }) number (omega arith)
+    ++ (quoted (error_name kind) ++ (codes ", " ++ (quoted (error_text code) ++ codes ")")))))
+    (record { free = refl; short = omega arith }) number (omega arith)
 
 pub error-wire : (tag : Tag) (code : ℕ) (kind : Option Kind) → IsWireText 80 (written_error tag code kind)
 unfolding written_error
 error-wire tag code kind =
     let report = wire_append 3 57 60 (codes " ! ") (error_report code kind) (record { free = refl; short = omega arith })
-        (report-wire code kind) (omega arith) in
+    (report-wire code kind) (omega arith) in
     wire_append 5 60 80 (written_tag tag) (codes " ! " ++ error_report code kind) (tag-wire tag) report (omega arith)
 
 -- an error is a response that can be written, and reads back
 pub error_writable : (tag : Tag) (code : ℕ) (kind : Option Kind) → IsTag tag → IsWritableResponse (error_response tag code kind)
-error_writable tag code kind h = record { tagged = h; texts = wire_weaker 57 192 (error_report code kind) (omega arith)
-    (report-wire code kind) }
+error_writable tag code kind h = record {
+  tagged = h;
+  texts = wire_weaker 57 192 (error_report code kind) (omega arith)
+      (report-wire code kind);
+}
 
 pub error_reads_back : (tag : Tag) (code : ℕ) (kind : Option Kind) → IsTag tag
     → ReadsResponse (written_error tag code kind) (Ok (error_response tag code kind))

@@ -1,12 +1,12 @@
 -- The tokens of a text, from its front.
-use Rattle.std.proofs.Common.{◌≡◌, ◌≢◌, ℕ, suc, ◌+◌, ◌<◌, Bool, true, false, not, ◌||◌, cond, ◌⊎◌, inl, inr, List, [], ◌∷◌, ◌++◌, length,
-  take, drop, refl, ap, sym, subst, ◌∙◌, arith, take-append-drop}
+use Rattle.std.proofs.Common.{◌≡◌, ◌≢◌, ℕ, suc, ◌+◌, ◌<◌, Bool, true, false, not, ◌||◌, cond, ◌⊎◌, inl, inr, List, [], ◌∷◌, ◌++◌, length}
+use Rattle.std.proofs.Common.{take, drop, refl, ap, sym, subst, ◌∙◌, arith, take-append-drop}
 use Rattle.std.specs.Prelude.{◌==◌, ◌↔◌, IsTrue}
 use Rattle.std.specs.List.{list_all, prefix_len}
 use Rattle.std.proofs.lemmas.Bool.{and_parts, not-true, eqb-true, ne_eqb, false≢true, true≢false, or_cases}
 use Rattle.std.proofs.lemmas.List.Folds.{length-prefix_len}
-use Rattle.dme_line.specs.Tokens.{Token, Open, Close, Comma, Word, is_mark, mark_token, is_word_byte, begins_word, longer_word,
-  tokens_behind, tokens}
+use Rattle.dme_line.specs.Tokens.{Token, Open, Close, Comma, Word, is_mark, mark_token, is_word_byte, begins_word, longer_word}
+use Rattle.dme_line.specs.Tokens.{tokens_behind, tokens}
 
 -- one element more on a front
 one_more : (n : ℕ) → 1 + n ≡ suc n
@@ -184,8 +184,8 @@ word_first text some =
     let whole = take-append-drop n text in
     let long : 0 < length (take n text) = omega (arith, length-prefix_len is_word_byte text) in
     subst (λ (t : List ℕ). tokens t ≡ Word (take n text) ∷ tokens (drop n text)) whole
-        (tokens-word (take n text) (drop n text) (list_all-front is_word_byte text) long
-        (begins_word-is (drop n text) (begins-behind is_word_byte text)))
+    (tokens-word (take n text) (drop n text) (list_all-front is_word_byte text) long
+    (begins_word-is (drop n text) (begins-behind is_word_byte text)))
 
 -- ---- the same of a text whose spaces in front were skipped
 
@@ -204,5 +204,7 @@ cons_empty c cs e = cc
 pub is_end_by : (bytes text : List ℕ) (b : Bool) → tokens text ≡ tokens bytes → IsFlush text → b ≡ (length text == 0) → IsTrue b
     ↔ (tokens bytes ≡ [])
 is_end_by bytes [] b same flush is = (λ h. sym same, λ e. is)
-is_end_by bytes (c ∷ cs) b same flush is = (λ h. absurd (false≢true (sym (is ∙ long c cs) ∙ h)),
-    λ e. absurd (cons_empty c cs (no_tokens (c ∷ cs) flush (same ∙ e))))
+is_end_by bytes (c ∷ cs) b same flush is = (
+  λ h. absurd (false≢true (sym (is ∙ long c cs) ∙ h)),
+  λ e. absurd (cons_empty c cs (no_tokens (c ∷ cs) flush (same ∙ e))),
+)

@@ -1,6 +1,7 @@
 -- The name of a tool, in quotes or not.
-use Rattle.std.proofs.Common.{◌≡◌, ℕ, zero, suc, ◌-◌, ◌≤◌, Bool, true, false, ◌&&◌, cond, ◌⊎◌, inl, inr, List, [], ◌∷◌, ◌++◌, length, take,
-  drop, get_or, Option, Some, None, Result, Ok, Err, MatchOption, IfOk, refl, ap, sym, subst, ◌∙◌, arith, length-append}
+use Rattle.std.proofs.Common.{◌≡◌, ℕ, zero, suc, ◌-◌, ◌≤◌, Bool, true, false, ◌&&◌, cond, ◌⊎◌, inl, inr, List, [], ◌∷◌, ◌++◌, length, take}
+use Rattle.std.proofs.Common.{drop, get_or, Option, Some, None, Result, Ok, Err, MatchOption, IfOk, refl, ap, sym, subst, ◌∙◌, arith}
+use Rattle.std.proofs.Common.{length-append}
 use Rattle.std.specs.Prelude.{◌==◌, nat_le, slice_index, if◌then◌else◌}
 use Rattle.std.specs.declared.alloc.AllocError.{AllocError}
 use Rattle.std.specs.List.{list_all}
@@ -91,8 +92,11 @@ same_word ts v w e f = cc
 
 tool_cases : (ts : List Token) (word : List ℕ) (b : Bool) → is_name_text (bare_word word) ≡ b → IsOneWord ts word
     → MatchOption (cond b (Some (folded (bare_word word))) None) ((name : List ℕ) → IsTool ts name → ⊥) (λ name. IsTool ts name)
-tool_cases ts word true named spelled = record { word = word; spelled = spelled;
-    reads = record { bare = bare_word word; spelled = bare_spelled word (bare_word word) (bare_is word); named = named; is_folded = refl } }
+tool_cases ts word true named spelled = record {
+  word = word;
+  spelled = spelled;
+  reads = record { bare = bare_word word; spelled = bare_spelled word (bare_word word) (bare_is word); named = named; is_folded = refl };
+}
 tool_cases ts word false named spelled = λ name h.
     let same = same_word ts h.word word h.spelled spelled in
     let bare = same_bare h.word (bare_word h.word) h.reads.bare (bare_is h.word) h.reads.named h.reads.spelled in
@@ -105,6 +109,6 @@ pub tool_read : (ts : List Token) (word bare : List ℕ) (r : Result (Option (Li
 tool_read ts word bare (Err e) spelled is h = h
 tool_read ts word bare (Ok o) spelled is h =
     let same : o ≡ (if is_name_text (bare_word word) then Some (folded (bare_word word)) else None) = h
-        ∙ ap (λ (b : List ℕ). if is_name_text b then Some (folded b) else None) is in
+    ∙ ap (λ (b : List ℕ). if is_name_text b then Some (folded b) else None) is in
     subst (λ (x : Option (List ℕ)). MatchOption x ((name : List ℕ) → IsTool ts name → ⊥) (λ name. IsTool ts name)) (sym same)
-        (tool_cases ts word (is_name_text (bare_word word)) refl spelled)
+    (tool_cases ts word (is_name_text (bare_word word)) refl spelled)

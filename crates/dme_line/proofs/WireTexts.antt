@@ -1,6 +1,6 @@
 -- What is written can stand in a line, and its numerals and names are words.
-use Rattle.std.proofs.Common.{◌≡◌, ◌≢◌, ℕ, ◌+◌, ◌/◌, ◌^◌, ◌<◌, ◌≤◌, Bool, true, false, ◌&&◌, List, [], ◌∷◌, ◌++◌, length, refl, ap, sym,
-  ◌∙◌, arith, codes, length-append, ℤ, pos, negsuc}
+use Rattle.std.proofs.Common.{◌≡◌, ◌≢◌, ℕ, ◌+◌, ◌/◌, ◌^◌, ◌<◌, ◌≤◌, Bool, true, false, ◌&&◌, List, [], ◌∷◌, ◌++◌, length, refl, ap, sym}
+use Rattle.std.proofs.Common.{◌∙◌, arith, codes, length-append, ℤ, pos, negsuc}
 use Rattle.std.specs.Prelude.{◌==◌, nat_le, unsigned_abs, decimal}
 use Rattle.std.specs.List.{list_all}
 use Rattle.std.specs.Char.{digit_value}
@@ -25,8 +25,11 @@ use Rattle.dme_line.specs.declared.tags.Tag.TheVariants.{Std, Event}
 -- ---- texts one behind another
 
 pub wire_append : (m n k : ℕ) (a b : List ℕ) → IsWireText m a → IsWireText n b → m + n ≤ k → IsWireText k (a ++ b)
-wire_append m n k a b f g le = record { free = list_all-append is_content a b
-    ∙ and_from _ _ f.free g.free; short = omega (arith, length-append a b, f.short, g.short) }
+wire_append m n k a b f g le = record {
+  free = list_all-append is_content a b
+      ∙ and_from _ _ f.free g.free;
+  short = omega (arith, length-append a b, f.short, g.short);
+}
 
 -- a text of a word's bytes is one of a line
 all_weaker : (p q : ℕ → Bool) (xs : List ℕ) → ((c : ℕ) → p c ≡ true → q c ≡ true) → list_all p xs ≡ true → list_all q xs ≡ true
@@ -122,8 +125,11 @@ pub four_digits-wire : (n : ℕ) → IsWireText 4 (four_digits n)
 four_digits-wire n = record { free = all_weaker is_plain is_content (four_digits n) plain_content (four-plain n); short = omega arith }
 
 pub tag-wire : (t : Tag) → IsWireText 5 (written_tag t)
-tag-wire (Std n) = record { free = and_from _ _ (plain_content (last_digit (n / 10000)) (last_digit-plain (n / 10000)))
-    (four_digits-wire n).free; short = omega arith }
+tag-wire (Std n) = record {
+  free = and_from _ _ (plain_content (last_digit (n / 10000)) (last_digit-plain (n / 10000)))
+      (four_digits-wire n).free;
+  short = omega arith;
+}
 tag-wire (Event n) = record { free = and_from _ _ refl (four_digits-wire n).free; short = omega arith }
 
 pub point-wire : (p : Point) → IsOnWire p → IsWireText 49 (written_point p)
@@ -134,14 +140,14 @@ point-wire p h =
     let end : IsWireText 1 (codes ")") = record { free = refl; short = omega arith } in
     let z_text = wire_append 12 1 13 (written p.z) (codes ")") z end (omega arith) in
     let z_all = wire_append 5 13 18 (codes "), Z(") (written p.z ++ codes ")") (record { free = refl; short = omega arith }) z_text
-        (omega arith) in
+    (omega arith) in
     let y_text = wire_append 12 18 30 (written p.y) (codes "), Z(" ++ (written p.z ++ codes ")")) y z_all (omega arith) in
     let y_all = wire_append 5 30 35 (codes "), Y(") (written p.y ++ (codes "), Z(" ++ (written p.z ++ codes ")")))
-        (record { free = refl; short = omega arith }) y_text (omega arith) in
+    (record { free = refl; short = omega arith }) y_text (omega arith) in
     let x_text = wire_append 12 35 47 (written p.x) (codes "), Y(" ++ (written p.y ++ (codes "), Z(" ++ (written p.z ++ codes ")")))) x
-        y_all (omega arith) in
+    y_all (omega arith) in
     wire_append 2 47 49 (codes "X(") (written p.x ++ (codes "), Y(" ++ (written p.y ++ (codes "), Z(" ++ (written p.z ++ codes ")")))))
-        (record { free = refl; short = omega arith }) x_text (omega arith)
+    (record { free = refl; short = omega arith }) x_text (omega arith)
 
 name_not : (m b : ℕ) → b ≡ m → is_name_byte m ≡ false → is_name_byte b ≡ true → ⊥
 name_not m b e f h = false≢true (sym f ∙ ap is_name_byte (sym e) ∙ h)
@@ -177,6 +183,8 @@ name-word name h =
     let free = all_weaker is_name_byte is_content name name_content q.1 in
     record {
       words = and_from _ _ refl (list_all-append is_word_byte name (34 ∷ []) ∙ and_from _ _ words refl);
-      wire = record { free = and_from _ _ refl (list_all-append is_content name (34 ∷ []) ∙ and_from _ _ free refl);
-          short = omega (arith, short, length-append name (34 ∷ [])) };
+      wire = record {
+        free = and_from _ _ refl (list_all-append is_content name (34 ∷ []) ∙ and_from _ _ free refl);
+        short = omega (arith, short, length-append name (34 ∷ []));
+      };
     }

@@ -6,8 +6,9 @@ use Rattle.dme_line.specs.Kinds.{kind_name}
 use Rattle.dme_line.specs.declared.tags.Tag.{Tag}
 use Rattle.dme_line.specs.declared.commands.Kind.{Kind}
 use Rattle.dme_line.specs.declared.errors.ErrorNumber.{ErrorNumber}
-use Rattle.dme_line.specs.declared.errors.ErrorNumber.TheVariants.{NoTag, TagInUse, UnknownCommand, BadArguments, NoSession, SessionOpen,
-  Aborted, ErrorState, QueueFull, NotHomed, NoTool, UnknownTool, OutOfVolume, NoSurface, MachineFault}
+use Rattle.dme_line.specs.declared.errors.ErrorNumber.TheVariants.{NoTag, TagInUse, UnknownCommand, BadArguments, NoSession, SessionOpen}
+use Rattle.dme_line.specs.declared.errors.ErrorNumber.TheVariants.{Aborted, ErrorState, QueueFull, NotHomed, NoTool, UnknownTool}
+use Rattle.dme_line.specs.declared.errors.ErrorNumber.TheVariants.{OutOfVolume, NoSurface, MachineFault}
 use Rattle.dme_line.specs.declared.responses.Mark.TheVariants.{Error}
 use Rattle.dme_line.specs.declared.responses.Response.{Response}
 

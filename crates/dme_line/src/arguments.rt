@@ -57,7 +57,7 @@ pub(crate) fn is_closed(bytes: &[u8]) -> bool
 fn take_next(bytes: &[u8]) -> Option<(Argument<'_>, &[u8])>
     ensures { MatchOption result
         ((a : GivenArgument) (ts : List Token) → tokens bytes.now ≡ Comma
-            ∷ (argument_tokens a ++ ts) → ⊥)
+        ∷ (argument_tokens a ++ ts) → ⊥)
         (λ p. tokens bytes.now ≡ Comma ∷ (argument_tokens (the_argument p.0) ++ tokens p.1.now)) }
 {
     take_argument(take_mark(bytes, b',')?)
@@ -67,7 +67,7 @@ fn take_next(bytes: &[u8]) -> Option<(Argument<'_>, &[u8])>
 pub(crate) fn read_place(bytes: &[u8]) -> Option<Place<'_>>
     ensures { MatchOption result
         ((arguments : List GivenArgument) → IsPlaceLong arguments
-            → tokens bytes.now ≡ enclosed (list_tokens arguments) → ⊥)
+        → tokens bytes.now ≡ enclosed (list_tokens arguments) → ⊥)
         (λ p. tokens bytes.now ≡ enclosed (list_tokens (the_list p))) }
 {
     let (first, rest) = take_argument(take_mark(bytes, b'(')?)?;

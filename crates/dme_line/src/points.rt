@@ -50,7 +50,7 @@ pub fn write_point(out: &mut Vec<u8>, point: Point) -> Result<(), AllocError>
 fn take_axis(bytes: &[u8], letter: u8) -> Option<(&[u8], &[u8])>
     ensures { MatchOption result
         ((word : List ℕ) (ts : List Token) → tokens bytes.now
-            ≡ argument_tokens (Single (letter ∷ []) word) ++ ts → ⊥)
+        ≡ argument_tokens (Single (letter ∷ []) word) ++ ts → ⊥)
         (λ p. tokens bytes.now ≡ argument_tokens (Single (letter ∷ []) p.0.now) ++ tokens p.1.now) }
 {
     match take_argument(bytes)? {

@@ -17,9 +17,9 @@ use std::alloc::{AllocError, Global};
 fn take_empty_axis<'a>(bytes: &'a [u8], name: &[u8]) -> Option<&'a [u8]>
     ensures { MatchOption result
         ((w : List ℕ) (ts : List Token) → tokens bytes.now ≡ Word w ∷ Open ∷ Close ∷ ts
-            → is_word name.now w ≡ true → ⊥)
+        → is_word name.now w ≡ true → ⊥)
         (λ rest. (w : List ℕ) × (tokens bytes.now ≡ Word w ∷ Open ∷ Close ∷ tokens rest.now)
-            × (is_word name.now w ≡ true)) }
+        × (is_word name.now w ≡ true)) }
 {
     let (own, rest) = take_word(bytes)?;
     if !is_word(name, own) {

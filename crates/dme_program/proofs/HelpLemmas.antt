@@ -1,19 +1,19 @@
 -- Words without a fault do not call for help: a walk over them does not stop at `help`, and it stops at a subcommand.
-use Rattle.std.proofs.Common.{◌≡◌, ℕ, Bool, true, false, ◌||◌, List, [], ◌∷◌, fold, Option, Some, None, is_some, option_map, find, codes,
-  length, cond, refl, arith, true≢false, ap, sym, ◌∙◌}
+use Rattle.std.proofs.Common.{◌≡◌, ℕ, Bool, true, false, ◌||◌, List, [], ◌∷◌, fold, Option, Some, None, is_some, option_map, find, codes}
+use Rattle.std.proofs.Common.{length, cond, refl, arith, true≢false, ap, sym, ◌∙◌}
 use Rattle.std.specs.Str.{bytes_eq}
 use Rattle.std.proofs.lemmas.Option.{none-some, same_Some}
 use Rattle.std.proofs.lemmas.Slice.Eq.{bytes_eq-Decides}
 use Rattle.std.specs.List.{list_any}
 use Rattle.clap.specs.Lexer.{long_of, short_of}
-use Rattle.clap.specs.Walk.{Held, Names, Outcome, Row, Rule, Step, Text, Waiting, Walk, after_flag, settled, answers_to, finished,
-  nothing_held, walk, walk_from, after_step, arg_by_index, arg_by_long, bundle, done, idle, long_met, long_or_other, next, option, plain,
-  plain_word, positional, refused, short_or_plain, subcommand, subcommand_met, subcommand_or_other, to_positional, trailing, value, waits,
-  walked, walked_from, word_met}
+use Rattle.clap.specs.Walk.{Held, Names, Outcome, Row, Rule, Step, Text, Waiting, Walk, after_flag, settled, answers_to, finished}
+use Rattle.clap.specs.Walk.{nothing_held, walk, walk_from, after_step, arg_by_index, arg_by_long, bundle, done, idle, long_met}
+use Rattle.clap.specs.Walk.{long_or_other, next, option, plain, plain_word, positional, refused, short_or_plain, subcommand, subcommand_met}
+use Rattle.clap.specs.Walk.{subcommand_or_other, to_positional, trailing, value, waits, walked, walked_from, word_met}
 use Rattle.clap.specs.Kinds.{Kinds, or_else}
 use Rattle.clap.specs.Simple.{App, Shape, argument_words, built, entered, label_of, names_of, rows_at, subcommand_of}
-use Rattle.clap.specs.Faults.{check_fault, defaults_fault, settle_fault, entered_fault, fault_of, level_fault, other_fault, step_fault,
-  turn_fault, walk_fault, word_fault}
+use Rattle.clap.specs.Faults.{check_fault, defaults_fault, settle_fault, entered_fault, fault_of, level_fault, other_fault, step_fault}
+use Rattle.clap.specs.Faults.{turn_fault, walk_fault, word_fault}
 use Rattle.dme_program.specs.CommandLine.{whole_line}
 use Rattle.clap.specs.declared.error.kind.ErrorKind.TheVariants as kind
 
@@ -100,7 +100,7 @@ turn_stops s names w word (Some p) is on before none =
 turn_stops s names w word None is on before none =
     let met = word_met s.rules names w.is_trailing w.waiting w.position word w.held in
     let free : or_else (word_fault s names w.is_trailing w.waiting word w.held) (step_fault s w.position met.0 met.1) ≡ [] = rw is at none
-        in
+    in
     step_stops s.rules word w met.0 met.1 is (word_step s names w.is_trailing w.waiting w.position word w.held on (first_none _ _ free))
 
 -- words without a fault

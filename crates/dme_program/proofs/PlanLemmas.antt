@@ -1,6 +1,6 @@
 -- Numbers that are counted on.
-use Rattle.std.proofs.Common.{◌≡◌, ℕ, ◌+◌, ◌%◌, Bool, true, false, cond, ◌==◌, ◌<◌, length, length-append, List, [], ◌∷◌, ◌++◌, refl, ap,
-  ◌∙◌, arith, append_assoc}
+use Rattle.std.proofs.Common.{◌≡◌, ℕ, ◌+◌, ◌%◌, Bool, true, false, cond, ◌==◌, ◌<◌, length, length-append, List, [], ◌∷◌, ◌++◌, refl, ap}
+use Rattle.std.proofs.Common.{◌∙◌, arith, append_assoc}
 use Rattle.std.proofs.lemmas.Bool.{eqb-true, eqb-false}
 use Rattle.dme_line.specs.declared.tags.Tag.TheVariants.{Std}
 use Rattle.dme_line.specs.Written.{written_command}

@@ -1,10 +1,10 @@
 -- The order of a subcommand, from its name and its values.
-use Rattle.std.proofs.Common.{◌≡◌, Result, Ok, Err, IfOk, IfErr, OnOk, inl, inr, List, [], subst, Option, Some, None, option_map, codes,
-  refl, ap, ◌∙◌}
+use Rattle.std.proofs.Common.{◌≡◌, Result, Ok, Err, IfOk, IfErr, OnOk, inl, inr, List, [], subst, Option, Some, None, option_map, codes}
+use Rattle.std.proofs.Common.{refl, ap, ◌∙◌}
 use Rattle.std.specs.Prelude.{IsErrAnd, ◌≢◌}
 use Rattle.std.proofs.lemmas.Option.{none-some, same_Some}
-use Rattle.clap.specs.Words.{App, FailsBy, IsAmong, is_simple, subcommand_of, HasKind, kind_of, HasMatchesOf, Row, Text, fault_of,
-  first_value, rows_of, subcommand_name_of, subcommand_rows_of}
+use Rattle.clap.specs.Words.{App, FailsBy, IsAmong, is_simple, subcommand_of, HasKind, kind_of, HasMatchesOf, Row, Text, fault_of}
+use Rattle.clap.specs.Words.{first_value, rows_of, subcommand_name_of, subcommand_rows_of}
 use Rattle.clap.specs.declared.parser.matches.ArgMatches.{ArgMatches}
 use Rattle.clap.specs.declared.parser.matches.ArgMatches.TheViews.{out-ArgMatches}
 use Rattle.clap.specs.declared.parser.matches.Found.{Found}
@@ -34,9 +34,11 @@ pub by_rows : (found : Option (Text × List Row)) (values : Found) (order : Orde
     → IsCheckOf (first_value values (codes "setup")) (first_value values (codes "PROGRAM")) order
     → IsOrderOf found order
 by_rows None values order name rows is = none-some _ name
-by_rows (Some p) values order name rows is =
-    (same_Some _ _ name, rw (← same_Some _ _ rows, ← first_value-rows values (codes "setup"), ← first_value-rows values (codes "PROGRAM"))
-        is)
+by_rows (Some p) values order name rows is = (
+  same_Some _ _ name,
+  rw (← same_Some _ _ rows, ← first_value-rows values (codes "setup"), ← first_value-rows values (codes "PROGRAM"))
+      is,
+)
 
 -- a parse of a command that is `dme`'s has no fault, and finds `check`
 pub found_check : (a : App) (words : List Text) (m : ArgMatches) → a ≡ whole_line
@@ -44,7 +46,7 @@ pub found_check : (a : App) (words : List Text) (m : ArgMatches) → a ≡ whole
     → subcommand_name_of m ≡ Some (codes "check")
 found_check a words m is none has =
     name_beside_rows m ∙ ap (option_map (λ (p : Text × List Row). p.0)) ((has (ap is_simple is ∙ refl)).1
-        ∙ ap (λ (x : App). subcommand_of x words) is) ∙ check_named words (subst (λ (x : App). fault_of x words ≡ []) is none)
+    ∙ ap (λ (x : App). subcommand_of x words) is) ∙ check_named words (subst (λ (x : App). fault_of x words ≡ []) is none)
 
 -- the same of an answer of either kind
 pub names_check : (a : App) (words : List Text) (answer : Result ArgMatches Error) → a ≡ whole_line
@@ -66,10 +68,14 @@ pub asked_or_refused : (a : App) (words : List Text) (answer : Result ArgMatches
     → OnOk answer (IfErr result (λ fault. fault ≡ Memory))
     → IfErr answer (λ error. IsErrAnd result (IsCalled error))
     → IfOk result (Asks words) × IfErr result (IsRefusal words)
-asked_or_refused a words (Ok m) (Ok order) is none has order_is taken called =
-    (record { faultless = subst (λ (x : App). fault_of x words ≡ []) is none;
-        named = subst (λ (found : Option (Text × List Row)). IsOrderOf found order) ((has (ap is_simple is ∙ refl)).1
-        ∙ ap (λ (x : App). subcommand_of x words) is) order_is }, tt)
+asked_or_refused a words (Ok m) (Ok order) is none has order_is taken called = (
+  record {
+    faultless = subst (λ (x : App). fault_of x words ≡ []) is none;
+    named = subst (λ (found : Option (Text × List Row)). IsOrderOf found order) ((has (ap is_simple is ∙ refl)).1
+        ∙ ap (λ (x : App). subcommand_of x words) is) order_is;
+  },
+  tt,
+)
 asked_or_refused a words (Ok m) (Err fault) is none has order_is taken called = (tt, rw taken tt)
 asked_or_refused a words (Err error) (Ok order) is kinds has order_is taken called = absurd called
 asked_or_refused a words (Err error) (Err (Line told)) is kinds has order_is taken called =

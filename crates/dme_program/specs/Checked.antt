@@ -36,9 +36,9 @@ pub record PrintsFront (frames : List (List ℕ × Point)) (input : List ℕ) (o
 
 -- the whole input was read, and this is its first refusal with its line
 pub record IsRefused (frames : List (List ℕ × Point)) (left : Option (List ℕ)) (refusal : Refusal) (line : ℕ) (input : List ℕ) : Type 0
-    where
-  pub read : left ≡ Some []
-  pub refused : program_of frames input ≡ Err (refusal, line)
+  where
+    pub read : left ≡ Some []
+    pub refused : program_of frames input ≡ Err (refusal, line)
 
 -- a program is blamed only for its first refusal, where the input is known; want of memory is never called a refusal
 abbrev pub BlamesProgram : List (List ℕ × Point) → Option (List ℕ) → Option (List ℕ) → CheckFault → Type 0

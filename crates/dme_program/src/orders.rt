@@ -92,7 +92,7 @@ pub fn check_under_setup<S: Source, R: Source, W: Sink>(
     ensures front { IsErrOf result (OrderFault.Check CheckFault.Write)
         → Under (option_map S.left setup.old)
         (λ frames. IfSome (R.left program.old) (λ input. PrintsFront frames input (W.taken sink.old)
-            (W.taken sink.new))) }
+        (W.taken sink.new))) }
     ensures silent { IfErr result (UnlessUnwritten (sink.new ≡ sink.old)) }
 {
     match setup {

@@ -18,7 +18,7 @@ pub next_standard : (o : Opened) (kind : Kind) (s : Sort) (hs : List Held) (d : 
     → hs ≡ o.standard → d ≡ o.drawn → tagged (numbered sort.Standard) (next_number (numbered sort.Standard) hs d) ≡ r → next_tag o kind ≡ r
 next_standard o kind s hs d r same is held last e =
     ap (λ (b : Bool). cond b (tagged Event (next_number Event o.event o.event_drawn)) (tagged Std (next_number Std o.standard o.drawn)))
-        (sym same ∙ ap is_event_sort is)
+    (sym same ∙ ap is_event_sort is)
     ∙ ap (λ (gs : List Held). tagged Std (next_number Std gs o.drawn)) (sym held)
     ∙ ap (λ (n : ℕ). tagged Std (next_number Std hs n)) (sym last) ∙ e
 
@@ -27,7 +27,7 @@ pub next_event : (o : Opened) (kind : Kind) (s : Sort) (hs : List Held) (d : ℕ
     → hs ≡ o.event → d ≡ o.event_drawn → tagged (numbered sort.Event) (next_number (numbered sort.Event) hs d) ≡ r → next_tag o kind ≡ r
 next_event o kind s hs d r same is held last e =
     ap (λ (b : Bool). cond b (tagged Event (next_number Event o.event o.event_drawn)) (tagged Std (next_number Std o.standard o.drawn)))
-        (sym same ∙ ap is_event_sort is)
+    (sym same ∙ ap is_event_sort is)
     ∙ ap (λ (gs : List Held). tagged Event (next_number Event gs o.event_drawn)) (sym held)
     ∙ ap (λ (n : ℕ). tagged Event (next_number Event hs n)) (sym last) ∙ e
 

@@ -1,6 +1,6 @@
 -- Which mark is taken in and which refusal is due, by what is held under the tag.
-use Rattle.std.proofs.Common.{◌≡◌, ◌↔◌, ◌⊎◌, inl, inr, Bool, true, false, cond, not, ◌&&◌, ℕ, List, [], ◌∷◌, Option, Some, None, Result, Ok,
-  Err, refl, sym, ◌∙◌, ap, subst}
+use Rattle.std.proofs.Common.{◌≡◌, ◌↔◌, ◌⊎◌, inl, inr, Bool, true, false, cond, not, ◌&&◌, ℕ, List, [], ◌∷◌, Option, Some, None, Result, Ok}
+use Rattle.std.proofs.Common.{Err, refl, sym, ◌∙◌, ap, subst}
 use Rattle.std.specs.Prelude.{IsOk, IsErrOf, IfOk, IfErr}
 use Rattle.std.proofs.lemmas.Bool.{false≢true, and_parts}
 use Rattle.fixed_um.specs.declared.lengths.Point.{Point}
@@ -9,8 +9,8 @@ use Rattle.dme_line.specs.declared.tags.Tag.TheVariants.{Std, Event}
 use Rattle.dme_line.specs.declared.commands.Kind.{Kind}
 use Rattle.dme_line.specs.declared.commands.Kind.TheVariants as kind
 use Rattle.protocol_model.specs.Replies.{Mark, tag_is}
-use Rattle.protocol_model.specs.Open.{Verdict, Becomes, Breaks, Closes, Counts, Refused, Effect, Heard, asks_data, is_failed, heard_in,
-  judged, judged_ack, judged_given, judged_done, judged_error, put_before, settled}
+use Rattle.protocol_model.specs.Open.{Verdict, Becomes, Breaks, Closes, Counts, Refused, Effect, Heard, asks_data, is_failed, heard_in}
+use Rattle.protocol_model.specs.Open.{judged, judged_ack, judged_given, judged_done, judged_error, put_before, settled}
 use Rattle.protocol_model.specs.Ends.{held_kind}
 use Rattle.protocol_model.specs.declared.held.Held.{Held}
 use Rattle.protocol_model.specs.declared.held.Stage.{Stage}
@@ -330,9 +330,10 @@ second_due (Some (k, s)) b p = (only, all)
   where
     only : refusal_of (judged_given (b && asks_data k) s p) ≡ Some cause.SecondData
         → ((q : Point) × (◌≡◌ {A = Standing} (Some (k, s)) (OfTouch (Stage.Given q)))) × (b ≡ true)
-    only e = let both = data_second (b && asks_data k) s p e in let parts = and_parts b (asks_data k) both.0 in
-        ((both.1.0, ap (λ (x : Stage). Some (k, x)) both.1.1 ∙ ap (λ (x : Kind). Some (x, Stage.Given both.1.0)) (touch_only k parts.1)),
-            parts.0)
+    only e = let both = data_second (b && asks_data k) s p e in let parts = and_parts b (asks_data k) both.0 in (
+      (both.1.0, ap (λ (x : Stage). Some (k, x)) both.1.1 ∙ ap (λ (x : Kind). Some (x, Stage.Given both.1.0)) (touch_only k parts.1)),
+      parts.0,
+    )
 
     all : ((q : Point) × (◌≡◌ {A = Standing} (Some (k, s)) (OfTouch (Stage.Given q)))) × (b ≡ true)
         → refusal_of (judged_given (b && asks_data k) s p) ≡ Some cause.SecondData
@@ -395,7 +396,7 @@ agrees_standard {T} o failed hs gs t n m e (Ok x) is bad held ok refused =
     ∙ (ap (λ (u : Tag). refusal_in (heard_in (not failed) hs u m)) (sym is) ∙ ap refusal_in ok)))))
 agrees_standard {T} o failed hs gs t n m e (Err f) is bad held ok refused =
     fits_err T o t m f (refused_standard o hs t n m (cause_of f) is held
-        (subst (λ (b : Bool). IsRefused (heard_in (not b) hs t m) (cause_of f)) bad refused))
+    (subst (λ (b : Bool). IsRefused (heard_in (not b) hs t m) (cause_of f)) bad refused))
 
 pub agrees_event : {T : Type 0} (o : Opened) (hs gs : List Held) (t : Tag) (n : ℕ) (m : Mark) (e : T → Effect) (r : Result T TagFault)
     → t ≡ Event n → hs ≡ o.event

@@ -1,14 +1,14 @@
 -- Which end of a command is due, and which refusal.
-use Rattle.std.proofs.Common.{◌≡◌, ◌↔◌, ◌⊎◌, inl, inr, ℕ, Bool, true, false, cond, not, ◌&&◌, List, [], ◌∷◌, Option, Some, None, Result, Ok,
-  Err, refl, sym, ◌∙◌, ap, subst}
+use Rattle.std.proofs.Common.{◌≡◌, ◌↔◌, ◌⊎◌, inl, inr, ℕ, Bool, true, false, cond, not, ◌&&◌, List, [], ◌∷◌, Option, Some, None, Result, Ok}
+use Rattle.std.proofs.Common.{Err, refl, sym, ◌∙◌, ap, subst}
 use Rattle.std.specs.Prelude.{IsOk, IsErrOf, IfOk, IfErr}
 use Rattle.fixed_um.specs.declared.lengths.Point.{Point}
 use Rattle.dme_line.specs.declared.tags.Tag.{Tag}
 use Rattle.dme_line.specs.declared.tags.Tag.TheVariants.{Std, Event}
 use Rattle.dme_line.specs.declared.commands.Kind.{Kind}
 use Rattle.protocol_model.specs.Replies.{Mark, tag_is}
-use Rattle.protocol_model.specs.Open.{Verdict, Becomes, Breaks, Closes, Counts, Refused, Effect, Heard, asks_data, is_failed, heard_in,
-  judged, judged_done, put_before, settled}
+use Rattle.protocol_model.specs.Open.{Verdict, Becomes, Breaks, Closes, Counts, Refused, Effect, Heard, asks_data, is_failed, heard_in}
+use Rattle.protocol_model.specs.Open.{judged, judged_done, put_before, settled}
 use Rattle.protocol_model.specs.declared.held.Held.{Held}
 use Rattle.protocol_model.specs.declared.held.Stage.{Stage}
 use Rattle.protocol_model.specs.declared.states.Cause.{Cause}
@@ -23,9 +23,9 @@ use Rattle.dme_tags.specs.declared.endings.Ended.{Ended}
 use Rattle.dme_tags.specs.declared.endings.Ended.TheVariants as ended
 use Rattle.dme_tags.proofs.Refusals.{refused_standard, refused_event}
 use Rattle.dme_tags.proofs.Effects.{standard_effect, event_effect}
-use Rattle.dme_tags.proofs.Dues.{Standing, OfTouch, Agrees, IsSaid, and_assoc, and_true, compose, err_exactly, fault_for, fits_err,
-  named_by, next_all, next_iff, next_only, none_some, ok_exactly, refusal_of, refusal_under, touch_only, agrees_standard, agrees_event,
-  unknown_exactly}
+use Rattle.dme_tags.proofs.Dues.{Standing, OfTouch, Agrees, IsSaid, and_assoc, and_true, compose, err_exactly, fault_for, fits_err}
+use Rattle.dme_tags.proofs.Dues.{named_by, next_all, next_iff, next_only, none_some, ok_exactly, refusal_of, refusal_under, touch_only}
+use Rattle.dme_tags.proofs.Dues.{agrees_standard, agrees_event, unknown_exactly}
 
 -- ---- the effect of a mark
 
@@ -233,7 +233,7 @@ ends_agrees o t (Err f) h = h
 ended_is : (x : Ended) (k : Kind) (given : Option Point) → effect_of x ≡ Effect.Count k given → x ≡ ended.Counted k given
 ended_is (ended.Counted j other) k given e =
     let same : j ≡ k = cc in let at : other ≡ given = cc in ap (λ (i : Kind). ended.Counted i other) same
-        ∙ ap (λ (q : Option Point). ended.Counted k q) at
+    ∙ ap (λ (q : Option Point). ended.Counted k q) at
 ended_is ended.Closed k given e = absurd (cc)
 
 closed_is : (x : Ended) → effect_of x ≡ Effect.Quiet → x ≡ ended.Closed
@@ -248,16 +248,21 @@ said_where_none due (Some why) h none = none_some why due h none
 end_exactly : (o : Opened) (t : Tag) (r : Result Ended TagFault) (x : Ended) → ((y : Ended) → effect_of y ≡ effect_of x → y ≡ x)
     → Ends o t r
     → (r ≡ Ok x) ↔ (effect_under (standing t o) (is_next t o) Mark.Done ≡ Some (effect_of x))
-end_exactly o t (Ok y) x only h = (λ e. h ∙ ap (λ (z : Ended). Some (effect_of z)) (same e),
-    λ e. ap (λ (z : Ended). Ok z) (only y (effects (sym h ∙ e))))
+end_exactly o t (Ok y) x only h = (
+  λ e. h ∙ ap (λ (z : Ended). Some (effect_of z)) (same e),
+  λ e. ap (λ (z : Ended). Ok z) (only y (effects (sym h ∙ e))),
+)
   where
     same : ◌≡◌ {A = Result Ended TagFault} (Ok y) (Ok x) → y ≡ x
     same e = cc
 
     effects : ◌≡◌ {A = Option Effect} (Some (effect_of y)) (Some (effect_of x)) → effect_of y ≡ effect_of x
     effects e = cc
-end_exactly o t (Err f) x only h = (λ e. absurd (apart e), λ e. absurd
-    (said_where_none _ (cause_of f) h (effect_taken (standing t o) (is_next t o) Mark.Done (effect_of x) e)))
+end_exactly o t (Err f) x only h = (
+  λ e. absurd (apart e),
+  λ e. absurd
+      (said_where_none _ (cause_of f) h (effect_taken (standing t o) (is_next t o) Mark.Done (effect_of x) e)),
+)
   where
     apart : ◌≡◌ {A = Result Ended TagFault} (Err f) (Ok x) → ⊥
     apart e = cc
@@ -302,7 +307,7 @@ ends_standard o failed hs t n (Ok x) is bad held ok refused =
     ∙ (ap (λ (u : Tag). effect_heard (heard_in (not failed) hs u Mark.Done)) (sym is) ∙ ok))))
 ends_standard o failed hs t n (Err f) is bad held ok refused =
     fits_err Ended o t Mark.Done f (refused_standard o hs t n Mark.Done (cause_of f) is held
-        (subst (λ (b : Bool). IsRefused (heard_in (not b) hs t Mark.Done) (cause_of f)) bad refused))
+    (subst (λ (b : Bool). IsRefused (heard_in (not b) hs t Mark.Done) (cause_of f)) bad refused))
 
 pub ends_event : (o : Opened) (hs : List Held) (t : Tag) (n : ℕ) (r : Result Ended TagFault) → t ≡ Event n → hs ≡ o.event
     → IfOk r (λ x. effect_heard (heard_in true hs t Mark.Done) ≡ Some (effect_of x))

@@ -1,6 +1,6 @@
 -- The marks that are taken in under a tag between its draw and its `%`.
-use Rattle.std.proofs.Common.{◌≡◌, ℕ, ◌-◌, Bool, true, false, cond, not, ◌&&◌, List, [], ◌∷◌, ◌++◌, Option, Some, None, Ok, Err, refl, sym,
-  ◌∙◌, ap, subst}
+use Rattle.std.proofs.Common.{◌≡◌, ℕ, ◌-◌, Bool, true, false, cond, not, ◌&&◌, List, [], ◌∷◌, ◌++◌, Option, Some, None, Ok, Err, refl, sym}
+use Rattle.std.proofs.Common.{◌∙◌, ap, subst}
 use Rattle.std.proofs.lemmas.Bool.{true≢false}
 use Rattle.fixed_um.specs.declared.lengths.Point.{Point}
 use Rattle.dme_line.specs.Kinds.{is_event_kind}
@@ -8,8 +8,8 @@ use Rattle.dme_line.specs.declared.tags.Tag.{Tag}
 use Rattle.dme_line.specs.declared.tags.Tag.TheVariants.{Std, Event}
 use Rattle.dme_line.specs.declared.commands.Kind.{Kind}
 use Rattle.protocol_model.specs.Replies.{Mark, tag_is}
-use Rattle.protocol_model.specs.Open.{Verdict, Becomes, Breaks, Closes, Counts, Refused, Effect, Heard, asks_data, heard_in, is_failed,
-  is_held, judged, judged_ack, judged_given, judged_done, judged_error}
+use Rattle.protocol_model.specs.Open.{Verdict, Becomes, Breaks, Closes, Counts, Refused, Effect, Heard, asks_data, heard_in, is_failed}
+use Rattle.protocol_model.specs.Open.{is_held, judged, judged_ack, judged_given, judged_done, judged_error}
 use Rattle.protocol_model.specs.Client.{held_now, next_number}
 use Rattle.protocol_model.specs.Language.{Placed, marks_of, IsRepliesFront, AreAtFront, Goes, Accepts}
 use Rattle.protocol_model.specs.declared.held.Held.{Held}
@@ -18,8 +18,8 @@ use Rattle.protocol_model.proofs.table.Basics.{if_true, if_false, tag_is-refl, t
 use Rattle.protocol_model.proofs.table.Drawing.{drawn}
 use Rattle.protocol_model.proofs.table.Speaking.{accepts_only}
 use Rattle.protocol_model.proofs.table.Walks.{heard_cases, staged, two}
-use Rattle.dme_tags.specs.Calls.{Call, Draw, Received, Data, Failed, Complete, BeginPlan, behind_answer, behind_draw, answered, placed,
-  taken_under, until_end}
+use Rattle.dme_tags.specs.Calls.{Call, Draw, Received, Data, Failed, Complete, BeginPlan, behind_answer, behind_draw, answered, placed}
+use Rattle.dme_tags.specs.Calls.{taken_under, until_end}
 use Rattle.dme_tags.specs.Opened.{Opened, Answer, heard, heard_standard, heard_event, failed_behind, is_next, next_tag, tagged, with_drawn}
 use Rattle.dme_tags.specs.Places.{ahead_of, all_failed}
 use Rattle.dme_tags.specs.Standing.{standing_in, standing}
@@ -67,7 +67,7 @@ moved front (h ∷ hs) gs t m e k s is st =
     ∙ ap (λ (b : Bool). judged b k s m) (sym (and_assoc front (is_failed h.stage) (all_failed (ahead_of t hs)))))
     (ap (standing_in t) g ∙ if_false {A = Standing} (tag_is h.tag t) (Some (h.kind, h.stage)) (standing_in t rest) other)
     (moved (front && is_failed h.stage) hs rest t m e k s later
-        (sym (if_false {A = Standing} (tag_is h.tag t) (Some (h.kind, h.stage)) (standing_in t hs) other) ∙ st)))
+    (sym (if_false {A = Standing} (tag_is h.tag t) (Some (h.kind, h.stage)) (standing_in t hs) other) ∙ st)))
   where
     its : tag_is h.tag t ≡ true → ◌≡◌ {A = Standing} (Some (h.kind, h.stage)) (Some (k, s))
     its same = sym (if_true {A = Standing} (tag_is h.tag t) (Some (h.kind, h.stage)) (standing_in t hs) same) ∙ st
@@ -154,8 +154,13 @@ standard_taken o next n m effect is = go (heard_in (not o.failed) o.standard (St
     go : (r : Heard) → heard_in (not o.failed) o.standard (Std n) m ≡ r → heard_standard o r ≡ Ok (next, effect) → IsStandard o next n m
     go (Ok (hs, e)) heard_is is =
         let same : record o { standard = hs; failed = failed_behind e o.failed } ≡ next = ap (λ (a : Answer). next_in a next) is in
-        record { hs = hs; e = e; is = heard_is; standard = sym (ap (λ (p : Opened). p.standard) same);
-            event = sym (ap (λ (p : Opened). p.event) same) }
+        record {
+          hs = hs;
+          e = e;
+          is = heard_is;
+          standard = sym (ap (λ (p : Opened). p.standard) same);
+          event = sym (ap (λ (p : Opened). p.event) same);
+        }
     go (Err c) heard_is is = absurd (cc)
 
 event_taken : (o next : Opened) (n : ℕ) (m : Mark) (effect : Effect) → heard o (Event n) m ≡ Ok (next, effect) → IsEvent o next n m
@@ -164,8 +169,13 @@ event_taken o next n m effect is = go (heard_in true o.event (Event n) m) refl i
     go : (r : Heard) → heard_in true o.event (Event n) m ≡ r → heard_event o r ≡ Ok (next, effect) → IsEvent o next n m
     go (Ok (hs, e)) heard_is is =
         let same : record o { event = hs } ≡ next = ap (λ (a : Answer). next_in a next) is in
-        record { hs = hs; e = e; is = heard_is; standard = sym (ap (λ (p : Opened). p.standard) same);
-            event = sym (ap (λ (p : Opened). p.event) same) }
+        record {
+          hs = hs;
+          e = e;
+          is = heard_is;
+          standard = sym (ap (λ (p : Opened). p.standard) same);
+          event = sym (ap (λ (p : Opened). p.event) same);
+        }
     go (Err c) heard_is is = absurd (cc)
 
 moved_on : (o next : Opened) (t : Tag) (m : Mark) (effect : Effect) (k : Kind) (s : Stage) → heard o t m ≡ Ok (next, effect)
@@ -174,11 +184,11 @@ moved_on : (o next : Opened) (t : Tag) (m : Mark) (effect : Effect) (k : Kind) (
 moved_on o next (Std n) m effect k s is st =
     let x : IsStandard o next n m = standard_taken o next n m effect is in
     subst (λ (l : List Held). Stays (judged (is_next (Std n) o) k s m) k (standing_in (Std n) l)) (sym x.standard)
-        (moved (not o.failed) o.standard x.hs (Std n) m x.e k s x.is st)
+    (moved (not o.failed) o.standard x.hs (Std n) m x.e k s x.is st)
 moved_on o next (Event n) m effect k s is st =
     let x : IsEvent o next n m = event_taken o next n m effect is in
     subst (λ (l : List Held). Stays (judged (is_next (Event n) o) k s m) k (standing_in (Event n) l)) (sym x.event)
-        (moved true o.event x.hs (Event n) m x.e k s x.is st)
+    (moved true o.event x.hs (Event n) m x.e k s x.is st)
 
 alone : (o next : Opened) (u t : Tag) (m : Mark) (effect : Effect) → tag_is u t ≡ false → heard o u m ≡ Ok (next, effect)
     → standing t next ≡ standing t o
@@ -317,12 +327,12 @@ begun o kind t is = go (is_event_kind kind) is
         let n = event_number (next_number Event o.event o.event_drawn) t is in
         subst (λ (u : Tag). standing u (with_drawn o u kind) ≡ Some (kind, Stage.Sent)) (sym n.1)
         (stands_last (Event n.0) kind o.event (subst (λ (u : Tag). is_held u o.event ≡ false) n.1
-            (tag_drawn Event o.event o.event_drawn t is)))
+        (tag_drawn Event o.event o.event_drawn t is)))
     go false is =
         let n = standard_number (next_number Std o.standard o.drawn) t is in
         subst (λ (u : Tag). standing u (with_drawn o u kind) ≡ Some (kind, Stage.Sent)) (sym n.1)
         (stands_last (Std n.0) kind o.standard (subst (λ (u : Tag). is_held u o.standard ≡ false) n.1
-            (tag_drawn Std o.standard o.drawn t is)))
+        (tag_drawn Std o.standard o.drawn t is)))
 
 pub in_language : (o : Opened) (kind : Kind) (t : Tag) (calls : List Call) → next_tag o kind ≡ Some t
     → IsRepliesFront (asks_data kind) (marks_of (taken_under t (with_drawn o t kind) calls))

@@ -1,6 +1,6 @@
 -- What a mark does at the place of its command.
-use Rattle.std.proofs.Common.{◌≡◌, ℕ, suc, ◌<◌, Bool, true, false, cond, ◌&&◌, not, Option, Some, None, List, [], ◌∷◌, ◌++◌, length, get_or,
-  take, drop, set, Ok, Err, ◌+◌, refl, sym, ◌∙◌, ap, arith, add-one}
+use Rattle.std.proofs.Common.{◌≡◌, ℕ, suc, ◌<◌, Bool, true, false, cond, ◌&&◌, not, Option, Some, None, List, [], ◌∷◌, ◌++◌, length, get_or}
+use Rattle.std.proofs.Common.{take, drop, set, Ok, Err, ◌+◌, refl, sym, ◌∙◌, ap, arith, add-one}
 use Rattle.std.specs.List.{count_by, remove}
 use Rattle.std.proofs.lemmas.Bool.{true≢false}
 use Rattle.std.proofs.lemmas.List.Recursion.{is_count_by}
@@ -38,7 +38,7 @@ reaches : (front : Bool) (gs : List Held) (h : Held) (hs : List Held) (t : Tag) 
     → heard_in front (gs ++ h ∷ hs) t m ≡ behind gs (settled h hs (judged (front && all_failed gs) h.kind h.stage m))
 reaches front [] h hs t m first same =
     ap (λ (b : Bool). cond b (settled h hs (judged front h.kind h.stage m)) (put_before h (heard_in (front && is_failed h.stage) hs t m)))
-        same
+    same
     ∙ all_behind (settled h hs (judged front h.kind h.stage m))
     ∙ ap (λ (b : Bool). behind [] (settled h hs (judged b h.kind h.stage m))) (sym (and_true front))
   where
@@ -132,7 +132,7 @@ pub changed_at : (front : Bool) (hs : List Held) (t : Tag) (m : Mark) (i : ℕ) 
     → heard_in front hs t m ≡ Ok (set hs i g, effect)
 changed_at front hs t m i h g effect b at front_is is =
     heard_at front hs t m i h b at front_is ∙ ap (behind (take i hs)) is
-        ∙ ap (λ (gs : List Held). Ok (gs, effect)) (sym (set_split hs i g at.within))
+    ∙ ap (λ (gs : List Held). Ok (gs, effect)) (sym (set_split hs i g at.within))
 
 -- it is ended
 pub ended_at : (front : Bool) (hs : List Held) (t : Tag) (m : Mark) (i : ℕ) (h : Held) (effect : Effect) (b : Bool) → IsAt t hs i h
@@ -162,7 +162,7 @@ pub failed_at : (front : Bool) (hs : List Held) (t : Tag) (i : ℕ) (h : Held) �
     → heard_in front hs t Mark.Error ≡ Ok (set hs i (record h { stage = Stage.Failed }), failure_of (not (is_failed h.stage)))
 failed_at front hs t i h at =
     changed_at front hs t Mark.Error i h (record h { stage = Stage.Failed }) (failure_of (not (is_failed h.stage))) (front
-        && all_failed (take i hs)) at refl
+    && all_failed (take i hs)) at refl
     (failing (front && all_failed (take i hs)) h (drop (suc i) hs))
 
 ahead_behind : (t : Tag) (gs : List Held) (h : Held) (hs : List Held) → is_held t gs ≡ false → tag_is h.tag t ≡ true

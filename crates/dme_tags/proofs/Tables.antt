@@ -63,7 +63,7 @@ taken_standard c o next n effect (Ok (hs, e)) at is =
     let new : record o { standard = hs; failed = failed_behind e o.failed } ≡ next = ap (λ (p : Opened × Effect). p.0) both in
     let same : e ≡ effect = ap (λ (p : Opened × Effect). p.1) both in
     ap (λ (gs : List Held). Ok (record { standard = gs; event = c.table.event; tally = tallied c.program.features e c.table.tally }))
-        (ap (λ (p : Opened). p.standard) new)
+    (ap (λ (p : Opened). p.standard) new)
     ∙ ap (λ (gs : List Held). Ok (record { standard = next.standard; event = gs; tally = tallied c.program.features e c.table.tally }))
     (at.event ∙ ap (λ (p : Opened). p.event) new)
     ∙ ap (λ (f : Effect). Ok (record { standard = next.standard; event = next.event; tally = tallied c.program.features f c.table.tally }))
@@ -76,7 +76,7 @@ taken_event : (c : Client) (o next : Opened) (n : ℕ) (effect : Effect) (r : He
 taken_event c o next n effect (Ok (hs, e)) at is =
     let new : record o { event = hs } ≡ next = ap (λ (p : Opened × Effect). p.0) (ok_same _ _ is) in
     ap (λ (gs : List Held). Ok (record { standard = gs; event = hs; tally = c.table.tally })) (at.standard
-        ∙ ap (λ (p : Opened). p.standard) new)
+    ∙ ap (λ (p : Opened). p.standard) new)
     ∙ ap (λ (gs : List Held). Ok (record { standard = next.standard; event = gs; tally = c.table.tally }))
     (ap (λ (p : Opened). p.event) new)
 taken_event c o next n effect (Err cause) at is = absurd (cc)
@@ -85,7 +85,7 @@ pub taken : (c : Client) (o next : Opened) (t : Tag) (m : Mark) (effect : Effect
     → heard_on c.program.features c.table t m ≡ Ok (table_behind c next t effect)
 taken c o next (Std n) m effect at is =
     ap (client.heard_standard c.program.features c.table) (on_standard c.table o n m at)
-        ∙ taken_standard c o next n effect (heard_in (not o.failed) o.standard (Std n) m) at is
+    ∙ taken_standard c o next n effect (heard_in (not o.failed) o.standard (Std n) m) at is
 taken c o next (Event n) m effect at is =
     ap (client.heard_event c.table) (on_event c.table o n m at) ∙ taken_event c o next n effect (heard_in true o.event (Event n) m) at is
 
@@ -131,7 +131,7 @@ pub refused : (c : Client) (o : Opened) (t : Tag) (m : Mark) (cause : Cause) →
     → heard_on c.program.features c.table t m ≡ Err cause
 refused c o (Std n) m cause at is =
     ap (client.heard_standard c.program.features c.table) (on_standard c.table o n m at)
-        ∙ refused_standard c o cause (heard_in (not o.failed) o.standard (Std n) m) is
+    ∙ refused_standard c o cause (heard_in (not o.failed) o.standard (Std n) m) is
 refused c o (Event n) m cause at is =
     ap (client.heard_event c.table) (on_event c.table o n m at) ∙ refused_event c o cause (heard_in true o.event (Event n) m) is
 
@@ -153,7 +153,7 @@ its_standard : (o : Opened) (kind : Kind) (r : Option Tag) → is_event_kind kin
     → tagged Std (next_number Std o.standard o.drawn) ≡ r
 its_standard o kind r e is =
     ap (λ (b : Bool). cond b (tagged Event (next_number Event o.event o.event_drawn)) (tagged Std (next_number Std o.standard o.drawn)))
-        (sym e) ∙ is
+    (sym e) ∙ is
 
 pub standard : (o : Opened) (kind : Kind) (t : Tag) → is_event_kind kind ≡ false → next_tag o kind ≡ Some t
     → (next_number Std o.standard o.drawn ≡ Some (number_of t)) × (t ≡ Std (number_of t))

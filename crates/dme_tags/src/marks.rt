@@ -198,7 +198,7 @@ pub(crate) fn end_of(commands: &[Held], front: bool, tag: Tag) -> Result<Ended, 
 pub(crate) fn end(commands: &mut Vec<Held>, front: bool, tag: Tag) -> Result<Ended, TagFault>
     ensures ok { IfOk result (λ ended.
         heard_in front commands.old.items tag Mark.Done
-            ≡ Ok (commands.new.items, effect_of ended)) }
+        ≡ Ok (commands.new.items, effect_of ended)) }
     ensures refused { IfErr result (λ fault.
         IsRefused (heard_in front commands.old.items tag Mark.Done) (cause_of fault)) }
     ensures in_order { IfOk result (λ ended. is_counted ended ≡ true

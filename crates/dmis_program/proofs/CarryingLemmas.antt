@@ -1,6 +1,6 @@
 -- Carrying the selections forward gives what looking back for them gives.
-use Rattle.std.proofs.Common.{◌≡◌, ℕ, suc, Bool, true, false, List, [], ◌∷◌, ◌++◌, length, Result, Ok, Err, Option, Some, None, refl, ap,
-  sym, ◌∙◌, arith, subst, append_assoc, append-nil, length-append, cond, nat_le, is_none}
+use Rattle.std.proofs.Common.{◌≡◌, ℕ, suc, Bool, true, false, List, [], ◌∷◌, ◌++◌, length, Result, Ok, Err, Option, Some, None, refl, ap}
+use Rattle.std.proofs.Common.{sym, ◌∙◌, arith, subst, append_assoc, append-nil, length-append, cond, nat_le, is_none}
 use Rattle.std.specs.Prelude.{IfOk}
 use Rattle.std.specs.Str.Lines.{lines}
 use Rattle.dmis_text.specs.Reading.{text_reading}
@@ -10,13 +10,13 @@ use Rattle.fixed_um.specs.declared.lengths.Point.{Point}
 use Rattle.dmis_program.specs.Outcomes.{◌>>=◌}
 use Rattle.dmis_program.specs.Keywords.{keyword_of}
 use Rattle.dmis_program.specs.Offsets.{offset_of, AreInVolume}
-use Rattle.dmis_program.specs.LookBack.{Context, context_at, saying, or_else, tool_said, frame_said, bound_said, nearest, frame_at,
-  bound_count, touched_with as touched_since, touched, part_at}
+use Rattle.dmis_program.specs.LookBack.{Context, context_at, saying, or_else, tool_said, frame_said, bound_said, nearest, frame_at}
+use Rattle.dmis_program.specs.LookBack.{bound_count, touched_with as touched_since, touched, part_at}
 use Rattle.dmis_program.specs.Judging.{judged, word_refusal, refused_by, is_too_few, settled}
-use Rattle.dmis_program.specs.Meaning.{Meaning, meaning_with, meant, meaning_of, program_of, closes, ended, steps_of, touch_with,
-  touch_steps, recall_steps, steps_from, with_front, continued}
-use Rattle.dmis_program.specs.Carrying.{Carried, no_statement, context_of, count_wanted, counted, changed, touched_with as carry_touch,
-  recalled_at, touches_left, next, ran, run}
+use Rattle.dmis_program.specs.Meaning.{Meaning, meaning_with, meant, meaning_of, program_of, closes, ended, steps_of, touch_with}
+use Rattle.dmis_program.specs.Meaning.{touch_steps, recall_steps, steps_from, with_front, continued}
+use Rattle.dmis_program.specs.Carrying.{Carried, no_statement, context_of, count_wanted, counted, changed, touched_with as carry_touch}
+use Rattle.dmis_program.specs.Carrying.{recalled_at, touches_left, next, ran, run}
 use Rattle.dmis_program.specs.Programs.{IsProgram}
 use Rattle.dmis_program.specs.Sound.{MayFollow, IsAllowed, IsSound}
 use Rattle.dmis_program.proofs.JudgingLemmas.{judged_if}
@@ -34,8 +34,13 @@ use Rattle.dmis_program.specs.declared.reading.Block.{Block}
 -- two contexts are one where their parts are
 same_context : (c d : Context) → c.number ≡ d.number → c.tool ≡ d.tool → c.frame ≡ d.frame → c.wanted ≡ d.wanted → c.touched ≡ d.touched
     → c ≡ d
-same_context c d number tool frame wanted touched = λ i. record { number = number i; tool = tool i; frame = frame i; wanted = wanted i;
-    touched = touched i }
+same_context c d number tool frame wanted touched = λ i. record {
+  number = number i;
+  tool = tool i;
+  frame = frame i;
+  wanted = wanted i;
+  touched = touched i;
+}
 
 -- the parts of what is carried, as they stand above
 record Stands (frames : List (List ℕ × Point)) (above : List Statement) (c : Carried) : Type 0 where
@@ -104,35 +109,65 @@ left_count (Some d) b touches e = refl
 behind_said : (frames : List (List ℕ × Point)) (above : List Statement) (c : Carried) (t : Said) → Stands frames above c
     → (c.open_block ≡ None → c.touches ≡ []) → IsAllowed frames c.tool c.open_block (length c.touches) t
     → StandsBehind frames (Ok t) above (changed frames (counted c) t)
-behind_said frames above c (said.Goes target) h idle may = record { number = omega (arith, h.number); tool = h.tool; frame = h.frame;
-    wanted = h.wanted; touched = h.touched }
+behind_said frames above c (said.Goes target) h idle may = record {
+  number = omega (arith, h.number);
+  tool = h.tool;
+  frame = h.frame;
+  wanted = h.wanted;
+  touched = h.touched;
+}
 behind_said frames above c (said.Begins name n) h idle may =
-    record { number = omega (arith, h.number); tool = h.tool; frame = h.frame; wanted = refl;
-    touched = idle_count c.open_block c.touches may.0 idle }
+    record {
+      number = omega (arith, h.number);
+      tool = h.tool;
+      frame = h.frame;
+      wanted = refl;
+      touched = idle_count c.open_block c.touches may.0 idle;
+    }
 behind_said frames above c (said.Touches target direction) h idle may =
     subst (λ (o : Option (List ℕ)). StandsBehind frames (Ok (said.Touches target direction)) above
-        (carry_touch (counted c) o target direction)) (sym may.2.1)
-    record { number = omega (arith, h.number); tool = h.tool; frame = h.frame; wanted = h.wanted;
-        touched = omega (arith, length-append c.touches (touch_with may.2.0 c.frame target direction ∷ []), h.touched) }
-behind_said frames above c said.Ends h idle may = record { number = omega (arith, h.number); tool = h.tool; frame = h.frame; wanted = refl;
-    touched = left_count c.open_block may.0 c.touches may.1 }
+    (carry_touch (counted c) o target direction)) (sym may.2.1)
+    record {
+      number = omega (arith, h.number);
+      tool = h.tool;
+      frame = h.frame;
+      wanted = h.wanted;
+      touched = omega (arith, length-append c.touches (touch_with may.2.0 c.frame target direction ∷ []), h.touched);
+    }
+behind_said frames above c said.Ends h idle may = record {
+  number = omega (arith, h.number);
+  tool = h.tool;
+  frame = h.frame;
+  wanted = refl;
+  touched = left_count c.open_block may.0 c.touches may.1;
+}
 behind_said frames above c (said.Selects name) h idle may =
     record { number = omega (arith, h.number); tool = refl; frame = h.frame; wanted = h.wanted; touched = h.touched }
 behind_said frames above c (said.Recalls name) h idle may =
     subst (λ (o : Option Point). StandsBehind frames (Ok (said.Recalls name)) above (recalled_at (counted c) o)) (sym may.1)
     record { number = omega (arith, h.number); tool = h.tool; frame = ap part_at (sym may.1); wanted = h.wanted; touched = h.touched }
-behind_said frames above c said.Closes h idle may = record { number = omega (arith, h.number); tool = h.tool; frame = h.frame;
-    wanted = h.wanted; touched = h.touched }
-behind_said frames above c said.Passes h idle may = record { number = omega (arith, h.number); tool = h.tool; frame = h.frame;
-    wanted = h.wanted; touched = h.touched }
+behind_said frames above c said.Closes h idle may = record {
+  number = omega (arith, h.number);
+  tool = h.tool;
+  frame = h.frame;
+  wanted = h.wanted;
+  touched = h.touched;
+}
+behind_said frames above c said.Passes h idle may = record {
+  number = omega (arith, h.number);
+  tool = h.tool;
+  frame = h.frame;
+  wanted = h.wanted;
+  touched = h.touched;
+}
 
 stands_said : (frames : List (List ℕ × Point)) (above : List Statement) (c : Carried) (s : Statement) (t : Said) → Stands frames above c
     → IsSound c → saying s ≡ Ok t → IsAllowed frames c.tool c.open_block (length c.touches) t
     → Stands frames (s ∷ above) (changed frames (counted c) t)
 stands_said frames above c s t h sound e may =
     stands_behind frames above s (changed frames (counted c) t)
-        (subst (λ (r : Result Said Refusal). StandsBehind frames r above (changed frames (counted c) t)) (sym e)
-        (behind_said frames above c t h sound.idle may))
+    (subst (λ (r : Result Said Refusal). StandsBehind frames r above (changed frames (counted c) t)) (sym e)
+    (behind_said frames above c t h sound.idle may))
 
 -- the steps after a statement
 touch_steps_are : (c : Carried) (o : Option (List ℕ)) (target : Point) (direction : Option Direction)
@@ -186,7 +221,7 @@ goes_on : (frames : List (List ℕ × Point)) (fault : Option TextFault) (lines 
     (steps_from frames fault lines (s ∷ above) statements))
 goes_on frames fault lines statements above c s t sound same open_end behind =
     rw (open_end, behind, steps_are frames c t, ← same) (whole_front c.steps (steps_of frames (context_of c) t)
-        (steps_from frames fault lines (s ∷ above) statements))
+    (steps_from frames fault lines (s ∷ above) statements))
 
 by_judgement : (frames : List (List ℕ × Point)) (fault : Option TextFault) (lines : ℕ) (statements above : List Statement) (c : Carried)
     (s : Statement) (r : Result Said Refusal) → IsSound c → context_of c ≡ context_at frames above → IfOk r (MayFollow frames c)
@@ -221,19 +256,24 @@ run_is frames fault lines [] above c volume sound stands = rw stands.number refl
 run_is frames fault lines (s ∷ statements) above c volume sound stands =
     let same = context_is frames above c stands in
     subst (λ (k : Context). ran s.line (judged frames (context_of c) s >>= λ t. Ok (closes t, changed frames (counted c) t))
-        (run frames fault lines statements) ≡ whole c.steps (continued s.line (judged frames k s)
-        (steps_of frames (context_at frames above)) (steps_from frames fault lines (s ∷ above) statements))) same
+    (run frames fault lines statements) ≡ whole c.steps (continued s.line (judged frames k s)
+    (steps_of frames (context_at frames above)) (steps_from frames fault lines (s ∷ above) statements))) same
     (by_judgement frames fault lines statements above c s (judged frames (context_of c) s) sound same (judged_if frames c s) (λ t e.
     let may = may_follow frames c s t e in
     run_is frames fault lines statements (s ∷ above) (changed frames (counted c) t) volume (sound_after frames c t volume sound may)
-        (stands_said frames above c s t stands sound (said_is frames (context_of c) s t e) may.1)))
+    (stands_said frames above c s t stands sound (said_is frames (context_of c) s t e) may.1)))
 
 -- from the first statement on the code gives the meaning
 pub run_from_start : (frames : List (List ℕ × Point)) (fault : Option TextFault) (lines : ℕ) (statements : List Statement)
     → AreInVolume frames → run frames fault lines statements no_statement ≡ meant (steps_from frames fault lines [] statements)
 run_from_start frames fault lines statements volume =
-    run_is frames fault lines statements [] no_statement volume sound_at_start record { number = refl; tool = refl; frame = refl;
-        wanted = refl; touched = refl }
+    run_is frames fault lines statements [] no_statement volume sound_at_start record {
+      number = refl;
+      tool = refl;
+      frame = refl;
+      wanted = refl;
+      touched = refl;
+    }
     ∙ whole_none (steps_from frames fault lines [] statements)
 
 -- each statement keeps what holds, and the closing one leaves a program

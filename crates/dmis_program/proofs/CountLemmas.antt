@@ -1,6 +1,6 @@
 -- Digits that write a count.
-use Rattle.std.proofs.Common.{◌≡◌, ℕ, ◌+◌, ◌-◌, ◌*◌, ◌<◌, ◌≤◌, true, false, List, [], ◌∷◌, get_or, drop, length, refl, sym, arith, add-one,
-  Some, None}
+use Rattle.std.proofs.Common.{◌≡◌, ℕ, ◌+◌, ◌-◌, ◌*◌, ◌<◌, ◌≤◌, true, false, List, [], ◌∷◌, get_or, drop, length, refl, sym, arith, add-one}
+use Rattle.std.proofs.Common.{Some, None}
 use Rattle.std.specs.Char.{digit_value, is_ascii_digit}
 use Rattle.std.specs.Str.Parse.{digits_value, digits_value_after}
 use Rattle.std.specs.List.{list_all}
@@ -41,7 +41,7 @@ one_digit value digits i within e all =
     let more2 = rw step at e in
     let digit = is_digit (get_or digits i 0) all2.0 in
     let more : digits_value_after 10 (value * 10 + (get_or digits i 0 - 48)) (drop (i + 1) digits) ≡ digits_value 10 digits =
-        rw (sym digit.value) more2 in
+    rw (sym digit.value) more2 in
     record {
       low = digit.low;
       high = digit.high;

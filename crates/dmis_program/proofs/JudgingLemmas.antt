@@ -1,6 +1,6 @@
 -- What a statement says where no refusal is due may be said there.
-use Rattle.std.proofs.Common.{◌≡◌, ℕ, ◌<◌, ◌≤◌, Bool, true, false, cond, List, length, Result, Ok, Err, Option, Some, None, refl, arith,
-  ◌&&◌, nat_le, not, subst, is_none}
+use Rattle.std.proofs.Common.{◌≡◌, ℕ, ◌<◌, ◌≤◌, Bool, true, false, cond, List, length, Result, Ok, Err, Option, Some, None, refl, arith}
+use Rattle.std.proofs.Common.{◌&&◌, nat_le, not, subst, is_none}
 use Rattle.std.specs.Prelude.{IfOk, ◌==◌}
 use Rattle.std.proofs.lemmas.Bool.{ltb-false}
 use Rattle.std.proofs.lemmas.Bool.Decides.{nat_tests}
@@ -73,7 +73,7 @@ settled_if frames tool block count keyword (Touches target direction) h g =
 settled_if frames tool block count keyword Ends h g =
     let b = inside_ends block (subst (λ (k : Keyword). misplaced k (count_wanted block) ≡ None) g h) in
     unless_if (IsAllowed frames tool block count) (is_too_few (count_wanted block) count) _ (Ok Ends)
-        (λ e. (b.0, b.1, enough block b.0 count b.1 e))
+    (λ e. (b.0, b.1, enough block b.0 count b.1 e))
 settled_if frames tool block count keyword (Selects name) h g = g
 settled_if frames tool block count keyword (Recalls name) h g =
     unless_if (IsAllowed frames tool block count) (is_none (offset_of frames name)) _ (Ok (Recalls name))
@@ -95,7 +95,7 @@ judged_if frames c s =
     unless_if (MayFollow frames c) (nat_le 10000 c.number) _ _ (λ few.
     when_none (MayFollow frames c) (word_refusal (context_of c) keyword s.params) _ (λ none.
     let place = last_none (c.number == 0 && not (is_start keyword)) (is_unsupported (c.number == 0) keyword s.params) NotDmis Unsupported
-        (misplaced keyword (count_wanted c.open_block)) none in
+    (misplaced keyword (count_wanted c.open_block)) none in
     both_if (c.number < 10000) (IsAllowed frames c.tool c.open_block (length c.touches)) _ (below_most c.number few) (
     bind_if (SaidBy keyword) (IsAllowed frames c.tool c.open_block (length c.touches)) (saying s) _ (said_of_if keyword s) (λ said h.
     settled_if frames c.tool c.open_block (length c.touches) keyword said place h))))

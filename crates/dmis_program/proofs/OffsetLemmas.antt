@@ -46,8 +46,10 @@ volume_more (f ∷ frames) name point h g = (h.0, volume_more frames name point 
 
 pub frames_more : (frames : List (List ℕ × Point)) (name : List ℕ) (point : Point) → AreFrames frames → IsInVolume point
     → offset_of frames name ≡ None → AreFrames (frames ++ (name, point) ∷ [])
-frames_more frames name point h g new = record { once = named_once_more frames name point h.once new;
-    within = volume_more frames name point h.within g }
+frames_more frames name point h g new = record {
+  once = named_once_more frames name point h.once new;
+  within = volume_more frames name point h.within g;
+}
 
 within_first : (f : List ℕ × Point) (frames : List (List ℕ × Point)) (name : List ℕ) (offset : Point) (b : Bool) → IsInVolume f.1
     → (offset_of frames name ≡ Some offset → IsInVolume offset)
@@ -96,5 +98,5 @@ pub frame_others : (frames : List (List ℕ × Point)) (name other : List ℕ) (
 frame_others [] name other offset h = offset_first (name, offset) [] other false (other_bytes name other (bytes_eq name other) refl h)
 frame_others (f ∷ frames) name other offset h =
     offset_first f (frames ++ (name, offset) ∷ []) other (bytes_eq f.0 other) refl
-        ∙ ap (λ (o : Option Point). cond (bytes_eq f.0 other) (Some f.1) o) (frame_others frames name other offset h)
-        ∙ sym (offset_first f frames other (bytes_eq f.0 other) refl)
+    ∙ ap (λ (o : Option Point). cond (bytes_eq f.0 other) (Some f.1) o) (frame_others frames name other offset h)
+    ∙ sym (offset_first f frames other (bytes_eq f.0 other) refl)

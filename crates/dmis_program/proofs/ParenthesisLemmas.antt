@@ -1,6 +1,6 @@
 -- A name stands between its mark and a `)`.
-use Rattle.std.proofs.Common.{◌≡◌, ℕ, ◌+◌, ◌-◌, ◌<◌, Bool, true, false, cond, List, [], ◌∷◌, ◌++◌, length, take, drop, get_or, Option, Some,
-  None, refl, ap, sym, ◌∙◌, arith, length-append, codes}
+use Rattle.std.proofs.Common.{◌≡◌, ℕ, ◌+◌, ◌-◌, ◌<◌, Bool, true, false, cond, List, [], ◌∷◌, ◌++◌, length, take, drop, get_or, Option, Some}
+use Rattle.std.proofs.Common.{None, refl, ap, sym, ◌∙◌, arith, length-append, codes}
 use Rattle.std.specs.Prelude.{option_and_then, ◌==◌}
 use Rattle.std.specs.Bool.{Decides}
 use Rattle.std.proofs.lemmas.Bool.Decides.{Decides-eqb}
@@ -35,7 +35,7 @@ closing true text inner t some h =
     let last : get_or text (length text - 1) 0 ≡ 41 = eqb-true (get_or text (length text - 1) 0) 41 t in
     let all : length text - 1 + 1 ≡ length text = omega arith in
     sym (take-length text) ∙ ap (λ (n : ℕ). take n text) (sym all) ∙ take_more text (length text - 1) 0 (omega arith)
-        ∙ rw (front, last) refl
+    ∙ rw (front, last) refl
 
 closed_parts : (text inner : List ℕ) → before_close text ≡ Some inner → text ≡ inner ++ 41 ∷ []
 closed_parts [] inner h = absurd cc
@@ -61,8 +61,13 @@ from_inner : (front text name : List ℕ) (o : Option (List ℕ)) → before_clo
 from_inner front text name None e h g = absurd cc
 from_inner front text name (Some inner) e h g =
     let found = named_inner (is_name_text inner) inner name g in
-    record { inner = inner; parts = begins_parts front text h ∙ ap (λ (rest : List ℕ). front ++ rest)
-        (closed_parts (drop (length front) text) inner e); named = found.0; is = found.1 }
+    record {
+      inner = inner;
+      parts = begins_parts front text h ∙ ap (λ (rest : List ℕ). front ++ rest)
+          (closed_parts (drop (length front) text) inner e);
+      named = found.0;
+      is = found.1;
+    }
 
 from_front : (front text name : List ℕ) (b : Bool) → begins front text ≡ b
     → cond b (option_and_then name_of (before_close (drop (length front) text))) None ≡ Some name → IsWritten front text name

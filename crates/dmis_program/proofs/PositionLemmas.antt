@@ -1,6 +1,6 @@
 -- What fixed_um's readers answer, as the functions of the definitions give it.
-use Rattle.std.proofs.Common.{◌≡◌, ℕ, Bool, true, false, List, ℤ, pos, Result, Ok, Err, Option, Some, None, refl, ap, sym, ◌∙◌, inl, inr,
-  ◌&&◌}
+use Rattle.std.proofs.Common.{◌≡◌, ℕ, Bool, true, false, List, ℤ, pos, Result, Ok, Err, Option, Some, None, refl, ap, sym, ◌∙◌, inl, inr}
+use Rattle.std.proofs.Common.{◌&&◌}
 use Rattle.std.specs.Ordering.{int_eq}
 use Rattle.std.proofs.lemmas.Bool.{and_parts}
 use Rattle.std.proofs.lemmas.Bool.Decides.{Decides-int_eq}
@@ -47,11 +47,21 @@ not_zero_is d h =
 pub direction_of-is : (i j k : List ℕ) (r : Result (Option Direction) NumeralFault) → ReadsDirection i j k r
     → direction_of i j k ≡ read_direction r
 unfolding direction_of
-direction_of-is i j k (Ok (Some d)) h = rw (component_of-is i (Ok d.i) h.0, component_of-is j (Ok d.j) h.1, component_of-is k (Ok d.k) h.2,
-    not_zero_is d h.3) refl
-direction_of-is i j k (Ok None) h = rw (component_of-is i (Ok (pos 0)) h.0, component_of-is j (Ok (pos 0)) h.1,
-    component_of-is k (Ok (pos 0)) h.2) refl
+direction_of-is i j k (Ok (Some d)) h = rw (
+  component_of-is i (Ok d.i) h.0,
+  component_of-is j (Ok d.j) h.1,
+  component_of-is k (Ok d.k) h.2,
+  not_zero_is d h.3,
+) refl
+direction_of-is i j k (Ok None) h = rw (
+  component_of-is i (Ok (pos 0)) h.0,
+  component_of-is j (Ok (pos 0)) h.1,
+  component_of-is k (Ok (pos 0)) h.2,
+) refl
 direction_of-is i j k (Err e) (inl h) = rw (component_of-is i (Err e) h) refl
 direction_of-is i j k (Err e) (inr (inl h)) = rw (component_of-is i (Ok h.0) h.1, component_of-is j (Err e) h.2) refl
-direction_of-is i j k (Err e) (inr (inr h)) = rw (component_of-is i (Ok h.0) h.2, component_of-is j (Ok h.1) h.3,
-    component_of-is k (Err e) h.4) refl
+direction_of-is i j k (Err e) (inr (inr h)) = rw (
+  component_of-is i (Ok h.0) h.2,
+  component_of-is j (Ok h.1) h.3,
+  component_of-is k (Err e) h.4,
+) refl

@@ -1,6 +1,6 @@
 -- What follows for the features of steps that stand in blocks.
-use Rattle.std.proofs.Common.{◌≡◌, ℕ, ◌+◌, ◌≤◌, List, [], ◌∷◌, ◌++◌, length, Option, Some, None, refl, ap, sym, ◌∙◌, arith, append-nil,
-  subst}
+use Rattle.std.proofs.Common.{◌≡◌, ℕ, ◌+◌, ◌≤◌, List, [], ◌∷◌, ◌++◌, length, Option, Some, None, refl, ap, sym, ◌∙◌, arith, append-nil}
+use Rattle.std.proofs.Common.{subst}
 use Rattle.std.specs.List.{AllByRecursion}
 use Rattle.fixed_um.specs.declared.frames.Frame.TheVariants.{Machine}
 use Rattle.dmis_program.specs.Meaning.{features_of, block_touches}
@@ -65,9 +65,15 @@ pub features_are : (o : Option ℕ) (steps : List Step) → AreBlocks o steps �
     → AllByRecursion IsFeature (features_of steps)
 features_are None [] h all few = tt
 features_are None (Goto target ∷ steps) h all few = features_are None steps h all.1 (omega arith)
-features_are None (Begin label ∷ steps) h all few =
-    (record { label = all.0; some = omega (arith, block_some 0 steps h); few = omega (arith, block_few steps);
-        touches = block_all steps all.1 }, features_are (Some 0) steps h all.1 (omega arith))
+features_are None (Begin label ∷ steps) h all few = (
+  record {
+    label = all.0;
+    some = omega (arith, block_some 0 steps h);
+    few = omega (arith, block_few steps);
+    touches = block_all steps all.1;
+  },
+  features_are (Some 0) steps h all.1 (omega arith),
+)
 features_are None (Touch t ∷ steps) h all few = absurd h
 features_are None (Tool name ∷ steps) h all few = features_are None steps h all.1 (omega arith)
 features_are None (Recall offset ∷ steps) h all few = features_are None steps h all.1 (omega arith)

@@ -1,6 +1,6 @@
 -- What a statement says by itself is within the limits, and tells the statement's keyword.
-use Rattle.std.proofs.Common.{◌≡◌, ℕ, ◌≤◌, Bool, true, false, cond, List, [], ◌∷◌, ℤ, pos, Result, Ok, Err, Option, Some, None, refl, ◌&&◌,
-  nat_le, codes, drop, length}
+use Rattle.std.proofs.Common.{◌≡◌, ℕ, ◌≤◌, Bool, true, false, cond, List, [], ◌∷◌, ℤ, pos, Result, Ok, Err, Option, Some, None, refl, ◌&&◌}
+use Rattle.std.proofs.Common.{nat_le, codes, drop, length}
 use Rattle.std.specs.Prelude.{option_and_then, IfOk, IfSome, unsigned_abs}
 use Rattle.std.specs.List.{list_any, list_all}
 use Rattle.std.specs.Char.{is_ascii_digit}
@@ -21,8 +21,8 @@ use Rattle.dmis_text.specs.declared.elements.Statement.{Statement}
 use Rattle.dmis_program.specs.Outcomes.{◌>>=◌, numeral_refused}
 use Rattle.dmis_program.specs.Positions.{length_of, component_of, position_of, direction_of, is_zero_direction}
 use Rattle.dmis_program.specs.Parameters.{is_letters, begins, before_close, name_of, name_within, count_of, within_count, without_cart}
-use Rattle.dmis_program.specs.Sayings.{goes, begun, begins_block, touches_at, touches, without_parameters, selected, selects, recalled,
-  recalls_frame, recalls, units, mode, said_by, is_badly_formed, said_of}
+use Rattle.dmis_program.specs.Sayings.{goes, begun, begins_block, touches_at, touches, without_parameters, selected, selects, recalled}
+use Rattle.dmis_program.specs.Sayings.{recalls_frame, recalls, units, mode, said_by, is_badly_formed, said_of}
 use Rattle.dmis_program.specs.Sound.{SaidBy}
 use Rattle.dmis_program.specs.declared.faults.Refusal.{Refusal}
 use Rattle.dmis_program.specs.declared.faults.Refusal.TheVariants.{BadArguments}
@@ -66,7 +66,7 @@ position_within x y z =
 some_component : (d : Direction) → is_zero_direction d ≡ false → d.i ≡ pos 0 → d.j ≡ pos 0 → d.k ≡ pos 0 → ⊥
 some_component d h p q r =
     let zero : is_zero_direction d ≡ true = and_from _ _ ((Decides-int_eq d.i (pos 0)).1 p)
-        (and_from _ _ ((Decides-int_eq d.j (pos 0)).1 q) ((Decides-int_eq d.k (pos 0)).1 r)) in
+    (and_from _ _ ((Decides-int_eq d.j (pos 0)).1 q) ((Decides-int_eq d.k (pos 0)).1 r)) in
     absurd cc
 
 direction_is : (i j k : List ℕ) → IfOk (direction_of i j k) IsDirection
@@ -76,8 +76,12 @@ direction_is i j k =
     bind_if (λ b. unsigned_abs b ≤ component_limit) IsDirection (component_of j) _ (component_within j) (λ b q.
     bind_if (λ c. unsigned_abs c ≤ component_limit) IsDirection (component_of k) _ (component_within k) (λ c r.
     let d : Direction = record { i = a; j = b; k = c } in
-    unless_if IsDirection (is_zero_direction d) _ (Ok d) (λ h. record { i_within = p; j_within = q; k_within = r;
-        not_zero = some_component d h }))))
+    unless_if IsDirection (is_zero_direction d) _ (Ok d) (λ h. record {
+      i_within = p;
+      j_within = q;
+      k_within = r;
+      not_zero = some_component d h;
+    }))))
 
 -- names
 name_if : (b : Bool) (text : List ℕ) → is_name_text text ≡ b → IfSome (cond b (Some (folded text)) None) IsName

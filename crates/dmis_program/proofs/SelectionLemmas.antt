@@ -48,7 +48,7 @@ pub touch_tool : (m : Meaning) (before between more : List Step) (name : List �
     → m.steps ≡ before ++ (Tool name ∷ (between ++ (Touch t ∷ more))) → SelectNoTool between → t.tool ≡ name
 touch_tool m before between more name t h e g =
     let there = behind None Machine before (Tool name ∷ (between ++ (Touch t ∷ more)))
-        (subst (FollowSelections None Machine) e h.selections) in
+    (subst (FollowSelections None Machine) e h.selections) in
     let same = tool_stays (Some name) there.frame between t more g there.follow in
     cc
 
@@ -56,7 +56,7 @@ pub touch_frame : (m : Meaning) (before between more : List Step) (offset : Poin
     → m.steps ≡ before ++ (Recall offset ∷ (between ++ (Touch t ∷ more))) → SelectNoFrame between → t.frame ≡ Part offset
 touch_frame m before between more offset t h e g =
     let there = behind None Machine before (Recall offset ∷ (between ++ (Touch t ∷ more)))
-        (subst (FollowSelections None Machine) e h.selections) in
+    (subst (FollowSelections None Machine) e h.selections) in
     frame_stays there.tool (Part offset) between t more g there.follow
 
 pub touch_machine : (m : Meaning) (before more : List Step) (t : touch.Touch) → IsProgram m → m.steps ≡ before ++ (Touch t ∷ more)

@@ -1,6 +1,6 @@
 -- An accepted program keeps its shape, and recalls stored frames alone.
-use Rattle.std.proofs.Common.{◌≡◌, ℕ, Bool, true, false, cond, List, [], ◌∷◌, ◌++◌, length, Result, Ok, Err, Option, Some, None, refl, ap,
-  ◌∙◌}
+use Rattle.std.proofs.Common.{◌≡◌, ℕ, Bool, true, false, cond, List, [], ◌∷◌, ◌++◌, length, Result, Ok, Err, Option, Some, None, refl, ap}
+use Rattle.std.proofs.Common.{◌∙◌}
 use Rattle.std.specs.Prelude.{IfOk}
 use Rattle.std.specs.List.{AllByRecursion}
 use Rattle.std.specs.Str.Lines.{lines}
@@ -13,8 +13,8 @@ use Rattle.dmis_text.specs.declared.reading.TextFault.{TextFault}
 use Rattle.dmis_program.specs.Offsets.{offset_of, AreInVolume}
 use Rattle.dmis_program.specs.LookBack.{context_at, frame_said, nearest, frame_at, part_at}
 use Rattle.dmis_program.specs.Judging.{judged}
-use Rattle.dmis_program.specs.Meaning.{Meaning, meant, meaning_of, program_of, closes, steps_of, touch_steps, recall_steps, with_front,
-  continued, steps_from}
+use Rattle.dmis_program.specs.Meaning.{Meaning, meant, meaning_of, program_of, closes, steps_of, touch_steps, recall_steps, with_front}
+use Rattle.dmis_program.specs.Meaning.{continued, steps_from}
 use Rattle.dmis_program.specs.Programs.{IsProgram, FrameIsStored, StepIsStored}
 use Rattle.dmis_program.specs.Carrying.{Carried, no_statement, next, ran, run}
 use Rattle.dmis_program.specs.Sound.{IsSound}
@@ -44,9 +44,9 @@ pub program_shape : (frames : List (List ℕ × Point)) (text : List ℕ) (m : M
     → IsProgram m
 program_shape frames text m volume e =
     let given = run_program frames (text_reading text).fault (length (lines text)) (text_reading text).statements no_statement volume
-        sound_at_start in
+    sound_at_start in
     let same = starts frames text (text_reading text).statements (text_reading text).fault (length (lines text)) no_statement volume refl
-        refl refl refl ∙ e in
+    refl refl refl ∙ e in
     rw same at given
 
 -- a stored frame or the machine's

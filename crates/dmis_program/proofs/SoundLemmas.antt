@@ -1,6 +1,6 @@
 -- Each statement keeps what holds of the code's state.
-use Rattle.std.proofs.Common.{◌≡◌, ℕ, ◌+◌, ◌<◌, ◌≤◌, List, [], ◌∷◌, ◌++◌, length, Option, Some, None, refl, ap, sym, ◌∙◌, arith, subst,
-  append_assoc, length-append, append-nil}
+use Rattle.std.proofs.Common.{◌≡◌, ℕ, ◌+◌, ◌<◌, ◌≤◌, List, [], ◌∷◌, ◌++◌, length, Option, Some, None, refl, ap, sym, ◌∙◌, arith, subst}
+use Rattle.std.proofs.Common.{append_assoc, length-append, append-nil}
 use Rattle.std.specs.Prelude.{IfSome}
 use Rattle.std.specs.List.{AllByRecursion}
 use Rattle.fixed_um.specs.Names.{IsName}
@@ -13,8 +13,8 @@ use Rattle.fixed_um.specs.Points.{IsInVolume}
 use Rattle.dmis_program.proofs.OffsetLemmas.{offset_within}
 use Rattle.dmis_program.specs.Meaning.{features_of, block_touches, touch_with}
 use Rattle.dmis_program.specs.Programs.{IsFrame, IsStep, AreBlocks, FollowSelections}
-use Rattle.dmis_program.specs.Carrying.{Carried, no_statement, with_step, touched_with, recalled_at, counted, changed, touches_left,
-  closed_block}
+use Rattle.dmis_program.specs.Carrying.{Carried, no_statement, with_step, touched_with, recalled_at, counted, changed, touches_left}
+use Rattle.dmis_program.specs.Carrying.{closed_block}
 use Rattle.dmis_program.specs.Sound.{MayFollow, under_way, open_count, IsSound}
 use Rattle.dmis_program.specs.declared.sayings.Said.{Said}
 use Rattle.dmis_program.specs.declared.sayings.Said.TheVariants as said
@@ -148,7 +148,7 @@ sound_begin : (c : Carried) (name : List ℕ) (wanted : ℕ) → c.number < 1000
     → IsSound (record (with_step (counted c) (Begin name)) { open_block = Some (record { label = name; wanted = wanted }) })
 sound_begin c name wanted few h out g some =
     advance c (record (with_step (counted c) (Begin name)) { open_block = Some (record { label = name; wanted = wanted }) }) (Begin name)
-        few h record {
+    few h record {
       steps = refl;
       number = refl;
       features = λ more. ap (λ (ws : List Wanted). c.done ++ ws) (begin_features c.open_block c.touches name wanted more out (h.idle out));
@@ -195,8 +195,10 @@ end_features : (block : Option Block) (b : Block) (done : List Wanted) (touches 
     → done ++ under_way block touches (End ∷ more) ≡ (done ++ closed_block block touches)
     ++ under_way None (touches_left block touches) more
 end_features None b done touches more e = absurd cc
-end_features (Some d) b done touches more e = rw (append_assoc done (record { label = d.label; touches = touches } ∷ []) (features_of more),
-    append-nil touches) refl
+end_features (Some d) b done touches more e = rw (
+  append_assoc done (record { label = d.label; touches = touches } ∷ []) (features_of more),
+  append-nil touches,
+) refl
 
 end_blocks : (block : Option Block) (b : Block) (touches : List touch.Touch) (more : List Step) → block ≡ Some b → 1 ≤ b.wanted
     → b.wanted ≤ length touches → AreBlocks None more → AreBlocks (open_count block touches) (End ∷ more)
@@ -226,8 +228,18 @@ sound_end frames c b few h block enough =
 -- a statement without a step
 sound_counted : (c : Carried) → c.number < 10000 → IsSound c → IsSound (counted c)
 sound_counted c few h =
-    record { features = h.features; blocks = h.blocks; selections = h.selections; steps = h.steps; tool = h.tool; frame = h.frame;
-        wanted = h.wanted; idle = h.idle; short = omega (arith, h.short); few = omega arith }
+    record {
+      features = h.features;
+      blocks = h.blocks;
+      selections = h.selections;
+      steps = h.steps;
+      tool = h.tool;
+      frame = h.frame;
+      wanted = h.wanted;
+      idle = h.idle;
+      short = omega (arith, h.short);
+      few = omega arith;
+    }
 
 pub sound_after : (frames : List (List ℕ × Point)) (c : Carried) (s : Said) → AreInVolume frames → IsSound c → MayFollow frames c s
     → IsSound (changed frames (counted c) s)
@@ -244,5 +256,15 @@ sound_after frames c said.Passes volume h g = sound_counted c g.0 h
 
 pub sound_at_start : IsSound no_statement
 sound_at_start =
-    record { features = λ more. refl; blocks = λ more k. k; selections = λ more k. k; steps = tt; tool = tt; frame = tt; wanted = tt;
-        idle = λ e. refl; short = omega arith; few = omega arith }
+    record {
+      features = λ more. refl;
+      blocks = λ more k. k;
+      selections = λ more k. k;
+      steps = tt;
+      tool = tt;
+      frame = tt;
+      wanted = tt;
+      idle = λ e. refl;
+      short = omega arith;
+      few = omega arith;
+    }

@@ -51,8 +51,10 @@ with_step c step = record c { steps = c.steps ++ step ∷ [] }
 -- what a statement changes, but for the count of statements
 abbrev pub touched_with : Carried → Option (List ℕ) → Point → Option Direction → Carried
 touched_with c None target direction = c
-touched_with c (Some tool) target direction = record (with_step c (Touch (touch_with tool c.frame target direction))) { touches = c.touches
-    ++ touch_with tool c.frame target direction ∷ [] }
+touched_with c (Some tool) target direction = record (with_step c (Touch (touch_with tool c.frame target direction))) {
+  touches = c.touches
+      ++ touch_with tool c.frame target direction ∷ [];
+}
 
 abbrev pub closed_block : Option Block → List touch.Touch → List Wanted
 closed_block None touches = []
@@ -71,8 +73,12 @@ changed frames c (said.Goes target) = with_step c (Goto target)
 changed frames c (said.Begins name count) = record (with_step c (Begin name))
     { open_block = Some (record { label = name; wanted = count }) }
 changed frames c (said.Touches target direction) = touched_with c c.tool target direction
-changed frames c said.Ends = record (with_step c End) { open_block = None; touches = touches_left c.open_block c.touches; done = c.done
-    ++ closed_block c.open_block c.touches }
+changed frames c said.Ends = record (with_step c End) {
+  open_block = None;
+  touches = touches_left c.open_block c.touches;
+  done = c.done
+      ++ closed_block c.open_block c.touches;
+}
 changed frames c (said.Selects name) = record (with_step c (Tool name)) { tool = Some name }
 changed frames c (said.Recalls name) = recalled_at c (offset_of frames name)
 changed frames c said.Closes = c
@@ -80,8 +86,10 @@ changed frames c said.Passes = c
 
 -- going on by what a statement says: whether the program ends there, and what is carried on
 abbrev pub follows : List (List ℕ × Point) → Carried → Said → Result (Bool × Carried) Refusal
-follows frames c s = settled frames c.tool (count_wanted c.open_block) (length c.touches) s >>= λ settled_said. Ok (closes settled_said,
-    changed frames c settled_said)
+follows frames c s = settled frames c.tool (count_wanted c.open_block) (length c.touches) s >>= λ settled_said. Ok (
+  closes settled_said,
+  changed frames c settled_said,
+)
 
 abbrev pub counted : Carried → Carried
 counted c = record c { number = c.number + 1 }

@@ -1,8 +1,8 @@
 -- The refusal of a statement that decides, of several: first the count of statements, then what the first must be, then what
 -- this profile reads, then the place in or outside a block, then what the statement is refused for by itself, and last what
 -- else the statements above it decide.
-use Rattle.std.specs.Prelude.{ℕ, Bool, true, false, not, ◌&&◌, List, Option, Some, None, Result, Ok, Err, nat_le, nat_lt, ◌==◌, is_none,
-  if◌then◌else◌}
+use Rattle.std.specs.Prelude.{ℕ, Bool, true, false, not, ◌&&◌, List, Option, Some, None, Result, Ok, Err, nat_le, nat_lt, ◌==◌, is_none}
+use Rattle.std.specs.Prelude.{if◌then◌else◌}
 use Rattle.dmis_text.specs.declared.elements.Statement.{Statement}
 use Rattle.fixed_um.specs.declared.lengths.Point.{Point}
 use Rattle.dmis_program.specs.Outcomes.{◌>>=◌}
@@ -11,8 +11,8 @@ use Rattle.dmis_program.specs.Parameters.{is_other_coordinates, is_other_recall}
 use Rattle.dmis_program.specs.Offsets.{offset_of}
 use Rattle.dmis_program.specs.LookBack.{Context, saying}
 use Rattle.dmis_program.specs.declared.faults.Refusal.{Refusal}
-use Rattle.dmis_program.specs.declared.faults.Refusal.TheVariants.{NotDmis, Unsupported, OutsideBlock, InsideBlock, TooFewPoints,
-  UnknownFrame, NoTool, TooLarge}
+use Rattle.dmis_program.specs.declared.faults.Refusal.TheVariants.{NotDmis, Unsupported, OutsideBlock, InsideBlock, TooFewPoints}
+use Rattle.dmis_program.specs.declared.faults.Refusal.TheVariants.{UnknownFrame, NoTool, TooLarge}
 use Rattle.dmis_program.specs.declared.keywords.Keyword.{Keyword}
 use Rattle.dmis_program.specs.declared.keywords.Keyword.TheVariants.{Dmismn, Goto, Meas, Ptmeas, Endmes, Recall, Endfil, Unknown}
 use Rattle.dmis_program.specs.declared.sayings.Said.{Said}

@@ -3,8 +3,8 @@ use Rattle.std.specs.Prelude.{ℕ, Bool, List, [], ◌∷◌, codes, if◌then�
 use Rattle.std.specs.List.{list_any}
 use Rattle.std.specs.Str.{bytes_eq}
 use Rattle.dmis_program.specs.declared.keywords.Keyword.{Keyword}
-use Rattle.dmis_program.specs.declared.keywords.Keyword.TheVariants.{Dmismn, Goto, Meas, Ptmeas, Endmes, Snslct, Recall, Endfil, Units,
-  Mode, Definition, Passed, Unknown}
+use Rattle.dmis_program.specs.declared.keywords.Keyword.TheVariants.{Dmismn, Goto, Meas, Ptmeas, Endmes, Snslct, Recall, Endfil, Units}
+use Rattle.dmis_program.specs.declared.keywords.Keyword.TheVariants.{Mode, Definition, Passed, Unknown}
 
 -- whether a text is one of these
 abbrev pub is_among : List ℕ → List (List ℕ) → Bool

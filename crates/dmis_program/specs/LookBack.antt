@@ -84,5 +84,10 @@ pub record Context : Type 0 where
   pub touched : ℕ
 
 abbrev pub context_at : List (List ℕ × Point) → List Statement → Context
-context_at frames above = record { number = length above; tool = selected_tool above; frame = selected_frame frames above;
-    wanted = open_block above; touched = touched above }
+context_at frames above = record {
+  number = length above;
+  tool = selected_tool above;
+  frame = selected_frame frames above;
+  wanted = open_block above;
+  touched = touched above;
+}

@@ -3,8 +3,9 @@ use Rattle.std.specs.Prelude.{ℕ, List, ◌++◌, codes, decimal}
 use Rattle.fixed_um.specs.declared.numerals.NumeralFault.TheVariants.{NotNumeral, TooManyDigits}
 use Rattle.fixed_um.specs.declared.numerals.NumeralFault.TheVariants as numeral
 use Rattle.dmis_program.specs.declared.faults.Refusal.{Refusal}
-use Rattle.dmis_program.specs.declared.faults.Refusal.TheVariants.{NotDmis, Truncated, LineTooLong, BadByte, Unsupported, BadArguments,
-  BadNumeral, OutsideBlock, InsideBlock, TooFewPoints, UnknownFrame, NotMillimetres, NoProgMode, ZeroVector, NoTool, TooLarge}
+use Rattle.dmis_program.specs.declared.faults.Refusal.TheVariants.{NotDmis, Truncated, LineTooLong, BadByte, Unsupported, BadArguments}
+use Rattle.dmis_program.specs.declared.faults.Refusal.TheVariants.{BadNumeral, OutsideBlock, InsideBlock, TooFewPoints, UnknownFrame}
+use Rattle.dmis_program.specs.declared.faults.Refusal.TheVariants.{NotMillimetres, NoProgMode, ZeroVector, NoTool, TooLarge}
 use Rattle.dmis_program.specs.declared.faults.ProgramFault.{ProgramFault}
 use Rattle.dmis_program.specs.declared.faults.ProgramFault.TheVariants as fault
 

@@ -1,6 +1,6 @@
 -- What a statement's parameters say: names in parentheses, counts, texts (ISO 22093; the limits are this profile's).
-use Rattle.std.specs.Prelude.{ℕ, ◌-◌, Bool, false, not, ◌&&◌, ◌||◌, List, [], ◌∷◌, length, take, drop, slice_index, codes, Option, Some,
-  None, nat_lt, nat_le, ◌==◌, nat_eq, if◌then◌else◌, option_and_then}
+use Rattle.std.specs.Prelude.{ℕ, ◌-◌, Bool, false, not, ◌&&◌, ◌||◌, List, [], ◌∷◌, length, take, drop, slice_index, codes, Option, Some}
+use Rattle.std.specs.Prelude.{None, nat_lt, nat_le, ◌==◌, nat_eq, if◌then◌else◌, option_and_then}
 use Rattle.std.specs.List.{list_all, starts_with}
 use Rattle.std.specs.Char.{is_ascii_digit, is_ascii_alphabetic}
 use Rattle.std.specs.Str.{bytes_eq}

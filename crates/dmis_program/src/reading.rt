@@ -140,8 +140,10 @@ impl Reader {
 
     /// `MEAS`: a block begins. Stored frames play no part.
     fn begin(&mut self, label: Name, wanted: u64) -> Result<bool, StatementFault>
-        ensures { GivesNext result self.new (Ok (false,
-            changed [] self.old (Said.Begins label wanted))) }
+        ensures { GivesNext result self.new (Ok (
+          false,
+          changed [] self.old (Said.Begins label wanted),
+        )) }
     {
         self.step(Step::Begin(label.copy(self.alloc)?))?;
         self.block = Some(Block { label, wanted });

@@ -1,6 +1,6 @@
 -- Blanks at the ends of a list of bytes, and the `$` that continues a line.
-use Rattle.std.proofs.Common.{◌≡◌, ℕ, zero, suc, ◌+◌, ◌-◌, ◌<◌, ◌≤◌, Bool, true, false, ◌&&◌, ◌||◌, cond, eqb, List, [], ◌∷◌, ◌++◌, length,
-  take, drop, get_or, refl, sym, ap, ◌∙◌, arith, length-append, append_assoc}
+use Rattle.std.proofs.Common.{◌≡◌, ℕ, zero, suc, ◌+◌, ◌-◌, ◌<◌, ◌≤◌, Bool, true, false, ◌&&◌, ◌||◌, cond, eqb, List, [], ◌∷◌, ◌++◌, length}
+use Rattle.std.proofs.Common.{take, drop, get_or, refl, sym, ap, ◌∙◌, arith, length-append, append_assoc}
 use Rattle.std.proofs.lemmas.Bool.{and_right, and_left, both_ways, ne_eqb}
 use Rattle.std.proofs.lemmas.List.Folds.{list_all_at}
 use Rattle.dmis_text.specs.Texts.{turned, inside_after, is_blank, all_blank, without_end_blanks, is_continued, without_mark}
@@ -73,8 +73,11 @@ without_mark_last (x ∷ xs) blanks c h b = rw (not_all_blank xs blanks c h)
 
 -- a line whose last byte that is not blank is `$` goes on, and loses that byte alone
 pub role_continued : (front blanks : List ℕ) → all_blank blanks ≡ true → content_role (front ++ 36 ∷ blanks) ≡ Continued (front ++ blanks)
-role_continued front blanks b = rw (not_all_blank front blanks 36 refl, is_continued_last front blanks 36 refl b,
-    without_mark_last front blanks 36 refl b)
+role_continued front blanks b = rw (
+  not_all_blank front blanks 36 refl,
+  is_continued_last front blanks 36 refl b,
+  without_mark_last front blanks 36 refl b,
+)
 
 -- a line whose last byte that is not blank is another ends its statement
 pub role_last : (front blanks : List ℕ) (c : ℕ) → is_blank c ≡ false → (c ≡ 36 → ⊥) → all_blank blanks ≡ true

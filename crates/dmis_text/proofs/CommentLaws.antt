@@ -1,6 +1,6 @@
 -- What stands before a comment, and which bytes may stand, place by place.
-use Rattle.std.proofs.Common.{◌≡◌, ℕ, zero, suc, ◌<◌, Bool, true, false, ◌&&◌, ◌||◌, cond, leb, List, [], ◌∷◌, ◌++◌, length, take, drop,
-  refl, sym, ap, ◌∙◌, inl, inr, arith}
+use Rattle.std.proofs.Common.{◌≡◌, ℕ, zero, suc, ◌<◌, Bool, true, false, ◌&&◌, ◌||◌, cond, leb, List, [], ◌∷◌, ◌++◌, length, take, drop}
+use Rattle.std.proofs.Common.{refl, sym, ap, ◌∙◌, inl, inr, arith}
 use Rattle.std.specs.Prelude.{◌↔◌, ◌⊎◌, slice_index}
 use Rattle.std.specs.List.{list_all}
 use Rattle.std.proofs.lemmas.Bool.{and_parts, and_from, le-leb, lt-leb}
@@ -36,10 +36,18 @@ content_there inside (c ∷ cs) = go (content_there (turned inside c) cs) (begin
 
     go : IsContent (turned inside c) cs (before_comment (turned inside c) cs) → (t : Bool) → begins_comment inside (c ∷ cs) ≡ t
         → IsContent inside (c ∷ cs) (before_comment inside (c ∷ cs))
-    go rest true e = rw (nothing_before inside (c ∷ cs) e) (record { comment = c ∷ cs; parts = refl; none = λ k h. absurd (omega arith);
-        ends = inr e })
-    go rest false e = rw e (record { comment = rest.comment; parts = ap (λ (xs : List ℕ). c ∷ xs) rest.parts;
-        none = at_more (before_comment (turned inside c) cs) e rest.none; ends = rest.ends })
+    go rest true e = rw (nothing_before inside (c ∷ cs) e) (record {
+      comment = c ∷ cs;
+      parts = refl;
+      none = λ k h. absurd (omega arith);
+      ends = inr e;
+    })
+    go rest false e = rw e (record {
+      comment = rest.comment;
+      parts = ap (λ (xs : List ℕ). c ∷ xs) rest.parts;
+      none = at_more (before_comment (turned inside c) cs) e rest.none;
+      ends = rest.ends;
+    })
 
 -- the content of a line is what stands before its comment, and nothing else
 pub content_is : (inside : Bool) (line content : List ℕ) → IsContent inside line content ↔ (content ≡ before_comment inside line)

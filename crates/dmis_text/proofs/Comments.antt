@@ -1,6 +1,6 @@
 -- One byte more of a line: what stands before the comment, what may stand there, and whether a text is open.
-use Rattle.std.proofs.Common.{◌≡◌, ℕ, ◌+◌, ◌<◌, Bool, true, false, List, [], ◌∷◌, ◌++◌, length, take, drop, get_or, refl, sym, ap,
-  append_assoc}
+use Rattle.std.proofs.Common.{◌≡◌, ℕ, ◌+◌, ◌<◌, Bool, true, false, List, [], ◌∷◌, ◌++◌, length, take, drop, get_or, refl, sym, ap}
+use Rattle.std.proofs.Common.{append_assoc}
 use Rattle.std.proofs.lemmas.List.{drop_more, take_more}
 use Rattle.dmis_text.specs.Texts.{turned, inside_after, begins_comment, before_comment, may_stand, is_clean}
 
@@ -11,8 +11,11 @@ inside_after-append inside (x ∷ xs) ys = inside_after-append (turned inside x)
 
 pub inside_after_more : (start inside : Bool) (line : List ℕ) (at : ℕ) → at < length line → inside ≡ inside_after start (take at line)
     → turned inside (get_or line at 0) ≡ inside_after start (take (at + 1) line)
-inside_after_more start inside line at h e = rw (take_more line at 0 h, inside_after-append start (take at line) (get_or line at 0 ∷ []),
-    ← e)
+inside_after_more start inside line at h e = rw (
+  take_more line at 0 h,
+  inside_after-append start (take at line) (get_or line at 0 ∷ []),
+  ← e,
+)
 
 before_comment_step : (inside : Bool) (c : ℕ) (cs : List ℕ) → begins_comment inside (c ∷ cs) ≡ false
     → before_comment inside (c ∷ cs) ≡ c ∷ before_comment (turned inside c) cs
@@ -24,7 +27,7 @@ pub before_comment_more : (inside : Bool) (line : List ℕ) (at : ℕ) → at < 
 before_comment_more inside line at h none =
     let here : begins_comment inside (get_or line at 0 ∷ drop (at + 1) line) ≡ false = rw (drop_more line at 0 h) at none in
     rw (take_more line at 0 h, append_assoc, drop_more line at 0 h)
-        (ap (λ (xs : List ℕ). take at line ++ xs) (sym (before_comment_step inside (get_or line at 0) (drop (at + 1) line) here)))
+    (ap (λ (xs : List ℕ). take at line ++ xs) (sym (before_comment_step inside (get_or line at 0) (drop (at + 1) line) here)))
 
 is_clean_step : (inside : Bool) (c : ℕ) (cs : List ℕ) → begins_comment inside (c ∷ cs) ≡ false → may_stand inside c ≡ true
     → is_clean inside (c ∷ cs) ≡ is_clean (turned inside c) cs

@@ -1,6 +1,6 @@
 -- Folding, trimming and open texts.
-use Rattle.std.proofs.Common.{◌≡◌, ℕ, zero, suc, ◌-◌, Bool, true, false, eqb, List, [], ◌∷◌, ◌++◌, length, take, drop, get_or, map, refl,
-  sym, ap, ◌∙◌, arith, length-append}
+use Rattle.std.proofs.Common.{◌≡◌, ℕ, zero, suc, ◌-◌, Bool, true, false, eqb, List, [], ◌∷◌, ◌++◌, length, take, drop, get_or, map, refl}
+use Rattle.std.proofs.Common.{sym, ap, ◌∙◌, arith, length-append}
 use Rattle.std.specs.Prelude.{◌↔◌, slice_index, if◌then◌else◌}
 use Rattle.std.specs.Char.{to_ascii_uppercase}
 use Rattle.std.proofs.lemmas.Bool.{and_parts, and_from, false≢true, ne_eqb}
@@ -96,8 +96,12 @@ end_blanks (c ∷ cs) = go (end_blanks cs) (all_blank (c ∷ cs)) refl
         → (behind : List ℕ) × (c ∷ cs ≡ without_end_blanks (c ∷ cs) ++ behind) × (all_blank behind ≡ true)
         × (is_blank (slice_index (without_end_blanks (c ∷ cs)) (length (without_end_blanks (c ∷ cs)) - 1)) ≡ false)
     go rest true e = rw e (c ∷ cs, refl, e, refl)
-    go rest false e = rw e (rest.0, ap (λ (xs : List ℕ). c ∷ xs) rest.1, rest.2,
-        last_of_more c (without_end_blanks cs) (alone rest.0 rest.1 rest.2 e) rest.3)
+    go rest false e = rw e (
+      rest.0,
+      ap (λ (xs : List ℕ). c ∷ xs) rest.1,
+      rest.2,
+      last_of_more c (without_end_blanks cs) (alone rest.0 rest.1 rest.2 e) rest.3,
+    )
 
 first_of_front : (bytes kept behind : List ℕ) → bytes ≡ kept ++ behind → is_blank (slice_index bytes 0) ≡ false
     → is_blank (slice_index kept 0) ≡ false
@@ -132,10 +136,10 @@ trimmed_only [] behind blank first last =
 trimmed_only (k ∷ ks) behind blank first last =
     let kept = k ∷ ks in
     let at_end : is_blank (get_or (kept ++ behind) (length kept - 1) 0) ≡ false =
-        rw (get_or_append_left kept behind 0 (length kept - 1) (omega arith)) last in
+    rw (get_or_append_left kept behind 0 (length kept - 1) (omega arith)) last in
     let blanks : all_blank (drop (length kept) (kept ++ behind)) ≡ true = rw (drop_at kept behind (length kept) refl) blank in
     rw first (sym (take_at kept behind (length kept) refl) ∙ kept_cut (kept ++ behind) (length kept)
-        (omega (arith, length-append kept behind)) blanks (λ _. at_end))
+    (omega (arith, length-append kept behind)) blanks (λ _. at_end))
 
 -- bytes without blanks at both ends, and no others
 pub trimmed_is : (bytes kept : List ℕ) → IsTrimmed bytes kept ↔ (kept ≡ without_end_blanks (without_front_blanks bytes))

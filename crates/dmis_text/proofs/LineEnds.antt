@@ -1,6 +1,6 @@
 -- The lines of a list of bytes, one line at a time.
-use Rattle.std.proofs.Common.{◌≡◌, ℕ, zero, suc, ◌+◌, ◌-◌, ◌<◌, ◌≤◌, Bool, true, false, not, cond, eqb, ltb, List, [], ◌∷◌, ◌++◌, length,
-  take, drop, Option, Some, None, refl, sym, ap, ◌∙◌, arith, rules}
+use Rattle.std.proofs.Common.{◌≡◌, ℕ, zero, suc, ◌+◌, ◌-◌, ◌<◌, ◌≤◌, Bool, true, false, not, cond, eqb, ltb, List, [], ◌∷◌, ◌++◌, length}
+use Rattle.std.proofs.Common.{take, drop, Option, Some, None, refl, sym, ap, ◌∙◌, arith, rules}
 use Rattle.std.specs.List.{slice_split, position, position_or_len}
 use Rattle.std.specs.Str.Lines.{lines, lines_of_parts, strip_carriage_return}
 use Rattle.std.proofs.lemmas.Bool.{ltb-true, ltb-false, ne_eqb}
@@ -21,9 +21,12 @@ lines_at bs at e =
     let parts = cond_some (ltb (position_or_len (λ b. eqb b 10) bs) (length bs)) (position_or_len (λ b. eqb b 10) bs) at (sym e) in
     let within : position_or_len (λ b. eqb b 10) bs < length bs = ltb-true _ _ parts.0 in
     let first : slice_split (λ b. eqb b 10) bs ≡ take (position_or_len (λ b. eqb b 10) bs) bs
-        ∷ slice_split (λ b. eqb b 10) (drop (position_or_len (λ b. eqb b 10) bs + 1) bs) = slice_split_first (λ b. eqb b 10) bs 0 within in
-    rw (← parts.1) (within, rw first (lines_of_more _ _ _ (length-slice_split (λ b. eqb b 10)
-        (drop (position_or_len (λ b. eqb b 10) bs + 1) bs))))
+    ∷ slice_split (λ b. eqb b 10) (drop (position_or_len (λ b. eqb b 10) bs + 1) bs) = slice_split_first (λ b. eqb b 10) bs 0 within in
+    rw (← parts.1) (
+      within,
+      rw first (lines_of_more _ _ _ (length-slice_split (λ b. eqb b 10)
+          (drop (position_or_len (λ b. eqb b 10) bs + 1) bs))),
+    )
 
 split_alone : (p : ℕ → Bool) (x : ℕ) (xs : List ℕ) → slice_split p xs ≡ xs ∷ [] → p x ≡ false → slice_split p (x ∷ xs) ≡ (x ∷ xs) ∷ []
 split_alone p x xs h e = rw (e, h)
@@ -41,8 +44,11 @@ split_none p (x ∷ xs) h = go (λ l. split_none p xs l) (p x) refl h
 -- and one line, unless there is no byte
 pub lines_one : (bs : List ℕ) → None ≡ position (λ b. eqb b 10) bs → 0 < length bs → lines bs ≡ bs ∷ lines []
 lines_one [] e h = absurd (omega arith)
-lines_one (x ∷ xs) e h = rw (split_none (λ b. eqb b 10) (x ∷ xs)
-    (not_found (ltb (position_or_len (λ b. eqb b 10) (x ∷ xs)) (length (x ∷ xs))) _ refl e), ne_eqb (length (x ∷ xs)) 0 (λ z. omega arith))
+lines_one (x ∷ xs) e h = rw (
+  split_none (λ b. eqb b 10) (x ∷ xs)
+      (not_found (ltb (position_or_len (λ b. eqb b 10) (x ∷ xs)) (length (x ∷ xs))) _ refl e),
+  ne_eqb (length (x ∷ xs)) 0 (λ z. omega arith),
+)
   where
     not_found : (t : Bool) (at : ℕ) → ltb at (length (x ∷ xs)) ≡ t → None ≡ cond t (Some at) None → length (x ∷ xs) ≤ at
     not_found true at t n = cc

@@ -1,6 +1,6 @@
 -- Lines are read as they were written.
-use Rattle.std.proofs.Common.{◌≡◌, ℕ, zero, suc, ◌+◌, ◌-◌, Bool, true, false, not, cond, eqb, List, [], ◌∷◌, ◌++◌, length, refl, ap, ◌∙◌,
-  arith, length-append, append_assoc}
+use Rattle.std.proofs.Common.{◌≡◌, ℕ, zero, suc, ◌+◌, ◌-◌, Bool, true, false, not, cond, eqb, List, [], ◌∷◌, ◌++◌, length, refl, ap, ◌∙◌}
+use Rattle.std.proofs.Common.{arith, length-append, append_assoc}
 use Rattle.std.specs.Prelude.{slice_index}
 use Rattle.std.specs.List.{list_all, slice_split, onto_first, join_with_byte, flat_map}
 use Rattle.std.specs.Str.Lines.{lines, lines_of_parts, strip_carriage_return}
@@ -46,8 +46,11 @@ lines_written [] h = refl
 lines_written (l ∷ ls) h =
     let both = and_parts (is_line l) (list_all is_line ls) h in
     let free = and_parts (lacks 13 l) (lacks 10 l) both.0 in
-    rw (append_assoc l (10 ∷ []) (flat_map (λ (l : List ℕ). l ++ 10 ∷ []) ls),
-        first_line l (flat_map (λ (l : List ℕ). l ++ 10 ∷ []) ls) free.1, strip_none l free.0)
+    rw (
+      append_assoc l (10 ∷ []) (flat_map (λ (l : List ℕ). l ++ 10 ∷ []) ls),
+      first_line l (flat_map (λ (l : List ℕ). l ++ 10 ∷ []) ls) free.1,
+      strip_none l free.0,
+    )
     (ap (λ (xs : List (List ℕ)). l ∷ xs) (lines_written ls both.1))
 
 -- or with CR and LF

@@ -74,7 +74,7 @@ by_role from to n begun (Continued part) rest h low within ih =
 by_role from to n begun (Last part) rest h low within ih =
     let start = start_before begun n h in
     let line : (finished (grown begun n part)).line ≡ start_of begun n =
-        line-statement_of (grown begun n part).line (grown begun n part).text ∙ line-grown begun n part in
+    line-statement_of (grown begun n part).line (grown begun n part).text ∙ line-grown begun n part in
     let behind = ih (n + 1) None tt (omega arith) in (
       (omega (arith, line), omega (arith, line, start), earlier _ (n + 1) to (rest None).statements (omega (arith, line, start)) behind.0),
       fault_earlier from (n + 1) to (rest None).fault (omega (arith, start)) behind.1,

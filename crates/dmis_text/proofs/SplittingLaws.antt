@@ -1,6 +1,6 @@
 -- Cuts and pieces are what their relations say, and nothing else is.
-use Rattle.std.proofs.Common.{◌≡◌, ◌≢◌, ℕ, zero, suc, ◌+◌, ◌<◌, Bool, true, false, not, ◌&&◌, cond, eqb, List, [], ◌∷◌, ◌++◌, length, take,
-  map, Option, Some, None, refl, sym, ap, ◌∙◌, arith, length-append}
+use Rattle.std.proofs.Common.{◌≡◌, ◌≢◌, ℕ, zero, suc, ◌+◌, ◌<◌, Bool, true, false, not, ◌&&◌, cond, eqb, List, [], ◌∷◌, ◌++◌, length, take}
+use Rattle.std.proofs.Common.{map, Option, Some, None, refl, sym, ap, ◌∙◌, arith, length-append}
 use Rattle.std.specs.Prelude.{◌↔◌, slice_index}
 use Rattle.std.specs.Option.{option_map}
 use Rattle.std.proofs.lemmas.Bool.{eqb-true, eqb-false, ne_eqb, eq-eqb, false≢true}
@@ -41,8 +41,10 @@ uncut inside mark (c ∷ cs) h = rw (none_first inside mark c cs h, uncut (turne
 cut_there : (inside : Bool) (mark : ℕ) (front behind : List ℕ) → NoneFrom inside mark front → inside_after inside front ≡ false
     → cut_at mark inside (front ++ mark ∷ behind) ≡ Some (front, behind)
 cut_there inside mark [] behind h closed = rw (closed, eq-eqb mark mark refl)
-cut_there inside mark (c ∷ cs) behind h closed = rw (none_first inside mark c cs h,
-    cut_there (turned inside c) mark cs behind (none_behind inside mark c cs h) closed)
+cut_there inside mark (c ∷ cs) behind h closed = rw (
+  none_first inside mark c cs h,
+  cut_there (turned inside c) mark cs behind (none_behind inside mark c cs h) closed,
+)
 
 none_from_front : (inside : Bool) (mark c : ℕ) (cs : List ℕ) → (not inside && eqb c mark) ≡ false → NoneFrom (turned inside c) mark cs
     → NoneFrom inside mark (c ∷ cs)
@@ -129,7 +131,7 @@ split_within (suc n) text h = go (λ t l. split_within n t l) (cut_at 44 false t
     go rest (Some p) e =
         let cut = (cut_is 44 text p.0 p.1).1 e in
         rw (pieces_some text p.0 p.1 e) (split_more text p.0 p.1 (pieces false p.1) cut
-            (rest p.1 (omega (arith, shorter_behind 44 text p.0 p.1 cut))))
+        (rest p.1 (omega (arith, shorter_behind 44 text p.0 p.1 cut))))
 
 -- and there is no other
 one_split : (text : List ℕ) (parts : List (List ℕ)) → IsSplit text parts → parts ≡ pieces false text

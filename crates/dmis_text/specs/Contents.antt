@@ -1,6 +1,6 @@
 -- What stands before a comment, and what is left without blanks, as relations: what the laws of this crate tie its functions to.
-use Rattle.std.specs.Prelude.{◌≡◌, ◌⊎◌, ℕ, ◌<◌, ◌-◌, Bool, true, false, not, ◌||◌, ◌&&◌, ◌==◌, nat_le, List, [], ◌++◌, length, take, drop,
-  slice_index}
+use Rattle.std.specs.Prelude.{◌≡◌, ◌⊎◌, ℕ, ◌<◌, ◌-◌, Bool, true, false, not, ◌||◌, ◌&&◌, ◌==◌, nat_le, List, [], ◌++◌, length, take, drop}
+use Rattle.std.specs.Prelude.{slice_index}
 use Rattle.std.specs.List.{list_all}
 use Rattle.dmis_text.specs.Texts.{inside_after, is_blank, all_blank, begins_comment, before_comment, may_stand}
 

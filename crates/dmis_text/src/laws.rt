@@ -64,7 +64,7 @@ pub fn each_text_says_one_statement()
 pub fn texts_stay_as_written()
     ensures folded { (inside : Bool) (bytes : List ℕ) (k : ℕ) → slice_index (folded inside bytes) k
         ≡ (if inside_after inside (take k bytes) then slice_index bytes k else to_ascii_uppercase
-            (slice_index bytes k)) }
+        (slice_index bytes k)) }
     ensures length { (inside : Bool) (bytes : List ℕ)
         → length (folded inside bytes) ≡ length bytes }
     ensures trimmed { (bytes kept : List ℕ)

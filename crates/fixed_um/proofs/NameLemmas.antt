@@ -1,32 +1,6 @@
 -- A folded name text is a name.
-use Rattle.std.proofs.Common.{
-  ◌≡◌,
-  ℕ,
-  suc,
-  ◌-◌,
-  ◌<◌,
-  ◌≤◌,
-  Bool,
-  true,
-  false,
-  cond,
-  ◌&&◌,
-  List,
-  [],
-  ◌∷◌,
-  length,
-  map,
-  refl,
-  ap,
-  sym,
-  ◌∙◌,
-  arith,
-  nat_lt,
-  nat_le,
-  inl,
-  inr,
-  codes,
-}
+use Rattle.std.proofs.Common.{◌≡◌, ℕ, suc, ◌-◌, ◌<◌, ◌≤◌, Bool, true, false, cond, ◌&&◌, List, [], ◌∷◌, length, map, refl, ap, sym, ◌∙◌}
+use Rattle.std.proofs.Common.{arith, nat_lt, nat_le, inl, inr, codes}
 use Rattle.std.specs.List.{list_all}
 use Rattle.std.specs.Char.{to_ascii_uppercase}
 use Rattle.std.proofs.lemmas.Bool.{and_parts, and_from, cases_lt, lt-ltb, le-ltb, cond-true}

@@ -1,42 +1,7 @@
 -- What is written is short, and reads back.
-use Rattle.std.proofs.Common.{
-  ◌≡◌,
-  ℕ,
-  zero,
-  suc,
-  ◌+◌,
-  ◌-◌,
-  ◌*◌,
-  ◌/◌,
-  ◌%◌,
-  ◌^◌,
-  ◌<◌,
-  ◌≤◌,
-  Bool,
-  true,
-  false,
-  List,
-  [],
-  ◌∷◌,
-  ◌++◌,
-  length,
-  refl,
-  ap,
-  sym,
-  subst,
-  ◌∙◌,
-  arith,
-  codes,
-  append_assoc,
-  append-nil,
-  add-zero,
-  length-append,
-  ℤ,
-  pos,
-  negsuc,
-  Ok,
-  Some,
-}
+use Rattle.std.proofs.Common.{◌≡◌, ℕ, zero, suc, ◌+◌, ◌-◌, ◌*◌, ◌/◌, ◌%◌, ◌^◌, ◌<◌, ◌≤◌, Bool, true, false, List, [], ◌∷◌, ◌++◌, length}
+use Rattle.std.proofs.Common.{refl, ap, sym, subst, ◌∙◌, arith, codes, append_assoc, append-nil, add-zero, length-append, ℤ, pos, negsuc}
+use Rattle.std.proofs.Common.{Ok, Some}
 use Rattle.std.specs.Prelude.{unsigned_abs, decimal}
 use Rattle.std.specs.Char.{digit_value}
 use Rattle.std.specs.Str.Parse.{AllDigits, digits_value, digits_value_after}
@@ -44,21 +9,8 @@ use Rattle.std.proofs.lemmas.Fmt.{length-decimal-le, decimal_is_IsNumeral}
 use Rattle.std.proofs.lemmas.Bool.Decides.{nat_tests}
 use Rattle.fixed_um.specs.Limits.{wire_limit, component_limit}
 use Rattle.fixed_um.specs.Written.{minus_sign, last_digit, three_digits, six_digits, written, written_component}
-use Rattle.fixed_um.specs.Numerals.{
-  Numeral,
-  IsSign,
-  none,
-  minus,
-  IsFraction,
-  pointed,
-  IsExponent,
-  nothing,
-  IsNumeral,
-  StandsFor,
-  Reads,
-  ReadsDirection,
-  signed,
-}
+use Rattle.fixed_um.specs.Numerals.{Numeral, IsSign, none, minus, IsFraction, pointed, IsExponent, nothing, IsNumeral, StandsFor, Reads}
+use Rattle.fixed_um.specs.Numerals.{ReadsDirection, signed}
 use Rattle.fixed_um.specs.Shapes.{Direction, IsDirection}
 use Rattle.fixed_um.proofs.DigitLemmas.{AllDigits-append, digits_value_after-append, digits_value_after-ge}
 use Rattle.fixed_um.proofs.RoundingLemmas.{rounds_exact}

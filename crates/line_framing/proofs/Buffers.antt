@@ -1,6 +1,6 @@
 -- How positions in a buffer go with what stands at the front of its rest.
-use Rattle.std.proofs.Common.{◌≡◌, ℕ, ◌+◌, ◌-◌, ◌≤◌, Bool, true, false, List, ◌∷◌, ◌++◌, length, take, drop, sym, ◌∙◌, ap, subst, arith,
-  Option, Some, Result, Ok, Err, length-drop}
+use Rattle.std.proofs.Common.{◌≡◌, ℕ, ◌+◌, ◌-◌, ◌≤◌, Bool, true, false, List, ◌∷◌, ◌++◌, length, take, drop, sym, ◌∙◌, ap, subst, arith}
+use Rattle.std.proofs.Common.{Option, Some, Result, Ok, Err, length-drop}
 use Rattle.std.proofs.lemmas.List.{drop-drop, drop-append-le, length-take, length-append}
 use Rattle.std.proofs.lemmas.List.Sums.{prefix_len-le-length}
 use Rattle.line_framing.specs.Content.{is_content, IsLine}
@@ -55,7 +55,7 @@ has_front bytes start end content behind r e ec eb h =
     let front : content ≡ content_of rest = ec ∙ ap (λ (k : ℕ). take k rest) n in
     let back : behind ≡ behind_content rest = eb ∙ ap (λ (k : ℕ). drop k rest) n in
     let same : next_of rest ≡ verdict content behind = sym (ap (λ (l : List ℕ). verdict l behind) front
-        ∙ ap (λ (l : List ℕ). verdict (content_of rest) l) back) in
+    ∙ ap (λ (l : List ℕ). verdict (content_of rest) l) back) in
     let left : drop 2 behind ≡ drop (end - start + 2) rest = ap (drop 2) eb ∙ drop-drop 2 (end - start) rest in
     elim r as (λ (v : Result Bool FramingFault). HasVerdict content behind v → HasFront bytes start end v) [
       | Ok b ↦ elim b as (λ (t : Bool). HasVerdict content behind (Ok t) → HasFront bytes start end (Ok t)) [

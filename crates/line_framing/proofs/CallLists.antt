@@ -55,7 +55,7 @@ asked rest calls (Ok (Some (line, left))) h later =
     let f = found rest line left h in
     let a = later left in
     let front : rest ++ bytes_fed calls ≡ line ++ 13 ∷ 10 ∷ (left ++ bytes_fed calls) = ap (λ (l : List ℕ). l ++ bytes_fed calls) f.parts
-        ∙ append_assoc line (13 ∷ 10 ∷ left) (bytes_fed calls) in
+    ∙ append_assoc line (13 ∷ 10 ∷ left) (bytes_fed calls) in
     record {
       refused = a.refused;
       parts = front ∙ (ap (λ (l : List ℕ). line ++ 13 ∷ 10 ∷ l) a.parts
@@ -72,7 +72,7 @@ accounted : (calls : List Call) (rest : List ℕ) → IsAccounted (rest ++ bytes
 accounted [] rest = record { refused = []; parts = refl; whole = tt; taken = λ e. refl; sound = record { kept = λ fault e. absurd (cc) } }
 accounted (Feed piece ∷ calls) rest =
     subst (λ (l : List ℕ). IsAccounted l (handed_out (at (rest ++ piece) None) calls) (after_calls (at (rest ++ piece) None) calls))
-        (append_assoc rest piece (bytes_fed calls)) (accounted calls (rest ++ piece))
+    (append_assoc rest piece (bytes_fed calls)) (accounted calls (rest ++ piece))
 accounted (Ask ∷ calls) rest = asked rest calls (next_of rest) refl (accounted calls)
 
 pub nothing_is_lost : (calls : List Call) → IsAccounted (bytes_fed calls) (handed_out no_bytes calls) (after_calls no_bytes calls)
@@ -106,6 +106,6 @@ same_lines calls others e h g =
     let left = handed_out_all calls h in
     let right = handed_out_all others g in
     let same = one_stream (bytes_fed others) _ _ _ _ _ _ (subst
-        (λ (l : List ℕ). IsStream l (handed_out no_bytes calls) left.0 (fault_in (next_of (after_calls no_bytes calls).rest))) e left.1)
-        right.1 in
+    (λ (l : List ℕ). IsStream l (handed_out no_bytes calls) left.0 (fault_in (next_of (after_calls no_bytes calls).rest))) e left.1)
+    right.1 in
     (same.lines_are, same.faults_are)

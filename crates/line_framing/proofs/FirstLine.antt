@@ -1,6 +1,6 @@
 -- What stands at the front of bytes: one thing, and more bytes do not undo it.
-use Rattle.std.proofs.Common.{◌≡◌, ℕ, ◌<◌, ◌≤◌, Bool, true, false, cond, ◌&&◌, List, [], ◌∷◌, ◌++◌, length, refl, sym, ◌∙◌, ap, subst,
-  arith, append_assoc, eqb, ltb, Some, None, Ok, Err}
+use Rattle.std.proofs.Common.{◌≡◌, ℕ, ◌<◌, ◌≤◌, Bool, true, false, cond, ◌&&◌, List, [], ◌∷◌, ◌++◌, length, refl, sym, ◌∙◌, ap, subst}
+use Rattle.std.proofs.Common.{arith, append_assoc, eqb, ltb, Some, None, Ok, Err}
 use Rattle.std.proofs.lemmas.Bool.{and_parts, le-ltb, lt-ltb, ltb-true, ltb-false, eqb-true}
 use Rattle.std.proofs.lemmas.List.Folds.{length-prefix_len}
 use Rattle.line_framing.specs.Content.{is_content, IsLine}
@@ -33,8 +33,12 @@ short_verdict c a h = ap (λ (b : Bool). cond {A = Front} b (Err LineTooLong) (e
 
 pub first_line_at : (line more : List ℕ) → IsLine line → next_of (line ++ 13 ∷ 10 ∷ more) ≡ Ok (Some (line, more))
 first_line_at line more h =
-    next_is _ line (13 ∷ 10 ∷ more) (record { parts = refl; free = h.free; stop = λ c rest is. let same : c ≡ 13 = cc
-        in ap is_content same })
+    next_is _ line (13 ∷ 10 ∷ more) (record {
+      parts = refl;
+      free = h.free;
+      stop = λ c rest is. let same : c ≡ 13 = cc
+          in ap is_content same;
+    })
     ∙ short_verdict line (13 ∷ 10 ∷ more) h.short
 
 -- the line and the rest of what is found
@@ -99,7 +103,7 @@ pub found_stays : (bytes line rest more : List ℕ) → next_of bytes ≡ Ok (So
 found_stays bytes line rest more h =
     let f = found bytes line rest h in
     let same : bytes ++ more ≡ line ++ 13 ∷ 10 ∷ (rest ++ more) = ap (λ (l : List ℕ). l ++ more) f.parts
-        ∙ append_assoc line (13 ∷ 10 ∷ rest) more in
+    ∙ append_assoc line (13 ∷ 10 ∷ rest) more in
     ap next_of same ∙ first_line_at line (rest ++ more) f.is_line
 
 -- and a fault stays a fault
@@ -127,7 +131,7 @@ ending_stays c x (y ∷ a) more f h =
     let bad = unended_by c a f (eqb x 13 && eqb y 10) h in
     let same : f ≡ BadByte = bad.1 in
     let end : ending c (x ∷ y ∷ (a ++ more)) ≡ Err BadByte = ap (λ (b : Bool). cond {A = Front} b (Ok (Some (c, a ++ more))) (Err BadByte))
-        bad.0 in
+    bad.0 in
     cc
 
 too_long : (bytes : List ℕ) → 65536 < content_len bytes → next_of bytes ≡ Err LineTooLong
@@ -142,12 +146,12 @@ stays_by bytes more f a true ea e h =
     let same : f ≡ LineTooLong = cc in
     let long : 65536 < content_len bytes = rw (length-prefix_len is_content bytes) at (ltb-true 65536 _ e) in
     let end : next_of (bytes ++ more) ≡ Err LineTooLong = too_long (bytes ++ more)
-        (omega (arith, long, prefix_len-le-append is_content bytes more)) in
+    (omega (arith, long, prefix_len-le-append is_content bytes more)) in
     cc
 stays_by bytes more f [] false ea e h = absurd (cc)
 stays_by bytes more f (x ∷ a) false ea e h =
     next_is (bytes ++ more) (content_of bytes) (x ∷ (a ++ more))
-        (cut_stays bytes (content_of bytes) x a more (subst (λ (l : List ℕ). BeginsWith bytes (content_of bytes) l) ea (begins bytes)))
+    (cut_stays bytes (content_of bytes) x a more (subst (λ (l : List ℕ). BeginsWith bytes (content_of bytes) l) ea (begins bytes)))
     ∙ (short_verdict (content_of bytes) (x ∷ (a ++ more)) (ltb-false 65536 _ e) ∙ ending_stays (content_of bytes) x a more f h)
 
 pub fault_stays : (bytes more : List ℕ) (f : FramingFault) → next_of bytes ≡ Err f → next_of (bytes ++ more) ≡ Err f

@@ -1,6 +1,6 @@
 -- Lists of lines as bytes: what is taken from them piece by piece is these lines.
-use Rattle.std.proofs.Common.{◌≡◌, ℕ, ◌<◌, ◌≤◌, Bool, true, false, cond, not, ◌&&◌, ◌||◌, List, [], ◌∷◌, ◌++◌, length, zero, suc, refl, sym,
-  ◌∙◌, ap, subst, arith, append_assoc, length-append, eqb, Option, Some, None, Ok, Err, IfOk, IsNone}
+use Rattle.std.proofs.Common.{◌≡◌, ℕ, ◌<◌, ◌≤◌, Bool, true, false, cond, not, ◌&&◌, ◌||◌, List, [], ◌∷◌, ◌++◌, length, zero, suc, refl, sym}
+use Rattle.std.proofs.Common.{◌∙◌, ap, subst, arith, append_assoc, length-append, eqb, Option, Some, None, Ok, Err, IfOk, IsNone}
 use Rattle.std.proofs.lemmas.Bool.{true≢false, eqb-true, not-false}
 use Rattle.line_framing.specs.Content.{is_content, IsLine, AreLines, line_bytes}
 use Rattle.line_framing.specs.Next.{Front, content_of, behind_content, ending, next_of}
@@ -57,9 +57,9 @@ same_stream (x ∷ xs) [] rest left e hx hy nx ny = absurd (ny x (line_bytes xs 
     ∙ append_assoc x (13 ∷ 10 ∷ line_bytes xs) rest))
 same_stream (x ∷ xs) (y ∷ ys) rest left e hx hy nx ny =
     let bytes : x ++ 13 ∷ 10 ∷ (line_bytes xs ++ rest) ≡ y ++ 13 ∷ 10 ∷ (line_bytes ys ++ left) =
-        sym (append_assoc x (13 ∷ 10 ∷ line_bytes xs) rest) ∙ (e ∙ append_assoc y (13 ∷ 10 ∷ line_bytes ys) left) in
+    sym (append_assoc x (13 ∷ 10 ∷ line_bytes xs) rest) ∙ (e ∙ append_assoc y (13 ∷ 10 ∷ line_bytes ys) left) in
     let one = same_found x (line_bytes xs ++ rest) y (line_bytes ys ++ left) (sym (first_line_at x (line_bytes xs ++ rest) hx.0)
-        ∙ (ap next_of bytes ∙ first_line_at y (line_bytes ys ++ left) hy.0)) in
+    ∙ (ap next_of bytes ∙ first_line_at y (line_bytes ys ++ left) hy.0)) in
     let others = same_stream xs ys rest left one.1 hx.1 hy.1 nx ny in
     (ap (λ (l : List ℕ). l ∷ xs) one.0 ∙ ap (λ (ls : List (List ℕ)). y ∷ ls) others.0, others.1)
 
@@ -128,17 +128,29 @@ stream_end bytes none = record {
 read_by : (bytes : List ℕ) (n : ℕ) (front : Front) → next_of bytes ≡ front → length bytes ≤ n
     → ((left : List ℕ) → length left < n → IsRead left) → IsRead bytes
 read_by bytes n (Ok None) next short later =
-    record { lines = []; rest = bytes; fault = fault_in (next_of bytes);
-        stream = stream_end bytes (subst (λ (r : Front). IfOk r IsNone) (sym next) refl) }
+    record {
+      lines = [];
+      rest = bytes;
+      fault = fault_in (next_of bytes);
+      stream = stream_end bytes (subst (λ (r : Front). IfOk r IsNone) (sym next) refl);
+    }
 read_by bytes n (Ok (Some (line, left))) next short later =
     let f = found bytes line left next in
     let count = ap length f.parts ∙ length-append line (13 ∷ 10 ∷ left) in
     let r = later left (omega (arith, count)) in
-    record { lines = line ∷ r.lines; rest = r.rest; fault = r.fault;
-        stream = stream_more bytes line left r.rest r.lines r.fault next r.stream }
+    record {
+      lines = line ∷ r.lines;
+      rest = r.rest;
+      fault = r.fault;
+      stream = stream_more bytes line left r.rest r.lines r.fault next r.stream;
+    }
 read_by bytes n (Err fault) next short later =
-    record { lines = []; rest = bytes; fault = fault_in (next_of bytes);
-        stream = stream_end bytes (subst (λ (r : Front). IfOk r IsNone) (sym next) tt) }
+    record {
+      lines = [];
+      rest = bytes;
+      fault = fault_in (next_of bytes);
+      stream = stream_end bytes (subst (λ (r : Front). IfOk r IsNone) (sym next) tt);
+    }
 
 read_within : (n : ℕ) (bytes : List ℕ) → length bytes < n → IsRead bytes
 read_within zero bytes h = absurd (omega (arith, h))

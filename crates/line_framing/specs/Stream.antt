@@ -1,6 +1,6 @@
 -- The lines of a list of bytes as a whole, whatever the pieces in which it came.
-use Rattle.std.specs.Prelude.{◌≡◌, ℕ, Bool, false, ◌&&◌, ◌||◌, not, ◌==◌, nat_lt, if◌then◌else◌, List, [], ◌∷◌, ◌++◌, length, Option, Some,
-  None, Ok, Err}
+use Rattle.std.specs.Prelude.{◌≡◌, ℕ, Bool, false, ◌&&◌, ◌||◌, not, ◌==◌, nat_lt, if◌then◌else◌, List, [], ◌∷◌, ◌++◌, length, Option, Some}
+use Rattle.std.specs.Prelude.{None, Ok, Err}
 use Rattle.line_framing.specs.Content.{IsLine, AreLines, line_bytes}
 use Rattle.line_framing.specs.Next.{Front, content_of, behind_content}
 use Rattle.line_framing.specs.declared.faults.FramingFault.{FramingFault}

@@ -142,8 +142,10 @@ impl Lines {
     pub fn first_line(&mut self) -> Result<Option<usize>, FramingFault>
         // The answer is what stands at the front of the rest, and from a fault on the same fault.
         ensures found { IfOk result (λ found. MatchOption found (next_of self.old.rest ≡ Ok None)
-            (λ n. next_of self.old.rest ≡ Ok (Some (take n self.old.rest,
-                drop (n + 2) self.old.rest)))) }
+            (λ n. next_of self.old.rest ≡ Ok (Some (
+              take n self.old.rest,
+              drop (n + 2) self.old.rest,
+            )))) }
         ensures within { IfOk result (λ found. IfSome found (λ n. n + 2 ≤ length self.old.rest)) }
         ensures line { IfOk result (λ found. IfSome found (λ n. IsLine (take n self.old.rest))) }
         ensures fault { IfErr result (λ fault. next_of self.old.rest ≡ Err fault) }
@@ -182,8 +184,10 @@ impl Lines {
     /// Takes the first line, of `length` bytes, and its CR LF off the front of the rest. The caller owes that
     /// such a line stands there, as `first_line` answers. It takes no memory.
     pub fn drop_line(&mut self, length: usize)
-        requires { next_of self.old.rest ≡ Ok (Some (take length self.old.rest,
-            drop (length + 2) self.old.rest)) }
+        requires { next_of self.old.rest ≡ Ok (Some (
+          take length self.old.rest,
+          drop (length + 2) self.old.rest,
+        )) }
         ensures dropped { self.new ≡ record self.old { rest = drop (length + 2) self.old.rest } }
         ensures taken { self.new ≡ after_next self.old }
         ensures sound { IsSound self.new }

@@ -63,7 +63,7 @@ pub fn one_stream()
     ensures some { (bytes : List ℕ) → IsRead bytes }
     ensures one { (bytes : List ℕ) (lines others : List (List ℕ)) (rest left : List ℕ)
         (fault other : Option FramingFault) → IsStream bytes lines rest fault
-            → IsStream bytes others left other
+        → IsStream bytes others left other
         → AreSame lines others rest left fault other }
 {}
 

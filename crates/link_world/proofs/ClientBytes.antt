@@ -1,6 +1,6 @@
 -- The bytes that come to the client in a world.
-use Rattle.std.proofs.Common.{◌≡◌, ℕ, ◌-◌, ◌<◌, Bool, true, false, not, ◌&&◌, List, length, take, drop, slice_index_or, slice_set, sym, ◌∙◌,
-  ap, subst, arith}
+use Rattle.std.proofs.Common.{◌≡◌, ℕ, ◌-◌, ◌<◌, Bool, true, false, not, ◌&&◌, List, length, take, drop, slice_index_or, slice_set, sym, ◌∙◌}
+use Rattle.std.proofs.Common.{ap, subst, arith}
 use Rattle.std.proofs.lemmas.Bool.{and_from}
 use Rattle.protocol_model.specs.Ends.{ClientEnd, end_fed}
 use Rattle.protocol_model.specs.World.{World, Link, no_link, link_of, with_link, client_link, has_some, can, happens, moved_down}
@@ -40,9 +40,9 @@ down_may : (count : ℕ) (client : ClientEnd) (server : Serving) (cs : List Conn
 down_may count client server cs written at c h on place some is b some_is =
     let link = here client server cs written at c h place some is in
     let stays : not (world.is_faulted client.client.state) ≡ true =
-        ap not (sym (faulted_same client.client.state) ∙ awake client server cs written h) in
+    ap not (sym (faulted_same client.client.state) ∙ awake client server cs written h) in
     ap (λ (x : Bool). x && (not (world.is_faulted client.client.state) && has_some count (link_of (links_of cs) client.client.last).down))
-        on
+    on
     ∙ (ap (λ (x : Bool). x && has_some count (link_of (links_of cs) client.client.last).down) stays
     ∙ (ap (λ (l : Link). has_some count l.down) link ∙ some_is))
 
@@ -52,7 +52,7 @@ pub down_can : (l : Linked) (count : ℕ) (client : ClientEnd) (server : Serving
     → can (event.Down count) l.world ≡ b
 down_can l count client server cs written at c b view h on place some is some_is =
     subst (λ (k : Linked). can (event.Down count) k.world ≡ b) (sym view)
-        (down_may count client server cs written at c h on place some is b some_is)
+    (down_may count client server cs written at c h on place some is b some_is)
 
 down_seen : (count : ℕ) (client after : ClientEnd) (server : Serving) (cs : List Connection) (written : List ℕ) (at : ℕ) (c d : Connection)
     → IsReached (seen client server cs written) → at ≡ length cs - 1 → 0 < length cs → c ≡ slice_index_or cs at c
@@ -64,17 +64,23 @@ down_seen count client after server cs written at c d h place some is fed up dow
     let number : at ≡ client.client.last - 1 = place ∙ ap (λ (n : ℕ). n - 1) same in
     let link : link_of (links_of cs) client.client.last ≡ link_of_connection c = here client server cs written at c h place some is in
     let bytes : d.down.waiting ≡ drop count (link_of (links_of cs) client.client.last).down = down
-        ∙ ap (λ (l : Link). drop count l.down) (sym link) in
+    ∙ ap (λ (l : Link). drop count l.down) (sym link) in
     let links : links_of (slice_set cs at d) ≡ with_link (links_of cs) client.client.last
-        (record (link_of (links_of cs) client.client.last) { down = drop count (link_of (links_of cs) client.client.last).down }) =
+    (record (link_of (links_of cs) client.client.last) { down = drop count (link_of (links_of cs) client.client.last).down }) =
     link_down cs at client.client.last c d (drop count (link_of (links_of cs) client.client.last).down) (omega (arith, place, some)) is
-        number up bytes in
+    number up bytes in
     let read : after ≡ end_fed (take count (link_of (links_of cs) client.client.last).down) client = fed
-        ∙ ap (λ (l : Link). end_fed (take count l.down) client) (sym link) in
+    ∙ ap (λ (l : Link). end_fed (take count l.down) client) (sym link) in
     ap (λ (x : ClientEnd). seen x server (slice_set cs at d) written) read
-    ∙ ap (λ (l : List Link). record { setup = server.setup; world = record
-    { client = end_fed (take count (link_of (links_of cs) client.client.last).down) client; server = server.end; links = l;
-    written = written } }) links
+    ∙ ap (λ (l : List Link). record {
+      setup = server.setup;
+      world = record {
+        client = end_fed (take count (link_of (links_of cs) client.client.last).down) client;
+        server = server.end;
+        links = l;
+        written = written;
+      };
+    }) links
 
 pub down_is : (l : Linked) (count : ℕ) (client after : ClientEnd) (server : Serving) (cs : List Connection) (written : List ℕ) (at : ℕ)
     (c d : Connection)
@@ -84,7 +90,7 @@ pub down_is : (l : Linked) (count : ℕ) (client after : ClientEnd) (server : Se
     → seen after server (slice_set cs at d) written ≡ with_world l (moved_down count l.world)
 down_is l count client after server cs written at c d view h place some is fed up down =
     down_seen count client after server cs written at c d h place some is fed up down
-        ∙ ap (λ (k : Linked). with_world k (moved_down count k.world)) (sym view)
+    ∙ ap (λ (k : Linked). with_world k (moved_down count k.world)) (sym view)
 
 pub down_reached : (count : ℕ) (client after : ClientEnd) (server : Serving) (cs : List Connection) (written : List ℕ) (at : ℕ)
     (c d : Connection)
@@ -95,4 +101,4 @@ pub down_reached : (count : ℕ) (client after : ClientEnd) (server : Serving) (
 down_reached count client after server cs written at c d h on place some is some_is fed up down =
     reached_more (seen client server cs written) (seen after server (slice_set cs at d) written) (event.Down count) h
     (down_may count client server cs written at c h on place some is true some_is)
-        (λ readers are. down_seen count client after server cs written at c d h place some is fed up down)
+    (λ readers are. down_seen count client after server cs written at c d h place some is fed up down)

@@ -56,7 +56,7 @@ no_fault_read : (client : ClientEnd) (server : Serving) (cs : List Connection) (
 no_fault_read client server cs written h on why is =
     let c : IsCarried (seen client server cs written).world = carried (seen client server cs written) h in
     no_reply_fault c.down client.input.rest (client_link (seen client server cs written).world).down why c.wired.replies
-        (c.wired.down_is on) is
+    (c.wired.down_is on) is
 
 pub read_reached : (client after : ClientEnd) (server : Serving) (cs : List Connection) (written : List ℕ)
     → IsReached (seen client server cs written)
@@ -73,8 +73,11 @@ pub record NothingRead (client after : ClientEnd) : Type 0 where
 
 none_there : (readers : Readers) (client : ClientEnd) (f : Front) → f ≡ Ok None
     → record { client = front_read readers client.client f; input = left_by f client.input; out = client.out } ≡ client
-none_there readers client f e = ap (λ (x : Front). record { client = front_read readers client.client x; input = left_by x client.input;
-    out = client.out }) e
+none_there readers client f e = ap (λ (x : Front). record {
+  client = front_read readers client.client x;
+  input = left_by x client.input;
+  out = client.out;
+}) e
 
 not_any : (e : ClientEnd) (f : Front) → next_of e.input.rest ≡ f → is_any f ≡ false → reads_any e ≡ false
 not_any e f is none = go (reads_any e) refl
@@ -90,8 +93,10 @@ pub nothing_read : (client after : ClientEnd) (server : Serving) (cs : List Conn
 nothing_read client after server cs written h may none is = go (next_of client.input.rest) refl
   where
     go : (f : Front) → next_of client.input.rest ≡ f → NothingRead client after
-    go (Ok None) e = record { same = is h.readers h.are ∙ none_there h.readers client (next_of client.input.rest) e;
-        none = not_any client (Ok None) e refl }
+    go (Ok None) e = record {
+      same = is h.readers h.are ∙ none_there h.readers client (next_of client.input.rest) e;
+      none = not_any client (Ok None) e refl;
+    }
     go (Ok (Some found)) e = absurd (none (subst IsLineDue (sym e) refl))
     go (Err why) e = absurd (no_fault_read client server cs written h (may_is client may).0 why e)
 
@@ -113,7 +118,7 @@ never_met client after server cs written h met is before = go (may_read client.c
     front (Ok None) e may =
         never_faulted_now client server cs written h
         (subst (λ (x : ClientEnd). is_faulted x.client.state ≡ true) (is may h.readers h.are
-            ∙ none_there h.readers client (next_of client.input.rest) e) met)
+        ∙ none_there h.readers client (next_of client.input.rest) e) met)
     front (Ok (Some found)) e may =
         let parts = may_is client may in
         let can_now : reads_any client ≡ true = and_from _ _ parts.0 (and_from _ _ parts.1 (ap is_any e)) in
@@ -148,4 +153,4 @@ pub line_can : (client : ClientEnd) (server : Serving) (cs : List Connection) (w
     → client.client.on ≡ true → IsLineDue (next_of client.input.rest) → reads_any client ≡ true
 line_can client server cs written h on due =
     and_from _ _ on (and_from _ _ (subst (λ (b : Bool). not b ≡ true) (faulted_same client.client.state)
-        (ap not (awake client server cs written h))) (any_line (next_of client.input.rest) due))
+    (ap not (awake client server cs written h))) (any_line (next_of client.input.rest) due))

@@ -1,6 +1,6 @@
 -- What the client's events make of a world.
-use Rattle.std.proofs.Common.{◌≡◌, ℕ, suc, ◌+◌, ◌≤◌, ◌<◌, Bool, true, false, ◌&&◌, nat_lt, nat_le, List, [], ◌∷◌, ◌++◌, length, refl, sym,
-  ◌∙◌, ap, subst, arith}
+use Rattle.std.proofs.Common.{◌≡◌, ℕ, suc, ◌+◌, ◌≤◌, ◌<◌, Bool, true, false, ◌&&◌, nat_lt, nat_le, List, [], ◌∷◌, ◌++◌, length, refl, sym}
+use Rattle.std.proofs.Common.{◌∙◌, ap, subst, arith}
 use Rattle.std.proofs.lemmas.Bool.{false≢true, and_parts, and_from, ltb-true, lt-ltb, le-leb, leb-true}
 use Rattle.protocol_model.specs.Lines.{Readers, AreReaders}
 use Rattle.protocol_model.specs.Client.{is_apart, may_resume}
@@ -55,14 +55,28 @@ connect_seen : (client after : ClientEnd) (server : Serving) (cs ds : List Conne
     → seen after server ds now ≡ with_world (seen client server cs written) (connected (seen client server cs written).world)
 connect_seen client after server cs ds written now c number h is n d up down none =
     let last : number ≡ suc client.client.last = let same : length cs ≡ client.client.last = made client server cs written h in n
-        ∙ omega (arith, same) in
+    ∙ omega (arith, same) in
     let links : links_of ds ≡ links_of cs ++ no_link ∷ [] = ap links_of d
-        ∙ (links_more cs c ∙ ap (λ (l : Link). links_of cs ++ l ∷ []) (no_bytes c up down)) in
+    ∙ (links_more cs c ∙ ap (λ (l : Link). links_of cs ++ l ∷ []) (no_bytes c up down)) in
     ap (λ (e : ClientEnd). seen e server ds now) (is ∙ ap (λ (k : ℕ). end_connected k client) last)
-    ∙ (ap (λ (l : List Link). record { setup = server.setup; world = record { client = end_connected (suc client.client.last) client;
-    server = server.end; links = l; written = now } }) links
-    ∙ ap (λ (l : List ℕ). record { setup = server.setup; world = record { client = end_connected (suc client.client.last) client;
-    server = server.end; links = links_of cs ++ no_link ∷ []; written = l } }) none)
+    ∙ (ap (λ (l : List Link). record {
+      setup = server.setup;
+      world = record {
+        client = end_connected (suc client.client.last) client;
+        server = server.end;
+        links = l;
+        written = now;
+      };
+    }) links
+    ∙ ap (λ (l : List ℕ). record {
+      setup = server.setup;
+      world = record {
+        client = end_connected (suc client.client.last) client;
+        server = server.end;
+        links = links_of cs ++ no_link ∷ [];
+        written = l;
+      };
+    }) none)
 
 pub connect_reached : (client after : ClientEnd) (server : Serving) (cs ds : List Connection) (written now : List ℕ) (c : Connection)
     (number : ℕ)
@@ -71,7 +85,7 @@ pub connect_reached : (client after : ClientEnd) (server : Serving) (cs ds : Lis
     → IsReached (seen after server ds now)
 connect_reached client after server cs ds written now c number h may is n d up down none =
     reached_more (seen client server cs written) (seen after server ds now) event.Connect h may
-        (λ readers are. connect_seen client after server cs ds written now c number h is n d up down none)
+    (λ readers are. connect_seen client after server cs ds written now c number h is n d up down none)
 
 pub connect_is : (l : Linked) (client after : ClientEnd) (server : Serving) (cs ds : List Connection) (written now : List ℕ)
     (c : Connection) (number : ℕ)
@@ -80,7 +94,7 @@ pub connect_is : (l : Linked) (client after : ClientEnd) (server : Serving) (cs 
     → seen after server ds now ≡ with_world l (connected l.world)
 connect_is l client after server cs ds written now c number view h is n d up down none =
     connect_seen client after server cs ds written now c number h is n d up down none
-        ∙ ap (λ (k : Linked). with_world k (connected k.world)) (sym view)
+    ∙ ap (λ (k : Linked). with_world k (connected k.world)) (sym view)
 
 -- whether the number of the next connection is one that a client may take
 next_number_fits : (last most : ℕ) → nat_le (suc last) most ≡ nat_lt last most
@@ -126,21 +140,21 @@ alone : (client after : ClientEnd) (server : Serving) (cs : List Connection) (wr
     ≡ happens readers e (seen client server cs written).world) → IsReached (seen after server cs written)
 alone client after server cs written e h may is =
     reached_more (seen client server cs written) (seen after server cs written) e h may
-        (λ readers are. ap (λ (w : World). with_world (seen client server cs written) w) (is readers are))
+    (λ readers are. ap (λ (w : World). with_world (seen client server cs written) w) (is readers are))
 
 pub resume_reached : (client after : ClientEnd) (server : Serving) (cs : List Connection) (written : List ℕ)
     → IsReached (seen client server cs written) → may_resume client.client client.client.state ≡ true
     → after ≡ end_resumed client → IsReached (seen after server cs written)
 resume_reached client after server cs written h may is =
     alone client after server cs written event.Resume h may (λ readers are. ap
-        (λ (e : ClientEnd). record (seen client server cs written).world { client = e }) is)
+    (λ (e : ClientEnd). record (seen client server cs written).world { client = e }) is)
 
 pub left_reached : (client after : ClientEnd) (server : Serving) (cs : List Connection) (written : List ℕ)
     → IsReached (seen client server cs written) → client.client.on ≡ true
     → after ≡ end_left client → IsReached (seen after server cs written)
 left_reached client after server cs written h may is =
     alone client after server cs written event.ClientLeaves h may
-        (λ readers are. ap (λ (e : ClientEnd). record (seen client server cs written).world { client = e }) is)
+    (λ readers are. ap (λ (e : ClientEnd). record (seen client server cs written).world { client = e }) is)
 
 pub restart_can : (count : ℕ) (client : ClientEnd) → count ≤ length client.client.table.tally.features
     → nat_le count (length client.client.table.tally.features) ≡ true
@@ -159,4 +173,4 @@ pub restart_reached : (count : ℕ) (client after : ClientEnd) (server : Serving
     → count ≤ length client.client.table.tally.features → after ≡ end_restarted count client → IsReached (seen after server cs written)
 restart_reached count client after server cs written h le is =
     alone client after server cs written (event.ClientRestart count) h (restart_can count client le)
-        (λ readers are. ap (λ (e : ClientEnd). record (seen client server cs written).world { client = e }) is)
+    (λ readers are. ap (λ (e : ClientEnd). record (seen client server cs written).world { client = e }) is)

@@ -1,6 +1,6 @@
 -- What the client writes in a world joins the bytes of its connection.
-use Rattle.std.proofs.Common.{◌≡◌, ◌≢◌, ℕ, ◌-◌, ◌≤◌, ◌<◌, Bool, true, false, is_some, List, ◌++◌, length, slice_index_or, slice_set, refl,
-  sym, ◌∙◌, ap, subst, arith, ◌⊎◌, inl, inr}
+use Rattle.std.proofs.Common.{◌≡◌, ◌≢◌, ℕ, ◌-◌, ◌≤◌, ◌<◌, Bool, true, false, is_some, List, ◌++◌, length, slice_index_or, slice_set, refl}
+use Rattle.std.proofs.Common.{sym, ◌∙◌, ap, subst, arith, ◌⊎◌, inl, inr}
 use Rattle.protocol_model.specs.Client.{due, may_abort}
 use Rattle.protocol_model.specs.Ends.{ClientEnd, end_sent, end_aborted}
 use Rattle.protocol_model.specs.World.{World, Link, link_of, with_link, client_link, can, happens, client_writes}
@@ -52,14 +52,14 @@ pub none_due : (client : ClientEnd) (server : Serving) (cs : List Connection) (w
 none_due client server cs written h none =
     let c : IsCarried (seen client server cs written).world = carried (seen client server cs written) h in
     false_by (is_some (due client.client)) (λ e. none (some_made client server cs written h
-        (due_on (lined (seen client server cs written).world c.up c.down) c.inv e)))
+    (due_on (lined (seen client server cs written).world c.up c.down) c.inv e)))
 
 pub none_aborts : (client : ClientEnd) (server : Serving) (cs : List Connection) (written : List ℕ)
     → IsReached (seen client server cs written) → (0 < length cs → ⊥) → may_abort client.client.state ≡ false
 none_aborts client server cs written h none =
     let c : IsCarried (seen client server cs written).world = carried (seen client server cs written) h in
     false_by (may_abort client.client.state) (λ e. none (some_made client server cs written h
-        (abort_on (lined (seen client server cs written).world c.up c.down) c.inv e)))
+    (abort_on (lined (seen client server cs written).world c.up c.down) c.inv e)))
 
 -- ---- no tag is wanting
 
@@ -101,17 +101,31 @@ writes_seen client after server cs written now at c d e h place some is quiet up
     let short : at < length cs = omega (arith, place, some) in
     let here : link_of (links_of cs) client.client.last ≡ link_of_connection c =
     ap (λ (n : ℕ). slice_index_or (links_of cs) n Rattle.protocol_model.specs.World.no_link) (sym number)
-        ∙ Rattle.link_world.proofs.Linking.links_get cs at c short is in
+    ∙ Rattle.link_world.proofs.Linking.links_get cs at c short is in
     let bytes : d.up.waiting ≡ (link_of (links_of cs) client.client.last).up ++ e.out = up ∙ ap (λ (l : Link). l.up ++ e.out) (sym here) in
     let links : links_of (slice_set cs at d) ≡ with_link (links_of cs) client.client.last
-        (record (link_of (links_of cs) client.client.last) { up = (link_of (links_of cs) client.client.last).up ++ e.out }) =
+    (record (link_of (links_of cs) client.client.last) { up = (link_of (links_of cs) client.client.last).up ++ e.out }) =
     link_up cs at client.client.last c d ((link_of (links_of cs) client.client.last).up ++ e.out) short is number bytes down in
     ap (λ (x : ClientEnd). seen x server (slice_set cs at d) now) quiet
-    ∙ (ap (λ (l : List Link). record { setup = server.setup; world = record { client = quiet_client e; server = server.end; links = l;
-    written = now } }) links
-    ∙ ap (λ (l : List ℕ). record { setup = server.setup; world = record { client = quiet_client e; server = server.end;
-    links = with_link (links_of cs) client.client.last (record (link_of (links_of cs) client.client.last)
-    { up = (link_of (links_of cs) client.client.last).up ++ e.out }); written = l } }) text)
+    ∙ (ap (λ (l : List Link). record {
+      setup = server.setup;
+      world = record {
+        client = quiet_client e;
+        server = server.end;
+        links = l;
+        written = now;
+      };
+    }) links
+    ∙ ap (λ (l : List ℕ). record {
+      setup = server.setup;
+      world = record {
+        client = quiet_client e;
+        server = server.end;
+        links = with_link (links_of cs) client.client.last (record (link_of (links_of cs) client.client.last)
+            { up = (link_of (links_of cs) client.client.last).up ++ e.out });
+        written = l;
+      };
+    }) text)
 
 pub sends_is : (l : Linked) (client after : ClientEnd) (server : Serving) (cs : List Connection) (written now : List ℕ) (at : ℕ)
     (c d : Connection)
@@ -122,7 +136,7 @@ pub sends_is : (l : Linked) (client after : ClientEnd) (server : Serving) (cs : 
     → seen after server (slice_set cs at d) now ≡ with_world l (client_writes l.world (end_sent l.world.client))
 sends_is l client after server cs written now at c d view h place some is quiet up down text =
     writes_seen client after server cs written now at c d (end_sent client) h place some is quiet up down text
-        ∙ ap (λ (k : Linked). with_world k (client_writes k.world (end_sent k.world.client))) (sym view)
+    ∙ ap (λ (k : Linked). with_world k (client_writes k.world (end_sent k.world.client))) (sym view)
 
 pub aborts_is : (l : Linked) (client after : ClientEnd) (server : Serving) (cs : List Connection) (written now : List ℕ) (at : ℕ)
     (c d : Connection)
@@ -133,7 +147,7 @@ pub aborts_is : (l : Linked) (client after : ClientEnd) (server : Serving) (cs :
     → seen after server (slice_set cs at d) now ≡ with_world l (client_writes l.world (end_aborted l.world.client))
 aborts_is l client after server cs written now at c d view h place some is quiet up down text =
     writes_seen client after server cs written now at c d (end_aborted client) h place some is quiet up down text
-        ∙ ap (λ (k : Linked). with_world k (client_writes k.world (end_aborted k.world.client))) (sym view)
+    ∙ ap (λ (k : Linked). with_world k (client_writes k.world (end_aborted k.world.client))) (sym view)
 
 pub sent_reached : (client after : ClientEnd) (server : Serving) (cs : List Connection) (written now : List ℕ) (at : ℕ) (c d : Connection)
     → IsReached (seen client server cs written) → at ≡ length cs - 1 → 0 < length cs → c ≡ slice_index_or cs at c
@@ -162,8 +176,10 @@ pub same_seen : (l : Linked) (client after : ClientEnd) (server : Serving) (cs :
     → l ≡ seen client server cs written → at ≡ length cs - 1 → 0 < length cs → c ≡ slice_index_or cs at c
     → after ≡ client → link_of_connection d ≡ link_of_connection c → now ≡ written → seen after server (slice_set cs at d) now ≡ l
 same_seen l client after server cs written now at c d view place some is same link text =
-    rw (same, text) (ap (λ (x : List Link). record { setup = server.setup;
-        world = record { client = client; server = server.end; links = x; written = written } })
+    rw (same, text) (ap (λ (x : List Link). record {
+      setup = server.setup;
+      world = record { client = client; server = server.end; links = x; written = written };
+    })
     (links_same cs at c d (omega (arith, place, some)) is link) ∙ sym view)
 
 pub same_reached : (client after : ClientEnd) (server : Serving) (cs : List Connection) (written now : List ℕ) (at : ℕ) (c d : Connection)
@@ -171,4 +187,4 @@ pub same_reached : (client after : ClientEnd) (server : Serving) (cs : List Conn
     → after ≡ client → link_of_connection d ≡ link_of_connection c → now ≡ written → IsReached (seen after server (slice_set cs at d) now)
 same_reached client after server cs written now at c d h place some is same link text =
     subst IsReached (sym (same_seen (seen client server cs written) client after server cs written now at c d refl place some is same link
-        text)) h
+    text)) h

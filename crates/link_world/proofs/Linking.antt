@@ -1,6 +1,6 @@
 -- The bytes of one connection among those of all.
-use Rattle.std.proofs.Common.{◌≡◌, ℕ, zero, suc, ◌-◌, ◌<◌, List, [], ◌∷◌, ◌++◌, length, slice_index_or, slice_set, refl, sym, ◌∙◌, ap,
-  arith}
+use Rattle.std.proofs.Common.{◌≡◌, ℕ, zero, suc, ◌-◌, ◌<◌, List, [], ◌∷◌, ◌++◌, length, slice_index_or, slice_set, refl, sym, ◌∙◌, ap}
+use Rattle.std.proofs.Common.{arith}
 use Rattle.protocol_model.specs.World.{Link, no_link, link_of, with_link}
 use Rattle.link_world.specs.declared.connection.Connection.{Connection}
 use Rattle.link_world.specs.Links.{link_of_connection, links_of}
@@ -35,12 +35,12 @@ pub link_up : (cs : List Connection) (at number : ℕ) (c d : Connection) (bytes
     → links_of (slice_set cs at d) ≡ with_link (links_of cs) number (record (link_of (links_of cs) number) { up = bytes })
 link_up cs at number c d bytes short is same up down =
     let here : link_of (links_of cs) number ≡ link_of_connection c = ap (λ (n : ℕ). slice_index_or (links_of cs) n no_link) (sym same)
-        ∙ links_get cs at c short is in
+    ∙ links_get cs at c short is in
     let put : link_of_connection d ≡ record (link_of (links_of cs) number) { up = bytes } =
     ap (λ (l : List ℕ). record { up = l; down = d.down.waiting }) up
     ∙ (ap (λ (l : List ℕ). record { up = bytes; down = l }) down ∙ ap (λ (l : Link). record { up = bytes; down = l.down }) (sym here)) in
     links_set cs at d ∙ (ap (λ (l : Link). slice_set (links_of cs) at l) put
-        ∙ ap (λ (n : ℕ). slice_set (links_of cs) n (record (link_of (links_of cs) number) { up = bytes })) same)
+    ∙ ap (λ (n : ℕ). slice_set (links_of cs) n (record (link_of (links_of cs) number) { up = bytes })) same)
 
 -- other bytes down
 pub link_down : (cs : List Connection) (at number : ℕ) (c d : Connection) (bytes : List ℕ) → at < length cs → c ≡ slice_index_or cs at c
@@ -48,9 +48,9 @@ pub link_down : (cs : List Connection) (at number : ℕ) (c d : Connection) (byt
     → links_of (slice_set cs at d) ≡ with_link (links_of cs) number (record (link_of (links_of cs) number) { down = bytes })
 link_down cs at number c d bytes short is same up down =
     let here : link_of (links_of cs) number ≡ link_of_connection c = ap (λ (n : ℕ). slice_index_or (links_of cs) n no_link) (sym same)
-        ∙ links_get cs at c short is in
+    ∙ links_get cs at c short is in
     let put : link_of_connection d ≡ record (link_of (links_of cs) number) { down = bytes } =
     ap (λ (l : List ℕ). record { up = d.up.waiting; down = l }) down
     ∙ (ap (λ (l : List ℕ). record { up = l; down = bytes }) up ∙ ap (λ (l : Link). record { up = l.up; down = bytes }) (sym here)) in
     links_set cs at d ∙ (ap (λ (l : Link). slice_set (links_of cs) at l) put
-        ∙ ap (λ (n : ℕ). slice_set (links_of cs) n (record (link_of (links_of cs) number) { down = bytes })) same)
+    ∙ ap (λ (n : ℕ). slice_set (links_of cs) n (record (link_of (links_of cs) number) { down = bytes })) same)

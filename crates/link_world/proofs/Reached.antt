@@ -1,6 +1,6 @@
 -- What holds of a world to which a list of events has led.
-use Rattle.std.proofs.Common.{◌≡◌, ◌≢◌, ℕ, suc, ◌-◌, ◌≤◌, ◌<◌, Bool, true, false, ◌&&◌, cond, nat_le, List, [], ◌∷◌, ◌++◌, length,
-  if◌then◌else◌, refl, sym, ◌∙◌, ap, subst, arith, Option, Some, None, Err}
+use Rattle.std.proofs.Common.{◌≡◌, ◌≢◌, ℕ, suc, ◌-◌, ◌≤◌, ◌<◌, Bool, true, false, ◌&&◌, cond, nat_le, List, [], ◌∷◌, ◌++◌, length}
+use Rattle.std.proofs.Common.{if◌then◌else◌, refl, sym, ◌∙◌, ap, subst, arith, Option, Some, None, Err}
 use Rattle.std.proofs.lemmas.Bool.{false≢true, and_parts, leb-true}
 use Rattle.dmis_program.specs.Meaning.{Meaning}
 use Rattle.dmis_program.specs.Programs.{IsProgram}
@@ -62,15 +62,17 @@ reached_more l m e h may is =
 pub sound : (l : Linked) → IsReached l → IsSound l.world
 sound l h = let c : IsCarried l.world = carried l h in
     served_sound l.world.client.client.program.features l.world.client.client.table.tally.features l.world.server.server.ledger
-        (served_now (lined l.world c.up c.down) c.inv)
+    (served_now (lined l.world c.up c.down) c.inv)
 
 pub told : (l : Linked) → IsReached l → IsTold l.world
 told l h = let c : IsCarried l.world = carried l h in let t = told_now (lined l.world c.up c.down) c.inv
     in record { more = t.0; whole = t.1 }
 
 pub agree : (l : Linked) → IsReached l → DoNotDisagree l.world
-agree l h = let c : IsCarried l.world = carried l h in record { client = never_faulted (lined l.world c.up c.down) c.inv;
-    server = c.server_fault }
+agree l h = let c : IsCarried l.world = carried l h in record {
+  client = never_faulted (lined l.world c.up c.down) c.inv;
+  server = c.server_fault;
+}
 
 -- ---- numbers of connections
 
@@ -150,13 +152,13 @@ server_reads_lines client server cs written h on why is =
     let w = (carried (seen client server cs written) h).wired in
     let whole : IsWhole (server.end.input.rest ++ (server_link (seen client server cs written).world).up) = w.serves on in
     no_fault server.end.input.rest (server_link (seen client server cs written).world).up (command_texts whole.lines) why
-        (command_lines whole.lines whole.writable) whole.is is
+    (command_lines whole.lines whole.writable) whole.is is
 
 pub never_faulted_behind : (readers : Readers) → AreReaders readers → (l : Linked) (e : Event) → IsReached l → can e l.world ≡ true
     → (happens readers e l.world).client.client.state ≢ State.Faulted
 never_faulted_behind readers are l e h may =
     let c : IsCarried (happens readers e l.world) = Rattle.protocol_model.proofs.whole_run.WholeRun.happens_carried readers are e l.world
-        (carried l h) may in
+    (carried l h) may in
     never_faulted (lined (happens readers e l.world) c.up c.down) c.inv
 
 -- ---- before any event
@@ -167,7 +169,7 @@ pub start_reached : (program : Meaning) (setup : SetupValue) (window : ℕ) (cli
     → IsReached (seen client server cs written)
 start_reached program setup window client server cs written is_program few c s none nothing =
     subst (λ (l : Linked). IsReached l) (sym (ap (λ (x : ClientEnd). seen x server cs written) c
-        ∙ (ap (λ (x : Serving). seen (new_client_end program [] window) x cs written) s
+    ∙ (ap (λ (x : Serving). seen (new_client_end program [] window) x cs written) s
     ∙ (ap (λ (x : List Connection). seen (new_client_end program [] window) (new_serving setup) x written) none
     ∙ ap (λ (x : List ℕ). seen (new_client_end program [] window) (new_serving setup) [] x) nothing))))
     (record {

@@ -1,6 +1,6 @@
 -- A list of events with one more at its end.
-use Rattle.std.proofs.Common.{◌≡◌, ℕ, suc, ◌+◌, ◌<◌, ◌≤◌, true, false, List, [], ◌∷◌, ◌++◌, length, take, slice_index_or, sym, ◌∙◌, ap,
-  subst, arith}
+use Rattle.std.proofs.Common.{◌≡◌, ℕ, suc, ◌+◌, ◌<◌, ◌≤◌, true, false, List, [], ◌∷◌, ◌++◌, length, take, slice_index_or, sym, ◌∙◌, ap}
+use Rattle.std.proofs.Common.{subst, arith}
 use Rattle.std.proofs.lemmas.List.{take_more, take_all}
 use Rattle.protocol_model.specs.Lines.{Readers}
 use Rattle.protocol_model.specs.World.{World, can, happens}
@@ -65,7 +65,7 @@ pub ran_ok : (readers : Readers) (w u v : World) (events : List Event) (i : ℕ)
 ran_ok readers w u v events i e done not_now memory short is h may so =
     subst (λ (n : ℕ). HasRun readers w (take (i + 1) events) v (done + 1) n memory) (nothing_more not_now)
     (subst (λ (n : ℕ). HasRun readers w (take (i + 1) events) v (done + 1) (not_now + 0) n) (nothing_more memory)
-        (more readers w u v events i e Happened done not_now memory short is h (may, so)))
+    (more readers w u v events i e Happened done not_now memory short is h (may, so)))
 
 pub ran_refused : (readers : Readers) (w u v : World) (events : List Event) (i : ℕ) (e : Event) (done not_now memory : ℕ)
     → i < length events → e ≡ slice_index_or events i e
@@ -74,7 +74,7 @@ pub ran_refused : (readers : Readers) (w u v : World) (events : List Event) (i :
 ran_refused readers w u v events i e done not_now memory short is h may so =
     subst (λ (n : ℕ). HasRun readers w (take (i + 1) events) v n (not_now + 1) memory) (nothing_more done)
     (subst (λ (n : ℕ). HasRun readers w (take (i + 1) events) v (done + 0) (not_now + 1) n) (nothing_more memory)
-        (more readers w u v events i e Refused done not_now memory short is h (may, so)))
+    (more readers w u v events i e Refused done not_now memory short is h (may, so)))
 
 pub ran_wanting : (readers : Readers) (w u v : World) (events : List Event) (i : ℕ) (e : Event) (done not_now memory : ℕ)
     → i < length events → e ≡ slice_index_or events i e
@@ -83,7 +83,7 @@ pub ran_wanting : (readers : Readers) (w u v : World) (events : List Event) (i :
 ran_wanting readers w u v events i e done not_now memory short is h takes may so =
     subst (λ (n : ℕ). HasRun readers w (take (i + 1) events) v n not_now (memory + 1)) (nothing_more done)
     (subst (λ (n : ℕ). HasRun readers w (take (i + 1) events) v (done + 0) n (memory + 1)) (nothing_more not_now)
-        (more readers w u v events i e Wanting done not_now memory short is h (takes, may, so)))
+    (more readers w u v events i e Wanting done not_now memory short is h (takes, may, so)))
 
 -- behind the last event
 pub ran_all : (readers : Readers) (w v : World) (events : List Event) (i done not_now memory : ℕ) → length events ≤ i

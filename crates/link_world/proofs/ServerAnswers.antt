@@ -1,6 +1,6 @@
 -- What the server answers in a world joins the bytes of its connection, and the bytes that come to it.
-use Rattle.std.proofs.Common.{◌≡◌, ℕ, ◌-◌, ◌<◌, Bool, true, false, not, ◌&&◌, is_none, List, ◌++◌, length, take, drop, slice_index_or,
-  slice_set, refl, sym, ◌∙◌, ap, subst, arith, Option, Some, None, Ok, Err}
+use Rattle.std.proofs.Common.{◌≡◌, ℕ, ◌-◌, ◌<◌, Bool, true, false, not, ◌&&◌, is_none, List, ◌++◌, length, take, drop, slice_index_or}
+use Rattle.std.proofs.Common.{slice_set, refl, sym, ◌∙◌, ap, subst, arith, Option, Some, None, Ok, Err}
 use Rattle.line_framing.specs.Next.{Front, next_of}
 use Rattle.line_framing.specs.Framing.{IsLineDue}
 use Rattle.line_framing.specs.declared.faults.FramingFault.{FramingFault}
@@ -8,8 +8,8 @@ use Rattle.protocol_model.specs.Lines.{Readers, AreReaders}
 use Rattle.protocol_model.specs.Plan.{is_empty}
 use Rattle.protocol_model.specs.Server.{may_end}
 use Rattle.protocol_model.specs.Ends.{ClientEnd, ServerEnd, serving_fed, serving_read, front_served}
-use Rattle.protocol_model.specs.World.{World, Link, no_link, link_of, with_link, server_link, is_line, has_some, can, happens,
-  server_writes, moved_up}
+use Rattle.protocol_model.specs.World.{World, Link, no_link, link_of, with_link, server_link, is_line, has_some, can, happens}
+use Rattle.protocol_model.specs.World.{server_writes, moved_up}
 use Rattle.protocol_model.specs.declared.events.Event.{Event}
 use Rattle.protocol_model.specs.declared.events.Event.TheVariants as event
 use Rattle.protocol_model.specs.declared.lines.Line.{Line}
@@ -48,19 +48,19 @@ pub off_turn : (l : Linked) (client : ClientEnd) (server : Serving) (cs : List C
     → may_turn l.world.server.server ≡ false
 off_turn l client server cs written view h off =
     let i : IsIdle server.end.server = idle client server cs written h (subst (λ (k : Linked). k.world.server.server.on ≡ false) view off)
-        in
+    in
     subst (λ (k : Linked). may_turn k.world.server.server ≡ false) (sym view)
     (ap (λ (r : Option Line). is_none r && not (is_empty server.end.server.waiting)) i.running
-        ∙ ap (λ (w : List Waiting). not (is_empty w)) i.waiting)
+    ∙ ap (λ (w : List Waiting). not (is_empty w)) i.waiting)
 
 pub off_end : (l : Linked) (outcome : Outcome) (client : ClientEnd) (server : Serving) (cs : List Connection) (written : List ℕ)
     → l ≡ seen client server cs written → IsReached (seen client server cs written) → l.world.server.server.on ≡ false
     → may_end l.world.server.server.running outcome ≡ false
 off_end l outcome client server cs written view h off =
     let i : IsIdle server.end.server = idle client server cs written h (subst (λ (k : Linked). k.world.server.server.on ≡ false) view off)
-        in
+    in
     subst (λ (k : Linked). may_end k.world.server.server.running outcome ≡ false) (sym view)
-        (ap (λ (r : Option Line). may_end r outcome) i.running)
+    (ap (λ (r : Option Line). may_end r outcome) i.running)
 
 -- ---- the bytes of its connection
 
@@ -78,13 +78,20 @@ answers_seen : (client : ClientEnd) (server after : Serving) (cs : List Connecti
 answers_seen client server after cs written at c d e place short is quiet up down =
     let link : link_of (links_of cs) server.end.server.last ≡ link_of_connection c = here server cs at c place short is in
     let bytes : d.down.waiting ≡ (link_of (links_of cs) server.end.server.last).down ++ e.out = down
-        ∙ ap (λ (l : Link). l.down ++ e.out) (sym link) in
+    ∙ ap (λ (l : Link). l.down ++ e.out) (sym link) in
     let links : links_of (slice_set cs at d) ≡ with_link (links_of cs) server.end.server.last
-        (record (link_of (links_of cs) server.end.server.last) { down = (link_of (links_of cs) server.end.server.last).down ++ e.out }) =
+    (record (link_of (links_of cs) server.end.server.last) { down = (link_of (links_of cs) server.end.server.last).down ++ e.out }) =
     link_down cs at server.end.server.last c d ((link_of (links_of cs) server.end.server.last).down ++ e.out) short is place up bytes in
     ap (λ (x : Serving). seen client x (slice_set cs at d) written) quiet
-    ∙ ap (λ (l : List Link). record { setup = server.setup; world = record { client = client; server = quiet_server e; links = l;
-    written = written } }) links
+    ∙ ap (λ (l : List Link). record {
+      setup = server.setup;
+      world = record {
+        client = client;
+        server = quiet_server e;
+        links = l;
+        written = written;
+      };
+    }) links
 
 pub answered_reached : (e : Event) (answered : Readers → ServerEnd) (client : ClientEnd) (server after : Serving) (cs : List Connection)
     (written : List ℕ) (at : ℕ) (c d : Connection)
@@ -98,7 +105,7 @@ pub answered_reached : (e : Event) (answered : Readers → ServerEnd) (client : 
 answered_reached e answered client server after cs written at c d h may happens_so place short is up quiet down =
     reached_more (seen client server cs written) (seen client after (slice_set cs at d) written) e h may
     (λ readers are. answers_seen client server after cs written at c d (answered readers) place short is (quiet readers are) up
-        (down readers are)
+    (down readers are)
     ∙ ap (λ (w : World). with_world (seen client server cs written) w) (sym (happens_so readers)))
 
 pub answers_is : (l : Linked) (answered : ServerEnd → ServerEnd) (client : ClientEnd) (server after : Serving) (cs : List Connection)
@@ -130,7 +137,7 @@ pub up_can : (l : Linked) (count : ℕ) (client : ClientEnd) (server : Serving) 
     → has_some count c.up.waiting ≡ b → can (event.Up count) l.world ≡ b
 up_can l count client server cs written at c b view h on place short is some =
     subst (λ (k : Linked). can (event.Up count) k.world ≡ b) (sym view)
-        (up_may count client server cs written at c b h on place short is some)
+    (up_may count client server cs written at c b h on place short is some)
 
 pub off_no_bytes : (l : Linked) (count : ℕ) → l.world.server.server.on ≡ false → can (event.Up count) l.world ≡ false
 off_no_bytes l count off = ap (λ (b : Bool). b && (is_none l.world.server.input.fault && has_some count (server_link l.world).up)) off
@@ -144,15 +151,22 @@ up_seen : (count : ℕ) (client : ClientEnd) (server after : Serving) (cs : List
 up_seen count client server after cs written at c d place short is fed up down =
     let link : link_of (links_of cs) server.end.server.last ≡ link_of_connection c = here server cs at c place short is in
     let bytes : d.up.waiting ≡ drop count (link_of (links_of cs) server.end.server.last).up = up
-        ∙ ap (λ (l : Link). drop count l.up) (sym link) in
+    ∙ ap (λ (l : Link). drop count l.up) (sym link) in
     let links : links_of (slice_set cs at d) ≡ with_link (links_of cs) server.end.server.last
-        (record (link_of (links_of cs) server.end.server.last) { up = drop count (link_of (links_of cs) server.end.server.last).up }) =
+    (record (link_of (links_of cs) server.end.server.last) { up = drop count (link_of (links_of cs) server.end.server.last).up }) =
     link_up cs at server.end.server.last c d (drop count (link_of (links_of cs) server.end.server.last).up) short is place bytes down in
     let read : after ≡ with_end server (serving_fed (take count (link_of (links_of cs) server.end.server.last).up) server.end) = fed
-        ∙ ap (λ (l : Link). with_end server (serving_fed (take count l.up) server.end)) (sym link) in
+    ∙ ap (λ (l : Link). with_end server (serving_fed (take count l.up) server.end)) (sym link) in
     ap (λ (x : Serving). seen client x (slice_set cs at d) written) read
-    ∙ ap (λ (l : List Link). record { setup = server.setup; world = record { client = client;
-    server = serving_fed (take count (link_of (links_of cs) server.end.server.last).up) server.end; links = l; written = written } }) links
+    ∙ ap (λ (l : List Link). record {
+      setup = server.setup;
+      world = record {
+        client = client;
+        server = serving_fed (take count (link_of (links_of cs) server.end.server.last).up) server.end;
+        links = l;
+        written = written;
+      };
+    }) links
 
 pub up_is : (l : Linked) (count : ℕ) (client : ClientEnd) (server after : Serving) (cs : List Connection) (written : List ℕ) (at : ℕ)
     (c d : Connection)
@@ -162,7 +176,7 @@ pub up_is : (l : Linked) (count : ℕ) (client : ClientEnd) (server after : Serv
     → seen client after (slice_set cs at d) written ≡ with_world l (moved_up count l.world)
 up_is l count client server after cs written at c d view place short is fed up down =
     up_seen count client server after cs written at c d place short is fed up down
-        ∙ ap (λ (k : Linked). with_world k (moved_up count k.world)) (sym view)
+    ∙ ap (λ (k : Linked). with_world k (moved_up count k.world)) (sym view)
 
 pub up_reached : (count : ℕ) (client : ClientEnd) (server after : Serving) (cs : List Connection) (written : List ℕ) (at : ℕ)
     (c d : Connection)
@@ -173,7 +187,7 @@ pub up_reached : (count : ℕ) (client : ClientEnd) (server after : Serving) (cs
     → IsReached (seen client after (slice_set cs at d) written)
 up_reached count client server after cs written at c d h on place short is some fed up down =
     reached_more (seen client server cs written) (seen client after (slice_set cs at d) written) (event.Up count) h
-        (up_may count client server cs written at c true h on place short is some)
+    (up_may count client server cs written at c true h on place short is some)
     (λ readers are. up_seen count client server after cs written at c d place short is fed up down)
 
 -- ---- where nothing happens
@@ -184,8 +198,15 @@ pub same_seen : (l : Linked) (client : ClientEnd) (server after : Serving) (cs :
     → link_of_connection d ≡ link_of_connection c → seen client after (slice_set cs at d) written ≡ l
 same_seen l client server after cs written at c d view short is same link =
     ap (λ (x : Serving). seen client x (slice_set cs at d) written) same
-    ∙ (ap (λ (x : List Link). record { setup = server.setup; world = record { client = client; server = server.end; links = x;
-    written = written } }) (links_same cs at c d short is link) ∙ sym view)
+    ∙ (ap (λ (x : List Link). record {
+      setup = server.setup;
+      world = record {
+        client = client;
+        server = server.end;
+        links = x;
+        written = written;
+      };
+    }) (links_same cs at c d short is link) ∙ sym view)
 
 pub same_reached : (client : ClientEnd) (server after : Serving) (cs : List Connection) (written : List ℕ) (at : ℕ) (c d : Connection)
     → IsReached (seen client server cs written) → at < length cs → c ≡ slice_index_or cs at c → after ≡ server

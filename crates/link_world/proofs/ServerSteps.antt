@@ -1,6 +1,6 @@
 -- What the server's events make of a world.
-use Rattle.std.proofs.Common.{◌≡◌, ℕ, ◌≤◌, ◌<◌, Bool, true, false, List, [], ◌∷◌, length, refl, sym, ◌∙◌, ap, subst, arith, cond,
-  length-append}
+use Rattle.std.proofs.Common.{◌≡◌, ℕ, ◌≤◌, ◌<◌, Bool, true, false, List, [], ◌∷◌, length, refl, sym, ◌∙◌, ap, subst, arith, cond}
+use Rattle.std.proofs.Common.{length-append}
 use Rattle.std.proofs.lemmas.Bool.{false≢true, and_parts, and_from, ltb-true, le-leb, leb-true}
 use Rattle.protocol_model.specs.Lines.{Readers, AreReaders}
 use Rattle.protocol_model.specs.Ends.{ClientEnd, ServerEnd, serving_accepted, serving_left, serving_restarted}
@@ -54,7 +54,7 @@ connections_few client server cs written h =
     let few : length (links_of cs) ≤ 4000000000 =
     subst (λ (w : World). length w.links ≤ 4000000000) (sym h.reached)
     (runs_within h.readers h.are h.events (start h.program server.setup.tools h.window)
-        (start_carried h.program server.setup.tools h.window h.is_program h.few) (omega arith)) in
+    (start_carried h.program server.setup.tools h.window h.is_program h.few) (omega arith)) in
     omega (arith, few, links_long cs)
 
 -- ---- events of the server alone
@@ -65,7 +65,7 @@ alone : (client : ClientEnd) (server : Serving) (after : ServerEnd) (cs : List C
     ≡ happens readers e (seen client server cs written).world) → IsReached (seen client (with_end server after) cs written)
 alone client server after cs written e h may is =
     reached_more (seen client server cs written) (seen client (with_end server after) cs written) e h may
-        (λ readers are. ap (λ (w : World). with_world (seen client server cs written) w) (is readers are))
+    (λ readers are. ap (λ (w : World). with_world (seen client server cs written) w) (is readers are))
 
 accept_may : (number : ℕ) (client : ClientEnd) (server : Serving) (cs : List Connection) (written : List ℕ)
     → may_accept number server.end.server ≡ true → number ≤ length cs
@@ -73,7 +73,7 @@ accept_may : (number : ℕ) (client : ClientEnd) (server : Serving) (cs : List C
 accept_may number client server cs written may le =
     let parts = and_parts _ _ may in
     and_from _ _ parts.0 (and_from _ _ (and_parts _ _ parts.1).0
-        (le-leb number (length (links_of cs)) (subst (λ (n : ℕ). number ≤ n) (sym (links_long cs)) le)))
+    (le-leb number (length (links_of cs)) (subst (λ (n : ℕ). number ≤ n) (sym (links_long cs)) le)))
 
 pub accept_can : (l : Linked) (number : ℕ) (client : ClientEnd) (server : Serving) (cs : List Connection) (written : List ℕ)
     → l ≡ seen client server cs written → may_accept number server.end.server ≡ true → number ≤ length cs
@@ -85,7 +85,7 @@ pub accept_far : (l : Linked) (number : ℕ) (client : ClientEnd) (server : Serv
     → l ≡ seen client server cs written → length cs < number → can (event.Accept number) l.world ≡ false
 accept_far l number client server cs written view far =
     subst (λ (k : Linked). can (event.Accept number) k.world ≡ false) (sym view)
-        (go (can (event.Accept number) (seen client server cs written).world) refl)
+    (go (can (event.Accept number) (seen client server cs written).world) refl)
   where
     go : (b : Bool) → can (event.Accept number) (seen client server cs written).world ≡ b → b ≡ false
     go false e = refl
@@ -98,7 +98,7 @@ pub accept_refused : (l : Linked) (number : ℕ) (client : ClientEnd) (server : 
     → number ≤ length cs → may_accept number server.end.server ≡ false → can (event.Accept number) l.world ≡ false
 accept_refused l number client server cs written view h near never =
     subst (λ (k : Linked). can (event.Accept number) k.world ≡ false) (sym view)
-        (go (can (event.Accept number) (seen client server cs written).world) refl)
+    (go (can (event.Accept number) (seen client server cs written).world) refl)
   where
     go : (b : Bool) → can (event.Accept number) (seen client server cs written).world ≡ b → b ≡ false
     go false e = refl
@@ -106,7 +106,7 @@ accept_refused l number client server cs written view h near never =
         let parts = and_parts _ _ e in
         let few : length cs ≤ 4000000000 = connections_few client server cs written h in
         absurd (false≢true (sym never ∙ and_from _ _ parts.0 (and_from _ _ (and_parts _ _ parts.1).0
-            (le-leb number 4000000000 (omega (arith, near, few))))))
+        (le-leb number 4000000000 (omega (arith, near, few))))))
 
 pub accept_reached : (number : ℕ) (client : ClientEnd) (server after : Serving) (cs : List Connection) (written : List ℕ)
     → IsReached (seen client server cs written)
@@ -115,18 +115,18 @@ pub accept_reached : (number : ℕ) (client : ClientEnd) (server after : Serving
 accept_reached number client server after cs written h may le is =
     subst (λ (s : Serving). IsReached (seen client s cs written)) (sym is)
     (alone client server (serving_accepted number server.end) cs written (event.Accept number) h
-        (accept_may number client server cs written may le) (λ readers are. refl))
+    (accept_may number client server cs written may le) (λ readers are. refl))
 
 pub left_reached : (client : ClientEnd) (server after : Serving) (cs : List Connection) (written : List ℕ)
     → IsReached (seen client server cs written)
     → server.end.server.on ≡ true → after ≡ with_end server (serving_left server.end) → IsReached (seen client after cs written)
 left_reached client server after cs written h may is =
     subst (λ (s : Serving). IsReached (seen client s cs written)) (sym is)
-        (alone client server (serving_left server.end) cs written event.ServerLeaves h may (λ readers are. refl))
+    (alone client server (serving_left server.end) cs written event.ServerLeaves h may (λ readers are. refl))
 
 pub restart_reached : (client : ClientEnd) (server after : Serving) (cs : List Connection) (written : List ℕ)
     → IsReached (seen client server cs written)
     → after ≡ with_end server (serving_restarted server.end) → IsReached (seen client after cs written)
 restart_reached client server after cs written h is =
     subst (λ (s : Serving). IsReached (seen client s cs written)) (sym is)
-        (alone client server (serving_restarted server.end) cs written event.ServerRestart h refl (λ readers are. refl))
+    (alone client server (serving_restarted server.end) cs written event.ServerRestart h refl (λ readers are. refl))

@@ -67,7 +67,7 @@ run_leads readers w v events done not_now memory h none = all_lead readers w v e
 pub program_is : (l : Linked) → IsReached l → IsProgram l.world.client.client.program
 program_is l h =
     subst IsProgram (sym (ap (λ (w : World). w.client.client.program) h.reached
-        ∙ run_same h.readers h.events (start h.program l.setup.tools h.window))) h.is_program
+    ∙ run_same h.readers h.events (start h.program l.setup.tools h.window))) h.is_program
 
 pub window_few : (l : Linked) → IsReached l → l.world.client.client.window ≤ 16
 window_few l h = let c : IsCarried l.world = carried l h in c.inv.window
@@ -93,7 +93,7 @@ new_lines l v events done not_now memory h runs new quiet =
     let q : Quietly some_are_readers.0 l.world v = ran l v events done not_now memory runs quiet in
     subst (λ (w : World). AreFirstLines w.written (first_plan l.world)) (from_new l v new q)
     (undisturbed_lines some_are_readers.0 some_are_readers.1 l.world.client.client.program l.world.server.server.rack
-        l.world.client.client.window q.events (program_is l h) (window_few l h) q.quiet)
+    l.world.client.client.window q.events (program_is l h) (window_few l h) q.quiet)
 
 pub new_acts : (l : Linked) (v : World) (events : List Event) (done not_now memory : ℕ) → IsReached l → Runs l v events done not_now memory
     → IsNew l.world → AreUndisturbed events
@@ -102,7 +102,7 @@ new_acts l v events done not_now memory h runs new quiet =
     let q : Quietly some_are_readers.0 l.world v = ran l v events done not_now memory runs quiet in
     subst (λ (w : World). AreFirstActs (acts_in w.server.server.ledger) (acts_planned (first_plan l.world))) (from_new l v new q)
     (undisturbed_acts some_are_readers.0 some_are_readers.1 l.world.client.client.program l.world.server.server.rack
-        l.world.client.client.window q.events (program_is l h) (window_few l h) q.quiet)
+    l.world.client.client.window q.events (program_is l h) (window_few l h) q.quiet)
 
 pub new_counts : (l : Linked) (v : World) (events : List Event) (done not_now memory : ℕ) → IsReached l
     → Runs l v events done not_now memory → IsNew l.world → AreUndisturbed events
@@ -111,4 +111,4 @@ new_counts l v events done not_now memory h runs new quiet =
     let q : Quietly some_are_readers.0 l.world v = ran l v events done not_now memory runs quiet in
     subst (λ (w : World). AreFirstOf w.client.client.table.tally.counted (acts_in w.server.server.ledger)) (from_new l v new q)
     (undisturbed_counts some_are_readers.0 some_are_readers.1 l.world.client.client.program l.world.server.server.rack
-        l.world.client.client.window q.events (program_is l h) (window_few l h) q.quiet)
+    l.world.client.client.window q.events (program_is l h) (window_few l h) q.quiet)

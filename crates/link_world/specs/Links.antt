@@ -35,8 +35,15 @@ pub record Linked : Type 0 where
 -- what is seen of the code's parts
 abbrev pub seen : ClientEnd → Serving → List Connection → List ℕ → Linked
 seen client server connections written =
-    record { setup = server.setup; world = record { client = client; server = server.end; links = links_of connections;
-        written = written } }
+    record {
+      setup = server.setup;
+      world = record {
+        client = client;
+        server = server.end;
+        links = links_of connections;
+        written = written;
+      };
+    }
 
 -- the same setup with another world
 abbrev pub with_world : Linked → World → Linked

@@ -163,8 +163,8 @@ impl World {
     fn server_place(&self) -> Option<usize>
         ensures { MatchOption result (self.now.world.server.server.on ≡ false)
             (λ at. (self.now.world.server.server.on ≡ true)
-                × (at ≡ self.now.world.server.server.last - 1)
-                × (at < length self.now.world.links)) }
+            × (at ≡ self.now.world.server.server.last - 1)
+            × (at < length self.now.world.links)) }
     {
         let number = self.server.view().connection?;
         Some((number - 1) as usize)

@@ -1,6 +1,6 @@
 -- The client: its states, its open commands and what it counts, and what each of its calls does (this profile).
-use Rattle.std.specs.Prelude.{ℕ, zero, suc, ◌-◌, ◌==◌, nat_lt, Bool, true, false, ◌&&◌, ◌||◌, not, if◌then◌else◌, Option, Some, None, List,
-  [], ◌∷◌, ◌++◌, length, take, Result, Ok, Err}
+use Rattle.std.specs.Prelude.{ℕ, zero, suc, ◌-◌, ◌==◌, nat_lt, Bool, true, false, ◌&&◌, ◌||◌, not, if◌then◌else◌, Option, Some, None, List}
+use Rattle.std.specs.Prelude.{[], ◌∷◌, ◌++◌, length, take, Result, Ok, Err}
 use Rattle.fixed_um.specs.declared.lengths.Point.{Point}
 use Rattle.dme_line.specs.Kinds.{kind_of}
 use Rattle.dme_line.specs.declared.tags.Tag.{Tag}
@@ -80,8 +80,12 @@ begins_session _ = false
 abbrev pub counted_next : List Wanted → Kind → Option Point → List Planned → Tally → Tally
 counted_next ws k given [] y = y
 counted_next ws k given (p ∷ todo) y =
-    measured ws p.does given (record y { session = y.session || begins_session k; todo = todo; counted = y.counted ++ act_of p.does given;
-        completed = suc y.completed })
+    measured ws p.does given (record y {
+      session = y.session || begins_session k;
+      todo = todo;
+      counted = y.counted ++ act_of p.does given;
+      completed = suc y.completed;
+    })
 
 -- what an effect changes in the tally: nothing, that a command has failed, or the next command of the plan is counted
 abbrev pub tallied : List Wanted → Effect → Tally → Tally

@@ -18,10 +18,10 @@ use Rattle.line_framing.specs.declared.faults.FramingFault.TheVariants as framin
 use Rattle.protocol_model.specs.Replies.{Mark, tag_is}
 use Rattle.protocol_model.specs.Lines.{Readers, command_bytes, reply_bytes, reading_of}
 use Rattle.protocol_model.specs.Open.{asks_data}
-use Rattle.protocol_model.specs.Client.{Client, Sends, new_client, faulted, client_connected, client_sent, client_aborted, client_resumed,
-  client_read, client_left, client_restarted}
-use Rattle.protocol_model.specs.Server.{Server, Answer, new_server, server_accepted, server_read, server_turned, server_machined,
-  server_left, server_restarted}
+use Rattle.protocol_model.specs.Client.{Client, Sends, new_client, faulted, client_connected, client_sent, client_aborted, client_resumed}
+use Rattle.protocol_model.specs.Client.{client_read, client_left, client_restarted}
+use Rattle.protocol_model.specs.Server.{Server, Answer, new_server, server_accepted, server_read, server_turned, server_machined}
+use Rattle.protocol_model.specs.Server.{server_left, server_restarted}
 use Rattle.protocol_model.specs.declared.states.Cause.{Cause}
 use Rattle.protocol_model.specs.declared.held.Held.{Held}
 use Rattle.protocol_model.specs.declared.machine.Outcome.{Outcome}
@@ -103,8 +103,11 @@ front_read readers c (Err framing.BadByte) = faulted Cause.BadByte c
 
 -- what stands at the front is read
 abbrev pub end_read : Readers → ClientEnd → ClientEnd
-end_read readers e = record { client = front_read readers e.client (next_of e.input.rest); input = left_by (next_of e.input.rest) e.input;
-    out = e.out }
+end_read readers e = record {
+  client = front_read readers e.client (next_of e.input.rest);
+  input = left_by (next_of e.input.rest) e.input;
+  out = e.out;
+}
 
 -- the plan is begun again on the same connection
 abbrev pub end_resumed : ClientEnd → ClientEnd

@@ -1,6 +1,6 @@
 -- The server: its state, and the lines and the act with which it answers each call, case by case (this profile).
-use Rattle.std.specs.Prelude.{ℕ, nat_le, Bool, true, false, ◌&&◌, ◌||◌, not, if◌then◌else◌, Option, Some, None, is_none, List, [], ◌∷◌,
-  ◌++◌, length, pos, unsigned_abs, bytes_eq, Result, Ok, Err}
+use Rattle.std.specs.Prelude.{ℕ, nat_le, Bool, true, false, ◌&&◌, ◌||◌, not, if◌then◌else◌, Option, Some, None, is_none, List, [], ◌∷◌}
+use Rattle.std.specs.Prelude.{◌++◌, length, pos, unsigned_abs, bytes_eq, Result, Ok, Err}
 use Rattle.std.specs.List.{list_any}
 use Rattle.fixed_um.specs.Limits.{volume_limit}
 use Rattle.fixed_um.specs.Points.{point_sum, point_difference}
@@ -163,7 +163,7 @@ stands s t reading =
     if s.error && not (is_clear reading) then answers s (Reply.Ack t ∷ fails t 9008 (kind_in reading))
     else if s.error then answers (queued t reading (record s { error = false })) (Reply.Ack t ∷ [])
     else if nat_le 64 (length s.waiting) then answers (in_error s)
-        (Reply.Ack t ∷ (fails t 9009 (kind_in reading) ++ all_fail 9007 s.waiting))
+    (Reply.Ack t ∷ (fails t 9009 (kind_in reading) ++ all_fail 9007 s.waiting))
     else answers (queued t reading s) (Reply.Ack t ∷ [])
 
 -- a line under a tag that is not in use: an abort, a faulty line on an event tag, or a standard one

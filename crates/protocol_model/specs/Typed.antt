@@ -1,14 +1,14 @@
 -- A client and a server on connections that carry lines as values (this profile). Of each older connection the server may read whatever it
 -- likes.
-use Rattle.std.specs.Prelude.{ℕ, suc, ◌==◌, nat_lt, nat_le, Bool, true, ◌&&◌, not, if◌then◌else◌, is_none, is_some, List, [], ◌∷◌, ◌++◌,
-  length, Ok}
+use Rattle.std.specs.Prelude.{ℕ, suc, ◌==◌, nat_lt, nat_le, Bool, true, ◌&&◌, not, if◌then◌else◌, is_none, is_some, List, [], ◌∷◌, ◌++◌}
+use Rattle.std.specs.Prelude.{length, Ok}
 use Rattle.dmis_program.specs.Meaning.{Meaning as Program}
 use Rattle.protocol_model.specs.Replies.{Reading, Reply, tag_of, mark_of}
 use Rattle.protocol_model.specs.Plan.{is_empty}
-use Rattle.protocol_model.specs.Client.{Client, Sends, new_client, client_connected, client_sent, client_aborted, client_resumed,
-  client_read, client_left, client_restarted, due, is_apart, may_abort, may_resume}
-use Rattle.protocol_model.specs.Server.{Server, Answer, new_server, server_accepted, server_read, server_turned, server_machined,
-  server_left, server_restarted, may_end}
+use Rattle.protocol_model.specs.Client.{Client, Sends, new_client, client_connected, client_sent, client_aborted, client_resumed}
+use Rattle.protocol_model.specs.Client.{client_read, client_left, client_restarted, due, is_apart, may_abort, may_resume}
+use Rattle.protocol_model.specs.Server.{Server, Answer, new_server, server_accepted, server_read, server_turned, server_machined}
+use Rattle.protocol_model.specs.Server.{server_left, server_restarted, may_end}
 use Rattle.protocol_model.specs.declared.lines.Line.{Line}
 use Rattle.protocol_model.specs.declared.machine.Outcome.{Outcome}
 
@@ -43,8 +43,13 @@ start p rack window = record { client = new_client p [] window; server = new_ser
 
 -- the server's answer joins the way down, if it is given on the client's last connection
 abbrev pub answered : World → List Line → Answer → World
-answered w up a = record { client = w.client; server = a.server; up = up; down = if w.server.last == w.client.last then w.down
-    ++ a.said else w.down }
+answered w up a = record {
+  client = w.client;
+  server = a.server;
+  up = up;
+  down = if w.server.last == w.client.last then w.down
+      ++ a.said else w.down;
+}
 
 -- what the client writes joins the way up
 abbrev pub sent : World → Sends → World

@@ -6,8 +6,9 @@ use Rattle.dme_line.specs.declared.tags.Tag.{Tag}
 use Rattle.dme_line.specs.declared.tags.Tag.TheVariants.{Std}
 use Rattle.protocol_model.specs.Lines.{command_bytes}
 use Rattle.protocol_model.specs.declared.events.Event.{Event}
-use Rattle.protocol_model.specs.declared.events.Event.TheVariants.{Connect, Accept, ClientSends, Up, ServerReads, ServerTurn, Machine, Down,
-  ClientReads, ClientLeaves, ServerLeaves, Abort, Resume, ClientRestart, ServerRestart}
+use Rattle.protocol_model.specs.declared.events.Event.TheVariants.{Connect, Accept, ClientSends, Up, ServerReads, ServerTurn, Machine, Down}
+use Rattle.protocol_model.specs.declared.events.Event.TheVariants.{ClientReads, ClientLeaves, ServerLeaves, Abort, Resume, ClientRestart}
+use Rattle.protocol_model.specs.declared.events.Event.TheVariants.{ServerRestart}
 use Rattle.protocol_model.specs.declared.lines.Line.{Line}
 use Rattle.protocol_model.specs.declared.machine.Outcome.{Outcome}
 use Rattle.protocol_model.specs.declared.plans.Does.{Does}

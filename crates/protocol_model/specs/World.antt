@@ -1,6 +1,6 @@
 -- Both ends and the bytes between them: the events, what each does, and lists of them (this profile).
-use Rattle.std.specs.Prelude.{ℕ, suc, ◌-◌, nat_lt, nat_le, Bool, true, false, ◌&&◌, not, if◌then◌else◌, Some, None, is_none, is_some, List,
-  [], ◌∷◌, ◌++◌, length, take, drop, slice_set, Ok, Err}
+use Rattle.std.specs.Prelude.{ℕ, suc, ◌-◌, nat_lt, nat_le, Bool, true, false, ◌&&◌, not, if◌then◌else◌, Some, None, is_none, is_some, List}
+use Rattle.std.specs.Prelude.{[], ◌∷◌, ◌++◌, length, take, drop, slice_set, Ok, Err}
 use Rattle.std.specs.List.{slice_index_or}
 use Rattle.dmis_program.specs.Meaning.{Meaning}
 use Rattle.line_framing.specs.Next.{Front, next_of}
@@ -8,12 +8,13 @@ use Rattle.protocol_model.specs.Lines.{Readers}
 use Rattle.protocol_model.specs.Plan.{is_empty}
 use Rattle.protocol_model.specs.Client.{due, is_apart, may_abort, may_resume}
 use Rattle.protocol_model.specs.Server.{may_end}
-use Rattle.protocol_model.specs.Ends.{ClientEnd, ServerEnd, new_client_end, end_connected, end_sent, end_aborted, end_fed, end_read,
-  end_resumed, end_left, end_restarted, new_server_end, serving_accepted, serving_fed, serving_read, serving_turned, serving_machined,
-  serving_left, serving_restarted}
+use Rattle.protocol_model.specs.Ends.{ClientEnd, ServerEnd, new_client_end, end_connected, end_sent, end_aborted, end_fed, end_read}
+use Rattle.protocol_model.specs.Ends.{end_resumed, end_left, end_restarted, new_server_end, serving_accepted, serving_fed, serving_read}
+use Rattle.protocol_model.specs.Ends.{serving_turned, serving_machined, serving_left, serving_restarted}
 use Rattle.protocol_model.specs.declared.events.Event.{Event}
-use Rattle.protocol_model.specs.declared.events.Event.TheVariants.{Connect, Accept, ClientSends, Up, ServerReads, ServerTurn, Machine, Down,
-  ClientReads, ClientLeaves, ServerLeaves, Abort, Resume, ClientRestart, ServerRestart}
+use Rattle.protocol_model.specs.declared.events.Event.TheVariants.{Connect, Accept, ClientSends, Up, ServerReads, ServerTurn, Machine, Down}
+use Rattle.protocol_model.specs.declared.events.Event.TheVariants.{ClientReads, ClientLeaves, ServerLeaves, Abort, Resume, ClientRestart}
+use Rattle.protocol_model.specs.declared.events.Event.TheVariants.{ServerRestart}
 use Rattle.protocol_model.specs.declared.states.State.{State}
 use Rattle.protocol_model.specs.declared.machine.Outcome.{Outcome}
 
@@ -73,8 +74,12 @@ server_writes w e = record {
 
 -- the client makes the next connection: no bytes are on it yet
 abbrev pub connected : World → World
-connected w = record { client = end_connected (suc w.client.client.last) w.client; server = w.server; links = w.links ++ no_link ∷ [];
-    written = [] }
+connected w = record {
+  client = end_connected (suc w.client.client.last) w.client;
+  server = w.server;
+  links = w.links ++ no_link ∷ [];
+  written = [];
+}
 
 -- bytes move from the front of a list to the side that reads them
 abbrev pub moved_up : ℕ → World → World

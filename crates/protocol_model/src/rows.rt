@@ -95,44 +95,44 @@ pub fn text_rows()
 pub fn undisturbed_rows()
     ensures empty_program { (play empty 1 (opened ++ quiet_to_the_end ∷ [])).wrote
         ≡ line 1 command.StartSession ∷ line 2 command.ClearAllErrors ∷ line 3 command.Home
-            ∷ line 4 command.OnPtMeasReport
+        ∷ line 4 command.OnPtMeasReport
         ∷ line 5 (command.SetCoordSystem MachineCsy) ∷ line 6 command.EndSession ∷ [] }
     ensures empty_report { reported empty 1 (opened ++ quiet_to_the_end ∷ [])
         ≡ report State.Done 2 [] [] }
     ensures one_point_program { (play one_point 1 (opened ++ quiet_to_the_end ∷ [])).wrote
         ≡ line 1 command.StartSession ∷ line 2 command.ClearAllErrors ∷ line 3 command.Home
-            ∷ line 4 command.OnPtMeasReport
+        ∷ line 4 command.OnPtMeasReport
         ∷ line 5 (command.SetCoordSystem MachineCsy) ∷ line 6 (command.ChangeTool (codes "P1"))
         ∷ line 7 (command.GoTo (at (pos 10000) (pos 20000) (pos 30000)))
         ∷ line 8 (command.PtMeas (at (pos 10000) (pos 20000) (pos 25000))
-            (along (pos 0) (pos 0) (pos 1000000)))
+        (along (pos 0) (pos 0) (pos 1000000)))
         ∷ line 9 command.EndSession ∷ [] }
     ensures one_point_report { reported one_point 1 (opened ++ quiet_to_the_end ∷ [])
         ≡ report State.Done 5 (feature (codes "A") (at (pos 10002) (pos 20000) (pos 25000) ∷ [])
-            ∷ [])
+        ∷ [])
         (contact 0 1 (at (pos 10002) (pos 20000) (pos 25000)) ∷ []) }
     ensures nine_rounds { (play one_point 1 (opened ++ quiet 8 ∷ [])).world.client.state
         ≡ State.Running }
     ensures widest_window { reported one_point 16 (opened ++ quiet 2 ∷ [])
         ≡ report State.Done 5 (feature (codes "A") (at (pos 10002) (pos 20000) (pos 25000) ∷ [])
-            ∷ [])
+        ∷ [])
         (contact 0 1 (at (pos 10002) (pos 20000) (pos 25000)) ∷ []) }
     ensures two_frames_report { reported two_frames 1 (opened ++ quiet_to_the_end ∷ [])
         ≡ report State.Done 7
         (feature (codes "A") (at (pos 10002) (pos 0) (pos 0) ∷ [])
         ∷ feature (codes "B") (at (pos 20000) (pos 0) (pos 4) ∷ at (pos 29999) (pos 1) (pos 0) ∷ [])
-            ∷ [])
+        ∷ [])
         (contact 0 1 (at (pos 10002) (pos 0) (pos 0)) ∷ contact 1 1 (at (pos 20000) (pos 0) (pos 4))
         ∷ contact 2 1 (at (pos 29999) (pos 1) (pos 0)) ∷ []) }
     // Two touches that are alike are served by two contacts.
     ensures same_twice_report { reported same_twice 1
         (at_its_turn 6 ++ machine (Touched (at (pos 10002) (pos 0) (pos 0))) ∷ client_reads_all
         ∷ client_sends ∷ server_reads ∷ server_turn
-            ∷ machine (Touched (at (pos 10004) (pos 0) (pos 0))) ∷ quiet_to_the_end ∷ [])
+        ∷ machine (Touched (at (pos 10004) (pos 0) (pos 0))) ∷ quiet_to_the_end ∷ [])
         ≡ report State.Done 5 (feature (codes "A")
-            (at (pos 10002) (pos 0) (pos 0) ∷ at (pos 10004) (pos 0) (pos 0) ∷ []) ∷ [])
+        (at (pos 10002) (pos 0) (pos 0) ∷ at (pos 10004) (pos 0) (pos 0) ∷ []) ∷ [])
         (contact 0 1 (at (pos 10002) (pos 0) (pos 0)) ∷ contact 1 1 (at (pos 10004) (pos 0) (pos 0))
-            ∷ []) }
+        ∷ []) }
 {}
 
 /// Connections that break, and ends that start anew.
@@ -140,29 +140,29 @@ pub fn broken_rows()
     // The client leaves while its first line is on its way.
     ensures left_at_once { reported one_point 1
         (opened ++ client_sends ∷ client_leaves ∷ connect ∷ server_reads ∷ server_leaves ∷ accept 2
-            ∷ quiet_to_the_end ∷ [])
+        ∷ quiet_to_the_end ∷ [])
         ≡ report State.Done 5 (feature (codes "A") (at (pos 10002) (pos 20000) (pos 25000) ∷ [])
-            ∷ [])
+        ∷ [])
         (contact 0 2 (at (pos 10002) (pos 20000) (pos 25000)) ∷ []) }
     // A point was counted before the break: the feature is measured again from its first touch on.
     ensures left_inside_a_feature { reported circle 1 (opened
         ++ quiet 7 ∷ client_leaves ∷ server_leaves ∷ connect ∷ accept 2 ∷ quiet_to_the_end ∷ [])
         ≡ report State.Done 6
         (feature (codes "C") (at (pos 1000) (pos 0) (pos 4) ∷ at (neg 1) (pos 1001) (pos 0)
-            ∷ at (neg 998) (pos 0) (pos 0) ∷ []) ∷ [])
+        ∷ at (neg 998) (pos 0) (pos 0) ∷ []) ∷ [])
         (contact 0 1 (at (pos 1002) (pos 0) (pos 0)) ∷ contact 1 2 (at (pos 1000) (pos 0) (pos 4))
         ∷ contact 2 2 (at (neg 1) (pos 1001) (pos 0)) ∷ contact 3 2 (at (neg 998) (pos 0) (pos 0))
-            ∷ []) }
+        ∷ []) }
     // The point was read, and not the end of its touch.
     ensures left_inside_a_touch { reported circle 1
         (at_its_turn 6 ++ auto ∷ client_reads ∷ client_reads ∷ client_leaves ∷ server_leaves
-            ∷ connect ∷ accept 2 ∷ quiet_to_the_end ∷ [])
+        ∷ connect ∷ accept 2 ∷ quiet_to_the_end ∷ [])
         ≡ report State.Done 6
         (feature (codes "C") (at (pos 1000) (pos 0) (pos 4) ∷ at (neg 1) (pos 1001) (pos 0)
-            ∷ at (neg 998) (pos 0) (pos 0) ∷ []) ∷ [])
+        ∷ at (neg 998) (pos 0) (pos 0) ∷ []) ∷ [])
         (contact 0 1 (at (pos 1002) (pos 0) (pos 0)) ∷ contact 1 2 (at (pos 1000) (pos 0) (pos 4))
         ∷ contact 2 2 (at (neg 1) (pos 1001) (pos 0)) ∷ contact 3 2 (at (neg 998) (pos 0) (pos 0))
-            ∷ []) }
+        ∷ []) }
     ensures left_unread { reported circle 1 (at_its_turn 6 ++ auto ∷ client_leaves ∷ [])
         ≡ report State.Apart 3 [] (contact 0 1 (at (pos 1002) (pos 0) (pos 0)) ∷ []) }
     // Two touches wait when the server leaves, and a tool change runs: none of them is left.
@@ -173,22 +173,22 @@ pub fn broken_rows()
     // The server makes the contact while the client is already on the next connection.
     ensures left_by_the_client_first { reported circle 1
         (at_its_turn 6 ++ client_leaves ∷ connect ∷ client_sends ∷ auto ∷ server_leaves ∷ accept 2
-            ∷ quiet_to_the_end ∷ [])
+        ∷ quiet_to_the_end ∷ [])
         ≡ report State.Done 6
         (feature (codes "C") (at (pos 1000) (pos 0) (pos 4) ∷ at (neg 1) (pos 1001) (pos 0)
-            ∷ at (neg 998) (pos 0) (pos 0) ∷ []) ∷ [])
+        ∷ at (neg 998) (pos 0) (pos 0) ∷ []) ∷ [])
         (contact 0 1 (at (pos 1002) (pos 0) (pos 0)) ∷ contact 1 2 (at (pos 1000) (pos 0) (pos 4))
         ∷ contact 2 2 (at (neg 1) (pos 1001) (pos 0)) ∷ contact 3 2 (at (neg 998) (pos 0) (pos 0))
-            ∷ []) }
+        ∷ []) }
     // Of two features the client keeps the first; the server forgets its homing and its tool.
     ensures both_restarted { reported two_points 1
         (opened ++ quiet_to_the_end ∷ client_restart 1 ∷ server_restart ∷ connect ∷ accept 2
-            ∷ quiet_to_the_end ∷ [])
+        ∷ quiet_to_the_end ∷ [])
         ≡ report State.Done 4
         (feature (codes "A") (at (pos 1002) (pos 2000) (pos 3000) ∷ [])
-            ∷ feature (codes "B") (at (pos 3999) (pos 5001) (pos 6000) ∷ []) ∷ [])
+        ∷ feature (codes "B") (at (pos 3999) (pos 5001) (pos 6000) ∷ []) ∷ [])
         (contact 0 1 (at (pos 1002) (pos 2000) (pos 3000))
-            ∷ contact 1 1 (at (pos 4000) (pos 5000) (pos 6004))
+        ∷ contact 1 1 (at (pos 4000) (pos 5000) (pos 6004))
         ∷ contact 2 2 (at (pos 3999) (pos 5001) (pos 6000)) ∷ []) }
 {}
 
@@ -204,46 +204,46 @@ pub fn aborted_rows()
         ++ abort ∷ server_reads ∷ client_reads_all ∷ resume ∷ quiet_to_the_end ∷ [])
         ≡ report State.Done 8
         (feature (codes "C") (at (pos 1002) (pos 0) (pos 0) ∷ at (pos 0) (pos 1000) (pos 4)
-            ∷ at (neg 1001) (pos 1) (pos 0) ∷ []) ∷ [])
+        ∷ at (neg 1001) (pos 1) (pos 0) ∷ []) ∷ [])
         (contact 0 1 (at (pos 1002) (pos 0) (pos 0)) ∷ contact 1 1 (at (pos 0) (pos 1000) (pos 4))
-            ∷ contact 2 1 (at (neg 1001) (pos 1) (pos 0)) ∷ []) }
+        ∷ contact 2 1 (at (neg 1001) (pos 1) (pos 0)) ∷ []) }
     // A tool change is running, and two touches wait.
     ensures waiting_answered { said_behind (play circle 3 (change_while_two_wait ++ abort ∷ []))
         (server_reads ∷ [])
         ≡ Reply.Ack (OnEvent 1) ∷ failed 6 9007 kind.ChangeTool
-            ++ (failed 7 9007 kind.PtMeas ++ (failed 8 9007 kind.PtMeas
-            ++ Reply.Done (OnEvent 1) ∷ [])) }
+        ++ (failed 7 9007 kind.PtMeas ++ (failed 8 9007 kind.PtMeas
+        ++ Reply.Done (OnEvent 1) ∷ [])) }
     ensures waiting_aborted { reported circle 3 (change_while_two_wait
         ++ abort ∷ server_reads ∷ client_reads_all ∷ []) ≡ report State.Halted 2 [] [] }
     ensures waiting_without_tool { (play circle 3 (change_while_two_wait
         ++ abort ∷ server_reads ∷ [])).world.server.tool ≡ None }
     ensures waiting_resumed { take 5
         (wrote_behind (play circle 3 (change_while_two_wait
-            ++ abort ∷ server_reads ∷ client_reads_all ∷ resume ∷ [])) (quiet 2 ∷ []))
+        ++ abort ∷ server_reads ∷ client_reads_all ∷ resume ∷ [])) (quiet 2 ∷ []))
         ≡ line 9 command.ClearAllErrors ∷ line 10 command.Home ∷ line 11 command.OnPtMeasReport
-            ∷ line 12 (command.SetCoordSystem MachineCsy)
+        ∷ line 12 (command.SetCoordSystem MachineCsy)
         ∷ line 13 (command.ChangeTool (codes "P1")) ∷ [] }
     // The last touch runs, in the part's frame: its feature is measured again, and the contact that was made for it before serves nobody.
     ensures frame_resumed { wrote_behind
         (play two_frames 1 (at_its_turn 10 ++ abort ∷ server_reads ∷ client_reads_all ∷ resume
-            ∷ [])) (quiet_to_the_end ∷ [])
+        ∷ [])) (quiet_to_the_end ∷ [])
         ≡ line 12 command.ClearAllErrors ∷ line 13 command.Home ∷ line 14 command.OnPtMeasReport
-            ∷ line 15 (command.ChangeTool (codes "P1"))
+        ∷ line 15 (command.ChangeTool (codes "P1"))
         ∷ line 16 (command.SetCoordSystem MachineCsy)
-            ∷ line 17 (command.PtMeas (at (pos 20000) (pos 0) (pos 0)) from_above)
+        ∷ line 17 (command.PtMeas (at (pos 20000) (pos 0) (pos 0)) from_above)
         ∷ line 18 (command.SetCsyTransformation (at (neg 100000) (pos 0) (pos 0)))
-            ∷ line 19 (command.SetCoordSystem PartCsy)
+        ∷ line 19 (command.SetCoordSystem PartCsy)
         ∷ line 20 (command.PtMeas (at (pos 30000) (pos 0) (pos 0)) from_above)
-            ∷ line 21 command.EndSession ∷ [] }
+        ∷ line 21 command.EndSession ∷ [] }
     ensures frame_report { reported two_frames 1
         (at_its_turn 10 ++ abort ∷ server_reads ∷ client_reads_all ∷ resume ∷ quiet_to_the_end ∷ [])
         ≡ report State.Done 12
         (feature (codes "A") (at (pos 10002) (pos 0) (pos 0) ∷ [])
         ∷ feature (codes "B") (at (pos 19999) (pos 1) (pos 0) ∷ at (pos 30002) (pos 0) (pos 0) ∷ [])
-            ∷ [])
+        ∷ [])
         (contact 0 1 (at (pos 10002) (pos 0) (pos 0)) ∷ contact 1 1 (at (pos 20000) (pos 0) (pos 4))
         ∷ contact 2 1 (at (pos 19999) (pos 1) (pos 0))
-            ∷ contact 3 1 (at (pos 30002) (pos 0) (pos 0)) ∷ []) }
+        ∷ contact 3 1 (at (pos 30002) (pos 0) (pos 0)) ∷ []) }
     ensures not_aborted_twice { can Event.Abort (play circle 1 (at_its_turn 5 ++ abort ∷ [])).world
         ≡ false }
     ensures not_resumed_while_running { can Event.Resume (play circle 1 (at_its_turn 5)).world
@@ -263,10 +263,10 @@ pub fn failed_rows()
         ++ machine Missed ∷ client_reads_all ∷ resume ∷ quiet_to_the_end ∷ [])
         ≡ report State.Done 10
         (feature (codes "C") (at (pos 1000) (pos 0) (pos 4) ∷ at (neg 1) (pos 1001) (pos 0)
-            ∷ at (neg 998) (pos 0) (pos 0) ∷ []) ∷ [])
+        ∷ at (neg 998) (pos 0) (pos 0) ∷ []) ∷ [])
         (contact 0 1 (at (pos 1002) (pos 0) (pos 0)) ∷ contact 1 1 (at (pos 1000) (pos 0) (pos 4))
         ∷ contact 2 1 (at (neg 1) (pos 1001) (pos 0)) ∷ contact 3 1 (at (neg 998) (pos 0) (pos 0))
-            ∷ []) }
+        ∷ []) }
     // The second touch runs, the third waits, and the end of the session is on its way.
     ensures waiting_answered { said_behind (play circle 4 touch_while_one_waits)
         (machine Missed ∷ [])
@@ -276,13 +276,13 @@ pub fn failed_rows()
         ≡ Reply.Ack (Std 10) ∷ failed 10 9008 kind.EndSession }
     ensures waiting_resumed { reported circle 4
         (touch_while_one_waits ++ machine Missed ∷ server_reads ∷ client_reads_all ∷ resume
-            ∷ quiet_to_the_end ∷ [])
+        ∷ quiet_to_the_end ∷ [])
         ≡ report State.Done 10
         (feature (codes "C") (at (pos 1000) (pos 0) (pos 4) ∷ at (neg 1) (pos 1001) (pos 0)
-            ∷ at (neg 998) (pos 0) (pos 0) ∷ []) ∷ [])
+        ∷ at (neg 998) (pos 0) (pos 0) ∷ []) ∷ [])
         (contact 0 1 (at (pos 1002) (pos 0) (pos 0)) ∷ contact 1 1 (at (pos 1000) (pos 0) (pos 4))
         ∷ contact 2 1 (at (neg 1) (pos 1001) (pos 0)) ∷ contact 3 1 (at (neg 998) (pos 0) (pos 0))
-            ∷ []) }
+        ∷ []) }
     // No command may end as another does, and no touch outside the volume.
     ensures nothing_runs { can (Event.Machine Done) (play circle 1 (opened ++ quiet 6 ∷ [])).world
         ≡ false }
@@ -302,7 +302,7 @@ pub fn server_rows()
         (Call.Reads (Ok (line 1 command.StartSession)) ∷ Call.Turns
         ∷ Call.Reads (Ok (line 2 (command.GoTo (at (pos 0) (pos 0) (pos 0))))) ∷ Call.Turns ∷ [])
         (server_accepted 2 (server_restarted (play two_points 1 (opened
-            ++ quiet_to_the_end ∷ [])).world.server))
+        ++ quiet_to_the_end ∷ [])).world.server))
         ≡ Reply.Ack (Std 1) ∷ Reply.Done (Std 1) ∷ Reply.Ack (Std 2) ∷ failed 2 9010 kind.GoTo }
     ensures unknown_tool { called (Call.Reads (Ok (line 8 (command.ChangeTool (codes "P9"))))
         ∷ Call.Turns ∷ [])
@@ -313,33 +313,33 @@ pub fn server_rows()
     // The machine moves to a target in the part's frame only once that frame is selected.
     ensures offset_alone_changes_nothing { called
         (Call.Reads (Ok (line 8 (command.SetCsyTransformation (at (neg 100000) (pos 0) (pos 0)))))
-            ∷ Call.Turns
+        ∷ Call.Turns
         ∷ Call.Reads (Ok (line 9 (command.PtMeas (at (pos 30000) (pos 0) (pos 0)) None)))
-            ∷ Call.Turns
+        ∷ Call.Turns
         ∷ Call.Ends (Touched (at (pos 30002) (pos 0) (pos 0))) ∷ [])
         (play circle 1 (opened ++ quiet 6 ∷ [])).world.server
         ≡ Reply.Ack (Std 8) ∷ Reply.Done (Std 8)
         ∷ Reply.Ack (Std 9) ∷ Reply.Given (Std 9) (at (pos 30002) (pos 0) (pos 0))
-            ∷ Reply.Done (Std 9) ∷ [] }
+        ∷ Reply.Done (Std 9) ∷ [] }
     ensures selected_frame { called
         (Call.Reads (Ok (line 8 (command.SetCsyTransformation (at (neg 100000) (pos 0) (pos 0)))))
-            ∷ Call.Turns
+        ∷ Call.Turns
         ∷ Call.Reads (Ok (line 9 (command.SetCoordSystem PartCsy))) ∷ Call.Turns
         ∷ Call.Reads (Ok (line 10 (command.PtMeas (at (pos 30000) (pos 0) (pos 0)) None)))
-            ∷ Call.Turns
+        ∷ Call.Turns
         ∷ Call.Ends (Touched (at (pos 130002) (pos 0) (pos 0))) ∷ [])
         (play circle 1 (opened ++ quiet 6 ∷ [])).world.server
         ≡ Reply.Ack (Std 8) ∷ Reply.Done (Std 8) ∷ Reply.Ack (Std 9) ∷ Reply.Done (Std 9)
         ∷ Reply.Ack (Std 10) ∷ Reply.Given (Std 10) (at (pos 30002) (pos 0) (pos 0))
-            ∷ Reply.Done (Std 10) ∷ [] }
+        ∷ Reply.Done (Std 10) ∷ [] }
     ensures restarted_without_tool { (server_restarted
         (play one_point 1 (opened ++ quiet_to_the_end ∷ [])).world.server).tool ≡ None }
     // In the error state: a faulty line on a standard tag, one on an event tag, and a move behind the command that ends it.
     ensures error_state { called
         (Call.Reads (Err (BadArguments (Std 8) kind.GoTo))
-            ∷ Call.Reads (Err (BadArguments (OnEvent 1) kind.GoTo))
+        ∷ Call.Reads (Err (BadArguments (OnEvent 1) kind.GoTo))
         ∷ Call.Reads (Ok (line 9 command.ClearAllErrors)) ∷ Call.Turns
-            ∷ Call.Reads (Ok (line 10 command.Home)) ∷ Call.Turns ∷ Call.Ends Done ∷ [])
+        ∷ Call.Reads (Ok (line 10 command.Home)) ∷ Call.Turns ∷ Call.Ends Done ∷ [])
         (play circle 1 (at_its_turn 6 ++ machine Fault ∷ [])).world.server
         ≡ Reply.Ack (Std 8) ∷ failed 8 9008 kind.GoTo
         ++ Reply.Ack (OnEvent 1) ∷ Reply.Error (OnEvent 1) 9004 (Some kind.GoTo)
@@ -364,8 +364,8 @@ pub fn client_rows()
         ≡ Some Cause.NoData }
     ensures second_data { (client_read
         (client_read (client_read (play one_point 1 (opened
-            ++ quiet 7 ∷ client_sends ∷ [])).world.client (Std 8) Mark.Ack) (Std 8)
-            (Mark.Given (at (pos 0) (pos 0) (pos 0))))
+        ++ quiet 7 ∷ client_sends ∷ [])).world.client (Std 8) Mark.Ack) (Std 8)
+        (Mark.Given (at (pos 0) (pos 0) (pos 0))))
         (Std 8) (Mark.Given (at (pos 0) (pos 0) (pos 0)))).cause
         ≡ Some Cause.SecondData }
     ensures out_of_order { (client_read (play circle 1 (opened ++ client_sends ∷ [])).world.client

@@ -1,6 +1,6 @@
 -- Every command of a plan can be written.
-use Rattle.std.proofs.Common.{◌≡◌, ℕ, zero, suc, Bool, true, false, cond, Option, Some, None, List, [], ◌∷◌, ◌++◌, refl, arith, ℤ, pos,
-  negsuc, neg_ℤ}
+use Rattle.std.proofs.Common.{◌≡◌, ℕ, zero, suc, Bool, true, false, cond, Option, Some, None, List, [], ◌∷◌, ◌++◌, refl, arith, ℤ, pos}
+use Rattle.std.proofs.Common.{negsuc, neg_ℤ}
 use Rattle.std.specs.Prelude.{unsigned_abs}
 use Rattle.std.specs.List.{All, AllByRecursion}
 use Rattle.fixed_um.specs.Points.{IsInVolume, point_opposite}
@@ -14,8 +14,8 @@ use Rattle.dmis_program.specs.declared.steps.Step.TheVariants as step
 use Rattle.protocol_model.specs.declared.plans.Planned.{Planned}
 use Rattle.protocol_model.specs.declared.plans.Start.{Start}
 use Rattle.protocol_model.specs.declared.plans.Start.TheVariants.{NewConnection, SameConnection}
-use Rattle.protocol_model.specs.Plan.{is_empty, frame_behind, behind, up_to, framing, tooling, stepping, measuring, clearing, starting,
-  plan}
+use Rattle.protocol_model.specs.Plan.{is_empty, frame_behind, behind, up_to, framing, tooling, stepping, measuring, clearing, starting}
+use Rattle.protocol_model.specs.Plan.{plan}
 use Rattle.resume_plan.specs.Sendable.{IsSendable}
 
 -- turning signs stays in the volume
@@ -50,8 +50,11 @@ are_up_to zero ss h = tt
 are_up_to (suc k) [] h = tt
 are_up_to (suc k) (step.Goto p ∷ ss) h = (h.0, are_up_to (suc k) ss h.1)
 are_up_to (suc k) (step.Begin l ∷ ss) h = (h.0, are_up_to (suc k) ss h.1)
-are_up_to (suc k) (step.Touch t ∷ ss) h = (h.0, either IsStep (is_empty (block_touches ss)) (up_to k ss) (up_to (suc k) ss)
-    (are_up_to k ss h.1) (are_up_to (suc k) ss h.1))
+are_up_to (suc k) (step.Touch t ∷ ss) h = (
+  h.0,
+  either IsStep (is_empty (block_touches ss)) (up_to k ss) (up_to (suc k) ss)
+      (are_up_to k ss h.1) (are_up_to (suc k) ss h.1),
+)
 are_up_to (suc k) (step.Tool n ∷ ss) h = (h.0, are_up_to (suc k) ss h.1)
 are_up_to (suc k) (step.Recall p ∷ ss) h = (h.0, are_up_to (suc k) ss h.1)
 are_up_to (suc k) (step.End ∷ ss) h = (h.0, are_up_to (suc k) ss h.1)
@@ -104,8 +107,10 @@ sendable_measuring tool f ss is h =
     (both IsSendable (stepping f ss) _ (sendable_stepping f ss h) (record { standard = refl; lengths = tt }, tt)))
 
 sendable_clearing : (ps : List Planned) → AllByRecursion IsSendable ps → AllByRecursion IsSendable (clearing ps)
-sendable_clearing ps h = (record { standard = refl; lengths = tt },
-    (record { standard = refl; lengths = tt }, (record { standard = refl; lengths = tt }, h)))
+sendable_clearing ps h = (
+  record { standard = refl; lengths = tt },
+  (record { standard = refl; lengths = tt }, (record { standard = refl; lengths = tt }, h)),
+)
 
 sendable_starting : (start : Start) (ps : List Planned) → AllByRecursion IsSendable ps → AllByRecursion IsSendable (starting start ps)
 sendable_starting NewConnection ps h = (record { standard = refl; lengths = tt }, h)

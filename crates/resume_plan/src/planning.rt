@@ -62,7 +62,7 @@ impl Commands {
     fn push_touch(&mut self, touch: &Touch, last: bool) -> Result<(), AllocError>
         ensures { OnOk result (self.new.planned.items
             ≡ self.old.planned.items ++ planned (Command.PtMeas touch.now.target touch.now.dir)
-                (Does.Touches touch.now last) ∷ []) }
+            (Does.Touches touch.now last) ∷ []) }
     {
         let command = Command::PtMeas(touch.target, touch.dir);
         let touch = touch.copy(self.alloc)?;
@@ -133,7 +133,7 @@ impl Commands {
     fn push_left(&mut self, position: &Position<'_>) -> Result<(), AllocError>
         ensures { OnOk result (self.new.planned.items
             ≡ self.old.planned.items ++ measuring (option_copied position.now.tool)
-                position.now.frame position.now.steps.now) }
+            position.now.frame position.now.steps.now) }
     {
         if let Some(name) = position.tool {
             self.push_tool(name)?;

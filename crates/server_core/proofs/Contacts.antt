@@ -1,6 +1,6 @@
 -- A contact is made by a touch that runs, as it was commanded.
-use Rattle.std.proofs.Common.{◌≡◌, ℕ, ◌+◌, List, [], ◌∷◌, ◌++◌, length, refl, sym, ap, subst, ◌∙◌, arith, Option, Some, None, append-nil,
-  length-append}
+use Rattle.std.proofs.Common.{◌≡◌, ℕ, ◌+◌, List, [], ◌∷◌, ◌++◌, length, refl, sym, ap, subst, ◌∙◌, arith, Option, Some, None, append-nil}
+use Rattle.std.proofs.Common.{length-append}
 use Rattle.std.proofs.lemmas.List.{append_cancel_left}
 use Rattle.fixed_um.specs.Points.{point_difference}
 use Rattle.fixed_um.specs.Shapes.{Direction}
@@ -56,8 +56,14 @@ first_of : (m k : Made) → m ∷ [] ≡ k ∷ [] → m ≡ k
 first_of m k e = ap (first_or m) e
 
 abbrev contact_of : Server → Point → Point → Option Direction → List ℕ → Made
-contact_of s at p d tool = record { connection = s.last; target = p; dir = d; tool = tool; frame = s.frame;
-    point = point_difference at (offset s.frame) }
+contact_of s at p d tool = record {
+  connection = s.last;
+  target = p;
+  dir = d;
+  tool = tool;
+  frame = s.frame;
+  point = point_difference at (offset s.frame);
+}
 
 as_commanded : (e : ServerEnd) (at : Point) (t : Tag) (p : Point) (d : Option Direction) (tool : List ℕ)
     → e.server.running ≡ Some (record { tag = t; command = command.PtMeas p d }) → e.server.tool ≡ Some tool

@@ -1,6 +1,6 @@
 -- Which act each call of a server completes.
-use Rattle.std.proofs.Common.{◌≡◌, ℕ, Bool, true, false, cond, not, ◌&&◌, is_none, is_some, List, [], ◌∷◌, ◌++◌, refl, sym, ◌∙◌, ap, subst,
-  append-nil, Option, Some, None, Result, Ok, Err}
+use Rattle.std.proofs.Common.{◌≡◌, ℕ, Bool, true, false, cond, not, ◌&&◌, is_none, is_some, List, [], ◌∷◌, ◌++◌, refl, sym, ◌∙◌, ap, subst}
+use Rattle.std.proofs.Common.{append-nil, Option, Some, None, Result, Ok, Err}
 use Rattle.std.proofs.lemmas.Bool.{false≢true, and_parts}
 use Rattle.std.specs.List.{AllByRecursion}
 use Rattle.fixed_um.specs.Points.{point_sum}
@@ -14,18 +14,19 @@ use Rattle.protocol_model.specs.declared.lines.Misread.{Misread}
 use Rattle.protocol_model.specs.Replies.{Reply}
 use Rattle.protocol_model.specs.Lines.{Readers, reply_bytes}
 use Rattle.protocol_model.specs.Claims.{Made, contacts}
-use Rattle.protocol_model.specs.Server.{Server, Answer, offset, in_volume, first_failing, checks, refusal, carried_out, carried, taken,
-  turned_to, server_turned, finished, touched, machined, server_machined, may_end}
-use Rattle.protocol_model.specs.Ends.{ServerEnd, with_answer, serving_accepted, serving_fed, serving_turned, serving_machined, serving_left,
-  serving_restarted, serving_taken}
+use Rattle.protocol_model.specs.Server.{Server, Answer, offset, in_volume, first_failing, checks, refusal, carried_out, carried, taken}
+use Rattle.protocol_model.specs.Server.{turned_to, server_turned, finished, touched, machined, server_machined, may_end}
+use Rattle.protocol_model.specs.Ends.{ServerEnd, with_answer, serving_accepted, serving_fed, serving_turned, serving_machined, serving_left}
+use Rattle.protocol_model.specs.Ends.{serving_restarted, serving_taken}
 use Rattle.protocol_model.specs.declared.lines.Line.{Line}
 use Rattle.protocol_model.specs.declared.lines.Waiting.{Waiting}
 use Rattle.protocol_model.specs.declared.machine.Outcome.{Outcome}
 use Rattle.server_core.specs.Serving.{may_turn, ok_of, command_in, refusal_in}
 use Rattle.server_core.specs.Acting.{IsCommanded}
 use Rattle.server_core.specs.Steady.{IsSteady}
-use Rattle.server_core.specs.Calls.{Call, Accept, Feed, ReadOne, Turn, Machine, Leave, Restart, Sent, possible, done_by, behind_call,
-  selects_frame, completes_act, Deed, done_deed, touch_deed, end_deed, frame_deed, turn_deed, deed_of, IsDone, IsContactOf}
+use Rattle.server_core.specs.Calls.{Call, Accept, Feed, ReadOne, Turn, Machine, Leave, Restart, Sent, possible, done_by, behind_call}
+use Rattle.server_core.specs.Calls.{selects_frame, completes_act, Deed, done_deed, touch_deed, end_deed, frame_deed, turn_deed, deed_of}
+use Rattle.server_core.specs.Calls.{IsDone, IsContactOf}
 use Rattle.server_core.proofs.Ledgers.{read_keeps}
 use Rattle.server_core.proofs.Contacts.{not_longer, turned_no_contact, machined_as_commanded}
 use Rattle.server_core.proofs.Steadies.{nothing_runs}
@@ -48,8 +49,11 @@ DoneBy (Some deed) s a = IsAnswered deed s a
 
 with_bytes : (deed : Option Deed) (e : ServerEnd) (a : Answer) → DoneBy deed e.server a → IsDone deed e (with_answer e e.input a)
 with_bytes None e a h = h
-with_bytes (Some deed) e a h = record { ledger = h.ledger; said = ap (λ (said : List Reply). e.out ++ reply_bytes said) h.said;
-    idle = h.idle }
+with_bytes (Some deed) e a h = record {
+  ledger = h.ledger;
+  said = ap (λ (said : List Reply). e.out ++ reply_bytes said) h.said;
+  idle = h.idle;
+}
 
 carried_done : (s : Server) (ws : List Waiting) (t : Tag) (c : Command) → s.running ≡ None
     → DoneBy (frame_deed s t (Some c)) s (carried_out (record s { waiting = ws }) t c)
@@ -163,7 +167,7 @@ record Passes (s : Server) (p : Point) (d : Option Direction) : Type 0 where
 touch_passes : (s : Server) (p : Point) (d : Option Direction) → first_failing (checks s (command.PtMeas p d)) ≡ None → Passes s p d
 touch_passes s p d e =
     let passed : AllByRecursion (λ (test : Bool × ℕ). test.0 ≡ false) (checks s (command.PtMeas p d)) =
-        all_pass (checks s (command.PtMeas p d)) e in
+    all_pass (checks s (command.PtMeas p d)) e in
     record { tool = passed.1.1.1.1.0; target = passed.1.1.1.1.1.0 }
 
 not_false : (b : Bool) → not b ≡ false → b ≡ true
@@ -284,24 +288,24 @@ pub contact_of_call : (readers : Readers) (call : Call) (e : ServerEnd) (made : 
     → contacts (behind_call readers call e).server.ledger ≡ contacts e.server.ledger ++ made ∷ [] → IsContactOf e call made
 contact_of_call readers (Accept n) e made h =
     chosen (λ (f : ServerEnd). contacts f.server.ledger ≡ contacts e.server.ledger ++ made ∷ []
-        → IsContactOf e (Accept n) made) (possible (Accept n) e) (serving_accepted n e) e
+    → IsContactOf e (Accept n) made) (possible (Accept n) e) (serving_accepted n e) e
     (λ b. no_contact e (serving_accepted n e) (Accept n) made refl) (λ b. no_contact e e (Accept n) made refl)
 contact_of_call readers (Feed bytes) e made h =
     chosen (λ (f : ServerEnd). contacts f.server.ledger ≡ contacts e.server.ledger ++ made ∷ []
-        → IsContactOf e (Feed bytes) made) (possible (Feed bytes) e) (serving_fed bytes e) e
+    → IsContactOf e (Feed bytes) made) (possible (Feed bytes) e) (serving_fed bytes e) e
     (λ b. no_contact e (serving_fed bytes e) (Feed bytes) made refl) (λ b. no_contact e e (Feed bytes) made refl)
 contact_of_call readers ReadOne e made h =
     chosen (λ (f : ServerEnd). contacts f.server.ledger ≡ contacts e.server.ledger ++ made ∷ []
-        → IsContactOf e ReadOne made) (possible ReadOne e) (done_by readers ReadOne e) e
+    → IsContactOf e ReadOne made) (possible ReadOne e) (done_by readers ReadOne e) e
     (λ b. no_contact e (done_by readers ReadOne e) ReadOne made (ap contacts (read_keeps readers e)))
-        (λ b. no_contact e e ReadOne made refl)
+    (λ b. no_contact e e ReadOne made refl)
 contact_of_call readers Turn e made h =
     chosen (λ (f : ServerEnd). contacts f.server.ledger ≡ contacts e.server.ledger ++ made ∷ []
-        → IsContactOf e Turn made) (possible Turn e) (serving_turned e) e
+    → IsContactOf e Turn made) (possible Turn e) (serving_turned e) e
     (λ b. no_contact e (serving_turned e) Turn made (turned_no_contact e.server)) (λ b. no_contact e e Turn made refl)
 contact_of_call readers (Machine ended) e made h =
     chosen (λ (f : ServerEnd). contacts f.server.ledger ≡ contacts e.server.ledger ++ made ∷ []
-        → IsContactOf e (Machine ended) made) (possible (Machine ended) e) (serving_machined ended e) e
+    → IsContactOf e (Machine ended) made) (possible (Machine ended) e) (serving_machined ended e) e
     (λ b longer. let commanded : IsCommanded e ended made = machined_as_commanded ended e made longer in
     record { ended = ended; is_end = refl; commanded = commanded; target = target_in_volume e ended made h commanded })
     (λ b. no_contact e e (Machine ended) made refl)
@@ -309,5 +313,5 @@ contact_of_call readers Leave e made h = no_contact e (serving_left e) Leave mad
 contact_of_call readers Restart e made h = no_contact e (serving_restarted e) Restart made refl
 contact_of_call readers (Sent count) e made h =
     chosen (λ (f : ServerEnd). contacts f.server.ledger ≡ contacts e.server.ledger ++ made ∷ []
-        → IsContactOf e (Sent count) made) (possible (Sent count) e) (serving_taken count e) e
+    → IsContactOf e (Sent count) made) (possible (Sent count) e) (serving_taken count e) e
     (λ b. no_contact e (serving_taken count e) (Sent count) made refl) (λ b. no_contact e e (Sent count) made refl)

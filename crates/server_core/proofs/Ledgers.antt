@@ -9,8 +9,8 @@ use Rattle.contact_ledger.specs.declared.acts.Act.{Act}
 use Rattle.contact_ledger.specs.declared.acts.Act.TheVariants as act
 use Rattle.line_framing.specs.Next.{Front, next_of}
 use Rattle.protocol_model.specs.Lines.{Readers, reading_of}
-use Rattle.protocol_model.specs.Server.{Server, Answer, frame_of, refusal, carried_out, carried, taken, turned_to, server_turned, finished,
-  touched, machined}
+use Rattle.protocol_model.specs.Server.{Server, Answer, frame_of, refusal, carried_out, carried, taken, turned_to, server_turned, finished}
+use Rattle.protocol_model.specs.Server.{touched, machined}
 use Rattle.protocol_model.specs.Ends.{ServerEnd, front_served, serving_read, serving_turned, serving_machined}
 use Rattle.protocol_model.specs.declared.lines.Line.{Line}
 use Rattle.protocol_model.specs.declared.lines.Misread.{Misread}

@@ -1,6 +1,6 @@
 -- What holds of a server behind every list of calls from a new one.
-use Rattle.std.proofs.Common.{◌≡◌, ℕ, ◌≤◌, nat_le, Bool, true, false, cond, not, ◌&&◌, ◌||◌, is_some, List, [], ◌∷◌, ◌++◌, length, refl,
-  sym, ◌∙◌, ap, subst, arith, append_assoc, append-nil, ◌⊎◌, inl, inr, Option, Some, None, Result, Ok, Err}
+use Rattle.std.proofs.Common.{◌≡◌, ℕ, ◌≤◌, nat_le, Bool, true, false, cond, not, ◌&&◌, ◌||◌, is_some, List, [], ◌∷◌, ◌++◌, length, refl}
+use Rattle.std.proofs.Common.{sym, ◌∙◌, ap, subst, arith, append_assoc, append-nil, ◌⊎◌, inl, inr, Option, Some, None, Result, Ok, Err}
 use Rattle.std.proofs.lemmas.Bool.{false≢true, and_parts, leb-true}
 use Rattle.fixed_um.specs.declared.lengths.Point.{Point}
 use Rattle.dme_line.specs.Tags.{is_event_tag}
@@ -15,21 +15,21 @@ use Rattle.line_framing.specs.Framing.{fed_behind}
 use Rattle.line_framing.specs.declared.faults.FramingFault.{FramingFault}
 use Rattle.protocol_model.specs.Replies.{Reading}
 use Rattle.protocol_model.specs.Lines.{Readers, AreReaders, reading_of}
-use Rattle.protocol_model.specs.Server.{Server, Answer, in_error, queued, runs_under, waits_under, is_abort, is_clear, stands, fresh,
-  tagged, server_read, refusal, carried_out, carried, taken, turned_to, server_turned, finished, touched, machined, server_machined,
-  may_end}
-use Rattle.protocol_model.specs.Ends.{ServerEnd, new_server_end, front_served, serving_accepted, serving_fed, serving_read, serving_turned,
-  serving_machined, serving_left, serving_restarted, serving_taken}
+use Rattle.protocol_model.specs.Server.{Server, Answer, in_error, queued, runs_under, waits_under, is_abort, is_clear, stands, fresh}
+use Rattle.protocol_model.specs.Server.{tagged, server_read, refusal, carried_out, carried, taken, turned_to, server_turned, finished}
+use Rattle.protocol_model.specs.Server.{touched, machined, server_machined, may_end}
+use Rattle.protocol_model.specs.Ends.{ServerEnd, new_server_end, front_served, serving_accepted, serving_fed, serving_read, serving_turned}
+use Rattle.protocol_model.specs.Ends.{serving_machined, serving_left, serving_restarted, serving_taken}
 use Rattle.protocol_model.specs.declared.lines.Line.{Line}
 use Rattle.protocol_model.specs.declared.lines.Waiting.{Waiting}
 use Rattle.protocol_model.specs.declared.machine.Outcome.{Outcome}
 use Rattle.server_core.specs.Serving.{may_turn}
 use Rattle.server_core.specs.Steady.{IsSteady, IsServing, AreStandard}
-use Rattle.server_core.specs.Calls.{Call, Accept, Feed, ReadOne, Turn, Machine, Leave, Restart, Sent, possible, done_by, behind_call,
-  behind_calls, reached, gives_up, completes_act, deed_of, IsDone, IsContactOf, RunsInError, StaysInError, IsFull, RanBefore,
-  IsEndOfEarlier}
-use Rattle.server_core.proofs.Steadies.{branch, none_some, not_empty, nothing_runs, empty_waits, accepted_steady, fed_steady, read_steady,
-  turned_steady, machined_steady, left_steady, restarted_steady, taken_steady, new_steady}
+use Rattle.server_core.specs.Calls.{Call, Accept, Feed, ReadOne, Turn, Machine, Leave, Restart, Sent, possible, done_by, behind_call}
+use Rattle.server_core.specs.Calls.{behind_calls, reached, gives_up, completes_act, deed_of, IsDone, IsContactOf, RunsInError, StaysInError}
+use Rattle.server_core.specs.Calls.{IsFull, RanBefore, IsEndOfEarlier}
+use Rattle.server_core.proofs.Steadies.{branch, none_some, not_empty, nothing_runs, empty_waits, accepted_steady, fed_steady, read_steady}
+use Rattle.server_core.proofs.Steadies.{turned_steady, machined_steady, left_steady, restarted_steady, taken_steady, new_steady}
 use Rattle.server_core.proofs.Standards.{read_standard, turned_standard, machined_standard}
 use Rattle.server_core.proofs.Deeds.{chosen, call_done, act_due, contact_of_call}
 use Rattle.protocol_model.specs.Claims.{Made, contacts}
@@ -134,7 +134,7 @@ fresh_came : (line : Line) (s : Server) (t : Tag) (reading : Result Command Misr
     → Came line s (fresh s t reading)
 fresh_came line s t (Ok c) few =
     branch (Came line s) (is_abort (Ok c)) _ _ (λ aborts error runs. absurd (none_some None line refl runs))
-        (λ other. stands_came line s t (Ok c) few)
+    (λ other. stands_came line s t (Ok c) few)
 fresh_came line s t (Err why) few =
     branch (Came line s) (is_event_tag t) _ _ (λ event. as_before line s) (λ standard. stands_came line s t (Err why) few)
 
@@ -142,7 +142,7 @@ tagged_came : (line : Line) (s : Server) (t : Tag) (reading : Result Command Mis
     → Came line s (tagged s t reading)
 tagged_came line s t reading few =
     branch (Came line s) (runs_under t s.running || waits_under t s.waiting) _ _ (λ used. as_before line s)
-        (λ free. fresh_came line s t reading few)
+    (λ free. fresh_came line s t reading few)
 
 read_came : (line : Line) (s : Server) (reading : Reading) → length s.waiting ≤ 64 → Came line s (server_read s reading)
 read_came line s (Ok l) few = tagged_came line s l.tag (Ok l.command) few
@@ -240,28 +240,28 @@ by_other call line e h = inl (record { error = h.0; runs = h.1 })
 came_by : (readers : Readers) (call : Call) (line : Line) (e : ServerEnd) → IsSteady e → CameBy call line e (behind_call readers call e)
 came_by readers (Accept n) line e h =
     chosen (CameBy (Accept n) line e) (possible (Accept n) e) (serving_accepted n e) e (λ may. same_by (Accept n) line e)
-        (λ may. same_by (Accept n) line e)
+    (λ may. same_by (Accept n) line e)
 came_by readers (Feed bytes) line e h =
     chosen (CameBy (Feed bytes) line e) (possible (Feed bytes) e) (serving_fed bytes e) e (λ may. same_by (Feed bytes) line e)
-        (λ may. same_by (Feed bytes) line e)
+    (λ may. same_by (Feed bytes) line e)
 came_by readers ReadOne line e h =
     chosen (CameBy ReadOne line e) (possible ReadOne e) (serving_read readers e) e
     (λ may error runs. by_reading line e (front_came readers line e (next_of e.input.rest) h.orderly.few error runs))
-        (λ may. same_by ReadOne line e)
+    (λ may. same_by ReadOne line e)
 came_by readers Turn line e h =
     chosen (CameBy Turn line e) (possible Turn e) (serving_turned e) e
     (λ may error runs. by_other Turn line e
     (turned_came line e.server (nothing_runs e.server.running ((and_parts _ _ may).0)) h.orderly.quiet error runs))
-        (λ may. same_by Turn line e)
+    (λ may. same_by Turn line e)
 came_by readers (Machine ended) line e h =
     chosen (CameBy (Machine ended) line e) (possible (Machine ended) e) (serving_machined ended e) e
     (λ may error runs. by_other (Machine ended) line e (machined_came line e.server ended e.server.running error runs))
-        (λ may. same_by (Machine ended) line e)
+    (λ may. same_by (Machine ended) line e)
 came_by readers Leave line e h = λ error runs. absurd (none_some None line refl runs)
 came_by readers Restart line e h = λ error runs. absurd (none_some None line refl runs)
 came_by readers (Sent count) line e h =
     chosen (CameBy (Sent count) line e) (possible (Sent count) e) (serving_taken count e) e (λ may. same_by (Sent count) line e)
-        (λ may. same_by (Sent count) line e)
+    (λ may. same_by (Sent count) line e)
 
 -- ---- over lists of calls
 
@@ -278,7 +278,7 @@ stays_more readers line call (c ∷ calls) e h last = (h.0, stays_more readers l
 abbrev RanAll : Readers → List (List ℕ) → List Call → Type 0
 RanAll readers tools calls =
     (line : Line) → (reached readers tools calls).server.error ≡ true → (reached readers tools calls).server.running ≡ Some line
-        → RanBefore readers tools calls line
+    → RanBefore readers tools calls line
 
 -- one call more
 goes_on : (readers : Readers) (tools : List (List ℕ)) (calls : List Call) (call : Call) (line : Line)
@@ -328,7 +328,7 @@ all_ran : (readers : Readers) (tools : List (List ℕ)) (calls more : List Call)
 all_ran readers tools calls [] h = subst (RanAll readers tools) (sym (append-nil calls)) h
 all_ran readers tools calls (call ∷ more) h =
     subst (RanAll readers tools) (append_assoc calls (call ∷ []) more)
-        (all_ran readers tools (calls ++ call ∷ []) more (more_ran readers tools calls call h))
+    (all_ran readers tools (calls ++ call ∷ []) more (more_ran readers tools calls call h))
 
 new_ran : (readers : Readers) (tools : List (List ℕ)) → RanAll readers tools []
 new_ran readers tools line error runs = absurd (false≢true error)
@@ -356,7 +356,7 @@ act_in_error readers tools calls (Feed bytes) error completes = absurd (false≢
 act_in_error readers tools calls ReadOne error completes = absurd (false≢true completes)
 act_in_error readers tools calls Turn error completes =
     absurd (empty_waits (reached readers tools calls).server.waiting ((and_parts _ _ ((and_parts _ _ completes).0)).1)
-        ((reached_steady readers tools calls).orderly.quiet error))
+    ((reached_steady readers tools calls).orderly.quiet error))
 act_in_error readers tools calls (Machine Outcome.Done) error completes =
     end_of_earlier readers tools calls Outcome.Done (reached readers tools calls).server.running refl error completes
 act_in_error readers tools calls (Machine (Outcome.Touched at)) error completes =

@@ -6,14 +6,14 @@ use Rattle.line_framing.specs.Framing.{Framing}
 use Rattle.line_framing.specs.declared.faults.FramingFault.{FramingFault}
 use Rattle.protocol_model.specs.Lines.{Readers, AreReaders, reading_of, reply_bytes}
 use Rattle.protocol_model.specs.Server.{Server, Answer, server_read, server_turned, server_machined, may_end}
-use Rattle.protocol_model.specs.Ends.{ServerEnd, front_served, serving_accepted, serving_fed, serving_left, serving_restarted,
-  serving_taken, new_server_end}
+use Rattle.protocol_model.specs.Ends.{ServerEnd, front_served, serving_accepted, serving_fed, serving_left, serving_restarted}
+use Rattle.protocol_model.specs.Ends.{serving_taken, new_server_end}
 use Rattle.protocol_model.specs.declared.machine.Outcome.{Outcome}
 use Rattle.protocol_model.proofs.written_lines.ReadersExist.{some_are_readers}
 use Rattle.server_core.specs.Serving.{Controlled, with_answered, may_accept, may_feed, may_turn}
 use Rattle.server_core.specs.Steady.{IsSteady, AreStandard, IsServing}
-use Rattle.server_core.proofs.Steadies.{new_steady, accepted_steady, fed_steady, fault_steady, read_steady, turned_steady, machined_steady,
-  left_steady, restarted_steady, taken_steady}
+use Rattle.server_core.proofs.Steadies.{new_steady, accepted_steady, fed_steady, fault_steady, read_steady, turned_steady, machined_steady}
+use Rattle.server_core.proofs.Steadies.{left_steady, restarted_steady, taken_steady}
 use Rattle.server_core.proofs.Standards.{front_standard, turned_standard, machined_standard}
 
 -- a server with its bytes, of which all holds that holds at any time
@@ -51,7 +51,7 @@ answered_holds (Ok x) b d input out mid more a room is said same silent after be
     (subst (λ (l : List ℕ). Holds a.server input l) (sym (said ∙ ap (λ (l : List ℕ). l ++ reply_bytes a.said) room)) after)
 answered_holds (Err y) b d input out mid more a room is said same silent after before =
     subst (λ (c : Controlled). Holds c.server input more) (sym same)
-        (subst (λ (l : List ℕ). Holds b.server input l) (sym (silent ∙ room)) before)
+    (subst (λ (l : List ℕ). Holds b.server input l) (sym (silent ∙ room)) before)
 
 pub machined_holds : {A B : Type 0} (ended : Outcome) (r : Result A B) (b d : Controlled) (input : Framing) (out mid more : List ℕ)
     → OnOk r (d ≡ with_answered b (server_machined b.server ended))
@@ -60,16 +60,20 @@ pub machined_holds : {A B : Type 0} (ended : Outcome) (r : Result A B) (b d : Co
     → Holds d.server input more
 machined_holds ended r b d input out mid more is said same silent h room may =
     answered_holds r b d input out mid more (server_machined b.server ended) room is said same silent
-    (record { steady = machined_steady ended (record { server = b.server; input = input; out = out }) may h.steady;
-        standard = machined_standard b.server ended h.standard }) h
+    (record {
+      steady = machined_steady ended (record { server = b.server; input = input; out = out }) may h.steady;
+      standard = machined_standard b.server ended h.standard;
+    }) h
 
 pub turned_holds : {A B : Type 0} (r : Result A B) (b d : Controlled) (input : Framing) (out mid more : List ℕ)
     → OnOk r (d ≡ with_answered b (server_turned b.server)) → OnOk r (more ≡ mid ++ reply_bytes (server_turned b.server).said)
     → OnErr r (d ≡ b) → OnErr r (more ≡ mid) → Holds b.server input out → mid ≡ out → may_turn b.server ≡ true → Holds d.server input more
 turned_holds r b d input out mid more is said same silent h room may =
     answered_holds r b d input out mid more (server_turned b.server) room is said same silent
-    (record { steady = turned_steady (record { server = b.server; input = input; out = out }) may h.steady;
-        standard = turned_standard b.server h.standard }) h
+    (record {
+      steady = turned_steady (record { server = b.server; input = input; out = out }) may h.steady;
+      standard = turned_standard b.server h.standard;
+    }) h
 
 -- a line that was read, and taken off the front of the bytes
 pub read_holds : {A B : Type 0} (r : Result A B) (b d : Controlled) (input now left : Framing) (out mid more line rest : List ℕ)
@@ -85,10 +89,10 @@ read_holds (Ok x) b d input now left out mid more line rest is said parts h room
     let e : ServerEnd = record { server = b.server; input = input; out = out } in
     let served : ServerEnd = front_served some.0 e (Ok (Some (line, rest))) in
     let steady : IsSteady served = subst (λ (f : Front). IsSteady (front_served some.0 e f))
-        (sym (ap (λ (f : Framing). next_of f.rest) same) ∙ front) (read_steady some.0 e on h.steady) in
+    (sym (ap (λ (f : Framing). next_of f.rest) same) ∙ front) (read_steady some.0 e on h.steady) in
     let standard : AreStandard served.server.waiting = front_standard some.0 e (Ok (Some (line, rest))) some.1 h.standard in
     subst (λ (c : Controlled). Holds c.server left more) (sym (is some.0 some.1))
     (subst (λ (f : Framing). Holds served.server f more) (sym (parts ∙ ap (λ (f : Framing). record f { rest = rest }) same))
     (subst (λ (l : List ℕ). Holds served.server (record input { rest = rest }) l)
     (sym (said some.0 some.1 ∙ ap (λ (l : List ℕ). l ++ reply_bytes (server_read b.server (reading_of (some.0.command line))).said) room))
-        (record { steady = steady; standard = standard })))
+    (record { steady = steady; standard = standard })))

@@ -1,6 +1,6 @@
 -- What waits has standard tags, where lines are read as the interface says.
-use Rattle.std.proofs.Common.{◌≡◌, ℕ, nat_le, Bool, true, false, not, ◌&&◌, ◌||◌, List, [], ◌∷◌, ◌++◌, length, refl, sym, ◌∙◌, Option, Some,
-  None, Result, Ok, Err}
+use Rattle.std.proofs.Common.{◌≡◌, ℕ, nat_le, Bool, true, false, not, ◌&&◌, ◌||◌, List, [], ◌∷◌, ◌++◌, length, refl, sym, ◌∙◌, Option, Some}
+use Rattle.std.proofs.Common.{None, Result, Ok, Err}
 use Rattle.std.proofs.lemmas.Bool.{false≢true}
 use Rattle.fixed_um.specs.declared.lengths.Point.{Point}
 use Rattle.dme_line.specs.Tags.{is_event_tag}
@@ -16,8 +16,9 @@ use Rattle.dme_line.specs.declared.reading.LineFault.TheVariants as fault
 use Rattle.dme_line.proofs.ReadWritable.{read_is_writable}
 use Rattle.line_framing.specs.Next.{Front, next_of}
 use Rattle.protocol_model.specs.Lines.{Readers, AreReaders, reading_of}
-use Rattle.protocol_model.specs.Server.{Server, Answer, runs_under, waits_under, is_abort, is_clear, stands, fresh, tagged, server_read,
-  refusal, carried_out, carried, taken, turned_to, server_turned, finished, touched, machined, server_machined}
+use Rattle.protocol_model.specs.Server.{Server, Answer, runs_under, waits_under, is_abort, is_clear, stands, fresh, tagged, server_read}
+use Rattle.protocol_model.specs.Server.{refusal, carried_out, carried, taken, turned_to, server_turned, finished, touched, machined}
+use Rattle.protocol_model.specs.Server.{server_machined}
 use Rattle.protocol_model.specs.Ends.{ServerEnd, front_served, serving_read}
 use Rattle.protocol_model.specs.declared.lines.Line.{Line}
 use Rattle.protocol_model.specs.declared.lines.Waiting.{Waiting}

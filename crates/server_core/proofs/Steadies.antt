@@ -1,6 +1,7 @@
 -- What holds of a server at any time is kept by each of its calls.
-use Rattle.std.proofs.Common.{◌≡◌, ℕ, ◌+◌, ◌≤◌, ◌<◌, nat_le, nat_lt, Bool, true, false, cond, not, ◌&&◌, ◌||◌, is_none, List, [], ◌∷◌, ◌++◌,
-  length, drop, append-nil, refl, sym, ◌∙◌, ap, subst, arith, length-append, Option, Some, None, Result, Ok, Err}
+use Rattle.std.proofs.Common.{◌≡◌, ℕ, ◌+◌, ◌≤◌, ◌<◌, nat_le, nat_lt, Bool, true, false, cond, not, ◌&&◌, ◌||◌, is_none, List, [], ◌∷◌, ◌++◌}
+use Rattle.std.proofs.Common.{length, drop, append-nil, refl, sym, ◌∙◌, ap, subst, arith, length-append, Option, Some, None, Result, Ok}
+use Rattle.std.proofs.Common.{Err}
 use Rattle.std.proofs.lemmas.Bool.{false≢true, and_parts, leb-true, le-leb, ltb-true}
 use Rattle.std.proofs.Math.Seq.{drop-nil}
 use Rattle.fixed_um.specs.declared.lengths.Point.{Point}
@@ -19,11 +20,11 @@ use Rattle.line_framing.specs.Framing.{IsSound, no_bytes, fed_behind}
 use Rattle.line_framing.specs.declared.faults.FramingFault.{FramingFault}
 use Rattle.protocol_model.specs.Replies.{Reading}
 use Rattle.protocol_model.specs.Lines.{Readers, reading_of}
-use Rattle.protocol_model.specs.Server.{Server, Answer, runs_under, waits_under, is_abort, is_clear, stands, fresh, tagged, server_read,
-  refusal, first_failing, checks, carried_out, carried, taken, turned_to, server_turned, finished, touched, machined, server_machined,
-  may_end}
-use Rattle.protocol_model.specs.Ends.{ServerEnd, front_served, serving_accepted, serving_fed, serving_read, serving_turned,
-  serving_machined, serving_left, serving_restarted, serving_taken, new_server_end}
+use Rattle.protocol_model.specs.Server.{Server, Answer, runs_under, waits_under, is_abort, is_clear, stands, fresh, tagged, server_read}
+use Rattle.protocol_model.specs.Server.{refusal, first_failing, checks, carried_out, carried, taken, turned_to, server_turned, finished}
+use Rattle.protocol_model.specs.Server.{touched, machined, server_machined, may_end}
+use Rattle.protocol_model.specs.Ends.{ServerEnd, front_served, serving_accepted, serving_fed, serving_read, serving_turned}
+use Rattle.protocol_model.specs.Ends.{serving_machined, serving_left, serving_restarted, serving_taken, new_server_end}
 use Rattle.protocol_model.specs.declared.lines.Line.{Line}
 use Rattle.protocol_model.specs.declared.lines.Waiting.{Waiting}
 use Rattle.protocol_model.specs.declared.machine.Outcome.{Outcome}
@@ -251,7 +252,7 @@ accepted_steady n e may h =
 pub fed_steady : (bytes : List ℕ) (e : ServerEnd) → may_feed e ≡ true → IsSteady e → IsSteady (serving_fed bytes e)
 fed_steady bytes e may h =
     on_steady e (serving_fed bytes e) [] ((and_parts _ _ may).0) h
-        (record { on = refl; last = refl; ledger = sym (append-nil e.server.ledger) }) h.orderly
+    (record { on = refl; last = refl; ledger = sym (append-nil e.server.ledger) }) h.orderly
     (fed_sound e.input.fault e.input.rest bytes h.sound)
 
 -- a framing fault is kept
@@ -266,7 +267,7 @@ front_steady : (readers : Readers) (e : ServerEnd) (front : Front) → next_of e
 front_steady readers e (Ok None) is on h = h
 front_steady readers e (Ok (Some (line, rest))) is on h =
     on_steady e _ [] on h (read_moves e.server (reading_of (readers.command line)))
-        (read_orderly e.server (reading_of (readers.command line)) h.orderly)
+    (read_orderly e.server (reading_of (readers.command line)) h.orderly)
     (record { kept = λ why kept. absurd (no why (sym is ∙ h.sound.kept why kept)) })
   where
     no : (why : FramingFault) → ◌≡◌ {A = Front} (Ok (Some (line, rest))) (Err why) → ⊥
@@ -280,7 +281,7 @@ pub turned_steady : (e : ServerEnd) → may_turn e.server ≡ true → IsSteady 
 turned_steady e may h =
     let moves = turned_moves e.server in
     on_steady e _ moves.0 (turns_on e may h) h moves.1 (turned_orderly e.server (nothing_runs e.server.running ((and_parts _ _ may).0))
-        h.orderly) h.sound
+    h.orderly) h.sound
 
 pub machined_steady : (ended : Outcome) (e : ServerEnd) → may_end e.server.running ended ≡ true → IsSteady e
     → IsSteady (serving_machined ended e)

@@ -1,6 +1,6 @@
 -- Lists of calls of a server from a new one, and the act that a call completes (this profile).
-use Rattle.std.specs.Prelude.{◌≡◌, ℕ, nat_le, Bool, true, false, ◌&&◌, if◌then◌else◌, Option, Some, None, is_none, List, [], ◌∷◌, ◌++◌,
-  length}
+use Rattle.std.specs.Prelude.{◌≡◌, ℕ, nat_le, Bool, true, false, ◌&&◌, if◌then◌else◌, Option, Some, None, is_none, List, [], ◌∷◌, ◌++◌}
+use Rattle.std.specs.Prelude.{length}
 use Rattle.fixed_um.specs.Points.{point_sum, point_difference}
 use Rattle.fixed_um.specs.declared.lengths.Point.{Point}
 use Rattle.dme_line.specs.declared.tags.Tag.{Tag}
@@ -12,8 +12,8 @@ use Rattle.protocol_model.specs.Replies.{Reply}
 use Rattle.protocol_model.specs.Lines.{Readers, reply_bytes}
 use Rattle.protocol_model.specs.Claims.{Made}
 use Rattle.protocol_model.specs.Server.{Server, offset, in_volume, frame_of, may_end, refusal}
-use Rattle.protocol_model.specs.Ends.{ServerEnd, new_server_end, serving_accepted, serving_fed, serving_read, serving_turned,
-  serving_machined, serving_left, serving_restarted, serving_taken}
+use Rattle.protocol_model.specs.Ends.{ServerEnd, new_server_end, serving_accepted, serving_fed, serving_read, serving_turned}
+use Rattle.protocol_model.specs.Ends.{serving_machined, serving_left, serving_restarted, serving_taken}
 use Rattle.protocol_model.specs.declared.lines.Line.{Line}
 use Rattle.protocol_model.specs.declared.lines.Waiting.{Waiting}
 use Rattle.protocol_model.specs.declared.machine.Outcome.{Outcome}

@@ -1,6 +1,6 @@
 -- A setup that grows line by line is what all its lines say.
-use Rattle.std.proofs.Common.{◌≡◌, ◌≢◌, ℕ, ◌+◌, Bool, true, false, ◌||◌, List, [], ◌∷◌, ◌++◌, length, None, Result, Ok, Err, IfOk, OnErr,
-  IsTrue, ◌↔◌, cond, rules, refl, sym, length-append, append-nil}
+use Rattle.std.proofs.Common.{◌≡◌, ◌≢◌, ℕ, ◌+◌, Bool, true, false, ◌||◌, List, [], ◌∷◌, ◌++◌, length, None, Result, Ok, Err, IfOk, OnErr}
+use Rattle.std.proofs.Common.{IsTrue, ◌↔◌, cond, rules, refl, sym, length-append, append-nil}
 use Rattle.std.specs.List.{AllByRecursion}
 use Rattle.std.specs.Str.{bytes_eq}
 use Rattle.std.specs.Str.Lines.{lines}
@@ -12,8 +12,8 @@ use Rattle.fixed_um.specs.declared.lengths.Point.{Point}
 use Rattle.dmis_program.specs.Offsets.{AreDistinct, AreFrames, offset_of}
 use Rattle.dmis_program.proofs.OffsetLemmas.{frames_more}
 use Rattle.tool_rack.specs.Entries.{entry_on}
-use Rattle.tool_rack.specs.Setups.{SetupValue, has_name, is_twice, tool_in, frame_in, shift_in, setup_with, judged, and_then, entries_from,
-  setup_of, IsSetup}
+use Rattle.tool_rack.specs.Setups.{SetupValue, has_name, is_twice, tool_in, frame_in, shift_in, setup_with, judged, and_then, entries_from}
+use Rattle.tool_rack.specs.Setups.{setup_of, IsSetup}
 use Rattle.tool_rack.specs.Carrying.{setup_more, line_more, setup_behind}
 use Rattle.tool_rack.specs.declared.entries.Entry.{Entry}
 use Rattle.tool_rack.specs.declared.entries.Entry.TheVariants as entry
@@ -62,15 +62,27 @@ setup_empty = record { tools_once = tt; frames = record { once = tt; within = tt
 -- ---- the lines above, and one more
 
 pub setup_with_more : (above : List Entry) (e : Entry) → setup_with (above ++ e ∷ []) ≡ setup_more (setup_with above) e
-setup_with_more above entry.Nothing = rw (filter_map-append tool_in above (entry.Nothing ∷ []),
-    filter_map-append frame_in above (entry.Nothing ∷ []), filter_map-append shift_in above (entry.Nothing ∷ [])) (simp append-nil)
-setup_with_more above (entry.Tool name) = rw (filter_map-append tool_in above (entry.Tool name ∷ []),
-    filter_map-append frame_in above (entry.Tool name ∷ []), filter_map-append shift_in above (entry.Tool name ∷ [])) (simp append-nil)
-setup_with_more above (entry.Frame name offset) = rw (filter_map-append tool_in above (entry.Frame name offset ∷ []),
-    filter_map-append frame_in above (entry.Frame name offset ∷ []), filter_map-append shift_in above (entry.Frame name offset ∷ []))
+setup_with_more above entry.Nothing = rw (
+  filter_map-append tool_in above (entry.Nothing ∷ []),
+  filter_map-append frame_in above (entry.Nothing ∷ []),
+  filter_map-append shift_in above (entry.Nothing ∷ []),
+) (simp append-nil)
+setup_with_more above (entry.Tool name) = rw (
+  filter_map-append tool_in above (entry.Tool name ∷ []),
+  filter_map-append frame_in above (entry.Tool name ∷ []),
+  filter_map-append shift_in above (entry.Tool name ∷ []),
+) (simp append-nil)
+setup_with_more above (entry.Frame name offset) = rw (
+  filter_map-append tool_in above (entry.Frame name offset ∷ []),
+  filter_map-append frame_in above (entry.Frame name offset ∷ []),
+  filter_map-append shift_in above (entry.Frame name offset ∷ []),
+)
     (simp append-nil)
-setup_with_more above (entry.Shift shift) = rw (filter_map-append tool_in above (entry.Shift shift ∷ []),
-    filter_map-append frame_in above (entry.Shift shift ∷ []), filter_map-append shift_in above (entry.Shift shift ∷ [])) (simp append-nil)
+setup_with_more above (entry.Shift shift) = rw (
+  filter_map-append tool_in above (entry.Shift shift ∷ []),
+  filter_map-append frame_in above (entry.Shift shift ∷ []),
+  filter_map-append shift_in above (entry.Shift shift ∷ []),
+) (simp append-nil)
 
 -- all entries together
 abbrev all_together : Result (List Entry) SetupFault → Result SetupValue SetupFault

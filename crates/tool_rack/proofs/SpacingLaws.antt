@@ -1,6 +1,6 @@
 -- The fields of a line are what its spaces separate.
-use Rattle.std.proofs.Common.{◌≡◌, ℕ, zero, suc, ◌-◌, ◌<◌, Bool, true, false, not, ◌||◌, eqb, List, [], ◌∷◌, ◌++◌, length, slice_index,
-  refl, ap, ◌∙◌, arith}
+use Rattle.std.proofs.Common.{◌≡◌, ℕ, zero, suc, ◌-◌, ◌<◌, Bool, true, false, not, ◌||◌, eqb, List, [], ◌∷◌, ◌++◌, length, slice_index}
+use Rattle.std.proofs.Common.{refl, ap, ◌∙◌, arith}
 use Rattle.std.specs.List.{slice_split, list_all, repeat}
 use Rattle.std.proofs.lemmas.Bool.{ne_eqb, eqb-true, and_parts}
 use Rattle.tool_rack.specs.Fields.{fields_of, has_outer_space}
@@ -73,8 +73,10 @@ longer : (x : ℕ) (xs : List ℕ) (fields : List (List ℕ)) → is_space x ≡
     × IsSpaced (x ∷ xs) all
 longer x xs [] e h = absurd h
 longer x xs (field ∷ []) e h = ((x ∷ field) ∷ [], (ap (λ (r : List ℕ). x ∷ r) h.0, longer_field x field e h.1))
-longer x xs (field ∷ next ∷ fields) e h = ((x ∷ field) ∷ next ∷ fields,
-    (h.0, h.1, ap (λ (r : List ℕ). x ∷ r) h.2, longer_field x field e h.3, h.4))
+longer x xs (field ∷ next ∷ fields) e h = (
+  (x ∷ field) ∷ next ∷ fields,
+  (h.0, h.1, ap (λ (r : List ℕ). x ∷ r) h.2, longer_field x field e h.3, h.4),
+)
 
 one_byte : (x : ℕ) → is_space x ≡ false → IsField (x ∷ [])
 one_byte x e = record { some = omega arith; free = rw e refl }

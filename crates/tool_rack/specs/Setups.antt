@@ -1,6 +1,6 @@
 -- The setup that a text says: its tools, its stored frames and its shifts (this profile).
-use Rattle.std.specs.Prelude.{◌≡◌, ℕ, ◌+◌, ◌%◌, Bool, false, List, [], ◌∷◌, ◌++◌, length, slice_index_or, pos, Option, Some, None, is_some,
-  Result, Ok, Err, if◌then◌else◌}
+use Rattle.std.specs.Prelude.{◌≡◌, ℕ, ◌+◌, ◌%◌, Bool, false, List, [], ◌∷◌, ◌++◌, length, slice_index_or, pos, Option, Some, None, is_some}
+use Rattle.std.specs.Prelude.{Result, Ok, Err, if◌then◌else◌}
 use Rattle.std.specs.List.{list_any, filter_map, AllByRecursion}
 use Rattle.std.specs.Str.{bytes_eq}
 use Rattle.std.specs.Str.Lines.{lines}
@@ -39,8 +39,11 @@ shift_in _ = None
 
 -- all that lines say, together
 abbrev pub setup_with : List Entry → SetupValue
-setup_with entries = record { tools = filter_map tool_in entries; frames = filter_map frame_in entries;
-    shifts = filter_map shift_in entries }
+setup_with entries = record {
+  tools = filter_map tool_in entries;
+  frames = filter_map frame_in entries;
+  shifts = filter_map shift_in entries;
+}
 
 -- the line names a tool that is in the setup, or a frame that is; a tool and a frame may share a name
 abbrev pub is_twice : SetupValue → Entry → Bool

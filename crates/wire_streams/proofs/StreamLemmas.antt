@@ -1,6 +1,6 @@
 -- Streams of written lines hand out these lines in order.
-use Rattle.std.proofs.Common.{◌≡◌, ℕ, ◌≤◌, List, [], ◌∷◌, ◌++◌, length, map, Option, Some, None, Result, Ok, Err, refl, sym, subst, ap, ◌∙◌,
-  arith}
+use Rattle.std.proofs.Common.{◌≡◌, ℕ, ◌≤◌, List, [], ◌∷◌, ◌++◌, length, map, Option, Some, None, Result, Ok, Err, refl, sym, subst, ap, ◌∙◌}
+use Rattle.std.proofs.Common.{arith}
 use Rattle.line_framing.specs.declared.faults.FramingFault.{FramingFault}
 use Rattle.line_framing.specs.Content.{IsLine, AreLines, line_bytes}
 use Rattle.line_framing.specs.Next.{Front, next_of}
@@ -14,8 +14,8 @@ use Rattle.dme_line.specs.declared.responses.Response.{Response}
 use Rattle.dme_line.proofs.CommandWire.{command-wire}
 use Rattle.dme_line.proofs.CommandBack.{command_reads_back}
 use Rattle.dme_line.proofs.ResponseBack.{response_reads_back, response-wire}
-use Rattle.wire_streams.specs.Streams.{Sent, AreWritable, command_lines, IsFirstCommand, HandsCommand, AreWritableResponses, response_lines,
-  IsFirstResponse, HandsResponse}
+use Rattle.wire_streams.specs.Streams.{Sent, AreWritable, command_lines, IsFirstCommand, HandsCommand, AreWritableResponses, response_lines}
+use Rattle.wire_streams.specs.Streams.{IsFirstResponse, HandsResponse}
 
 -- a text of the wire is a line
 line-from_wire : (text : List ℕ) → IsWireText 200 text → IsLine text
@@ -23,8 +23,10 @@ line-from_wire text h = record { free = h.free; short = omega (arith, h.short) }
 
 commands_are_lines : (sent : List Sent) → AreWritable sent → AreLines (command_lines sent)
 commands_are_lines [] h = tt
-commands_are_lines (s ∷ sent) h = (line-from_wire (written_command s.tag s.command) (command-wire s.tag s.command h.0),
-    commands_are_lines sent h.1)
+commands_are_lines (s ∷ sent) h = (
+  line-from_wire (written_command s.tag s.command) (command-wire s.tag s.command h.0),
+  commands_are_lines sent h.1,
+)
 
 first_command : (sent : List Sent) (more line left : List ℕ) → AreWritable sent → TakesFirst (command_lines sent) line left more
     → IsFirstCommand sent more line left

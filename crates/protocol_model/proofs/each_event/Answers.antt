@@ -1,6 +1,6 @@
 -- Events of the server: what its answers leave true.
-use Rattle.std.proofs.Common.{◌≡◌, ℕ, ◌<◌, ◌≤◌, ◌⊎◌, inl, inr, true, false, cond, List, [], ◌∷◌, ◌++◌, sym, ◌∙◌, ap, subst, arith,
-  append-nil, Option, Some, None, eq-eqb, ne_eqb, eqb}
+use Rattle.std.proofs.Common.{◌≡◌, ℕ, ◌<◌, ◌≤◌, ◌⊎◌, inl, inr, true, false, cond, List, [], ◌∷◌, ◌++◌, sym, ◌∙◌, ap, subst, arith}
+use Rattle.std.proofs.Common.{append-nil, Option, Some, None, eq-eqb, ne_eqb, eqb}
 use Rattle.std.proofs.lemmas.Bool.{false≢true}
 use Rattle.contact_ledger.specs.declared.acts.Act.{Act}
 use Rattle.dmis_program.specs.declared.features.Wanted.{Wanted}
@@ -12,8 +12,8 @@ use Rattle.protocol_model.specs.Claims.{Made, contacts, acts_on}
 use Rattle.protocol_model.specs.Typed.{World, answered}
 use Rattle.protocol_model.proofs.table.Basics.{if_true, if_false}
 use Rattle.protocol_model.proofs.table.Replying.{Reads, reads_more, IsFront, front_trans, front_more}
-use Rattle.protocol_model.proofs.invariant.Served.{AreUpTo, Served, served_more, IsProgress, no_points, progress_other, contacts_more,
-  made_up_to}
+use Rattle.protocol_model.proofs.invariant.Served.{AreUpTo, Served, served_more, IsProgress, no_points, progress_other, contacts_more}
+use Rattle.protocol_model.proofs.invariant.Served.{made_up_to}
 use Rattle.protocol_model.proofs.invariant.Moves.{done_on, acts_more, acts_done, acts_elsewhere, up_to_join, up_to_done, Moves}
 use Rattle.protocol_model.proofs.invariant.Holding.{IsNear, IsTidy, IsLive, IsOff, IsHere, IsAhead, IsGone, IsIdle, Inv, know_of}
 use Rattle.protocol_model.specs.declared.lines.Line.{Line}
@@ -27,7 +27,7 @@ moved_numbers w a acts m le = subst (λ (n : ℕ). n ≤ w.client.last) (sym m.l
 moved_ledger : (s t : Server) (acts : List Act) → Moves s t acts → AreUpTo s.last s.ledger → AreUpTo t.last t.ledger
 moved_ledger s t acts m h =
     let all : AreUpTo s.last (s.ledger ++ done_on s.last acts) = up_to_join s.last s.ledger (done_on s.last acts) h (up_to_done s.last acts)
-        in
+    in
     subst (λ (n : ℕ). AreUpTo n t.ledger) (sym m.last) (subst (λ (l : List (ℕ × Act)). AreUpTo s.last l) (sym m.ledger) all)
 
 still_on : (s t : Server) (acts : List Act) → Moves s t acts → s.on ≡ true → t.on ≡ false → IsIdle t
@@ -67,10 +67,10 @@ pub old_answers : (w : World) (a : Answer) (acts : List Act) → Inv w → IsLiv
 old_answers w a acts inv live on below m =
     let apart : w.server.last ≡ w.client.last → ⊥ = λ (e : w.server.last ≡ w.client.last). omega arith in
     let down_is : cond (eqb w.server.last w.client.last) (w.down ++ a.said) w.down ≡ w.down =
-        if_false {A = List Reply} _ _ _ (ne_eqb w.server.last w.client.last apart) in
+    if_false {A = List Reply} _ _ _ (ne_eqb w.server.last w.client.last apart) in
     let ws : List Wanted = w.client.program.features in
     let none : live.table.tally.points ≡ [] = no_points ws w.client.last w.server.last live.table.tally.features live.table.tally.points
-        (contacts w.server.ledger) live.left live.progress (made_up_to w.server.last w.server.ledger inv.ledger) below in
+    (contacts w.server.ledger) live.left live.progress (made_up_to w.server.last w.server.ledger inv.ledger) below in
     record {
       program = inv.program;
       window = inv.window;
@@ -88,7 +88,7 @@ old_answers w a acts inv live on below m =
         progress = subst (λ (l : List Made). IsProgress ws w.client.last live.table.tally.features live.table.tally.points l live.left)
             (sym (moved_contacts w.server a.server acts m))
             (progress_other ws w.client.last live.table.tally.features live.table.tally.points (contacts w.server.ledger)
-                (contacts (done_on w.server.last acts)) live.left live.progress none);
+            (contacts (done_on w.server.last acts)) live.left live.progress none);
         pending = live.pending;
         pending_is = live.pending_is;
         tidy = subst (λ (d : List Reply). IsTidy live.pending d) (sym down_is) live.tidy;
@@ -104,8 +104,10 @@ old_answers w a acts inv live on below m =
     place : IsHere w live.table live.left ⊎ (IsAhead w live.table live.left ⊎ IsGone w) → IsHere (answered w w.up a) live.table live.left
         ⊎ (IsAhead (answered w w.up a) live.table live.left ⊎ IsGone (answered w w.up a))
     place (inl here) = let same : w.server.last ≡ w.client.last = here.same in absurd (omega arith)
-    place (inr (inl ahead)) = inr (inl (record { below = subst (λ (n : ℕ). n < w.client.last) (sym m.last) ahead.below;
-        near = ahead.near }))
+    place (inr (inl ahead)) = inr (inl (record {
+      below = subst (λ (n : ℕ). n < w.client.last) (sym m.last) ahead.below;
+      near = ahead.near;
+    }))
     place (inr (inr gone)) = let same : w.server.last ≡ w.client.last = gone.same in absurd (omega arith)
 
 -- ---- the server on the client's connection
@@ -141,9 +143,9 @@ here_answers w up a inv live on same is =
     let ws : List Wanted = w.client.program.features in
     let n : ℕ = w.client.last in
     let down_is : cond (eqb w.server.last w.client.last) (w.down ++ a.said) w.down ≡ w.down ++ a.said =
-        if_true {A = List Reply} _ _ _ (eq-eqb w.server.last w.client.last same) in
+    if_true {A = List Reply} _ _ _ (eq-eqb w.server.last w.client.last same) in
     let done : acts_on n (done_on w.server.last is.acts) ≡ is.acts = ap (λ (m : ℕ). acts_on n (done_on m is.acts)) same
-        ∙ acts_done n is.acts in
+    ∙ acts_done n is.acts in
     record {
       program = inv.program;
       window = inv.window;

@@ -1,6 +1,6 @@
 -- The events of the client, but for what it reads, keep all that holds.
-use Rattle.std.proofs.Common.{◌≡◌, ℕ, suc, ◌<◌, ◌≤◌, ◌⊎◌, inl, inr, Bool, true, false, cond, List, [], ◌∷◌, ◌++◌, length, drop, refl, sym,
-  ◌∙◌, ap, subst, arith, append_assoc, append-nil, Option, None, Ok}
+use Rattle.std.proofs.Common.{◌≡◌, ℕ, suc, ◌<◌, ◌≤◌, ◌⊎◌, inl, inr, Bool, true, false, cond, List, [], ◌∷◌, ◌++◌, length, drop, refl, sym}
+use Rattle.std.proofs.Common.{◌∙◌, ap, subst, arith, append_assoc, append-nil, Option, None, Ok}
 use Rattle.std.proofs.lemmas.Bool.{false≢true}
 use Rattle.dme_line.specs.Kinds.{kind_of}
 use Rattle.dme_line.specs.declared.tags.Tag.{Tag}
@@ -22,8 +22,8 @@ use Rattle.protocol_model.proofs.table.Replying.{IsFront, Grows, reads_grows, wi
 use Rattle.protocol_model.proofs.plan.Fitting.{Know, unknown}
 use Rattle.protocol_model.proofs.plan.Marks.{plan_fits, plan_sane, plan_touches, plan_no_abort}
 use Rattle.protocol_model.proofs.invariant.Served.{acts_none, Served, served_front, served_take, progress_served, progress_new, program_has}
-use Rattle.protocol_model.proofs.invariant.Holding.{listed, sent_now, all_received, all_sent, abort_lines, abort_helds, commands_in,
-  AreStandard, IsClearFirst, IsNear, HasState, IsLive, IsOff, IsAtRest, Inv}
+use Rattle.protocol_model.proofs.invariant.Holding.{listed, sent_now, all_received, all_sent, abort_lines, abort_helds, commands_in}
+use Rattle.protocol_model.proofs.invariant.Holding.{AreStandard, IsClearFirst, IsNear, HasState, IsLive, IsOff, IsAtRest, Inv}
 use Rattle.protocol_model.proofs.invariant.LineFacts.{tag_is_false, standard_join, no_clears_join, sent_more, commands_more, steps_more}
 use Rattle.protocol_model.specs.declared.lines.Line.{Line}
 use Rattle.protocol_model.specs.declared.plans.Planned.{Planned}
@@ -43,11 +43,11 @@ served_now w inv = go inv.side
     go (inl off) = off.served
     go (inr live) =
         let grows : Grows w.client.table.tally live.table.tally =
-            reads_grows w.client.program.features w.down w.client.table live.table live.reads in
+        reads_grows w.client.program.features w.down w.client.table live.table live.reads in
         served_front w.client.program.features w.client.table.tally.features grows.features.0 (contacts w.server.ledger)
         (subst (λ (fs : List Feature). Served w.client.program.features fs (contacts w.server.ledger)) (sym grows.features.1)
         (progress_served w.client.program.features w.client.last live.table.tally.features live.table.tally.points
-            (contacts w.server.ledger) live.left live.progress))
+        (contacts w.server.ledger) live.left live.progress))
 
 -- what it has counted is told
 pub told_now : (w : World) → Inv w → IsFront w.client.table.tally.counted (acts_on w.client.last w.server.ledger)
@@ -57,7 +57,7 @@ told_now w inv = go inv.side
     go (inl off) = off.told
     go (inr live) =
         let grows : Grows w.client.table.tally live.table.tally =
-            reads_grows w.client.program.features w.down w.client.table live.table live.reads in
+        reads_grows w.client.program.features w.down w.client.table live.table live.reads in
         (grows.counted.0, grows.counted.1 ∙ live.counted)
 
 -- it is not Faulted
@@ -239,7 +239,7 @@ near_sends table p ps left up running waiting error know n h no_event plain clea
     let busy : List Line = listed running in
     let lines : List Line = busy ++ (h.queued ++ h.coming) in
     let longer : lines ++ line ∷ [] ≡ busy ++ (h.queued ++ (h.coming ++ line ∷ [])) = append_assoc busy (h.queued ++ h.coming) (line ∷ [])
-        ∙ ap (λ (l : List Line). busy ++ l) (append_assoc h.queued h.coming (line ∷ [])) in
+    ∙ ap (λ (l : List Line). busy ++ l) (append_assoc h.queued h.coming (line ∷ [])) in
     record {
       queued = h.queued;
       coming = h.coming ++ line ∷ [];

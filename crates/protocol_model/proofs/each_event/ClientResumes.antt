@@ -1,6 +1,6 @@
 -- An abort, and a plan that goes on behind a failure, keep all that holds.
-use Rattle.std.proofs.Common.{◌≡◌, ℕ, zero, suc, ◌-◌, ◌≤◌, ◌⊎◌, inl, inr, Bool, true, false, List, [], ◌∷◌, ◌++◌, length, drop, refl, sym,
-  ◌∙◌, ap, subst, arith, append_assoc, append-nil, Option, Some, None}
+use Rattle.std.proofs.Common.{◌≡◌, ℕ, zero, suc, ◌-◌, ◌≤◌, ◌⊎◌, inl, inr, Bool, true, false, List, [], ◌∷◌, ◌++◌, length, drop, refl, sym}
+use Rattle.std.proofs.Common.{◌∙◌, ap, subst, arith, append_assoc, append-nil, Option, Some, None}
 use Rattle.std.proofs.lemmas.Bool.{false≢true}
 use Rattle.dme_line.specs.declared.tags.Tag.TheVariants.{Event}
 use Rattle.contact_ledger.specs.declared.features.Feature.{Feature}
@@ -9,8 +9,8 @@ use Rattle.dmis_program.specs.Meaning.{Meaning as Program}
 use Rattle.protocol_model.proofs.plan.Blocks.{IsPlain}
 use Rattle.protocol_model.specs.Plan.{plan}
 use Rattle.protocol_model.specs.Open.{count_open}
-use Rattle.protocol_model.specs.Client.{Client, Table, Tally, next_number, client_aborted, sends_abort, may_abort, may_resume,
-  client_resumed}
+use Rattle.protocol_model.specs.Client.{Client, Table, Tally, next_number, client_aborted, sends_abort, may_abort, may_resume}
+use Rattle.protocol_model.specs.Client.{client_resumed}
 use Rattle.protocol_model.specs.Claims.{contacts}
 use Rattle.protocol_model.specs.Typed.{World, sent}
 use Rattle.protocol_model.proofs.table.Counts.{AreFailed, all_failed}
@@ -19,8 +19,8 @@ use Rattle.protocol_model.proofs.plan.Fitting.{Know, unknown}
 use Rattle.protocol_model.proofs.plan.Marks.{plan_fits, plan_sane, plan_touches, plan_no_abort}
 use Rattle.protocol_model.proofs.invariant.Served.{IsProgress, progress_anew, program_has}
 use Rattle.protocol_model.proofs.table.Drawing.{IsDrawn, drawn, none_drawn, event_apart}
-use Rattle.protocol_model.proofs.invariant.Holding.{listed, abort_line, abort_lines, abort_held, commands_in, IsClearFirst, IsNear,
-  HasEvents, HasState, IsLive, IsOff, IsAtRest, IsHere, IsAhead, IsGone, Inv, know_of}
+use Rattle.protocol_model.proofs.invariant.Holding.{listed, abort_line, abort_lines, abort_held, commands_in, IsClearFirst, IsNear}
+use Rattle.protocol_model.proofs.invariant.Holding.{HasEvents, HasState, IsLive, IsOff, IsAtRest, IsHere, IsAhead, IsGone, Inv, know_of}
 use Rattle.protocol_model.proofs.each_event.ClientEvents.{no_aborts, none_received}
 use Rattle.protocol_model.specs.declared.lines.Line.{Line}
 use Rattle.protocol_model.specs.declared.plans.Planned.{Planned}
@@ -51,8 +51,14 @@ near_aborts table unsent left up running waiting error know k h no_event =
         idle = h.by.idle;
         stopped = h.by.stopped;
         clear_first = h.by.clear_first;
-        clean = λ e. let c = h.by.clean e in record { steps = c.steps; todo = c.todo; commands = c.commands; sane = c.sane;
-            touches = c.touches; fits = c.fits };
+        clean = λ e. let c = h.by.clean e in record {
+          steps = c.steps;
+          todo = c.todo;
+          commands = c.commands;
+          sane = c.sane;
+          touches = c.touches;
+          fits = c.fits;
+        };
       };
     }
 
@@ -99,8 +105,14 @@ aborts_one w inv live k no_event =
         distinct = live.distinct;
         within = live.within;
         state = tt;
-        events = record { tag = Event (suc k); held = x; abort_is = refl; event_is = ap (λ (hs : List Held). hs ++ x ∷ []) no_event;
-            same = refl; sort = refl };
+        events = record {
+          tag = Event (suc k);
+          held = x;
+          abort_is = refl;
+          event_is = ap (λ (hs : List Held). hs ++ x ∷ []) no_event;
+          same = refl;
+          sort = refl;
+        };
         plain = live.plain;
         place = placed (reads_no_event ws w.down c.table live.table live.reads no_event) live.place;
       });
@@ -118,8 +130,10 @@ aborts_one w inv live k no_event =
       near = near_aborts live.table w.client.unsent live.left w.up w.server.running w.server.waiting w.server.error (know_of w.server) k
           here.near none;
     })
-    placed none (inr (inl ahead)) = inr (inl (record { below = ahead.below;
-        near = near_aborts live.table w.client.unsent live.left w.up None [] false unknown k ahead.near none }))
+    placed none (inr (inl ahead)) = inr (inl (record {
+      below = ahead.below;
+      near = near_aborts live.table w.client.unsent live.left w.up None [] false unknown k ahead.near none;
+    }))
     placed none (inr (inr gone)) = inr (inr (record { off = gone.off; same = gone.same }))
 
 none_at_all : (n : ℕ) (hs : List Held) → hs ≡ [] → suc n ≤ length hs → ⊥
@@ -137,7 +151,7 @@ abort_event w inv can = go inv.side
         (none_drawn Event w.client.table.event w.client.event_drawn (9999 - w.client.event_drawn) 9999 event_apart e))
     numbered live (Some zero) e none =
         let number : IsDrawn Event w.client.table.event zero = drawn Event w.client.table.event w.client.event_drawn
-            (9999 - w.client.event_drawn) 9999 zero e in
+        (9999 - w.client.event_drawn) 9999 zero e in
         absurd (not_one number.from)
       where
         not_one : 1 ≤ zero → ⊥
@@ -173,7 +187,7 @@ near_resumes p fs table unsent left up running waiting error know y program h fa
     let steps : List Planned = plan p (length fs) Start.SameConnection in
     let none = none_received (listed running ++ h.queued) h.coming (subst AreFailed h.by.standard_is failed) in
     let lines : listed running ++ (h.queued ++ h.coming) ≡ [] = sym (append_assoc (listed running) h.queued h.coming)
-        ∙ (ap (λ (l : List Line). l ++ h.coming) none.0 ∙ none.1) in
+    ∙ (ap (λ (l : List Line). l ++ h.coming) none.0 ∙ none.1) in
     record {
       queued = h.queued;
       coming = h.coming;
@@ -207,11 +221,11 @@ resumes w inv live halted =
     let y : Tally = begun steps c.table.tally in
     let none_open : count_open c.table.standard ≡ 0 = subst (λ (s : State). HasState s c.table) halted live.state in
     let closes : OnlyCloses ws c.table live.table w.down = only_closes ws w.down c.table live.table live.reads
-        (all_failed c.table.standard none_open) in
+    (all_failed c.table.standard none_open) in
     let events : c.table.event ≡ [] = subst (λ (s : State). HasEvents s c.abort c.table.event) halted live.events in
     let anew : IsProgress ws c.last live.table.tally.features [] (contacts w.server.ledger) (drop (length live.table.tally.features) ws) =
     progress_anew ws c.last c.last live.table.tally.features live.table.tally.points (contacts w.server.ledger) live.left
-        (program_has c.program inv.program) live.progress in
+    (program_has c.program inv.program) live.progress in
     record {
       program = inv.program;
       window = inv.window;

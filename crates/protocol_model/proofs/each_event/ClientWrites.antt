@@ -1,14 +1,14 @@
 -- What the client writes keeps all that holds: commands, aborts, and a plan that goes on.
-use Rattle.std.proofs.Common.{◌≡◌, ℕ, ◌-◌, ◌<◌, ◌≤◌, ◌⊎◌, inl, inr, Bool, true, false, cond, not, ◌||◌, List, [], ◌∷◌, ◌++◌, length, refl,
-  sym, ◌∙◌, ap, subst, arith, Option, Some, None, is_some, Ok, eqb, eqb-true, le_trans}
+use Rattle.std.proofs.Common.{◌≡◌, ℕ, ◌-◌, ◌<◌, ◌≤◌, ◌⊎◌, inl, inr, Bool, true, false, cond, not, ◌||◌, List, [], ◌∷◌, ◌++◌, length, refl}
+use Rattle.std.proofs.Common.{sym, ◌∙◌, ap, subst, arith, Option, Some, None, is_some, Ok, eqb, eqb-true, le_trans}
 use Rattle.std.proofs.lemmas.Bool.{false≢true, and_parts, ltb-true}
 use Rattle.dme_line.specs.Kinds.{kind_of}
 use Rattle.dme_line.specs.declared.tags.Tag.{Tag}
 use Rattle.dme_line.specs.declared.tags.Tag.TheVariants.{Std}
 use Rattle.dmis_program.specs.declared.features.Wanted.{Wanted}
 use Rattle.protocol_model.specs.Open.{count_open, is_held}
-use Rattle.protocol_model.specs.Client.{Client, Table, Tally, client_sent, sends_next, held_now, next_number, due, first_due, may_go,
-  is_running, is_clearing}
+use Rattle.protocol_model.specs.Client.{Client, Table, Tally, client_sent, sends_next, held_now, next_number, due, first_due, may_go}
+use Rattle.protocol_model.specs.Client.{is_running, is_clearing}
 use Rattle.protocol_model.specs.Server.{is_abort}
 use Rattle.protocol_model.specs.Typed.{World, sent}
 use Rattle.protocol_model.proofs.table.Counts.{AreFailed, all_failed, failed_tags}
@@ -16,8 +16,8 @@ use Rattle.protocol_model.proofs.table.Replying.{tabled, with_standard, reads_wi
 use Rattle.protocol_model.proofs.plan.Fitting.{unknown}
 use Rattle.protocol_model.proofs.plan.Marks.{HasNoAbort}
 use Rattle.protocol_model.proofs.table.Drawing.{IsDrawn, drawn, none_drawn, standard_apart, held_length}
-use Rattle.protocol_model.proofs.invariant.Holding.{IsNear, HasEvents, HasState, tags_of, IsLive, IsOff, IsAtRest, IsHere, IsAhead, IsGone,
-  Inv, know_of}
+use Rattle.protocol_model.proofs.invariant.Holding.{IsNear, HasEvents, HasState, tags_of, IsLive, IsOff, IsAtRest, IsHere, IsAhead, IsGone}
+use Rattle.protocol_model.proofs.invariant.Holding.{Inv, know_of}
 use Rattle.protocol_model.proofs.each_event.ClientEvents.{failed_tags_more, count_more, distinct_more, near_sends}
 use Rattle.protocol_model.specs.declared.plans.Planned.{Planned}
 use Rattle.protocol_model.specs.declared.held.Held.{Held}
@@ -107,15 +107,15 @@ sends_one w inv live d n free =
         → is_clearing d.planned.command ≡ true → count_open w.client.table.standard ≡ 0
     clearing may is =
         let zero_now : eqb (count_open w.client.table.standard) 0 ≡ true =
-            ap (λ (b : Bool). not b || eqb (count_open w.client.table.standard) 0) (sym is) ∙ may in
+        ap (λ (b : Bool). not b || eqb (count_open w.client.table.standard) 0) (sym is) ∙ may in
         eqb-true _ 0 zero_now
 
     cleared : w.client.table.tally.failed ≡ false → count_open w.client.table.standard ≡ 0 → AreFailed live.table.standard
         × (live.table.tally.failed ≡ false)
     cleared failed none_open =
         let closes : OnlyCloses w.client.program.features w.client.table live.table w.down =
-            only_closes w.client.program.features w.down w.client.table live.table live.reads (all_failed w.client.table.standard none_open)
-            in
+        only_closes w.client.program.features w.down w.client.table live.table live.reads (all_failed w.client.table.standard none_open)
+        in
         (closes.left, ap (λ (y : Tally). y.failed) closes.same ∙ failed)
 
     placed : w.client.table.tally.failed ≡ false → live.table.event ≡ [] → is_abort (Ok d.planned.command) ≡ false
@@ -128,13 +128,13 @@ sends_one w inv live d n free =
       same = here.same;
       near = near_sends live.table d.planned d.others live.left w.up w.server.running w.server.waiting w.server.error (know_of w.server) n
           (subst (λ (l : List Planned). IsNear live.table l live.left w.up w.server.running w.server.waiting w.server.error
-              (know_of w.server)) d.unsent here.near) none plain (λ e. cleared failed (zero_at e));
+          (know_of w.server)) d.unsent here.near) none plain (λ e. cleared failed (zero_at e));
     })
     placed failed none plain zero_at (inr (inl ahead)) = inr (inl (record {
       below = ahead.below;
       near = near_sends live.table d.planned d.others live.left w.up None [] false unknown n
           (subst (λ (l : List Planned). IsNear live.table l live.left w.up None [] false unknown) d.unsent ahead.near) none plain
-              (λ e. cleared failed (zero_at e));
+          (λ e. cleared failed (zero_at e));
     }))
     placed failed none plain zero_at (inr (inr gone)) = inr (inr (record { off = gone.off; same = gone.same }))
 
@@ -145,7 +145,7 @@ few_tags (Some t) = omega arith
 held_few : (w : World) → Inv w → (live : IsLive w) → length w.client.table.standard ≤ 17
 held_few w inv live =
     let tags : length (failed_tags w.client.table.standard) ≤ 1 =
-        subst (λ (ts : List Tag). length ts ≤ 1) (sym live.pending_is) (few_tags live.pending) in
+    subst (λ (ts : List Tag). length ts ≤ 1) (sym live.pending_is) (few_tags live.pending) in
     let open_now : count_open w.client.table.standard ≤ 16 = le_trans live.within inv.window in
     omega (arith, held_length w.client.table.standard)
 
@@ -169,5 +169,5 @@ sends_event w inv can = go inv.side
     go (inl off) = absurd (subst IsAtRest d.running off.rest)
     go (inr live) =
         subst (λ (ps : List Planned). Inv (sent w (sends_next w.client ps (next_number Std w.client.table.standard w.client.drawn))))
-            (sym d.unsent)
+        (sym d.unsent)
         (numbered live (next_number Std w.client.table.standard w.client.drawn) refl)

@@ -4,9 +4,9 @@ use Rattle.dme_line.specs.declared.tags.Tag.{Tag}
 use Rattle.dme_line.specs.declared.tags.Tag.TheVariants as tag
 use Rattle.protocol_model.specs.Replies.{Mark, Reply, tag_of, mark_of, tag_is}
 use Rattle.protocol_model.specs.Client.{Client, Table, sends_next, sends_abort, next_number, client_hears, client_read, heard_on}
-use Rattle.protocol_model.specs.Typed.{World, Event, Connect, Accept, ClientSends, ServerReads, ServerReadsOld, ServerTurn, Machine,
-  ClientReads, ClientLeaves, ServerLeaves, Abort, Resume, ClientRestart, ServerRestart, can, happens, after, run_of, server_reads,
-  client_reads}
+use Rattle.protocol_model.specs.Typed.{World, Event, Connect, Accept, ClientSends, ServerReads, ServerReadsOld, ServerTurn, Machine}
+use Rattle.protocol_model.specs.Typed.{ClientReads, ClientLeaves, ServerLeaves, Abort, Resume, ClientRestart, ServerRestart, can, happens}
+use Rattle.protocol_model.specs.Typed.{after, run_of, server_reads, client_reads}
 use Rattle.protocol_model.specs.declared.lines.Line.{Line}
 use Rattle.protocol_model.specs.declared.plans.Planned.{Planned}
 use Rattle.protocol_model.specs.declared.states.Cause.{Cause}

@@ -1,6 +1,6 @@
 -- The command at the front of what a server has to do: it fails, or it is done.
-use Rattle.std.proofs.Common.{◌≡◌, ℕ, suc, Bool, true, false, ◌||◌, List, [], ◌∷◌, ◌++◌, refl, sym, ◌∙◌, ap, subst, append_assoc, Option,
-  Some, None}
+use Rattle.std.proofs.Common.{◌≡◌, ℕ, suc, Bool, true, false, ◌||◌, List, [], ◌∷◌, ◌++◌, refl, sym, ◌∙◌, ap, subst, append_assoc, Option}
+use Rattle.std.proofs.Common.{Some, None}
 use Rattle.std.proofs.lemmas.Bool.{false≢true}
 use Rattle.fixed_um.specs.declared.lengths.Point.{Point}
 use Rattle.dme_line.specs.Kinds.{kind_of}
@@ -19,10 +19,11 @@ use Rattle.protocol_model.proofs.invariant.Pairs.{broken, pair_and_pairs}
 use Rattle.protocol_model.proofs.each_event.Answers.{IsAnswered}
 use Rattle.protocol_model.proofs.each_event.ReadEvent.{quiet_answer, tidy_pair_and_pairs}
 use Rattle.protocol_model.proofs.invariant.Touching.{HasPoint, Keeps, measured_keeps, Goes, does_goes}
-use Rattle.protocol_model.proofs.invariant.Holding.{listed, received, all_received, all_sent, all_wait, abort_lines, abort_helds,
-  commands_of, commands_in, AreStandard, AreNoClears, IsClearFirst, IsClean, IsNearBy, IsTidy, know_of}
-use Rattle.protocol_model.proofs.invariant.LineFacts.{standard_before, standard_behind, clear_first_none, no_clears_behind, IsFirstStep,
-  first_step}
+use Rattle.protocol_model.proofs.invariant.Holding.{listed, received, all_received, all_sent, all_wait, abort_lines, abort_helds}
+use Rattle.protocol_model.proofs.invariant.Holding.{commands_of, commands_in, AreStandard, AreNoClears, IsClearFirst, IsClean, IsNearBy}
+use Rattle.protocol_model.proofs.invariant.Holding.{IsTidy, know_of}
+use Rattle.protocol_model.proofs.invariant.LineFacts.{standard_before, standard_behind, clear_first_none, no_clears_behind, IsFirstStep}
+use Rattle.protocol_model.proofs.invariant.LineFacts.{first_step}
 use Rattle.protocol_model.specs.declared.lines.Line.{Line}
 use Rattle.protocol_model.specs.declared.plans.Planned.{Planned}
 use Rattle.protocol_model.specs.declared.plans.Does.{Does}
@@ -30,25 +31,25 @@ use Rattle.protocol_model.specs.declared.held.Held.{Held}
 
 -- the first command that the server has to do, on its client's connection, with those that wait and those that come
 pub record IsAtFront (w : World) (table : Table) (left : List Wanted) (x : Line) (queued coming : List Line) (aborts : List ℕ) : Type 0
-    where
-  pub standard_is : table.standard ≡ received x ∷ (all_received queued ++ all_sent coming)
-  pub event_is : table.event ≡ abort_helds aborts
-  pub up_is : w.up ≡ coming ++ abort_lines aborts
-  pub standard : AreStandard (x ∷ (queued ++ coming))
-  pub no_clears : AreNoClears (queued ++ coming)
-  pub clear : IsClearFirst table.tally.failed (x ∷ (queued ++ coming))
-  pub all_sane : IsSane table.tally.todo
-  pub all_touches : touches_in table.tally.todo ≡ marks_of left
-  pub calm : table.tally.failed ≡ false
-  pub does : Does
-  pub steps : List Planned
-  pub todo : table.tally.todo ≡ record { command = x.command; does = does } ∷ (steps ++ w.client.unsent)
-  pub commands : commands_of steps ≡ commands_in (queued ++ coming)
-  pub sane : IsSane (steps ++ w.client.unsent)
-  pub touches : touch_in does ++ touches_in (steps ++ w.client.unsent) ≡ marks_of left
-  pub one : FitsOne (know_of w.server) x.command does
-  pub rest : Fits (known_by (know_of w.server) x.command) (steps ++ w.client.unsent)
-  pub progress : IsProgress w.client.program.features w.client.last table.tally.features table.tally.points (contacts w.server.ledger) left
+  where
+    pub standard_is : table.standard ≡ received x ∷ (all_received queued ++ all_sent coming)
+    pub event_is : table.event ≡ abort_helds aborts
+    pub up_is : w.up ≡ coming ++ abort_lines aborts
+    pub standard : AreStandard (x ∷ (queued ++ coming))
+    pub no_clears : AreNoClears (queued ++ coming)
+    pub clear : IsClearFirst table.tally.failed (x ∷ (queued ++ coming))
+    pub all_sane : IsSane table.tally.todo
+    pub all_touches : touches_in table.tally.todo ≡ marks_of left
+    pub calm : table.tally.failed ≡ false
+    pub does : Does
+    pub steps : List Planned
+    pub todo : table.tally.todo ≡ record { command = x.command; does = does } ∷ (steps ++ w.client.unsent)
+    pub commands : commands_of steps ≡ commands_in (queued ++ coming)
+    pub sane : IsSane (steps ++ w.client.unsent)
+    pub touches : touch_in does ++ touches_in (steps ++ w.client.unsent) ≡ marks_of left
+    pub one : FitsOne (know_of w.server) x.command does
+    pub rest : Fits (known_by (know_of w.server) x.command) (steps ++ w.client.unsent)
+    pub progress : IsProgress w.client.program.features w.client.last table.tally.features table.tally.points (contacts w.server.ledger) left
 
 -- where nothing is in the error state, what runs or else waits first is such a command
 pub at_front : (w : World) (table : Table) (left : List Wanted) (x : Line) (now queued coming : List Line) (aborts : List ℕ)
@@ -57,17 +58,17 @@ pub at_front : (w : World) (table : Table) (left : List Wanted) (x : Line) (now 
     → listed w.server.running ++ now ≡ x ∷ queued → w.server.error ≡ false → IsAtFront w table left x queued coming aborts
 at_front w table left x now queued coming aborts n progress first quiet =
     let lines : listed w.server.running ++ (now ++ coming) ≡ x ∷ (queued ++ coming) =
-        sym (append_assoc (listed w.server.running) now coming) ∙ ap (λ (l : List Line). l ++ coming) first in
+    sym (append_assoc (listed w.server.running) now coming) ∙ ap (λ (l : List Line). l ++ coming) first in
     let calm : table.tally.failed ≡ false = no_failure table.tally.failed refl in
     let c : IsClean table.tally w.client.unsent left (listed w.server.running ++ (now ++ coming)) w.server.error (know_of w.server) =
-        n.clean calm in
+    n.clean calm in
     let step : IsFirstStep c.steps x.command (commands_in (queued ++ coming)) =
-        first_step c.steps x.command (commands_in (queued ++ coming)) (c.commands ∙ ap commands_in lines) in
+    first_step c.steps x.command (commands_in (queued ++ coming)) (c.commands ∙ ap commands_in lines) in
     let todo : table.tally.todo ≡ record { command = x.command; does = step.does } ∷ (step.rest ++ w.client.unsent) = c.todo
-        ∙ ap (λ (l : List Planned). l ++ w.client.unsent) step.is in
+    ∙ ap (λ (l : List Planned). l ++ w.client.unsent) step.is in
     let sane : IsSane (record { command = x.command; does = step.does } ∷ (step.rest ++ w.client.unsent)) = subst IsSane todo c.sane in
     let fits : Fits (know_of w.server) (record { command = x.command; does = step.does } ∷ (step.rest ++ w.client.unsent)) =
-        subst (Fits (know_of w.server)) todo (c.fits quiet) in
+    subst (Fits (know_of w.server)) todo (c.fits quiet) in
     let clear : IsClearFirst table.tally.failed (x ∷ (queued ++ coming)) = subst (IsClearFirst table.tally.failed) lines n.clear_first in
     record {
       standard_is = n.standard_is ∙ ap (λ (l : List Line). all_received l ++ all_sent coming) first;
@@ -105,7 +106,7 @@ front_fails w table left x queued coming aborts s code f moves no_run no_wait er
     let sorts : AreStandard queued = standard_before queued coming f.standard.2 in
     quiet_answer w table left w.up (answers s said) (all_sent coming) table.event true moves f.progress
     (subst (λ (hs : List Held). Reads ws (tabled hs table.event table.tally) said
-        (tabled (all_sent coming) table.event (broken table.tally))) (sym f.standard_is)
+    (tabled (all_sent coming) table.event (broken table.tally))) (sym f.standard_is)
     (pair_and_pairs ws x queued (all_sent coming) table.event table.tally code (Some (kind_of x.command)) f.standard.0 sorts))
     (tidy_pair_and_pairs x queued code (Some (kind_of x.command)) f.standard.0 sorts)
     (record {
@@ -134,22 +135,27 @@ pub front_done : (w : World) (table : Table) (left : List Wanted) (x : Line) (qu
     → KnowsMore (known_by (know_of w.server) x.command) (know_of s) → HasPoint f.does given
     → Reads w.client.program.features (tabled (received x ∷ (all_received queued ++ all_sent coming)) table.event table.tally) said
     (tabled (all_received queued ++ all_sent coming) table.event
-        (counted_next w.client.program.features (kind_of x.command) given table.tally.todo table.tally))
+    (counted_next w.client.program.features (kind_of x.command) given table.tally.todo table.tally))
     → IsTidy None said
     → IsAnswered w table w.up (answers s said)
 front_done w table left x queued coming aborts s said given f moves same no_run waiting error knows has reads tidy =
     let ws : List Wanted = w.client.program.features in
     let y : Tally = table.tally in
     let rest : List Planned = f.steps ++ w.client.unsent in
-    let mid : Tally = record y { session = y.session || begins_session (kind_of x.command); todo = rest; counted = y.counted
-        ++ act_of f.does given; completed = suc y.completed } in
+    let mid : Tally = record y {
+      session = y.session || begins_session (kind_of x.command);
+      todo = rest;
+      counted = y.counted
+          ++ act_of f.does given;
+      completed = suc y.completed;
+    } in
     let next : Tally = measured ws f.does given mid in
     let is : counted_next ws (kind_of x.command) given y.todo y ≡ next =
-        ap (λ (l : List Planned). counted_next ws (kind_of x.command) given l y) f.todo in
+    ap (λ (l : List Planned). counted_next ws (kind_of x.command) given l y) f.todo in
     let hs : List Held = all_received queued ++ all_sent coming in
     let keeps : Keeps mid next = measured_keeps ws f.does given mid in
     let goes : Goes ws w.client.last mid (contacts w.server.ledger) f.does given (touches_in rest) =
-        does_goes ws w.client.last mid (contacts w.server.ledger) left f.does given (touches_in rest) f.progress has f.touches in
+    does_goes ws w.client.last mid (contacts w.server.ledger) left f.does given (touches_in rest) f.progress has f.touches in
     record {
       acts = act_of f.does given;
       moves = moves;
@@ -157,7 +163,7 @@ front_done w table left x queued coming aborts s said given f moves same no_run 
       left = goes.left;
       reads = subst (λ (z : Tally). Reads ws table said (tabled hs table.event z)) is
           (subst (λ (l : List Held). Reads ws (tabled l table.event y) said
-              (tabled hs table.event (counted_next ws (kind_of x.command) given y.todo y))) (sym f.standard_is) reads);
+          (tabled hs table.event (counted_next ws (kind_of x.command) given y.todo y))) (sym f.standard_is) reads);
       tidy = tidy;
       counted = keeps.counted;
       progress = subst (λ (m : ℕ). IsProgress ws w.client.last next.features next.points (contacts w.server.ledger

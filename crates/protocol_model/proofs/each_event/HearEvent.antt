@@ -1,14 +1,14 @@
 -- The client reads a reply, and all that holds is kept.
-use Rattle.std.proofs.Common.{◌≡◌, ◌≤◌, Bool, true, false, cond, ◌&&◌, List, [], ◌∷◌, refl, sym, ◌∙◌, ap, subst, arith, Option, Some, None,
-  eqb, eqb-true}
+use Rattle.std.proofs.Common.{◌≡◌, ◌≤◌, Bool, true, false, cond, ◌&&◌, List, [], ◌∷◌, refl, sym, ◌∙◌, ap, subst, arith, Option, Some, None}
+use Rattle.std.proofs.Common.{eqb, eqb-true}
 use Rattle.std.proofs.lemmas.Bool.{false≢true}
 use Rattle.fixed_um.specs.declared.lengths.Point.{Point}
 use Rattle.dme_line.specs.Tags.{is_event_tag}
 use Rattle.dme_line.specs.declared.tags.Tag.{Tag}
 use Rattle.dme_line.specs.declared.tags.Tag.TheVariants.{Std, Event}
 use Rattle.protocol_model.specs.Replies.{Mark, tag_is}
-use Rattle.protocol_model.specs.Open.{Effect, Becomes, Closes, Counts, judged, judged_ack, judged_given, heard_in, is_failed, asks_data,
-  count_open}
+use Rattle.protocol_model.specs.Open.{Effect, Becomes, Closes, Counts, judged, judged_ack, judged_given, heard_in, is_failed, asks_data}
+use Rattle.protocol_model.specs.Open.{count_open}
 use Rattle.protocol_model.specs.Client.{Table, ends_abort, first_state, last_state, is_whole, state_behind}
 use Rattle.protocol_model.proofs.table.Walks.{two, staged, heard_cases}
 use Rattle.protocol_model.proofs.table.Counts.{is_error, no_break, done_moves}
@@ -104,7 +104,7 @@ standard_events State.Running abort event t m b sort h = go b.tally.failed
 standard_events State.Failing abort event t m b sort h = failing_events b abort event h
 standard_events State.Aborting abort event t m b sort h =
     subst (λ (ends : Bool). HasEvents (last_state (first_state State.Aborting ends b.tally.failed) (is_whole b) (count_open b.standard))
-        abort event) (sym (ends_no_abort abort h.tag t m h.abort_is h.sort sort)) h
+    abort event) (sym (ends_no_abort abort h.tag t m h.abort_is h.sort sort)) h
 standard_events State.Halted abort event t m b sort h = h
 standard_events State.Done abort event t m b sort h = h
 standard_events State.Faulted abort event t m b sort h = h

@@ -1,6 +1,6 @@
 -- The client reads a reply: all that holds is kept.
-use Rattle.std.proofs.Common.{◌≡◌, ◌≤◌, ◌⊎◌, inl, inr, Bool, true, false, not, List, [], ◌∷◌, refl, sym, ◌∙◌, ap, subst, Option, Some, None,
-  Result, le_trans}
+use Rattle.std.proofs.Common.{◌≡◌, ◌≤◌, ◌⊎◌, inl, inr, Bool, true, false, not, List, [], ◌∷◌, refl, sym, ◌∙◌, ap, subst, Option, Some, None}
+use Rattle.std.proofs.Common.{Result, le_trans}
 use Rattle.std.proofs.lemmas.Bool.{false≢true}
 use Rattle.dme_line.specs.Tags.{is_event_tag}
 use Rattle.dme_line.specs.declared.tags.Tag.{Tag}
@@ -8,16 +8,16 @@ use Rattle.dme_line.specs.declared.tags.Tag.TheVariants.{Std, Event}
 use Rattle.dmis_program.specs.declared.features.Wanted.{Wanted}
 use Rattle.protocol_model.specs.Replies.{Mark, Reply, tag_of, mark_of, tag_is}
 use Rattle.protocol_model.specs.Open.{Effect, heard_in, count_open}
-use Rattle.protocol_model.specs.Client.{Client, Table, heard, heard_on, ends_abort, first_state, last_state, is_whole, state_behind,
-  client_hears, client_read}
+use Rattle.protocol_model.specs.Client.{Client, Table, heard, heard_on, ends_abort, first_state, last_state, is_whole, state_behind}
+use Rattle.protocol_model.specs.Client.{client_hears, client_read}
 use Rattle.protocol_model.specs.Typed.{World, client_reads}
 use Rattle.protocol_model.proofs.table.Basics.{if_true, if_false}
 use Rattle.protocol_model.proofs.table.Walks.{two, staged, AreDistinct}
 use Rattle.protocol_model.proofs.table.Counts.{failed_tags, is_error, none_fails, one_fails, none_left}
 use Rattle.protocol_model.proofs.table.Replying.{fine, step_cases, Reads, step_counts, step_distinct}
 use Rattle.protocol_model.proofs.invariant.Holding.{IsAborting, HasEvents, IsTidy, tags_of, IsLive, IsOff, IsHere, IsAhead, IsGone, Inv}
-use Rattle.protocol_model.proofs.each_event.HearEvent.{has_state, standard_events, failing_events, AbortLeft, there, gone, IsAbortReply,
-  abort_reply}
+use Rattle.protocol_model.proofs.each_event.HearEvent.{has_state, standard_events, failing_events, AbortLeft, there, gone, IsAbortReply}
+use Rattle.protocol_model.proofs.each_event.HearEvent.{abort_reply}
 use Rattle.protocol_model.specs.declared.states.Cause.{Cause}
 use Rattle.protocol_model.specs.declared.held.Held.{Held}
 use Rattle.protocol_model.specs.declared.states.State.{State}
@@ -41,20 +41,26 @@ event_events State.Done abort event hs t m e b h is n = let nowhere : heard_in t
 event_events State.Faulted abort event hs t m e b h is n = absurd h
 event_events State.Aborting abort event hs t m e b h is n =
     let reply : IsAbortReply h.held t m hs = abort_reply h.held t m hs e (ap (λ (l : List Held). heard_in true l t m) (sym h.event_is)
-        ∙ is) n in
+    ∙ is) n in
     go reply.left reply.same
   where
     go : AbortLeft h.held m hs → tag_is h.held.tag t ≡ true → HasEvents (state_behind State.Aborting (ends_abort abort t m) b) abort hs
     go (there s left goes_on) same =
-        let still : IsAborting abort hs = record { tag = h.tag; held = staged h.held s; abort_is = h.abort_is; event_is = left;
-            same = h.same; sort = h.sort } in
+        let still : IsAborting abort hs = record {
+          tag = h.tag;
+          held = staged h.held s;
+          abort_is = h.abort_is;
+          event_is = left;
+          same = h.same;
+          sort = h.sort;
+        } in
         subst (λ (ends : Bool). HasEvents (last_state (first_state State.Aborting ends b.tally.failed) (is_whole b) (count_open b.standard))
-            abort hs) (sym (goes_on abort t)) still
+        abort hs) (sym (goes_on abort t)) still
     go (gone none done) same =
         let ends : ends_abort abort t m ≡ true = ap (λ (o : Option Tag). ends_abort o t m) h.abort_is
-            ∙ (ap (λ (x : Mark). ends_abort (Some h.tag) t x) done ∙ ap (λ (a : Tag). tag_is a t) (sym h.same) ∙ same) in
+        ∙ (ap (λ (x : Mark). ends_abort (Some h.tag) t x) done ∙ ap (λ (a : Tag). tag_is a t) (sym h.same) ∙ same) in
         subst (λ (x : Bool). HasEvents (last_state (first_state State.Aborting x b.tally.failed) (is_whole b) (count_open b.standard)) abort
-            hs) (sym ends) (failing_events b abort hs none)
+        hs) (sym ends) (failing_events b abort hs none)
 
 -- ---- which error is pending
 
@@ -82,16 +88,25 @@ pub record IsPending (hs : List Held) (rs : List Reply) : Type 0 where
 pends : (p : Option Tag) (r : Reply) (rs : List Reply) (front : Bool) (hs gs : List Held) (e : Effect) → IsTidy p (r ∷ rs)
     → failed_tags hs ≡ tags_of p → AreDistinct hs → heard_in front hs (tag_of r) (mark_of r) ≡ two gs e → IsPending gs rs
 pends None (Reply.Ack u) rs front hs gs e h p d is = record { pending = None; is = none_fails front hs u Mark.Ack gs e is refl p; tidy = h }
-pends None (Reply.Given u q) rs front hs gs e h p d is = record { pending = None; is = none_fails front hs u (Mark.Given q) gs e is refl p;
-    tidy = h }
-pends None (Reply.Done u) rs front hs gs e h p d is = record { pending = None; is = none_fails front hs u Mark.Done gs e is refl p;
-    tidy = h }
+pends None (Reply.Given u q) rs front hs gs e h p d is = record {
+  pending = None;
+  is = none_fails front hs u (Mark.Given q) gs e is refl p;
+  tidy = h;
+}
+pends None (Reply.Done u) rs front hs gs e h p d is = record {
+  pending = None;
+  is = none_fails front hs u Mark.Done gs e is refl p;
+  tidy = h;
+}
 pends None (Reply.Error u code name) rs front hs gs e h p d is =
     record { pending = Some u; is = (one_fails front hs u gs e is p).0; tidy = h.1 }
 pends (Some t) (Reply.Ack u) rs front hs gs e h p d is = absurd h
 pends (Some t) (Reply.Given u q) rs front hs gs e h p d is = absurd h
-pends (Some t) (Reply.Done u) rs front hs gs e h p d is = record { pending = None;
-    is = none_left front hs u gs e is d (p ∙ ap (λ (v : Tag). v ∷ []) h.0); tidy = h.2 }
+pends (Some t) (Reply.Done u) rs front hs gs e h p d is = record {
+  pending = None;
+  is = none_left front hs u gs e is d (p ∙ ap (λ (v : Tag). v ∷ []) h.0);
+  tidy = h.2;
+}
 pends (Some t) (Reply.Error u code name) rs front hs gs e h p d is = absurd h
 
 -- ---- the event
@@ -104,9 +119,9 @@ client_is : (c : Client) (t : Tag) (m : Mark) (b : Table) → tag_is t (Event 0)
     → client_read c t m ≡ record c { table = b; state = state_behind c.state (ends_abort c.abort t m) b }
 client_is c t m b other is =
     let on_it : heard_on c.program.features c.table t m ≡ fine b =
-        sym (if_false {A = Result Table Cause} (tag_is t (Event 0)) (fine c.table) (heard_on c.program.features c.table t m) other) ∙ is in
+    sym (if_false {A = Result Table Cause} (tag_is t (Event 0)) (fine c.table) (heard_on c.program.features c.table t m) other) ∙ is in
     if_false {A = Client} (tag_is t (Event 0)) c (client_hears c t m (heard_on c.program.features c.table t m)) other
-        ∙ ap (client_hears c t m) on_it
+    ∙ ap (client_hears c t m) on_it
 
 -- what a reply has to leave of the client's own facts
 pub record IsHeard (c : Client) (b : Table) (t : Tag) (m : Mark) (down : List Reply) : Type 0 where
@@ -117,8 +132,16 @@ pub record IsHeard (c : Client) (b : Table) (t : Tag) (m : Mark) (down : List Re
 
 hears : (w : World) (inv : Inv w) (live : IsLive w) (r : Reply) (down : List Reply) (b : Table) → w.down ≡ r ∷ down
     → Reads w.client.program.features b down live.table → IsHeard w.client b (tag_of r) (mark_of r) down
-    → Inv (record { client = record (w.client) { table = b; state = state_behind w.client.state
-    (ends_abort w.client.abort (tag_of r) (mark_of r)) b }; server = w.server; up = w.up; down = down })
+    → Inv (record {
+      client = record (w.client) {
+        table = b;
+        state = state_behind w.client.state
+            (ends_abort w.client.abort (tag_of r) (mark_of r)) b;
+      };
+      server = w.server;
+      up = w.up;
+      down = down;
+    })
 hears w inv live r down b e reads h = record {
   program = inv.program;
   window = inv.window;
@@ -145,9 +168,15 @@ hears w inv live r down b e reads h = record {
 }
   where
     after_it : World
-    after_it = record { client = record (w.client) { table = b;
-        state = state_behind w.client.state (ends_abort w.client.abort (tag_of r) (mark_of r)) b }; server = w.server; up = w.up;
-        down = down }
+    after_it = record {
+      client = record (w.client) {
+        table = b;
+        state = state_behind w.client.state (ends_abort w.client.abort (tag_of r) (mark_of r)) b;
+      };
+      server = w.server;
+      up = w.up;
+      down = down;
+    }
 
     placed : IsHere w live.table live.left ⊎ (IsAhead w live.table live.left ⊎ IsGone w) → IsHere after_it live.table live.left
         ⊎ (IsAhead after_it live.table live.left ⊎ IsGone after_it)
@@ -203,9 +232,9 @@ is_heard w live r down b tidy other step =
     (λ n hs e tag walk g.
     let sort : is_event_tag t ≡ false = ap is_event_tag tag in
     let walked : heard_in (not c.table.tally.failed) c.table.standard t m ≡ two hs e =
-        subst (λ (u : Tag). heard_in (not c.table.tally.failed) c.table.standard u m ≡ two hs e) (sym tag) walk in
+    subst (λ (u : Tag). heard_in (not c.table.tally.failed) c.table.standard u m ≡ two hs e) (sym tag) walk in
     let pends_now : IsPending hs down = pends live.pending r down (not c.table.tally.failed) c.table.standard hs e tidy live.pending_is
-        live.distinct walked in
+    live.distinct walked in
     record {
       pending = subst (λ (x : Table). IsPending x.standard down) (sym g) pends_now;
       distinct = step_distinct ws c.table t m b step live.distinct;
@@ -217,7 +246,7 @@ is_heard w live r down b tidy other step =
     let sort : is_event_tag t ≡ true = ap is_event_tag tag in
     let calm : IsCalm live.pending r down = calm_event live.pending r down tidy sort in
     let walked : heard_in true c.table.event t m ≡ two hs e = subst (λ (u : Tag). heard_in true c.table.event u m ≡ two hs e) (sym tag) walk
-        in
+    in
     let still : IsPending c.table.standard down = record { pending = live.pending; is = live.pending_is; tidy = calm.rest } in
     record {
       pending = subst (λ (x : Table). IsPending x.standard down) (sym g) still;
@@ -254,21 +283,21 @@ hear_event w inv on = go w.down refl
         → (zero_tag : Bool) → tag_is (tag_of r) (Event 0) ≡ zero_tag → Inv (client_reads w (r ∷ down))
     read_by live r down e b step reads tidy true is =
         let same : w.client.table ≡ b = step_cases ws w.client.table (tag_of r) (mark_of r) b (w.client.table ≡ b) step (λ none same. same)
-            (λ n hs f tag walk g. absurd (false≢true (sym (ap (λ (t : Tag). tag_is t (Event 0)) tag) ∙ is)))
-            (λ n hs f tag other walk g. absurd (false≢true (sym other ∙ is))) in
+        (λ n hs f tag walk g. absurd (false≢true (sym (ap (λ (t : Tag). tag_is t (Event 0)) tag) ∙ is)))
+        (λ n hs f tag other walk g. absurd (false≢true (sym other ∙ is))) in
         let unchanged : client_read w.client (tag_of r) (mark_of r) ≡ w.client = if_true {A = Client} _ _ _ is in
         subst (λ (c : Client). Inv (record { client = c; server = w.server; up = w.up; down = down })) (sym unchanged)
         (passes w inv live r down e (subst (λ (x : Table). Reads ws x down live.table) (sym same) reads)
-            (calm_event live.pending r down tidy (zero_is_event (tag_of r) is)).rest)
+        (calm_event live.pending r down tidy (zero_is_event (tag_of r) is)).rest)
     read_by live r down e b step reads tidy false is =
         subst (λ (c : Client). Inv (record { client = c; server = w.server; up = w.up; down = down }))
-            (sym (client_is w.client (tag_of r) (mark_of r) b is step))
+        (sym (client_is w.client (tag_of r) (mark_of r) b is step))
         (hears w inv live r down b e reads (is_heard w live r down b tidy is step))
 
     lively : (live : IsLive w) (r : Reply) (down : List Reply) → w.down ≡ r ∷ down → Inv (client_reads w (r ∷ down))
     lively live r down e =
         let reads : Reads ws w.client.table (r ∷ down) live.table =
-            subst (λ (d : List Reply). Reads ws w.client.table d live.table) e live.reads in
+        subst (λ (d : List Reply). Reads ws w.client.table d live.table) e live.reads in
         let tidy : IsTidy live.pending (r ∷ down) = subst (λ (d : List Reply). IsTidy live.pending d) e live.tidy in
         read_by live r down e reads.0 reads.1 reads.2 tidy (tag_is (tag_of r) (Event 0)) refl
 

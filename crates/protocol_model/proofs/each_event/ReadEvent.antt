@@ -1,6 +1,6 @@
 -- The server reads a line of its client.
-use Rattle.std.proofs.Common.{◌≡◌, ℕ, ◌≤◌, Bool, true, false, not, ◌&&◌, ◌||◌, List, [], ◌∷◌, ◌++◌, length, refl, sym, ◌∙◌, ap, subst,
-  arith, append_assoc, append-nil, Option, Some, None, Ok, nat_le}
+use Rattle.std.proofs.Common.{◌≡◌, ℕ, ◌≤◌, Bool, true, false, not, ◌&&◌, ◌||◌, List, [], ◌∷◌, ◌++◌, length, refl, sym, ◌∙◌, ap, subst}
+use Rattle.std.proofs.Common.{arith, append_assoc, append-nil, Option, Some, None, Ok, nat_le}
 use Rattle.std.proofs.lemmas.Bool.{false≢true, lt-leb}
 use Rattle.fixed_um.specs.declared.lengths.Point.{Point}
 use Rattle.dme_line.specs.Kinds.{kind_of}
@@ -12,8 +12,8 @@ use Rattle.dmis_program.specs.declared.features.Wanted.{Wanted}
 use Rattle.protocol_model.specs.Replies.{Reply}
 use Rattle.protocol_model.specs.Open.{count_open, is_held}
 use Rattle.protocol_model.specs.Client.{Table, Tally, is_clearing}
-use Rattle.protocol_model.specs.Server.{Server, Answer, answers, fails, all_fail, queued, runs_under, waits_under, is_abort, is_clear,
-  running_fails, aborted, stands, server_read}
+use Rattle.protocol_model.specs.Server.{Server, Answer, answers, fails, all_fail, queued, runs_under, waits_under, is_abort, is_clear}
+use Rattle.protocol_model.specs.Server.{running_fails, aborted, stands, server_read}
 use Rattle.protocol_model.specs.Claims.{Made, contacts}
 use Rattle.protocol_model.specs.Typed.{World}
 use Rattle.protocol_model.proofs.table.Basics.{if_true, if_false}
@@ -24,10 +24,12 @@ use Rattle.protocol_model.proofs.invariant.Served.{IsProgress}
 use Rattle.protocol_model.proofs.invariant.Moves.{done_on, Moves}
 use Rattle.protocol_model.proofs.invariant.Pairs.{broken, breaks, pair, ack, abort_reads}
 use Rattle.protocol_model.proofs.each_event.Answers.{IsAnswered, tidy_more}
-use Rattle.protocol_model.proofs.invariant.Holding.{listed, received, sent_now, all_received, all_sent, waits, all_wait, abort_tag,
-  abort_line, abort_lines, abort_held, abort_helds, commands_in, AreStandard, IsClearFirst, IsClean, IsNearBy, IsNear, IsTidy, know_of}
-use Rattle.protocol_model.proofs.invariant.LineFacts.{apart_from, not_in_use, event_not_in_use, standard_behind, clear_first_none,
-  wait_more, one_behind, received_behind, few_wait, wait_long, clear_same, no_steps, IsFirstStep, first_step}
+use Rattle.protocol_model.proofs.invariant.Holding.{listed, received, sent_now, all_received, all_sent, waits, all_wait, abort_tag}
+use Rattle.protocol_model.proofs.invariant.Holding.{abort_line, abort_lines, abort_held, abort_helds, commands_in, AreStandard}
+use Rattle.protocol_model.proofs.invariant.Holding.{IsClearFirst, IsClean, IsNearBy, IsNear, IsTidy, know_of}
+use Rattle.protocol_model.proofs.invariant.LineFacts.{apart_from, not_in_use, event_not_in_use, standard_behind, clear_first_none}
+use Rattle.protocol_model.proofs.invariant.LineFacts.{wait_more, one_behind, received_behind, few_wait, wait_long, clear_same, no_steps}
+use Rattle.protocol_model.proofs.invariant.LineFacts.{IsFirstStep, first_step}
 use Rattle.protocol_model.specs.declared.lines.Line.{Line}
 use Rattle.protocol_model.specs.declared.plans.Planned.{Planned}
 use Rattle.protocol_model.specs.declared.held.Held.{Held}
@@ -69,17 +71,17 @@ stands_is : (s : Server) (x : Line) (waiting : List Line) → s.waiting ≡ all_
     → server_read s (Ok x) ≡ stands s x.tag (Ok x.command)
 stands_is s x waiting e free plain =
     let unused : (runs_under x.tag s.running || waits_under x.tag s.waiting) ≡ false =
-        ap (λ (l : List Waiting). runs_under x.tag s.running || waits_under x.tag l) e ∙ not_in_use x.tag s.running waiting free in
+    ap (λ (l : List Waiting). runs_under x.tag s.running || waits_under x.tag l) e ∙ not_in_use x.tag s.running waiting free in
     if_false {A = Answer} _ _ _ unused ∙ if_false {A = Answer} _ _ _ plain
 
 -- what the facts say of a line that is the next to be read
 pub record IsReading (w : World) (table : Table) (left : List Wanted) (x : Line) (queued coming : List Line) (aborts : List ℕ) : Type 0
-    where
-  pub near : IsNearBy table w.client.unsent left w.up w.server.running w.server.waiting w.server.error (know_of w.server) queued
-      (x ∷ coming) aborts
-  pub progress : IsProgress w.client.program.features w.client.last table.tally.features table.tally.points (contacts w.server.ledger) left
-  pub distinct : AreDistinct table.standard
-  pub few : count_open table.standard ≤ 16
+  where
+    pub near : IsNearBy table w.client.unsent left w.up w.server.running w.server.waiting w.server.error (know_of w.server) queued
+        (x ∷ coming) aborts
+    pub progress : IsProgress w.client.program.features w.client.last table.tally.features table.tally.points (contacts w.server.ledger) left
+    pub distinct : AreDistinct table.standard
+    pub few : count_open table.standard ≤ 16
 
 -- received, and refused in the error state
 refused : (w : World) (table : Table) (left : List Wanted) (x : Line) (queued coming : List Line) (aborts : List ℕ)
@@ -92,20 +94,22 @@ refused w table left x queued coming aborts r error other =
     let no_wait : queued ≡ [] = idle.1 in
     let alone : listed w.server.running ++ queued ≡ [] = ap (λ (o : Option Line). listed o ++ queued) no_run ∙ no_wait in
     let lines : listed w.server.running ++ (queued ++ x ∷ coming) ≡ x ∷ coming =
-        ap (λ (o : Option Line). listed o ++ (queued ++ x ∷ coming)) no_run ∙ ap (λ (l : List Line). l ++ x ∷ coming) no_wait in
+    ap (λ (o : Option Line). listed o ++ (queued ++ x ∷ coming)) no_run ∙ ap (λ (l : List Line). l ++ x ∷ coming) no_wait in
     let standard : AreStandard (x ∷ coming) = subst AreStandard lines n.standard in
     let clear_first : IsClearFirst table.tally.failed (x ∷ coming) = subst (IsClearFirst table.tally.failed) lines n.clear_first in
     let same : table.standard ≡ sent_now x ∷ all_sent coming = n.standard_is
-        ∙ ap (λ (l : List Line). all_received l ++ sent_now x ∷ all_sent coming) alone in
+    ∙ ap (λ (l : List Line). all_received l ++ sent_now x ∷ all_sent coming) alone in
     let ws : List Wanted = w.client.program.features in
     quiet_answer w table left (coming ++ abort_lines aborts) (answers w.server
-        (Reply.Ack x.tag ∷ fails x.tag 9008 (Some (kind_of x.command)))) (all_sent coming) table.event true
+    (Reply.Ack x.tag ∷ fails x.tag 9008 (Some (kind_of x.command)))) (all_sent coming) table.event true
     (record { on = refl; last = refl; ledger = sym (append-nil w.server.ledger) })
     r.progress
     (subst (λ (st : List Held). Reads ws (tabled st table.event table.tally) (Reply.Ack x.tag ∷ fails x.tag 9008 (Some (kind_of x.command)))
-        (tabled (all_sent coming) table.event (broken table.tally))) (sym same)
-    (tabled (received x ∷ all_sent coming) table.event table.tally, ack ws [] x (all_sent coming) table.event table.tally standard.0 refl,
-        pair ws x (all_sent coming) table.event table.tally 9008 (Some (kind_of x.command)) standard.0))
+    (tabled (all_sent coming) table.event (broken table.tally))) (sym same) (
+      tabled (received x ∷ all_sent coming) table.event table.tally,
+      ack ws [] x (all_sent coming) table.event table.tally standard.0 refl,
+      pair ws x (all_sent coming) table.event table.tally 9008 (Some (kind_of x.command)) standard.0,
+    ))
     (standard.0, (refl, standard.0, tt))
     (record {
       queued = [];
@@ -139,16 +143,16 @@ joins w table left x waiting coming aborts s r on last ledger running waits_same
     let busy : List Line = listed w.server.running in
     let now : List Line = waiting ++ x ∷ [] in
     let standard : AreStandard (x ∷ coming) = standard_behind waiting (x ∷ coming) (standard_behind busy (waiting ++ x ∷ coming) n.standard)
-        in
+    in
     let ws : List Wanted = w.client.program.features in
     let lines : busy ++ (waiting ++ x ∷ coming) ≡ listed s.running ++ (now ++ coming) = one_behind busy waiting x coming
-        ∙ ap (λ (o : Option Line). listed o ++ (now ++ coming)) (sym running) in
+    ∙ ap (λ (o : Option Line). listed o ++ (now ++ coming)) (sym running) in
     quiet_answer w table left (coming ++ abort_lines aborts) (answers (queued x.tag (Ok x.command) s) (Reply.Ack x.tag ∷ []))
-        (all_received (busy ++ now) ++ all_sent coming) table.event table.tally.failed
+    (all_received (busy ++ now) ++ all_sent coming) table.event table.tally.failed
     (record { on = on; last = last; ledger = ledger ∙ sym (append-nil w.server.ledger) })
     r.progress
     (subst (λ (st : List Held). Reads ws (tabled st table.event table.tally) (Reply.Ack x.tag ∷ [])
-        (tabled (all_received (busy ++ now) ++ all_sent coming) table.event table.tally)) (sym n.standard_is) (
+    (tabled (all_received (busy ++ now) ++ all_sent coming) table.event table.tally)) (sym n.standard_is) (
       tabled (all_received (busy ++ waiting) ++ received x ∷ all_sent coming) table.event table.tally,
       ack ws (busy ++ waiting) x (all_sent coming) table.event table.tally standard.0 free,
       ap (λ (st : List Held). tabled st table.event table.tally) (received_behind busy waiting x coming),
@@ -185,7 +189,7 @@ pub reads_standard : (w : World) (table : Table) (left : List Wanted) (x : Line)
     → IsReading w table left x waiting coming aborts → IsAnswered w table (coming ++ abort_lines aborts) (server_read w.server (Ok x))
 reads_standard w table left x waiting coming aborts r =
     subst (λ (a : Answer). IsAnswered w table (coming ++ abort_lines aborts) a) (sym (stands_is s x waiting n.waiting_is free plain))
-        (go s.error refl (is_clear (Ok x.command)) refl)
+    (go s.error refl (is_clear (Ok x.command)) refl)
   where
     s : Server
     s = w.server
@@ -212,9 +216,12 @@ reads_standard w table left x waiting coming aborts r =
 
     room : nat_le 64 (length w.server.waiting) ≡ false
     room = ap (λ (l : List Waiting). nat_le 64 (length l)) n.waiting_is
-        ∙ lt-leb 64 (length (all_wait waiting)) (omega (arith, wait_long waiting,
-        few_wait (listed w.server.running) waiting (sent_now x ∷ all_sent coming),
-        subst (λ (hs : List Held). count_open hs ≤ 16) n.standard_is r.few))
+        ∙ lt-leb 64 (length (all_wait waiting)) (omega (
+          arith,
+          wait_long waiting,
+          few_wait (listed w.server.running) waiting (sent_now x ∷ all_sent coming),
+          subst (λ (hs : List Held). count_open hs ≤ 16) n.standard_is r.few,
+        ))
 
     test : (e b : Bool) → w.server.error ≡ e → is_clear (Ok x.command) ≡ b
         → (w.server.error && not (is_clear (Ok x.command))) ≡ (e && not b)
@@ -234,28 +241,28 @@ reads_standard w table left x waiting coming aborts r =
     fits : w.server.error ≡ true → is_clear (Ok x.command) ≡ true → table.tally.failed ≡ false → Fits (know_of w.server) table.tally.todo
     fits e b f =
         let c : IsClean table.tally w.client.unsent left (listed w.server.running ++ (waiting ++ x ∷ coming)) w.server.error
-            (know_of w.server) = n.clean f in
+        (know_of w.server) = n.clean f in
         let first : IsFirstStep c.steps x.command (commands_in coming) =
-            first_step c.steps x.command (commands_in coming) (c.commands ∙ ap commands_in (no_wait e)) in
+        first_step c.steps x.command (commands_in coming) (c.commands ∙ ap commands_in (no_wait e)) in
         let todo : table.tally.todo ≡ record { command = x.command; does = first.does } ∷ (first.rest ++ w.client.unsent) = c.todo
-            ∙ ap (λ (l : List Planned). l ++ w.client.unsent) first.is in
+        ∙ ap (λ (l : List Planned). l ++ w.client.unsent) first.is in
         let sane : IsSane (record { command = x.command; does = first.does } ∷ (first.rest ++ w.client.unsent)) = subst IsSane todo c.sane
-            in
+        in
         subst (Fits (know_of w.server)) (sym todo) (sane.0 (clearing b) (know_of w.server))
 
     go : (e : Bool) → w.server.error ≡ e → (b : Bool) → is_clear (Ok x.command) ≡ b
         → IsAnswered w table out (stands w.server t (Ok x.command))
     go true e false b =
         subst (λ (a : Answer). IsAnswered w table out a) (sym (if_true {A = Answer} _ _ _ (test true false e b)))
-            (refused w table left x waiting coming aborts r e b)
+        (refused w table left x waiting coming aborts r e b)
     go true e true b =
         subst (λ (a : Answer). IsAnswered w table out a) (sym (if_false {A = Answer} _ _ _ (test true true e b)
-            ∙ if_true {A = Answer} _ _ _ e))
+        ∙ if_true {A = Answer} _ _ _ e))
         (joins w table left x waiting coming aborts (record (w.server) { error = false }) r refl refl refl refl refl refl refl
         (λ f. absurd (false≢true (sym (calm e b) ∙ f))) (fits e b) free)
     go false e b g =
         subst (λ (a : Answer). IsAnswered w table out a) (sym (if_false {A = Answer} _ _ _ (test false b e g)
-            ∙ (if_false {A = Answer} _ _ _ e ∙ if_false {A = Answer} _ _ _ room)))
+        ∙ (if_false {A = Answer} _ _ _ e ∙ if_false {A = Answer} _ _ _ room)))
         (joins w table left x waiting coming aborts w.server r refl refl refl refl refl refl e
         (λ f. absurd (false≢true (sym e ∙ n.stopped f))) (λ f. (n.clean f).fits e) free)
 
@@ -295,7 +302,7 @@ still_clean : (w : World) (table : Table) (left : List Wanted) (queued : List Li
     true know
 still_clean w table left queued know c none =
     let lines : listed w.server.running ++ (queued ++ []) ≡ [] = sym (append_assoc (listed w.server.running) queued [])
-        ∙ (append-nil (listed w.server.running ++ queued) ∙ none) in
+    ∙ (append-nil (listed w.server.running ++ queued) ∙ none) in
     let steps : c.steps ≡ [] = no_steps c.steps (c.commands ∙ ap commands_in lines) in
     record {
       steps = [];
@@ -316,19 +323,19 @@ reads_abort w table left k queued aborts n progress =
     let standard : AreStandard busy = subst AreStandard (sym (append_assoc (listed s.running) queued []) ∙ append-nil busy) n.standard in
     let unused : (runs_under (abort_tag k) s.running || waits_under (abort_tag k) s.waiting) ≡ false =
     ap (λ (l : List Waiting). runs_under (abort_tag k) s.running || waits_under (abort_tag k) l) n.waiting_is
-        ∙ event_not_in_use (abort_tag k) s.running queued standard refl in
+    ∙ event_not_in_use (abort_tag k) s.running queued standard refl in
     let is : server_read s (Ok (abort_line k)) ≡ aborted s (abort_tag k) = if_false {A = Answer} _ _ _ unused in
     let flag : Bool = flag_of busy table.tally.failed in
     let ws : List Wanted = w.client.program.features in
     let said : List Reply = Reply.Ack (abort_tag k) ∷ (running_fails s.running
-        ++ (all_fail 9007 s.waiting ++ Reply.Done (abort_tag k) ∷ [])) in
+    ++ (all_fail 9007 s.waiting ++ Reply.Done (abort_tag k) ∷ [])) in
     let said_is : said ≡ Reply.Ack (abort_tag k) ∷ (running_fails s.running
-        ++ (all_fail 9007 (all_wait queued) ++ Reply.Done (abort_tag k) ∷ [])) =
+    ++ (all_fail 9007 (all_wait queued) ++ Reply.Done (abort_tag k) ∷ [])) =
     ap (λ (l : List Waiting). Reply.Ack (abort_tag k) ∷ (running_fails s.running ++ (all_fail 9007 l ++ Reply.Done (abort_tag k) ∷ [])))
-        n.waiting_is in
+    n.waiting_is in
     let reads : Reads ws (tabled (all_received busy ++ []) (abort_held k ∷ abort_helds aborts) table.tally)
-        (Reply.Ack (abort_tag k) ∷ (running_fails s.running ++ (all_fail 9007 (all_wait queued) ++ Reply.Done (abort_tag k) ∷ [])))
-        (tabled [] (abort_helds aborts) (breaks busy table.tally)) =
+    (Reply.Ack (abort_tag k) ∷ (running_fails s.running ++ (all_fail 9007 (all_wait queued) ++ Reply.Done (abort_tag k) ∷ [])))
+    (tabled [] (abort_helds aborts) (breaks busy table.tally)) =
     abort_reads ws k s.running queued (abort_helds aborts) table.tally standard in
     subst (λ (a : Answer). IsAnswered w table (abort_lines aborts) a) (sym is)
     (quiet_answer w table left (abort_lines aborts) (aborted s (abort_tag k)) [] (abort_helds aborts) flag
@@ -336,14 +343,14 @@ reads_abort w table left k queued aborts n progress =
     progress
     (subst (λ (rs : List Reply). Reads ws table rs (tabled [] (abort_helds aborts) (record (table.tally) { failed = flag }))) (sym said_is)
     (subst (λ (y : Tally). Reads ws table (Reply.Ack (abort_tag k)
-        ∷ (running_fails s.running ++ (all_fail 9007 (all_wait queued) ++ Reply.Done (abort_tag k) ∷ [])))
-        (tabled [] (abort_helds aborts) y)) (breaks_flag busy table.tally)
+    ∷ (running_fails s.running ++ (all_fail 9007 (all_wait queued) ++ Reply.Done (abort_tag k) ∷ [])))
+    (tabled [] (abort_helds aborts) y)) (breaks_flag busy table.tally)
     (subst (λ (hs : List Held). Reads ws (tabled hs table.event table.tally)
-        (Reply.Ack (abort_tag k) ∷ (running_fails s.running ++ (all_fail 9007 (all_wait queued) ++ Reply.Done (abort_tag k) ∷ [])))
-        (tabled [] (abort_helds aborts) (breaks busy table.tally))) (sym n.standard_is)
+    (Reply.Ack (abort_tag k) ∷ (running_fails s.running ++ (all_fail 9007 (all_wait queued) ++ Reply.Done (abort_tag k) ∷ [])))
+    (tabled [] (abort_helds aborts) (breaks busy table.tally))) (sym n.standard_is)
     (subst (λ (hs : List Held). Reads ws (tabled (all_received busy ++ []) hs table.tally)
-        (Reply.Ack (abort_tag k) ∷ (running_fails s.running ++ (all_fail 9007 (all_wait queued) ++ Reply.Done (abort_tag k) ∷ [])))
-        (tabled [] (abort_helds aborts) (breaks busy table.tally))) (sym n.event_is) reads))))
+    (Reply.Ack (abort_tag k) ∷ (running_fails s.running ++ (all_fail 9007 (all_wait queued) ++ Reply.Done (abort_tag k) ∷ [])))
+    (tabled [] (abort_helds aborts) (breaks busy table.tally))) (sym n.event_is) reads))))
     (subst (λ (rs : List Reply). IsTidy None rs) (sym said_is) (tidy_running s.running queued (abort_tag k) standard))
     (record {
       queued = [];

@@ -1,6 +1,6 @@
 -- The events of the server keep all that holds.
-use Rattle.std.proofs.Common.{◌≡◌, ℕ, ◌<◌, ◌≤◌, ◌⊎◌, inl, inr, Bool, true, false, not, ◌&&◌, List, [], ◌∷◌, ◌++◌, refl, sym, ◌∙◌, ap, subst,
-  arith, Option, Some, None, Ok, eqb, eqb-true, nat_lt, nat_le, is_none, le_trans}
+use Rattle.std.proofs.Common.{◌≡◌, ℕ, ◌<◌, ◌≤◌, ◌⊎◌, inl, inr, Bool, true, false, not, ◌&&◌, List, [], ◌∷◌, ◌++◌, refl, sym, ◌∙◌, ap, subst}
+use Rattle.std.proofs.Common.{arith, Option, Some, None, Ok, eqb, eqb-true, nat_lt, nat_le, is_none, le_trans}
 use Rattle.std.proofs.lemmas.Bool.{false≢true, and_parts, ltb-true, leb-true, eqb-false}
 use Rattle.contact_ledger.specs.declared.acts.Act.{Act}
 use Rattle.dmis_program.specs.declared.features.Wanted.{Wanted}
@@ -8,8 +8,8 @@ use Rattle.protocol_model.specs.Replies.{Reading}
 use Rattle.protocol_model.specs.Plan.{is_empty}
 use Rattle.protocol_model.specs.Open.{count_open}
 use Rattle.protocol_model.specs.Client.{Table}
-use Rattle.protocol_model.specs.Server.{Answer, server_accepted, server_read, server_turned, server_machined, server_left, server_restarted,
-  may_end}
+use Rattle.protocol_model.specs.Server.{Answer, server_accepted, server_read, server_turned, server_machined, server_left, server_restarted}
+use Rattle.protocol_model.specs.Server.{may_end}
 use Rattle.protocol_model.specs.Typed.{World, answered, server_reads}
 use Rattle.protocol_model.proofs.table.Replying.{reads_counts, reads_distinct}
 use Rattle.protocol_model.proofs.plan.Fitting.{Know, unknown, KnowsMore, more_than_nothing, fits_more}
@@ -18,8 +18,8 @@ use Rattle.protocol_model.proofs.invariant.Moves.{Moves, read_moves, turned_move
 use Rattle.protocol_model.proofs.each_event.Answers.{IsAnswered, off_answers, old_answers, here_answers}
 use Rattle.protocol_model.proofs.each_event.ReadEvent.{reads_standard, reads_abort}
 use Rattle.protocol_model.proofs.each_event.WorkEvent.{turned_here, machined_here}
-use Rattle.protocol_model.proofs.invariant.Holding.{abort_line, abort_lines, IsNearBy, IsNear, IsLive, IsOff, IsHere, IsAhead, IsGone,
-  IsIdle, Inv, know_of}
+use Rattle.protocol_model.proofs.invariant.Holding.{abort_line, abort_lines, IsNearBy, IsNear, IsLive, IsOff, IsHere, IsAhead, IsGone}
+use Rattle.protocol_model.proofs.invariant.Holding.{IsIdle, Inv, know_of}
 use Rattle.protocol_model.specs.declared.lines.Line.{Line}
 use Rattle.protocol_model.specs.declared.plans.Planned.{Planned}
 use Rattle.protocol_model.specs.declared.lines.Waiting.{Waiting}
@@ -46,7 +46,7 @@ read_here w table left x y up rest e h =
     let same : y ≡ x = ap (λ (l : List Line). first_line l y) e in
     let others : rest ≡ up = ap other_lines e in
     subst (λ (l : List Line). IsAnswered w table l (server_read w.server (Ok x))) others
-        (subst (λ (z : Line). IsAnswered w table rest (server_read w.server (Ok z))) same h)
+    (subst (λ (z : Line). IsAnswered w table rest (server_read w.server (Ok z))) same h)
 
 reads_next : (w : World) (inv : Inv w) (live : IsLive w) (x : Line) (up queued coming : List Line) (aborts : List ℕ)
     → IsNearBy live.table w.client.unsent live.left w.up w.server.running w.server.waiting w.server.error (know_of w.server) queued coming
@@ -55,11 +55,16 @@ reads_next : (w : World) (inv : Inv w) (live : IsLive w) (x : Line) (up queued c
 reads_next w inv live x up queued (y ∷ coming) aborts n e =
     read_here w live.table live.left x y up (coming ++ abort_lines aborts) e
     (reads_standard w live.table live.left y queued coming aborts
-    (record { near = n; progress = live.progress; distinct = reads_distinct w.client.program.features w.down w.client.table live.table
-        live.reads live.distinct; few = few_open w inv live }))
+    (record {
+      near = n;
+      progress = live.progress;
+      distinct = reads_distinct w.client.program.features w.down w.client.table live.table
+          live.reads live.distinct;
+      few = few_open w inv live;
+    }))
 reads_next w inv live x up queued [] (k ∷ aborts) n e =
     read_here w live.table live.left x (abort_line k) up (abort_lines aborts) e
-        (reads_abort w live.table live.left k queued aborts n live.progress)
+    (reads_abort w live.table live.left k queued aborts n live.progress)
 reads_next w inv live x up queued [] [] n e = absurd (cc)
 
 pub reads_event : (w : World) → Inv w → w.server.on ≡ true → eqb w.server.last w.client.last ≡ true → Inv (server_reads w w.up)
@@ -131,7 +136,7 @@ turn_event w inv can =
     let moves = turned_moves w.server in
     works w (server_turned w.server) moves.0 inv (on_by w inv w.server.on refl (λ r e. some e)) moves.1
     (λ live here. turned_here w live.table live.left here.near.queued here.near.coming here.near.aborts here.near.by live.progress here.same
-        no_run some)
+    no_run some)
 
 pub machine_event : (w : World) (outcome : Outcome) → Inv w → may_end w.server.running outcome ≡ true
     → Inv (answered w w.up (server_machined w.server outcome))
@@ -139,9 +144,9 @@ machine_event w outcome inv can =
     let moves = machined_moves w.server outcome in
     works w (server_machined w.server outcome) moves.0 inv
     (on_by w inv w.server.on refl (λ r e. let no_end : may_end None outcome
-        ≡ true = subst (λ (o : Option Line). may_end o outcome ≡ true) r can in false≢true no_end)) moves.1
+    ≡ true = subst (λ (o : Option Line). may_end o outcome ≡ true) r can in false≢true no_end)) moves.1
     (λ live here. machined_here w live.table live.left here.near.queued here.near.coming here.near.aborts outcome here.near.by live.progress
-        here.same can)
+    here.same can)
 
 -- ---- connections
 
@@ -163,8 +168,14 @@ near_knows table unsent left up running waiting error k l more n = record {
     clear_first = n.by.clear_first;
     clean = λ e.
         let c = n.by.clean e in
-        record { steps = c.steps; todo = c.todo; commands = c.commands; sane = c.sane; touches = c.touches;
-            fits = λ f. fits_more table.tally.todo k l more (c.fits f) };
+        record {
+          steps = c.steps;
+          todo = c.todo;
+          commands = c.commands;
+          sane = c.sane;
+          touches = c.touches;
+          fits = λ f. fits_more table.tally.todo k l more (c.fits f);
+        };
   };
 }
 
@@ -201,15 +212,15 @@ accept_event w n inv can =
     placed live off above made true same (inr (inl ahead)) =
         let idle : IsIdle w.server = inv.idle off in
         let near : IsNear live.table w.client.unsent live.left w.up None [] false (know_of w.server) =
-            near_knows live.table w.client.unsent live.left w.up None [] false unknown (know_of w.server)
-            (more_than_nothing (know_of w.server)) ahead.near in
+        near_knows live.table w.client.unsent live.left w.up None [] false unknown (know_of w.server)
+        (more_than_nothing (know_of w.server)) ahead.near in
         inl (record {
           on = refl;
           same = eqb-true n w.client.last same;
           near = subst (λ (o : Option Line). IsNear live.table w.client.unsent live.left w.up o w.server.waiting w.server.error
               (know_of w.server)) (sym idle.running)
               (subst (λ (l : List Waiting). IsNear live.table w.client.unsent live.left w.up None l w.server.error (know_of w.server))
-                  (sym idle.waiting)
+              (sym idle.waiting)
               (subst (λ (b : Bool). IsNear live.table w.client.unsent live.left w.up None [] b (know_of w.server)) (sym idle.error) near));
         })
 

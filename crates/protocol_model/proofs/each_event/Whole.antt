@@ -5,14 +5,15 @@ use Rattle.dmis_program.specs.Meaning.{Meaning as Program}
 use Rattle.dmis_program.specs.Programs.{IsProgram}
 use Rattle.protocol_model.proofs.plan.Blocks.{IsPlain, program_is_plain}
 use Rattle.protocol_model.specs.Claims.{Sound, Told}
-use Rattle.protocol_model.specs.Typed.{World, Event, Connect, Accept, ClientSends, ServerReads, ServerReadsOld, ServerTurn, Machine,
-  ClientReads, ClientLeaves, ServerLeaves, Abort, Resume, ClientRestart, ServerRestart, start, can, happens, after, run_of}
+use Rattle.protocol_model.specs.Typed.{World, Event, Connect, Accept, ClientSends, ServerReads, ServerReadsOld, ServerTurn, Machine}
+use Rattle.protocol_model.specs.Typed.{ClientReads, ClientLeaves, ServerLeaves, Abort, Resume, ClientRestart, ServerRestart, start, can}
+use Rattle.protocol_model.specs.Typed.{happens, after, run_of}
 use Rattle.protocol_model.proofs.invariant.Served.{served_sound}
 use Rattle.protocol_model.proofs.invariant.Holding.{Inv}
-use Rattle.protocol_model.proofs.each_event.ServerEvents.{reads_event, reads_old_event, turn_event, machine_event, accept_event, left_event,
-  restart_event}
-use Rattle.protocol_model.proofs.each_event.ClientEvents.{served_now, told_now, never_faulted, connect_event, client_left_event,
-  client_restart_event}
+use Rattle.protocol_model.proofs.each_event.ServerEvents.{reads_event, reads_old_event, turn_event, machine_event, accept_event, left_event}
+use Rattle.protocol_model.proofs.each_event.ServerEvents.{restart_event}
+use Rattle.protocol_model.proofs.each_event.ClientEvents.{served_now, told_now, never_faulted, connect_event, client_left_event}
+use Rattle.protocol_model.proofs.each_event.ClientEvents.{client_restart_event}
 use Rattle.protocol_model.proofs.each_event.ClientWrites.{sends_event}
 use Rattle.protocol_model.proofs.each_event.ClientResumes.{abort_event, resume_event}
 use Rattle.protocol_model.proofs.each_event.Hearing.{hear_event}
@@ -75,7 +76,7 @@ always_sound p rack window es program le =
     let w : World = from_start p rack window es in
     subst (λ (q : Program). Sound q.features w.client.table.tally.features w.server.ledger) (run_program es (start p rack window))
     (served_sound w.client.program.features w.client.table.tally.features w.server.ledger
-        (served_now w (from_start_holds p rack window es program le)))
+    (served_now w (from_start_holds p rack window es program le)))
 
 pub always_told : (p : Program) (rack : List (List ℕ)) (window : ℕ) (es : List Event) → IsProgram p → window ≤ 16
     → Told (run_of es (start p rack window)).client.table.tally.counted (run_of es (start p rack window)).server.ledger

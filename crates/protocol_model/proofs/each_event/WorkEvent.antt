@@ -17,13 +17,14 @@ use Rattle.dmis_program.specs.declared.features.Wanted.{Wanted}
 use Rattle.protocol_model.specs.Replies.{Reply}
 use Rattle.fixed_um.specs.Points.{point_opposite}
 use Rattle.protocol_model.specs.Client.{Table, act_of, counted_next}
-use Rattle.protocol_model.specs.Server.{Server, answers, fails, all_fail, in_error, acted, refusal, frame_of, carried_out, taken, turned_to,
-  server_turned, offset, stopped, idle, finished, touched, machined, server_machined, has_outcome, may_end}
+use Rattle.protocol_model.specs.Server.{Server, answers, fails, all_fail, in_error, acted, refusal, frame_of, carried_out, taken, turned_to}
+use Rattle.protocol_model.specs.Server.{server_turned, offset, stopped, idle, finished, touched, machined, server_machined, has_outcome}
+use Rattle.protocol_model.specs.Server.{may_end}
 use Rattle.protocol_model.specs.Claims.{contacts}
 use Rattle.protocol_model.specs.Typed.{World}
 use Rattle.protocol_model.proofs.table.Replying.{tabled, Reads}
-use Rattle.protocol_model.proofs.plan.Fitting.{known_by, known_frame, KnowsMore, more_refl, more_than_nothing, FitsTouch, FitsFrame,
-  FitsMove, Fits}
+use Rattle.protocol_model.proofs.plan.Fitting.{known_by, known_frame, KnowsMore, more_refl, more_than_nothing, FitsTouch, FitsFrame}
+use Rattle.protocol_model.proofs.plan.Fitting.{FitsMove, Fits}
 use Rattle.protocol_model.proofs.invariant.Served.{IsProgress}
 use Rattle.protocol_model.proofs.invariant.Moves.{Moves}
 use Rattle.protocol_model.proofs.invariant.Pairs.{done_first, given_first}
@@ -31,8 +32,8 @@ use Rattle.protocol_model.proofs.each_event.Answers.{IsAnswered}
 use Rattle.protocol_model.proofs.each_event.ReadEvent.{quiet_answer}
 use Rattle.protocol_model.proofs.invariant.Touching.{HasPoint}
 use Rattle.protocol_model.proofs.each_event.FrontEvent.{IsAtFront, at_front, front_fails, front_done}
-use Rattle.protocol_model.proofs.invariant.Holding.{listed, received, all_received, all_sent, waits, all_wait, commands_in, AreStandard,
-  IsClearFirst, IsNearBy, know_of}
+use Rattle.protocol_model.proofs.invariant.Holding.{listed, received, all_received, all_sent, waits, all_wait, commands_in, AreStandard}
+use Rattle.protocol_model.proofs.invariant.Holding.{IsClearFirst, IsNearBy, know_of}
 use Rattle.protocol_model.specs.declared.lines.Line.{Line}
 use Rattle.protocol_model.specs.declared.plans.Does.{Does}
 use Rattle.protocol_model.specs.declared.lines.Waiting.{Waiting}
@@ -81,11 +82,11 @@ turn_quiet : (w : World) (table : Table) (left : List Wanted) (x : Line) (queued
     → Reads w.client.program.features (tabled (received x ∷ (all_received queued ++ all_sent coming)) table.event table.tally)
     (Reply.Done x.tag ∷ [])
     (tabled (all_received queued ++ all_sent coming) table.event
-        (counted_next w.client.program.features (kind_of x.command) None table.tally.todo table.tally))
+    (counted_next w.client.program.features (kind_of x.command) None table.tally.todo table.tally))
     → IsAnswered w table w.up (answers s (Reply.Done x.tag ∷ []))
 turn_quiet w table left x queued coming aborts s f nothing moves same runs waiting error knows reads =
     front_done w table left x queued coming aborts s (Reply.Done x.tag ∷ []) None f
-        (subst (λ (d : Does). Moves w.server s (act_of d None)) (sym nothing) moves) same runs waiting error knows
+    (subst (λ (d : Does). Moves w.server s (act_of d None)) (sym nothing) moves) same runs waiting error knows
     (subst (λ (d : Does). HasPoint d None) (sym nothing) tt) reads tt
 
 frame_selected : (system : Csy) (stored : Point) (frame : Frame) → known_frame system (Some stored) ≡ Some frame
@@ -109,45 +110,45 @@ turns : (w : World) (table : Table) (left : List Wanted) (t : Tag) (c : Command)
     → IsAnswered w table w.up (carried_out (record (w.server) { waiting = all_wait queued }) t c)
 turns w table left t command.StartSession queued coming aborts f same no_run error =
     turn_quiet w table left (record { tag = t; command = command.StartSession }) queued coming aborts
-        (record (w.server) { waiting = all_wait queued; session = true }) f f.one
+    (record (w.server) { waiting = all_wait queued; session = true }) f f.one
     (record { on = refl; last = refl; ledger = sym (append-nil w.server.ledger) }) same no_run refl error (more_refl (know_of w.server))
     (done_first w.client.program.features (record { tag = t; command = command.StartSession }) (all_received queued ++ all_sent coming)
-        table.event table.tally f.standard.0 f.calm refl)
+    table.event table.tally f.standard.0 f.calm refl)
 turns w table left t command.EndSession queued coming aborts f same no_run error =
     turn_quiet w table left (record { tag = t; command = command.EndSession }) queued coming aborts
-        (record (w.server) { waiting = all_wait queued; session = false }) f f.one
+    (record (w.server) { waiting = all_wait queued; session = false }) f f.one
     (record { on = refl; last = refl; ledger = sym (append-nil w.server.ledger) }) same no_run refl error (more_refl (know_of w.server))
     (done_first w.client.program.features (record { tag = t; command = command.EndSession }) (all_received queued ++ all_sent coming)
-        table.event table.tally f.standard.0 f.calm refl)
+    table.event table.tally f.standard.0 f.calm refl)
 turns w table left t command.ClearAllErrors queued coming aborts f same no_run error =
     turn_quiet w table left (record { tag = t; command = command.ClearAllErrors }) queued coming aborts
-        (record (w.server) { waiting = all_wait queued }) f f.one
+    (record (w.server) { waiting = all_wait queued }) f f.one
     (record { on = refl; last = refl; ledger = sym (append-nil w.server.ledger) }) same no_run refl error
-        (more_than_nothing (know_of w.server))
+    (more_than_nothing (know_of w.server))
     (done_first w.client.program.features (record { tag = t; command = command.ClearAllErrors }) (all_received queued ++ all_sent coming)
-        table.event table.tally f.standard.0 f.calm refl)
+    table.event table.tally f.standard.0 f.calm refl)
 turns w table left t command.OnPtMeasReport queued coming aborts f same no_run error =
     turn_quiet w table left (record { tag = t; command = command.OnPtMeasReport }) queued coming aborts
-        (record (w.server) { waiting = all_wait queued }) f f.one
+    (record (w.server) { waiting = all_wait queued }) f f.one
     (record { on = refl; last = refl; ledger = sym (append-nil w.server.ledger) }) same no_run refl error (more_refl (know_of w.server))
     (done_first w.client.program.features (record { tag = t; command = command.OnPtMeasReport }) (all_received queued ++ all_sent coming)
-        table.event table.tally f.standard.0 f.calm refl)
+    table.event table.tally f.standard.0 f.calm refl)
 turns w table left t (command.SetCsyTransformation p) queued coming aborts f same no_run error =
     let s : Server = record (w.server) { waiting = all_wait queued; stored = point_opposite p } in
     turn_quiet w table left (record { tag = t; command = command.SetCsyTransformation p }) queued coming aborts s f f.one
     (record { on = refl; last = refl; ledger = sym (append-nil w.server.ledger) }) same no_run refl error (more_refl (know_of s))
     (done_first w.client.program.features (record { tag = t; command = command.SetCsyTransformation p }) (all_received queued
-        ++ all_sent coming) table.event table.tally f.standard.0 f.calm refl)
+    ++ all_sent coming) table.event table.tally f.standard.0 f.calm refl)
 turns w table left t (command.SetCoordSystem system) queued coming aborts f same no_run error =
     let x : Line = record { tag = t; command = command.SetCoordSystem system } in
     let selects : FitsFrame (know_of w.server) system f.does = f.one in
     let frame : Frame = frame_of system w.server.stored in
     let s : Server = acted (act.Framed frame) (record (w.server) { waiting = all_wait queued; frame = frame }) in
     let does : f.does ≡ Does.Frames frame = selects.is ∙ ap (λ (g : Frame). Does.Frames g)
-        (sym (frame_selected system w.server.stored selects.frame selects.known)) in
+    (sym (frame_selected system w.server.stored selects.frame selects.known)) in
     front_done w table left x queued coming aborts s (Reply.Done t ∷ []) None f
     (subst (λ (d : Does). Moves w.server s (act_of d None)) (sym does) (record { on = refl; last = refl; ledger = refl })) same no_run refl
-        error
+    error
     (knows_frame w.server.tool system w.server.stored)
     (subst (λ (d : Does). HasPoint d None) (sym does) tt)
     (done_first w.client.program.features x (all_received queued ++ all_sent coming) table.event table.tally f.standard.0 f.calm refl) tt
@@ -203,12 +204,12 @@ machine_done : (w : World) (table : Table) (left : List Wanted) (x : Line) (queu
     → Reads w.client.program.features (tabled (received x ∷ (all_received queued ++ all_sent coming)) table.event table.tally)
     (Reply.Done x.tag ∷ [])
     (tabled (all_received queued ++ all_sent coming) table.event
-        (counted_next w.client.program.features (kind_of x.command) None table.tally.todo table.tally))
+    (counted_next w.client.program.features (kind_of x.command) None table.tally.todo table.tally))
     → IsAnswered w table w.up (answers s (Reply.Done x.tag ∷ []))
 machine_done w table left x queued coming aborts s does acts f is stands_for has moves same runs waiting error knows reads =
     front_done w table left x queued coming aborts s (Reply.Done x.tag ∷ []) None f
     (subst (λ (d : Does). Moves w.server s (act_of d None)) (sym is) (subst (λ (l : List Act). Moves w.server s l) (sym stands_for) moves))
-        same runs waiting error knows
+    same runs waiting error knows
     (subst (λ (d : Does). HasPoint d None) (sym is) has) reads tt
 
 some_is : (f g : Frame) → ◌≡◌ {A = Option Frame} (Some f) (Some g) → f ≡ g
@@ -220,26 +221,26 @@ finishes : (w : World) (table : Table) (left : List Wanted) (t : Tag) (c : Comma
     → has_outcome c Outcome.Done ≡ true → IsAnswered w table w.up (finished w.server t c)
 finishes w table left t command.Home queued coming aborts f same waiting error can =
     machine_done w table left (record { tag = t; command = command.Home }) queued coming aborts
-        (acted act.Homed (record (idle w.server) { homed = true })) Does.Homes (act.Homed ∷ []) f f.one refl tt
+    (acted act.Homed (record (idle w.server) { homed = true })) Does.Homes (act.Homed ∷ []) f f.one refl tt
     (record { on = refl; last = refl; ledger = refl }) same refl waiting error (more_refl (know_of w.server))
     (done_first w.client.program.features (record { tag = t; command = command.Home }) (all_received queued ++ all_sent coming) table.event
-        table.tally f.standard.0 f.calm refl)
+    table.tally f.standard.0 f.calm refl)
 finishes w table left t (command.ChangeTool n) queued coming aborts f same waiting error can =
     machine_done w table left (record { tag = t; command = command.ChangeTool n }) queued coming aborts
-        (acted (act.Changed n) (record (idle w.server) { tool = Some n })) (Does.Changes n) (act.Changed n ∷ []) f f.one refl tt
+    (acted (act.Changed n) (record (idle w.server) { tool = Some n })) (Does.Changes n) (act.Changed n ∷ []) f f.one refl tt
     (record { on = refl; last = refl; ledger = refl }) same refl waiting error
-        (more_refl (record { tool = Some n; frame = Some w.server.frame; stored = Some w.server.stored }))
+    (more_refl (record { tool = Some n; frame = Some w.server.frame; stored = Some w.server.stored }))
     (done_first w.client.program.features (record { tag = t; command = command.ChangeTool n }) (all_received queued ++ all_sent coming)
-        table.event table.tally f.standard.0 f.calm refl)
+    table.event table.tally f.standard.0 f.calm refl)
 finishes w table left t (command.GoTo p) queued coming aborts f same waiting error can =
     let moves : FitsMove (know_of w.server) p f.does = f.one in
     let frame : w.server.frame ≡ moves.frame = some_is w.server.frame moves.frame moves.known in
     machine_done w table left (record { tag = t; command = command.GoTo p }) queued coming aborts
-        (acted (act.Moved p w.server.frame) (idle w.server)) (Does.Moves p w.server.frame) (act.Moved p w.server.frame ∷ []) f
+    (acted (act.Moved p w.server.frame) (idle w.server)) (Does.Moves p w.server.frame) (act.Moved p w.server.frame ∷ []) f
     (moves.is ∙ ap (λ (g : Frame). Does.Moves p g) (sym frame)) refl tt
     (record { on = refl; last = refl; ledger = refl }) same refl waiting error (more_refl (know_of w.server))
     (done_first w.client.program.features (record { tag = t; command = command.GoTo p }) (all_received queued ++ all_sent coming)
-        table.event table.tally f.standard.0 f.calm refl)
+    table.event table.tally f.standard.0 f.calm refl)
 finishes w table left t command.StartSession queued coming aborts f same waiting error can = absurd (false≢true can)
 finishes w table left t command.EndSession queued coming aborts f same waiting error can = absurd (false≢true can)
 finishes w table left t command.ClearAllErrors queued coming aborts f same waiting error can = absurd (false≢true can)
@@ -268,16 +269,16 @@ touch_by w table left t p d queued coming aborts at (Some n) f same waiting erro
     let target : p ≡ fits.touch.target = fits.target in
     let dir : d ≡ fits.touch.dir = fits.dir in
     let stands_for : act.Contact p d n w.server.frame point ≡ act.Contact fits.touch.target fits.touch.dir fits.touch.tool fits.touch.frame
-        point = cc in
+    point = cc in
     let acts : act_of f.does (Some point) ≡ act.Contact p d n w.server.frame point ∷ [] =
-        ap (λ (does : Does). act_of does (Some point)) fits.is ∙ ap (λ (a : Act). a ∷ []) (sym stands_for) in
+    ap (λ (does : Does). act_of does (Some point)) fits.is ∙ ap (λ (a : Act). a ∷ []) (sym stands_for) in
     let s : Server = acted (act.Contact p d n w.server.frame point) (idle w.server) in
     front_done w table left x queued coming aborts s (Reply.Given t point ∷ Reply.Done t ∷ []) (Some point) f
     (subst (λ (l : List Act). Moves w.server s l) (sym acts) (record { on = refl; last = refl; ledger = refl })) same refl waiting error
-        (more_refl (know_of w.server))
+    (more_refl (know_of w.server))
     (subst (λ (does : Does). HasPoint does (Some point)) (sym fits.is) tt)
     (given_first w.client.program.features x point (all_received queued ++ all_sent coming) table.event table.tally f.standard.0 f.calm
-        refl) tt
+    refl) tt
 
 touches_now : (w : World) (table : Table) (left : List Wanted) (t : Tag) (c : Command) (queued coming : List Line) (aborts : List ℕ)
     (at : Point)
@@ -312,9 +313,9 @@ machined_here w table left queued coming aborts outcome n progress same can = go
         → IsAnswered w table w.up (stopped w.server x number)
     fails_now x number is f =
         subst (λ (l : List Waiting). IsAnswered w table w.up (answers (record (in_error w.server) { running = None })
-            (fails x.tag number (Some (kind_of x.command)) ++ all_fail 9007 l))) (sym n.waiting_is)
+        (fails x.tag number (Some (kind_of x.command)) ++ all_fail 9007 l))) (sym n.waiting_is)
         (front_fails w table left x queued coming aborts (record (in_error w.server) { running = None }) number f
-            (record { on = refl; last = refl; ledger = sym (append-nil w.server.ledger) }) refl refl refl)
+        (record { on = refl; last = refl; ledger = sym (append-nil w.server.ledger) }) refl refl refl)
 
     ends : (x : Line) (o : Outcome) → w.server.running ≡ Some x → IsAtFront w table left x queued coming aborts → w.server.error ≡ false
         → has_outcome x.command o ≡ true → IsAnswered w table w.up (machined w.server o (Some x))
@@ -331,5 +332,5 @@ machined_here w table left queued coming aborts outcome n progress same can = go
         let quiet : w.server.error ≡ false = runs x is w.server.error refl in
         subst (λ (o : Option Line). IsAnswered w table w.up (machined w.server outcome o)) (sym is)
         (ends x outcome is (at_front w table left x queued queued coming aborts n progress (ap (λ (o : Option Line). listed o ++ queued) is)
-            quiet) quiet
+        quiet) quiet
         (subst (λ (o : Option Line). may_end o outcome ≡ true) is can))

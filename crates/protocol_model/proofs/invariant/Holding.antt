@@ -105,13 +105,13 @@ know_of s = record { tool = s.tool; frame = Some s.frame; stored = Some s.stored
 -- ---- where nothing has failed, what is not done is what is planned
 
 pub record IsClean (tally : Tally) (unsent : List Planned) (left : List Wanted) (lines : List Line) (error : Bool) (know : Know) : Type 0
-    where
-  pub steps : List Planned
-  pub todo : tally.todo ≡ steps ++ unsent
-  pub commands : commands_of steps ≡ commands_in lines
-  pub sane : IsSane tally.todo
-  pub touches : touches_in tally.todo ≡ marks_of left
-  pub fits : error ≡ false → Fits know tally.todo
+  where
+    pub steps : List Planned
+    pub todo : tally.todo ≡ steps ++ unsent
+    pub commands : commands_of steps ≡ commands_in lines
+    pub sane : IsSane tally.todo
+    pub touches : touches_in tally.todo ≡ marks_of left
+    pub fits : error ≡ false → Fits know tally.todo
 
 -- the table that is left when all is read, and a server that this connection meets: what runs, what waits, whether it is in the error
 -- state, and what is known of it;

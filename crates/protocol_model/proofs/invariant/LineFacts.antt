@@ -1,6 +1,6 @@
 -- Small facts on lines that run, wait and come.
-use Rattle.std.proofs.Common.{◌≡◌, suc, ◌≤◌, Bool, true, false, ◌||◌, List, [], ◌∷◌, ◌++◌, length, refl, sym, ◌∙◌, ap, subst, arith,
-  append_assoc, length-append, Option, Some, None, Ok}
+use Rattle.std.proofs.Common.{◌≡◌, suc, ◌≤◌, Bool, true, false, ◌||◌, List, [], ◌∷◌, ◌++◌, length, refl, sym, ◌∙◌, ap, subst, arith}
+use Rattle.std.proofs.Common.{append_assoc, length-append, Option, Some, None, Ok}
 use Rattle.std.proofs.lemmas.Bool.{false≢true}
 use Rattle.dme_line.specs.Tags.{is_event_tag}
 use Rattle.dme_line.specs.declared.tags.Tag.{Tag}
@@ -13,8 +13,8 @@ use Rattle.protocol_model.specs.Client.{is_clearing}
 use Rattle.protocol_model.specs.Server.{is_clear, runs_under, waits_under}
 use Rattle.protocol_model.proofs.table.Basics.{if_cases, if_false, tag_is-refl, tag_is-true}
 use Rattle.protocol_model.proofs.table.Walks.{AreDistinct}
-use Rattle.protocol_model.proofs.invariant.Holding.{listed, received, sent_now, all_received, all_sent, all_wait, AreStandard, AreNoClears,
-  IsClearFirst, commands_of, commands_in}
+use Rattle.protocol_model.proofs.invariant.Holding.{listed, received, sent_now, all_received, all_sent, all_wait, AreStandard, AreNoClears}
+use Rattle.protocol_model.proofs.invariant.Holding.{IsClearFirst, commands_of, commands_in}
 use Rattle.protocol_model.specs.declared.lines.Line.{Line}
 use Rattle.protocol_model.specs.declared.held.Held.{Held}
 use Rattle.protocol_model.specs.declared.plans.Planned.{Planned}

@@ -1,6 +1,6 @@
 -- What the calls of a server leave as it was, and what they add to its ledger.
-use Rattle.std.proofs.Common.{◌≡◌, ℕ, Bool, true, false, cond, not, ◌&&◌, ◌||◌, List, [], ◌∷◌, ◌++◌, length, refl, sym, ◌∙◌, ap, arith,
-  append-nil, Option, Some, None, Result, Ok, Err, eq-eqb, ne_eqb, nat_le}
+use Rattle.std.proofs.Common.{◌≡◌, ℕ, Bool, true, false, cond, not, ◌&&◌, ◌||◌, List, [], ◌∷◌, ◌++◌, length, refl, sym, ◌∙◌, ap, arith}
+use Rattle.std.proofs.Common.{append-nil, Option, Some, None, Result, Ok, Err, eq-eqb, ne_eqb, nat_le}
 use Rattle.fixed_um.specs.declared.lengths.Point.{Point}
 use Rattle.dme_line.specs.Tags.{is_event_tag}
 use Rattle.dme_line.specs.declared.tags.Tag.{Tag}
@@ -10,9 +10,9 @@ use Rattle.contact_ledger.specs.declared.acts.Act.{Act}
 use Rattle.contact_ledger.specs.declared.acts.Act.TheVariants as act
 use Rattle.protocol_model.specs.Replies.{Reading}
 use Rattle.dme_line.specs.declared.reading.LineFault.TheVariants as fault
-use Rattle.protocol_model.specs.Server.{Server, Answer, in_error, queued, runs_under, waits_under, is_abort, is_clear, stands, fresh,
-  tagged, server_read, refusal, frame_of, carried_out, carried, taken, turned_to, server_turned, finished, touched, machined,
-  server_machined}
+use Rattle.protocol_model.specs.Server.{Server, Answer, in_error, queued, runs_under, waits_under, is_abort, is_clear, stands, fresh}
+use Rattle.protocol_model.specs.Server.{tagged, server_read, refusal, frame_of, carried_out, carried, taken, turned_to, server_turned}
+use Rattle.protocol_model.specs.Server.{finished, touched, machined, server_machined}
 use Rattle.protocol_model.specs.Claims.{acts_on}
 use Rattle.protocol_model.proofs.table.Basics.{if_true, if_false}
 use Rattle.protocol_model.proofs.invariant.Served.{AreUpTo}
@@ -76,7 +76,7 @@ stands_stays s t reading =
     either (Stays s) (s.error && not (is_clear reading)) _ _ (stays s s refl refl refl)
     (either (Stays s) s.error _ _ (stays s (queued t reading (record s { error = false })) refl refl refl)
     (either (Stays s) (nat_le 64 (length s.waiting)) _ _ (stays s (in_error s) refl refl refl)
-        (stays s (queued t reading s) refl refl refl)))
+    (stays s (queued t reading s) refl refl refl)))
 
 fresh_stays : (s : Server) (t : Tag) (reading : Result Command Misread) → Stays s (fresh s t reading)
 fresh_stays s t (Ok c) = either (Stays s) (is_abort (Ok c)) _ _ (stays s _ refl refl refl) (stands_stays s t (Ok c))
@@ -102,8 +102,10 @@ carried_moves s t (command.GoTo p) = ([], stays s _ refl refl refl)
 carried_moves s t (command.PtMeas p d) = ([], stays s _ refl refl refl)
 carried_moves s t (command.ChangeTool n) = ([], stays s _ refl refl refl)
 carried_moves s t (command.SetCsyTransformation p) = ([], stays s _ refl refl refl)
-carried_moves s t (command.SetCoordSystem system) = (act.Framed (frame_of system s.stored) ∷ [],
-    record { on = refl; last = refl; ledger = refl })
+carried_moves s t (command.SetCoordSystem system) = (
+  act.Framed (frame_of system s.stored) ∷ [],
+  record { on = refl; last = refl; ledger = refl },
+)
 carried_moves s t command.AbortE = ([], stays s _ refl refl refl)
 
 taken_moves : (s : Server) (w : Waiting) (ws : List Waiting) (number : Option ℕ) → (acts : List Act)

@@ -1,6 +1,6 @@
 -- What the answers of a server do to the table of its client.
-use Rattle.std.proofs.Common.{◌≡◌, ℕ, suc, Bool, true, false, not, ◌&&◌, List, [], ◌∷◌, ◌++◌, refl, sym, ◌∙◌, ap, subst, append_assoc,
-  Option, Some, None}
+use Rattle.std.proofs.Common.{◌≡◌, ℕ, suc, Bool, true, false, not, ◌&&◌, List, [], ◌∷◌, ◌++◌, refl, sym, ◌∙◌, ap, subst, append_assoc}
+use Rattle.std.proofs.Common.{Option, Some, None}
 use Rattle.std.proofs.lemmas.Bool.{false≢true}
 use Rattle.std.proofs.Common.{ne_eqb, suc-ne-zero}
 use Rattle.fixed_um.specs.declared.lengths.Point.{Point}
@@ -64,10 +64,10 @@ pub pairs : (ws : List Wanted) (queued : List Line) (hs ev : List Held) (y : Tal
 pairs ws [] hs ev y sort = refl
 pairs ws (x ∷ xs) hs ev y sort =
     reads_more ws (fails x.tag 9007 (Some (kind_of x.command))) (all_fail 9007 (all_wait xs)) (tabled (all_received (x ∷ xs) ++ hs) ev y)
-        (tabled (all_received xs ++ hs) ev (broken y)) (tabled hs ev (broken y))
+    (tabled (all_received xs ++ hs) ev (broken y)) (tabled hs ev (broken y))
     (pair ws x (all_received xs ++ hs) ev y 9007 (Some (kind_of x.command)) sort.0)
     (subst (λ (z : Tally). Reads ws (tabled (all_received xs ++ hs) ev (broken y)) (all_fail 9007 (all_wait xs)) (tabled hs ev z))
-        (breaks_broken xs y) (pairs ws xs hs ev (broken y) sort.2))
+    (breaks_broken xs y) (pairs ws xs hs ev (broken y) sort.2))
 
 -- a refused command, and then all that wait
 pub pair_and_pairs : (ws : List Wanted) (x : Line) (queued : List Line) (hs ev : List Held) (y : Tally) (code : ℕ) (name : Option Kind)
@@ -75,10 +75,10 @@ pub pair_and_pairs : (ws : List Wanted) (x : Line) (queued : List Line) (hs ev :
     (fails x.tag code name ++ all_fail 9007 (all_wait queued)) (tabled hs ev (broken y))
 pair_and_pairs ws x queued hs ev y code name sort sorts =
     reads_more ws (fails x.tag code name) (all_fail 9007 (all_wait queued)) (tabled (received x ∷ (all_received queued ++ hs)) ev y)
-        (tabled (all_received queued ++ hs) ev (broken y)) (tabled hs ev (broken y))
+    (tabled (all_received queued ++ hs) ev (broken y)) (tabled hs ev (broken y))
     (pair ws x (all_received queued ++ hs) ev y code name sort)
     (subst (λ (z : Tally). Reads ws (tabled (all_received queued ++ hs) ev (broken y)) (all_fail 9007 (all_wait queued)) (tabled hs ev z))
-        (breaks_broken queued y) (pairs ws queued hs ev (broken y) sorts))
+    (breaks_broken queued y) (pairs ws queued hs ev (broken y) sorts))
 
 pub running_pairs : (ws : List Wanted) (running : Option Line) (queued : List Line) (hs ev : List Held) (y : Tally)
     → AreStandard (listed running ++ queued) → Reads ws (tabled (all_received (listed running ++ queued) ++ hs) ev y) (running_fails running
@@ -92,11 +92,11 @@ ack_in : (front : Bool) (busy : List Line) (x : Line) (hs : List Held) → is_he
 ack_in front [] x hs free = heard_at front (sent_now x) hs x.tag Mark.Ack (tag_is-refl x.tag)
 ack_in front (l ∷ ls) x hs free =
     if_cases {A = Bool} (tag_is l.tag x.tag) true (is_held x.tag (all_received ls)) false
-        (heard_in front (all_received (l ∷ ls) ++ sent_now x ∷ hs) x.tag Mark.Ack
-        ≡ two (all_received (l ∷ ls) ++ received x ∷ hs) Effect.Quiet) free
+    (heard_in front (all_received (l ∷ ls) ++ sent_now x ∷ hs) x.tag Mark.Ack
+    ≡ two (all_received (l ∷ ls) ++ received x ∷ hs) Effect.Quiet) free
     (λ same no_way. absurd (false≢true (sym no_way)))
     (λ other rest. heard_past front (received l) (all_received ls ++ sent_now x ∷ hs) x.tag Mark.Ack other
-        ∙ ap (put_before (received l)) (ack_in (front && false) ls x hs rest))
+    ∙ ap (put_before (received l)) (ack_in (front && false) ls x hs rest))
 
 pub ack : (ws : List Wanted) (busy : List Line) (x : Line) (hs ev : List Held) (y : Tally) → is_event_tag x.tag ≡ false
     → is_held x.tag (all_received busy) ≡ false → heard ws (tabled (all_received busy ++ sent_now x ∷ hs) ev y) x.tag Mark.Ack
@@ -163,9 +163,9 @@ abort_reads ws k running queued hs y sorts =
     let busy : List Line = listed running ++ queued in
     let all : List Reply = running_fails running ++ all_fail 9007 (all_wait queued) in
     let fell : Reads ws (tabled (all_received busy ++ []) (abort_received k ∷ hs) y) all
-        (tabled [] (abort_received k ∷ hs) (breaks busy y)) = running_pairs ws running queued [] (abort_received k ∷ hs) y sorts in
+    (tabled [] (abort_received k ∷ hs) (breaks busy y)) = running_pairs ws running queued [] (abort_received k ∷ hs) y sorts in
     let last : Reads ws (tabled [] (abort_received k ∷ hs) (breaks busy y)) (Reply.Done (abort_tag k) ∷ []) (tabled [] hs (breaks busy y)) =
-        (tabled [] hs (breaks busy y), abort_ended ws k [] hs (breaks busy y), refl) in (
+    (tabled [] hs (breaks busy y), abort_ended ws k [] hs (breaks busy y), refl) in (
       tabled (all_received busy ++ []) (abort_received k ∷ hs) y,
       abort_acked ws k (all_received busy ++ []) hs y,
       subst (λ (rs : List Reply). Reads ws (tabled (all_received busy ++ []) (abort_received k ∷ hs) y) rs (tabled [] hs (breaks busy y)))

@@ -1,6 +1,6 @@
 -- Features that contacts serve, with the contacts left out between them; and the contacts of an unfinished feature.
-use Rattle.std.proofs.Common.{◌≡◌, ℕ, zero, suc, ◌+◌, ◌<◌, ◌≤◌, Bool, true, false, cond, List, [], ◌∷◌, ◌++◌, length, take, drop, refl, sym,
-  ◌∙◌, ap, subst, arith, append_assoc, append-nil, length-append}
+use Rattle.std.proofs.Common.{◌≡◌, ℕ, zero, suc, ◌+◌, ◌<◌, ◌≤◌, Bool, true, false, cond, List, [], ◌∷◌, ◌++◌, length, take, drop, refl, sym}
+use Rattle.std.proofs.Common.{◌∙◌, ap, subst, arith, append_assoc, append-nil, length-append}
 use Rattle.std.proofs.Common.{eq-eqb, ne_eqb}
 use Rattle.fixed_um.specs.declared.lengths.Point.{Point}
 use Rattle.contact_ledger.specs.declared.acts.Act.{Act}
@@ -127,9 +127,18 @@ served_take (suc k) (w ∷ ws) (f ∷ fs) made h = (h.0, h.1, served_take k ws f
 pub served_push : (front : List Wanted) (w : Wanted) (later : List Wanted) (fs : List Feature) (f : Feature) (made run : List Made) (n : ℕ)
     → length front ≡ length fs → Served (front ++ w ∷ later) fs made → f.label ≡ w.label → Serves n w.touches f.points run
     → Served (front ++ w ∷ later) (fs ++ f ∷ []) (made ++ run)
-served_push [] w later [] f made run n e h label serves =
-    ([], record { gap = made; run = run; connection = n; whole = ap (λ (l : List Made). made ++ l) (sym (append-nil run)); label = label;
-        serves = serves }, tt)
+served_push [] w later [] f made run n e h label serves = (
+  [],
+  record {
+    gap = made;
+    run = run;
+    connection = n;
+    whole = ap (λ (l : List Made). made ++ l) (sym (append-nil run));
+    label = label;
+    serves = serves;
+  },
+  tt,
+)
 served_push [] w later (g ∷ gs) f made run n e h label serves = absurd (cc)
 served_push (v ∷ front) w later [] f made run n e h label serves = absurd (cc)
 served_push (v ∷ front) w later (g ∷ gs) f made run n e h label serves =
@@ -164,17 +173,17 @@ with_made made [] = []
 with_made made (w ∷ ws) = record { label = w.label; touches = made ++ w.touches } ∷ ws
 
 pub record IsProgress (ws : List Wanted) (n : ℕ) (fs : List Feature) (points : List Point) (ms : List Made) (left : List Wanted) : Type 0
-    where
-  pub front : List Wanted
-  pub made : List Touch
-  pub before : List Made
-  pub run : List Made
-  pub whole : ws ≡ front ++ with_made made left
-  pub long : length front ≡ length fs
-  pub parts : ms ≡ before ++ run
-  pub served : Served ws fs before
-  pub serves : Serves n made points run
-  pub some : HaveTouches left
+  where
+    pub front : List Wanted
+    pub made : List Touch
+    pub before : List Made
+    pub run : List Made
+    pub whole : ws ≡ front ++ with_made made left
+    pub long : length front ≡ length fs
+    pub parts : ms ≡ before ++ run
+    pub served : Served ws fs before
+    pub serves : Serves n made points run
+    pub some : HaveTouches left
 
 pub progress_served : (ws : List Wanted) (n : ℕ) (fs : List Feature) (points : List Point) (ms : List Made) (left : List Wanted)
     → IsProgress ws n fs points ms left → Served ws fs ms
@@ -334,19 +343,27 @@ served_starts (w ∷ ws) (f ∷ fs) passed ms h =
     let over : List Made = begin ++ r.run in
     let long : length r.run ≡ length f.points = serves_long r.connection w.touches f.points r.run r.serves in
     let all : passed ++ ms ≡ begin ++ (r.run ++ h.0) = ap (λ (l : List Made). passed ++ l) r.whole
-        ∙ sym (append_assoc passed r.gap (r.run ++ h.0)) in
+    ∙ sym (append_assoc passed r.gap (r.run ++ h.0)) in
     let cut : take (length f.points) (drop (length begin) (passed ++ ms)) ≡ r.run =
     ap (λ (l : List Made). take (length f.points) (drop (length begin) l)) all
     ∙ (ap (λ (l : List Made). take (length f.points) l) (drop_front begin (r.run ++ h.0))
     ∙ (ap (λ (k : ℕ). take k (r.run ++ h.0)) (sym long) ∙ take_front r.run h.0)) in
     let rest = served_starts ws fs over h.0 h.2 in
-    let one : IsRun w f (length begin) (passed ++ ms) = record { label = r.label; connection = r.connection;
-        serves = subst (λ (l : List Made). Serves r.connection w.touches f.points l) (sym cut) r.serves } in
+    let one : IsRun w f (length begin) (passed ++ ms) = record {
+      label = r.label;
+      connection = r.connection;
+      serves = subst (λ (l : List Made). Serves r.connection w.touches f.points l) (sym cut) r.serves;
+    } in
     let least : length over ≡ length begin + length f.points = length-append begin r.run ∙ ap (λ (k : ℕ). length begin + k) long in
-    let together : over ++ h.0 ≡ passed ++ ms = append_assoc begin r.run h.0 ∙ sym all in
-    (length begin ∷ rest.0, (omega (arith, length-append passed r.gap), one,
+    let together : over ++ h.0 ≡ passed ++ ms = append_assoc begin r.run h.0 ∙ sym all in (
+      length begin ∷ rest.0,
+      (
+        omega (arith, length-append passed r.gap),
+        one,
         subst (λ (k : ℕ). AreRuns ws fs rest.0 k (passed ++ ms)) least
-        (subst (λ (l : List Made). AreRuns ws fs rest.0 (length over) l) together rest.1)))
+            (subst (λ (l : List Made). AreRuns ws fs rest.0 (length over) l) together rest.1),
+      ),
+    )
 
 pub served_sound : (ws : List Wanted) (fs : List Feature) (l : List (ℕ × Act)) → Served ws fs (contacts l) → Sound ws fs l
 served_sound ws fs l h = let all = served_starts ws fs [] (contacts l) h in record { starts = all.0; runs = all.1 }

@@ -1,6 +1,6 @@
 -- A counted command and the contacts of the unfinished feature.
-use Rattle.std.proofs.Common.{◌≡◌, ℕ, ◌+◌, true, false, List, [], ◌∷◌, ◌++◌, refl, sym, ◌∙◌, ap, subst, append_assoc, append-nil,
-  length-append, Option, Some, None}
+use Rattle.std.proofs.Common.{◌≡◌, ℕ, ◌+◌, true, false, List, [], ◌∷◌, ◌++◌, refl, sym, ◌∙◌, ap, subst, append_assoc, append-nil}
+use Rattle.std.proofs.Common.{length-append, Option, Some, None}
 use Rattle.std.proofs.lemmas.Bool.{false≢true}
 use Rattle.fixed_um.specs.declared.lengths.Point.{Point}
 use Rattle.contact_ledger.specs.declared.features.Feature.{Feature}
@@ -10,8 +10,8 @@ use Rattle.protocol_model.specs.Claims.{Made, contacts, IsServed}
 use Rattle.protocol_model.specs.Plan.{is_empty}
 use Rattle.protocol_model.specs.Client.{Tally, act_of, joined, measured}
 use Rattle.protocol_model.proofs.plan.Marks.{Marked, marks, marks_of, touch_in}
-use Rattle.protocol_model.proofs.invariant.Served.{Served, served_push, joined_is, serves_more, HaveTouches, with_made, IsProgress, IsNext,
-  next_touch}
+use Rattle.protocol_model.proofs.invariant.Served.{Served, served_push, joined_is, serves_more, HaveTouches, with_made, IsProgress, IsNext}
+use Rattle.protocol_model.proofs.invariant.Served.{next_touch}
 use Rattle.protocol_model.proofs.invariant.Moves.{done_on}
 use Rattle.protocol_model.specs.declared.plans.Does.{Does}
 
@@ -46,11 +46,11 @@ measured_keeps ws (Does.Frames f) given y = keeps_all y
 
 -- behind a counted command: what is left, and the contacts cut anew
 pub record Goes (ws : List Wanted) (n : ℕ) (y : Tally) (ms : List Made) (does : Does) (given : Option Point) (rest : List Marked) : Type 0
-    where
-  pub left : List Wanted
-  pub touches : rest ≡ marks_of left
-  pub progress : IsProgress ws n (measured ws does given y).features (measured ws does given y).points (ms
-      ++ contacts (done_on n (act_of does given))) left
+  where
+    pub left : List Wanted
+    pub touches : rest ≡ marks_of left
+    pub progress : IsProgress ws n (measured ws does given y).features (measured ws does given y).points (ms
+        ++ contacts (done_on n (act_of does given))) left
 
 made_of : ℕ → Touch → Point → Made
 made_of n t p = record { connection = n; target = t.target; dir = t.dir; tool = t.tool; frame = t.frame; point = p }
@@ -121,7 +121,7 @@ touch_ends ws n fs points ms left t p rest h next =
     let served : Served ws (fs ++ feature ∷ []) (h.before ++ run) =
     subst (λ (l : List Wanted). Served l (fs ++ feature ∷ []) (h.before ++ run)) (sym whole)
     (served_push h.front whole_one next.later fs feature h.before run n h.long
-        (subst (λ (l : List Wanted). Served l fs h.before) whole h.served) refl
+    (subst (λ (l : List Wanted). Served l fs h.before) whole h.served) refl
     (serves_more n h.made points h.run t p m h.serves (is_served n t p))) in
     let some : HaveTouches (next.wanted ∷ next.later) = subst HaveTouches next.first h.some in (
       next.later,

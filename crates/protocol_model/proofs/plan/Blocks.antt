@@ -79,5 +79,8 @@ selected_are tool frame (step.Recall p ∷ ss) h = selected_are tool (Part p) ss
 selected_are tool frame (step.End ∷ ss) h = selected_are tool frame ss h
 
 pub program_is_plain : (p : Program) → IsProgram p → IsPlain p
-program_is_plain p h = record { features = h.built; blocks = blocks_are None p.steps h.blocks;
-    selected = selected_are None Machine p.steps h.selections }
+program_is_plain p h = record {
+  features = h.built;
+  blocks = blocks_are None p.steps h.blocks;
+  selected = selected_are None Machine p.steps h.selections;
+}

@@ -107,8 +107,11 @@ knows_by k l (command.GoTo p) more = more
 knows_by k l (command.PtMeas p d) more = more
 knows_by k l (command.ChangeTool n) more = record { tool = λ m e. e; frame = more.frame; stored = more.stored }
 knows_by k l (command.SetCsyTransformation p) more = record { tool = more.tool; frame = more.frame; stored = λ q e. e }
-knows_by k l (command.SetCoordSystem system) more = record { tool = more.tool; frame = frame_more system k.stored l.stored more.stored;
-    stored = more.stored }
+knows_by k l (command.SetCoordSystem system) more = record {
+  tool = more.tool;
+  frame = frame_more system k.stored l.stored more.stored;
+  stored = more.stored;
+}
 knows_by k l command.AbortE more = more
 
 one_more : (k l : Know) (c : Command) (d : Does) → KnowsMore k l → FitsOne k c d → FitsOne l c d
@@ -118,18 +121,30 @@ one_more k l command.ClearAllErrors d more h = h
 one_more k l command.Home d more h = h
 one_more k l command.OnPtMeasReport d more h = h
 one_more k l (command.GoTo p) d more h = record { frame = h.frame; known = more.frame h.frame h.known; is = h.is }
-one_more k l (command.PtMeas p dir) d more h = record { touch = h.touch; last = h.last; tool = more.tool h.touch.tool h.tool;
-    frame = more.frame h.touch.frame h.frame; target = h.target; dir = h.dir; is = h.is }
+one_more k l (command.PtMeas p dir) d more h = record {
+  touch = h.touch;
+  last = h.last;
+  tool = more.tool h.touch.tool h.tool;
+  frame = more.frame h.touch.frame h.frame;
+  target = h.target;
+  dir = h.dir;
+  is = h.is;
+}
 one_more k l (command.ChangeTool n) d more h = h
 one_more k l (command.SetCsyTransformation p) d more h = h
-one_more k l (command.SetCoordSystem system) d more h = record { frame = h.frame;
-    known = frame_more system k.stored l.stored more.stored h.frame h.known; is = h.is }
+one_more k l (command.SetCoordSystem system) d more h = record {
+  frame = h.frame;
+  known = frame_more system k.stored l.stored more.stored h.frame h.known;
+  is = h.is;
+}
 one_more k l command.AbortE d more h = h
 
 pub fits_more : (ps : List Planned) (k l : Know) → KnowsMore k l → Fits k ps → Fits l ps
 fits_more [] k l more h = tt
-fits_more (p ∷ ps) k l more h = (one_more k l p.command p.does more h.0,
-    fits_more ps (known_by k p.command) (known_by l p.command) (knows_by k l p.command more) h.1)
+fits_more (p ∷ ps) k l more h = (
+  one_more k l p.command p.does more h.0,
+  fits_more ps (known_by k p.command) (known_by l p.command) (knows_by k l p.command more) h.1,
+)
 
 -- ---- from each ClearAllErrors on, the rest fits, whatever is known
 

@@ -1,6 +1,6 @@
 -- The touches of plans and of wanted features, each with whether it is the last of its feature.
-use Rattle.std.proofs.Common.{◌≡◌, ℕ, zero, suc, Bool, true, false, cond, List, [], ◌∷◌, ◌++◌, drop, refl, sym, ◌∙◌, ap, subst,
-  append_assoc, append-nil, Option, Some, None}
+use Rattle.std.proofs.Common.{◌≡◌, ℕ, zero, suc, Bool, true, false, cond, List, [], ◌∷◌, ◌++◌, drop, refl, sym, ◌∙◌, ap, subst}
+use Rattle.std.proofs.Common.{append_assoc, append-nil, Option, Some, None}
 use Rattle.std.proofs.lemmas.Bool.{false≢true}
 use Rattle.std.proofs.Math.IntN.{neg_ℤ-neg_ℤ}
 use Rattle.fixed_um.specs.declared.lengths.Point.{Point}
@@ -13,8 +13,8 @@ use Rattle.dmis_program.specs.Meaning.{Meaning as Program, features_of, block_to
 use Rattle.dmis_program.specs.declared.steps.Step.{Step}
 use Rattle.dmis_program.specs.declared.steps.Step.TheVariants as step
 use Rattle.protocol_model.proofs.plan.Blocks.{AreBlocks, AreSelected, IsPlain}
-use Rattle.protocol_model.specs.Plan.{tool_behind, frame_behind, is_empty, behind, up_to, planned, framing, tooling, stepping, measuring,
-  starting, plan}
+use Rattle.protocol_model.specs.Plan.{tool_behind, frame_behind, is_empty, behind, up_to, planned, framing, tooling, stepping, measuring}
+use Rattle.protocol_model.specs.Plan.{starting, plan}
 use Rattle.fixed_um.specs.Points.{point_opposite}
 use Rattle.std.proofs.Common.{Ok}
 use Rattle.protocol_model.specs.Server.{is_abort}
@@ -79,11 +79,11 @@ touches_left inside frame [] h = sym (ap marks_of (left_none inside []))
 touches_left inside frame (step.Goto p ∷ ss) h = touches_left inside frame ss h
 touches_left inside frame (step.Begin l ∷ ss) h =
     touches_left true frame ss h.2 ∙ (marks_left (block_touches ss) (features_of ss)
-        ∙ sym (ap (λ (b : Bool). marks_of (left_with b (block_touches ss)
-        (record { label = l; touches = block_touches ss } ∷ features_of ss))) h.0))
+    ∙ sym (ap (λ (b : Bool). marks_of (left_with b (block_touches ss)
+    (record { label = l; touches = block_touches ss } ∷ features_of ss))) h.0))
 touches_left inside frame (step.Touch t ∷ ss) h =
     ap (λ (l : List Marked). (t, is_empty (block_touches ss)) ∷ l) (touches_left inside frame ss h.1
-        ∙ (ap (λ (b : Bool). marks_of (left_of b ss)) h.0 ∙ marks_left (block_touches ss) (features_of ss)))
+    ∙ (ap (λ (b : Bool). marks_of (left_of b ss)) h.0 ∙ marks_left (block_touches ss) (features_of ss)))
     ∙ sym (ap (λ (b : Bool). marks_of (left_of b (step.Touch t ∷ ss))) h.0)
 touches_left inside frame (step.Tool n ∷ ss) h = touches_left inside frame ss h
 touches_left inside frame (step.Recall p ∷ ss) h = touches_left inside (Part p) ss h
@@ -135,8 +135,12 @@ begin_is inside l ss k i some = go (block_touches ss) refl ∙ sym (ap (λ (a : 
 
 pub place_at : (inside : Bool) (k : ℕ) (ss : List Step) → AreBlocks inside ss → IsPlace inside ss k (behind k ss)
 place_at inside zero ss h = record { within = inside; blocks = h; left = refl }
-place_at inside (suc k) [] h = record { within = inside; blocks = h; left = ap marks_of (left_none inside [])
-    ∙ sym (ap marks_of (drop_none inside k)) }
+place_at inside (suc k) [] h = record {
+  within = inside;
+  blocks = h;
+  left = ap marks_of (left_none inside [])
+      ∙ sym (ap marks_of (drop_none inside k));
+}
 place_at inside (suc k) (step.Goto p ∷ ss) h = let at = place_at inside (suc k) ss h
     in record { within = at.within; blocks = at.blocks; left = at.left }
 place_at inside (suc k) (step.Begin l ∷ ss) h = let at = place_at true (suc k) ss h.2
@@ -149,8 +153,12 @@ place_at inside (suc k) (step.Recall p ∷ ss) h = let at = place_at inside (suc
     in record { within = at.within; blocks = at.blocks; left = at.left }
 place_at inside (suc k) (step.End ∷ ss) h =
     let at = place_at false (suc k) ss h.1 in
-    record { within = at.within; blocks = at.blocks; left = at.left
-        ∙ sym (ap (λ (ws : List Wanted). marks_of (drop (suc k) ws)) (left_none inside (features_of ss))) }
+    record {
+      within = at.within;
+      blocks = at.blocks;
+      left = at.left
+          ∙ sym (ap (λ (ws : List Wanted). marks_of (drop (suc k) ws)) (left_none inside (features_of ss)));
+    }
 
 -- what is selected at a position
 touch_selected : (k : ℕ) (tool : Option (List ℕ)) (frame : Frame) (t : Touch) (ss : List Step) (b : Bool)
@@ -202,9 +210,18 @@ fits_steps : (tool : Option (List ℕ)) (frame : Frame) (stored : Option Point) 
 fits_steps tool frame stored [] h = (refl, tt)
 fits_steps tool frame stored (step.Goto p ∷ ss) h = (record { frame = frame; known = refl; is = refl }, fits_steps tool frame stored ss h)
 fits_steps tool frame stored (step.Begin l ∷ ss) h = fits_steps tool frame stored ss h
-fits_steps tool frame stored (step.Touch t ∷ ss) h =
-    (record { touch = t; last = is_empty (block_touches ss); tool = h.0; frame = ap (λ (f : Frame). Some f) h.1; target = refl; dir = refl;
-        is = refl }, fits_steps tool frame stored ss h.2)
+fits_steps tool frame stored (step.Touch t ∷ ss) h = (
+  record {
+    touch = t;
+    last = is_empty (block_touches ss);
+    tool = h.0;
+    frame = ap (λ (f : Frame). Some f) h.1;
+    target = refl;
+    dir = refl;
+    is = refl;
+  },
+  fits_steps tool frame stored ss h.2,
+)
 fits_steps tool frame stored (step.Tool n ∷ ss) h = (refl, fits_steps (Some n) frame stored ss h)
 fits_steps tool frame stored (step.Recall p ∷ ss) h =
     fits_framing tool (Some frame) stored (Part p) (stepping (Part p) ss ++ finish) (λ s. fits_steps tool (Part p) s ss h)
@@ -213,8 +230,11 @@ fits_steps tool frame stored (step.End ∷ ss) h = fits_steps tool frame stored 
 fits_measuring : (tool : Option (List ℕ)) (frame : Frame) (ss : List Step) → AreSelected tool frame ss
     → Fits unknown (measuring tool frame ss)
 fits_measuring None frame ss h = fits_framing None None None frame (stepping frame ss ++ finish) (λ s. fits_steps None frame s ss h)
-fits_measuring (Some n) frame ss h = (refl, fits_framing (Some n) None None frame (stepping frame ss ++ finish)
-    (λ s. fits_steps (Some n) frame s ss h))
+fits_measuring (Some n) frame ss h = (
+  refl,
+  fits_framing (Some n) None None frame (stepping frame ss ++ finish)
+      (λ s. fits_steps (Some n) frame s ss h),
+)
 
 fits_rest : (p : Program) (k : ℕ) → IsPlain p → Fits unknown
     (measuring (tool_behind None (up_to k p.steps)) (frame_behind Machine (up_to k p.steps)) (behind k p.steps))
@@ -245,13 +265,17 @@ no_clear_steps frame (step.End ∷ ss) = no_clear_steps frame ss
 no_clear_measuring : (tool : Option (List ℕ)) (frame : Frame) (ss : List Step) → HasNoClear (measuring tool frame ss)
 no_clear_measuring tool frame ss =
     no_clear_more (tooling tool) _ (no_clear_tooling tool) (no_clear_more (framing frame) _ (no_clear_framing frame)
-        (no_clear_more (stepping frame ss) finish (no_clear_steps frame ss) (refl, tt)))
+    (no_clear_more (stepping frame ss) finish (no_clear_steps frame ss) (refl, tt)))
 
 -- and what follows its ClearAllErrors fits by itself
 sane_clearing : (p : Program) (k : ℕ) → IsPlain p → IsSane (plan p k SameConnection)
-sane_clearing p k h =
-    ((λ e know. (refl, (refl, (refl, fits_rest p k h)))), ((λ e know. absurd (false≢true e)),
-        ((λ e know. absurd (false≢true e)), sane_without _ (no_clear_measuring _ _ (behind k p.steps)))))
+sane_clearing p k h = (
+  (λ e know. (refl, (refl, (refl, fits_rest p k h)))),
+  (
+    (λ e know. absurd (false≢true e)),
+    ((λ e know. absurd (false≢true e)), sane_without _ (no_clear_measuring _ _ (behind k p.steps))),
+  ),
+)
 
 pub plan_sane : (p : Program) (k : ℕ) (start : Start) → IsPlain p → IsSane (plan p k start)
 plan_sane p k NewConnection h = ((λ e know. absurd (false≢true e)), sane_clearing p k h)
@@ -269,8 +293,8 @@ measuring_touches : (tool : Option (List ℕ)) (frame : Frame) (ss : List Step)
     → touches_in (measuring tool frame ss) ≡ touches_in (stepping frame ss)
 measuring_touches tool frame ss =
     no_touch_tooling tool (framing frame ++ (stepping frame ss ++ finish))
-        ∙ (no_touch_framing frame (stepping frame ss ++ finish) ∙ (touches_more (stepping frame ss) finish
-        ∙ append-nil (touches_in (stepping frame ss))))
+    ∙ (no_touch_framing frame (stepping frame ss ++ finish) ∙ (touches_more (stepping frame ss) finish
+    ∙ append-nil (touches_in (stepping frame ss))))
 
 starting_touches : (start : Start) (ps : List Planned) → touches_in (starting start ps) ≡ touches_in ps
 starting_touches NewConnection ps = refl
@@ -313,7 +337,7 @@ no_abort_steps frame (step.End ∷ ss) = no_abort_steps frame ss
 no_abort_measuring : (tool : Option (List ℕ)) (frame : Frame) (ss : List Step) → HasNoAbort (measuring tool frame ss)
 no_abort_measuring tool frame ss =
     no_abort_more (tooling tool) _ (no_abort_tooling tool) (no_abort_more (framing frame) _ (no_abort_framing frame)
-        (no_abort_more (stepping frame ss) finish (no_abort_steps frame ss) (refl, tt)))
+    (no_abort_more (stepping frame ss) finish (no_abort_steps frame ss) (refl, tt)))
 
 pub plan_no_abort : (p : Program) (k : ℕ) (start : Start) → HasNoAbort (plan p k start)
 plan_no_abort p k NewConnection = (refl, (refl, (refl, (refl, no_abort_measuring _ _ (behind k p.steps)))))

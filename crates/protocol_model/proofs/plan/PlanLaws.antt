@@ -1,6 +1,6 @@
 -- What a plan measures, and in which order: the laws of plans.
-use Rattle.std.proofs.Common.{◌≡◌, ℕ, ◌≤◌, Bool, true, false, List, [], ◌∷◌, ◌++◌, drop, refl, sym, ◌∙◌, ap, arith, append_assoc, Option,
-  Some, None, Ok}
+use Rattle.std.proofs.Common.{◌≡◌, ℕ, ◌≤◌, Bool, true, false, List, [], ◌∷◌, ◌++◌, drop, refl, sym, ◌∙◌, ap, arith, append_assoc, Option}
+use Rattle.std.proofs.Common.{Some, None, Ok}
 use Rattle.std.proofs.lemmas.Bool.{false≢true}
 use Rattle.std.specs.List.{list_all, flat_map}
 use Rattle.fixed_um.specs.Shapes.{Direction}
@@ -22,14 +22,15 @@ use Rattle.dmis_program.specs.declared.features.Wanted.{Wanted}
 use Rattle.dmis_program.specs.declared.steps.Step.{Step}
 use Rattle.dmis_program.specs.declared.steps.Step.TheVariants as step
 use Rattle.protocol_model.specs.Plan.{tool_behind, frame_behind, behind, up_to, planned, framing, tooling, stepping, measuring, plan}
-use Rattle.protocol_model.specs.PlanReading.{touch_of, touches_of, end_of, ends_of, touch_ends, feature_ends, commands_of, Selected,
-  nothing_selected, selected_frame, selected_by, read_touch, read_move, read_frame, read_as, is_last, ReadAsPlanned, touch_made,
-  touches_made_by, touches_made, all_known, opening, is_measuring, IsInOrder, step_commands, whole_commands, CanBeWritten}
+use Rattle.protocol_model.specs.PlanReading.{touch_of, touches_of, end_of, ends_of, touch_ends, feature_ends, commands_of, Selected}
+use Rattle.protocol_model.specs.PlanReading.{nothing_selected, selected_frame, selected_by, read_touch, read_move, read_frame, read_as}
+use Rattle.protocol_model.specs.PlanReading.{is_last, ReadAsPlanned, touch_made, touches_made_by, touches_made, all_known, opening}
+use Rattle.protocol_model.specs.PlanReading.{is_measuring, IsInOrder, step_commands, whole_commands, CanBeWritten}
 use Rattle.protocol_model.specs.Server.{is_abort}
 use Rattle.protocol_model.proofs.plan.Blocks.{program_is_plain}
 use Rattle.protocol_model.proofs.plan.Fitting.{Know, unknown, known_frame, known_by, FitsMove, FitsTouch, FitsFrame, FitsOne, Fits}
-use Rattle.protocol_model.proofs.plan.Marks.{Marked, marks, marks_of, touch_in, touches_in, HasNoAbort, plan_touches, plan_fits,
-  plan_no_abort}
+use Rattle.protocol_model.proofs.plan.Marks.{Marked, marks, marks_of, touch_in, touches_in, HasNoAbort, plan_touches, plan_fits}
+use Rattle.protocol_model.proofs.plan.Marks.{plan_no_abort}
 use Rattle.protocol_model.proofs.written_lines.PlainClient.{HaveArguments, plan_arguments}
 use Rattle.protocol_model.specs.declared.plans.Planned.{Planned}
 use Rattle.protocol_model.specs.declared.plans.Does.{Does}
@@ -138,8 +139,11 @@ selects k s (command.GoTo p) h = h
 selects k s (command.PtMeas p d) h = h
 selects k s (command.ChangeTool n) h = record { tool = λ m e. e; frame = h.frame; stored = h.stored }
 selects k s (command.SetCsyTransformation p) h = record { tool = h.tool; frame = h.frame; stored = λ q e. e }
-selects k s (command.SetCoordSystem system) h = record { tool = h.tool; frame = frame_is_selected system k.stored s.stored h.stored;
-    stored = h.stored }
+selects k s (command.SetCoordSystem system) h = record {
+  tool = h.tool;
+  frame = frame_is_selected system k.stored s.stored h.stored;
+  stored = h.stored;
+}
 selects k s command.AbortE h = h
 
 -- a command that fits what is known does what it is planned for
@@ -152,7 +156,7 @@ fits_as k s command.OnPtMeasReport d h fits = ap (λ (x : Does). Some x) (sym fi
 fits_as k s (command.GoTo p) d h fits =
     let f : FitsMove k p d = fits in
     ap (λ (o : Option Frame). read_as (record s { frame = o }) (is_last d) (command.GoTo p)) (h.frame f.frame f.known)
-        ∙ ap (λ (x : Does). Some x) (sym f.is)
+    ∙ ap (λ (x : Does). Some x) (sym f.is)
 fits_as k s (command.PtMeas p dir) d h fits =
     let f : FitsTouch k p dir d = fits in
     touched p dir d f.touch f.last (h.tool f.touch.tool f.tool) (h.frame f.touch.frame f.frame) f.target f.dir f.is
@@ -169,8 +173,10 @@ fits_as k s command.AbortE d h fits = absurd fits
 
 as_planned : (ps : List Planned) (k : Know) (s : Selected) → IsSelected k s → Fits k ps → ReadAsPlanned s ps
 as_planned [] k s h fits = tt
-as_planned (p ∷ ps) k s h fits = (fits_as k s p.command p.does h fits.0,
-    as_planned ps (known_by k p.command) (selected_by s p.command) (selects k s p.command h) fits.1)
+as_planned (p ∷ ps) k s h fits = (
+  fits_as k s p.command p.does h fits.0,
+  as_planned ps (known_by k p.command) (selected_by s p.command) (selects k s p.command h) fits.1,
+)
 
 pub plan_as_planned : (p : Program) (k : ℕ) (start : Start) → IsProgram p → ReadAsPlanned nothing_selected (plan p k start)
 plan_as_planned p k start h = as_planned (plan p k start) unknown nothing_selected (nothing_known nothing_selected)
@@ -309,12 +315,19 @@ plan_in_order p k start = go start
     m = measured_of (tool_behind None (up_to k p.steps)) (frame_behind Machine (up_to k p.steps)) (behind k p.steps)
 
     go : (s : Start) → IsInOrder s (commands_of (plan p k s))
-    go NewConnection = record { measuring = m.body; parts = ap
-        (λ (l : List Command). command.StartSession ∷ command.ClearAllErrors ∷ command.Home ∷ command.OnPtMeasReport ∷ l) m.parts;
-        measures = measure_all m.body m.measures }
-    go SameConnection = record { measuring = m.body; parts = ap
-        (λ (l : List Command). command.ClearAllErrors ∷ command.Home ∷ command.OnPtMeasReport ∷ l) m.parts; measures =
-        measure_all m.body m.measures }
+    go NewConnection = record {
+      measuring = m.body;
+      parts = ap
+          (λ (l : List Command). command.StartSession ∷ command.ClearAllErrors ∷ command.Home ∷ command.OnPtMeasReport ∷ l) m.parts;
+      measures = measure_all m.body m.measures;
+    }
+    go SameConnection = record {
+      measuring = m.body;
+      parts = ap
+          (λ (l : List Command). command.ClearAllErrors ∷ command.Home ∷ command.OnPtMeasReport ∷ l) m.parts;
+      measures =
+          measure_all m.body m.measures;
+    }
 
 -- ---- the plan of a whole program
 
@@ -370,9 +383,11 @@ in_volume command.AbortE h = tt
 
 can_be_written : (ps : List Planned) (n : ℕ) → 1 ≤ n → n ≤ 9999 → HaveArguments ps → HasNoAbort ps → CanBeWritten (Std n) ps
 can_be_written [] n from to h g = tt
-can_be_written (p ∷ ps) n from to h g =
-    (record { tagged = record { numbered = (from, omega (arith, to)); sort = standard_kind p.command g.0 }; arguments = h.0 },
-        in_volume p.command h.0, can_be_written ps n from to h.1 g.1)
+can_be_written (p ∷ ps) n from to h g = (
+  record { tagged = record { numbered = (from, omega (arith, to)); sort = standard_kind p.command g.0 }; arguments = h.0 },
+  in_volume p.command h.0,
+  can_be_written ps n from to h.1 g.1,
+)
 
 pub plan_can_be_written : (p : Program) (k : ℕ) (start : Start) (n : ℕ) → IsProgram p → 1 ≤ n → n ≤ 9999
     → CanBeWritten (Std n) (plan p k start)

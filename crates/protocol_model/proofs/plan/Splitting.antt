@@ -1,6 +1,6 @@
 -- A plan goes on behind the last touch of the last completed feature: the laws of its position.
-use Rattle.std.proofs.Common.{◌≡◌, ℕ, zero, suc, ◌<◌, ◌≤◌, Bool, true, false, cond, List, [], ◌∷◌, ◌++◌, take, drop, length, refl, sym, ◌∙◌,
-  ap, arith, Option, Some, None}
+use Rattle.std.proofs.Common.{◌≡◌, ℕ, zero, suc, ◌<◌, ◌≤◌, Bool, true, false, cond, List, [], ◌∷◌, ◌++◌, take, drop, length, refl, sym, ◌∙◌}
+use Rattle.std.proofs.Common.{ap, arith, Option, Some, None}
 use Rattle.std.proofs.lemmas.Bool.{false≢true}
 use Rattle.std.proofs.lemmas.List.{append_cancel_right, take-append-drop}
 use Rattle.std.proofs.lemmas.Grind.{flat_map-append}
@@ -16,8 +16,8 @@ use Rattle.dmis_program.specs.declared.features.Touch.{Touch}
 use Rattle.dmis_program.specs.declared.features.Wanted.{Wanted}
 use Rattle.dmis_program.specs.declared.steps.Step.{Step}
 use Rattle.dmis_program.specs.declared.steps.Step.TheVariants as step
-use Rattle.protocol_model.specs.Plan.{tool_behind, frame_behind, is_empty, behind, up_to, planned, framing, tooling, stepping, measuring,
-  plan}
+use Rattle.protocol_model.specs.Plan.{tool_behind, frame_behind, is_empty, behind, up_to, planned, framing, tooling, stepping, measuring}
+use Rattle.protocol_model.specs.Plan.{plan}
 use Rattle.protocol_model.specs.PlanReading.{touches_of, commands_of, opening, step_commands}
 use Rattle.protocol_model.specs.Positions.{EndInTouch, tool_commands, frame_commands, commands_from}
 use Rattle.protocol_model.proofs.plan.Blocks.{AreBlocks, IsPlain, program_is_plain}
@@ -151,9 +151,9 @@ ends_by inside k [] h long = let none : length (left_of inside []) ≡ 0 = none_
 ends_by inside k (step.Goto p ∷ ss) h long = one_more (step.Goto p) _ (ends_by inside k ss h long)
 ends_by inside k (step.Begin l ∷ ss) h long =
     let before : length (left_of inside (step.Begin l ∷ ss)) ≡ suc (length (features_of ss)) =
-        left_false (block_touches ss) (record { label = l; touches = block_touches ss } ∷ features_of ss) inside h.0 in
+    left_false (block_touches ss) (record { label = l; touches = block_touches ss } ∷ features_of ss) inside h.0 in
     let after : length (left_of true ss) ≡ suc (length (features_of ss)) =
-        some_left (block_touches ss) (features_of ss) (not_empty (block_touches ss) h.1) in
+    some_left (block_touches ss) (features_of ss) (not_empty (block_touches ss) h.1) in
     one_more (step.Begin l) _ (ends_by true k ss h.2 (omega (arith, before, after, long)))
 ends_by inside zero (step.Touch t ∷ ss) h long = touch_ends_by (is_empty (block_touches ss)) zero t ss refl (omega arith)
     (λ j e l. absurd (cc)) (λ l. ends_by inside zero ss h.1 (same_long l))
@@ -163,10 +163,10 @@ ends_by inside zero (step.Touch t ∷ ss) h long = touch_ends_by (is_empty (bloc
         in omega (arith, e, l)
 ends_by inside (suc j) (step.Touch t ∷ ss) h long =
     let all : length (left_of inside (step.Touch t ∷ ss)) ≡ suc (length (features_of ss)) =
-        left_true t (block_touches ss) (features_of ss) inside h.0 in
+    left_true t (block_touches ss) (features_of ss) inside h.0 in
     touch_ends_by (is_empty (block_touches ss)) (suc j) t ss refl (omega (arith, all, long))
     (λ i e l. same_index i e (λ m. ends_by inside j ss h.1 (same_long (suc j) m)) l)
-        (λ l. ends_by inside (suc j) ss h.1 (same_long (suc (suc j)) l))
+    (λ l. ends_by inside (suc j) ss h.1 (same_long (suc (suc j)) l))
   where
     same_long : (n : ℕ) → n ≤ length (left_of true ss) → n ≤ length (left_of inside ss)
     same_long n l = let e : length (left_of inside ss) ≡ length (left_of true ss) = ap (λ (b : Bool). length (left_of b ss)) h.0

@@ -5,8 +5,8 @@ use Rattle.fixed_um.specs.declared.lengths.Point.{Point}
 use Rattle.dme_line.specs.declared.tags.Tag.{Tag}
 use Rattle.dme_line.specs.declared.commands.Kind.{Kind}
 use Rattle.protocol_model.specs.Replies.{Mark, tag_is}
-use Rattle.protocol_model.specs.Open.{Effect, Becomes, Breaks, Closes, Counts, Refused, judged, judged_ack, judged_given, judged_error,
-  judged_done, settled, put_before, heard_in, is_failed, asks_data, count_open, is_held}
+use Rattle.protocol_model.specs.Open.{Effect, Becomes, Breaks, Closes, Counts, Refused, judged, judged_ack, judged_given, judged_error}
+use Rattle.protocol_model.specs.Open.{judged_done, settled, put_before, heard_in, is_failed, asks_data, count_open, is_held}
 use Rattle.protocol_model.proofs.table.Basics.{if_cases, if_true, if_false, tag_is-refl, tag_is-true}
 use Rattle.protocol_model.proofs.table.Walks.{two, heard_at, heard_past, staged, heard_cases, AreDistinct}
 use Rattle.protocol_model.specs.declared.states.Cause.{Cause}
@@ -52,7 +52,7 @@ count_becomes front h hs m s true f v =
     let failed : h.stage ≡ Stage.Failed = is_failed-true h.stage f in
     let still : s ≡ Stage.Failed = failed_stays front h.kind m s (ap (λ (x : Stage). judged front h.kind x m) (sym failed) ∙ v) in
     let one : count_open (staged h s ∷ hs) ≡ count_open hs = ap (λ (x : Stage). cond (is_failed x) (count_open hs) (suc (count_open hs)))
-        still in
+    still in
     rw one (count_behind h hs)
 count_becomes front h hs m s false f v =
     let one : count_open (h ∷ hs) ≡ suc (count_open hs) = if_false {A = ℕ} (is_failed h.stage) (count_open hs) (suc (count_open hs)) f in
@@ -123,11 +123,19 @@ only_ends front (h ∷ hs) t m gs e is failed =
     heard_cases front h hs t m gs e (OnlyEnds (h ∷ hs) gs t m e) is
     (λ s same v g f.
     let still : s ≡ Stage.Failed = failed_stays front h.kind m s (at_failed front ∙ v) in
-    record { quiet = f; left = rw g (still, failed.1); anywhere = λ (b : Bool). heard_at b h hs t m same
-        ∙ (ap (settled h hs) (moved b ∙ v) ∙ rw (g, f) refl) })
+    record {
+      quiet = f;
+      left = rw g (still, failed.1);
+      anywhere = λ (b : Bool). heard_at b h hs t m same
+          ∙ (ap (settled h hs) (moved b ∙ v) ∙ rw (g, f) refl);
+    })
     (λ same v g f. absurd (never_breaks front h.kind m (at_failed front ∙ v)))
-    (λ same v g f. record { quiet = f; left = rw g failed.1; anywhere = λ (b : Bool). heard_at b h hs t m same
-        ∙ (ap (settled h hs) (moved b ∙ v) ∙ rw (g, f) refl) })
+    (λ same v g f. record {
+      quiet = f;
+      left = rw g failed.1;
+      anywhere = λ (b : Bool). heard_at b h hs t m same
+          ∙ (ap (settled h hs) (moved b ∙ v) ∙ rw (g, f) refl);
+    })
     (λ given same v g f. absurd (never_counts front h.kind m given (at_failed front ∙ v)))
     (λ rest other later g.
     let behind_it : OnlyEnds hs rest t m e = only_ends (front && is_failed h.stage) hs t m rest e later failed.1 in
@@ -231,12 +239,12 @@ none_fails front (h ∷ hs) t m gs e is n none =
     let parts = none_of h hs none in
     heard_cases front h hs t m gs e (failed_tags gs ≡ []) is
     (λ s same v g f. rw g (if_false {A = List Tag} (is_failed s) (h.tag ∷ failed_tags hs) (failed_tags hs)
-        (lives front h.kind h.stage s m n v) ∙ parts.1))
+    (lives front h.kind h.stage s m n v) ∙ parts.1))
     (λ same v g f. absurd (no_break front h.kind h.stage m n v))
     (λ same v g f. rw g parts.1)
     (λ given same v g f. rw g parts.1)
     (λ rest other later g. rw g (if_false {A = List Tag} (is_failed h.stage) (h.tag ∷ failed_tags rest) (failed_tags rest) parts.0
-        ∙ none_fails (front && is_failed h.stage) hs t m rest e later n parts.1))
+    ∙ none_fails (front && is_failed h.stage) hs t m rest e later n parts.1))
 
 error_moves : (s x : Stage) → is_failed s ≡ false → judged_error s ≡ Becomes x → ⊥
 error_moves Stage.Sent x l e = cc
@@ -277,7 +285,7 @@ failed_is_held t [] ts e = absurd (cc)
 failed_is_held t (h ∷ hs) ts e = if_cases {A = List Tag} (is_failed h.stage) (h.tag ∷ failed_tags hs) (failed_tags hs) (t ∷ ts)
     (is_held t (h ∷ hs) ≡ true) e
     (λ failed here. let same : h.tag ≡ t = cc in if_true {A = Bool} (tag_is h.tag t) true (is_held t hs) (ap (λ (u : Tag). tag_is u t) same
-        ∙ tag_is-refl t))
+    ∙ tag_is-refl t))
     (λ live there. go (tag_is h.tag t) (failed_is_held t hs ts there))
   where
     go : (b : Bool) → is_held t hs ≡ true → cond b true (is_held t hs) ≡ true

@@ -1,6 +1,6 @@
 -- Tags that are drawn: a drawn one is not held, and there is one where fewer are held than there are.
-use Rattle.std.proofs.Common.{◌≡◌, ℕ, zero, suc, ◌+◌, ◌<◌, ◌≤◌, Bool, true, false, cond, List, [], ◌∷◌, length, refl, sym, ◌∙◌, ap, subst,
-  arith, Option, Some, None, eqb, ne_eqb, le_refl}
+use Rattle.std.proofs.Common.{◌≡◌, ℕ, zero, suc, ◌+◌, ◌<◌, ◌≤◌, Bool, true, false, cond, List, [], ◌∷◌, length, refl, sym, ◌∙◌, ap, subst}
+use Rattle.std.proofs.Common.{arith, Option, Some, None, eqb, ne_eqb, le_refl}
 use Rattle.std.proofs.lemmas.Bool.{false≢true, eqb-true, eqb-false}
 use Rattle.dme_line.specs.declared.tags.Tag.{Tag}
 use Rattle.dme_line.specs.declared.tags.Tag.TheVariants.{Std, Event}
@@ -62,7 +62,7 @@ removed_length t (h ∷ hs) e = if_cases {A = Bool} (tag_is h.tag t) true (is_he
     (suc (length (removed t (h ∷ hs))) ≡ suc (length hs)) e
     (λ same is. ap (λ (l : List Held). suc (length l)) (if_true {A = List Held} (tag_is h.tag t) hs (h ∷ removed t hs) same))
     (λ other is. ap (λ (l : List Held). suc (length l)) (if_false {A = List Held} (tag_is h.tag t) hs (h ∷ removed t hs) other)
-        ∙ ap suc (removed_length t hs is))
+    ∙ ap suc (removed_length t hs is))
 
 held_cons : (u : Tag) (h : Held) (hs : List Held) (b : Bool) → is_held u hs ≡ true → cond b true (is_held u hs) ≡ true
 held_cons u h hs true e = refl
@@ -93,8 +93,8 @@ many_held sort apart hs n zero all = omega arith
 many_held sort apart hs n (suc left) all =
     let here : is_held (sort n) hs ≡ true = all n (le_refl n) (omega arith) in
     let rest : left ≤ length (removed (sort n) hs) = many_held sort apart (removed (sort n) hs) (suc n) left
-        (λ i from below. still_held (sort n) (sort i) hs (apart n i (λ (e : n ≡ i). too_far i from e)) (all i (omega arith) (omega arith)))
-        in
+    (λ i from below. still_held (sort n) (sort i) hs (apart n i (λ (e : n ≡ i). too_far i from e)) (all i (omega arith) (omega arith)))
+    in
     omega (arith, removed_length (sort n) hs here)
   where
     too_far : (i : ℕ) → suc n ≤ i → n ≡ i → ⊥
@@ -124,7 +124,7 @@ pub drawn : (sort : ℕ → Tag) (hs : List Held) (last left all n : ℕ)
     → or_else (first_free sort hs (suc last) left) (first_free sort hs 1 all) ≡ Some n → IsDrawn sort hs n
 drawn sort hs last left all n e = or_cases _ _ n (IsDrawn sort hs n) e
     (λ first. let f : IsFound sort hs (suc last) left n = found sort hs (suc last) left n first
-        in record { free = f.free; from = omega (arith, f.from) })
+    in record { free = f.free; from = omega (arith, f.from) })
     (λ other. let f : IsFound sort hs 1 all n = found sort hs 1 all n other in record { free = f.free; from = f.from })
 
 pub none_drawn : (sort : ℕ → Tag) (hs : List Held) (last left all : ℕ) → AreApart sort

@@ -1,6 +1,6 @@
 -- The number that is drawn next is the first that is not held.
-use Rattle.std.proofs.Common.{◌≡◌, ℕ, zero, suc, ◌+◌, ◌-◌, ◌<◌, ◌≤◌, Bool, true, false, List, refl, sym, ◌∙◌, subst, arith, Option, Some,
-  None, eqb}
+use Rattle.std.proofs.Common.{◌≡◌, ℕ, zero, suc, ◌+◌, ◌-◌, ◌<◌, ◌≤◌, Bool, true, false, List, refl, sym, ◌∙◌, subst, arith, Option, Some}
+use Rattle.std.proofs.Common.{None, eqb}
 use Rattle.std.proofs.lemmas.Bool.{false≢true, eqb-true, eqb-false}
 use Rattle.dme_line.specs.declared.tags.Tag.{Tag}
 use Rattle.protocol_model.specs.Open.{is_held}
@@ -47,9 +47,9 @@ within_of : (sort : ℕ → Tag) (hs : List Held) (last all n : ℕ)
     → or_else (first_free sort hs (suc last) (all - last)) (first_free sort hs 1 all) ≡ Some n → (1 ≤ n) × (n ≤ all)
 within_of sort hs last all n e = or_split _ _ n ((1 ≤ n) × (n ≤ all)) e
     (λ first. let f : IsFound sort hs (suc last) (all - last) n = found sort hs (suc last) (all - last) n first
-        in let from : suc last ≤ n = f.from in let below : n < suc last + (all - last) = f.below in (omega arith, omega arith))
+    in let from : suc last ≤ n = f.from in let below : n < suc last + (all - last) = f.below in (omega arith, omega arith))
     (λ none other. let f : IsFound sort hs 1 all n = found sort hs 1 all n other in let from : 1 ≤ n = f.from
-        in let below : n < 1 + all = f.below in (omega arith, omega arith))
+    in let below : n < 1 + all = f.below in (omega arith, omega arith))
 
 -- the first search goes up to the last number: what the second finds stands before it
 behind_of : (sort : ℕ → Tag) (hs : List Held) (last all n : ℕ) → first_free sort hs (suc last) (all - last) ≡ None

@@ -1,6 +1,6 @@
 -- A client that reads a list of replies, one after another.
-use Rattle.std.proofs.Common.{◌≡◌, ℕ, suc, ◌≤◌, true, false, not, ◌||◌, List, [], ◌∷◌, ◌++◌, refl, sym, ◌∙◌, ap, subst, append_assoc,
-  append-nil, Option, Some, None, Result, Ok, Err, le_trans, le_refl}
+use Rattle.std.proofs.Common.{◌≡◌, ℕ, suc, ◌≤◌, true, false, not, ◌||◌, List, [], ◌∷◌, ◌++◌, refl, sym, ◌∙◌, ap, subst, append_assoc}
+use Rattle.std.proofs.Common.{append-nil, Option, Some, None, Result, Ok, Err, le_trans, le_refl}
 use Rattle.fixed_um.specs.declared.lengths.Point.{Point}
 use Rattle.dme_line.specs.declared.tags.Tag.{Tag}
 use Rattle.dme_line.specs.declared.tags.Tag.TheVariants.{Std, Event}
@@ -9,8 +9,8 @@ use Rattle.contact_ledger.specs.declared.features.Feature.{Feature}
 use Rattle.dmis_program.specs.declared.features.Wanted.{Wanted}
 use Rattle.protocol_model.specs.Replies.{Mark, Reply, tag_of, mark_of, tag_is}
 use Rattle.protocol_model.specs.Open.{Effect, Heard, heard_in, count_open, is_held}
-use Rattle.protocol_model.specs.Client.{Tally, Table, act_of, joined, measured, begins_session, counted_next, tallied, heard_standard,
-  heard_event, heard_on, heard}
+use Rattle.protocol_model.specs.Client.{Tally, Table, act_of, joined, measured, begins_session, counted_next, tallied, heard_standard}
+use Rattle.protocol_model.specs.Client.{heard_event, heard_on, heard}
 use Rattle.protocol_model.proofs.table.Basics.{if_cases, if_true, if_false}
 use Rattle.protocol_model.proofs.table.Walks.{two, heard_more, not_held_keeps, AreDistinct, distinct_keeps}
 use Rattle.protocol_model.proofs.table.Counts.{AreFailed, OnlyEnds, only_ends, count_keeps}
@@ -54,7 +54,7 @@ step_cases ws b (Std n) m c P is none standard event = standard_cases ws b c (he
     (λ hs e. standard n hs e refl)
 step_cases ws b (Event n) m c P is none standard event =
     if_cases {A = Result Table Cause} (tag_is (Event n) (Event 0)) (fine b) (heard_event b (heard_in true b.event (Event n) m)) (fine c) P
-        is
+    is
     (λ zero_tag same. none zero_tag (same_table _ _ same))
     (λ other later. event_cases b c (heard_in true b.event (Event n) m) P later (λ hs e. event n hs e refl other))
 
@@ -98,9 +98,9 @@ step_with_standard : (ws : List Wanted) (x : Held) (b : Table) (t : Tag) (m : Ma
 step_with_standard ws x b t m c is =
     step_cases ws b t m c (heard ws (with_standard x b) t m ≡ fine (with_standard x c)) is
     (λ none same. if_true {A = Result Table Cause} (tag_is t (Event 0)) (fine (with_standard x b)) (heard_on ws (with_standard x b) t m)
-        none ∙ ap (λ (y : Table). fine (with_standard x y)) same)
+    none ∙ ap (λ (y : Table). fine (with_standard x y)) same)
     (λ n hs e tag walk g. rw (tag, g) (standard_step ws (with_standard x b) n m (hs ++ x ∷ []) e
-        (heard_more (not b.tally.failed) b.standard x (Std n) m hs e walk)))
+    (heard_more (not b.tally.failed) b.standard x (Std n) m hs e walk)))
     (λ n hs e tag other walk g. rw (tag, g) (event_step ws (with_standard x b) n m hs e (rw tag at other) walk))
 
 step_with_event : (ws : List Wanted) (x : Held) (b : Table) (t : Tag) (m : Mark) (c : Table) → heard ws b t m ≡ fine c
@@ -108,22 +108,28 @@ step_with_event : (ws : List Wanted) (x : Held) (b : Table) (t : Tag) (m : Mark)
 step_with_event ws x b t m c is =
     step_cases ws b t m c (heard ws (with_event x b) t m ≡ fine (with_event x c)) is
     (λ none same. if_true {A = Result Table Cause} (tag_is t (Event 0)) (fine (with_event x b)) (heard_on ws (with_event x b) t m) none
-        ∙ ap (λ (y : Table). fine (with_event x y)) same)
+    ∙ ap (λ (y : Table). fine (with_event x y)) same)
     (λ n hs e tag walk g. rw (tag, g) (standard_step ws (with_event x b) n m hs e walk))
     (λ n hs e tag other walk g. rw (tag, g) (event_step ws (with_event x b) n m (hs ++ x ∷ []) e (rw tag at other)
-        (heard_more true b.event x (Event n) m hs e walk)))
+    (heard_more true b.event x (Event n) m hs e walk)))
 
 pub reads_with_standard : (ws : List Wanted) (x : Held) (rs : List Reply) (b c : Table) → Reads ws b rs c
     → Reads ws (with_standard x b) rs (with_standard x c)
 reads_with_standard ws x [] b c reads = ap (with_standard x) reads
-reads_with_standard ws x (r ∷ rs) b c reads = (with_standard x reads.0, step_with_standard ws x b (tag_of r) (mark_of r) reads.0 reads.1,
-    reads_with_standard ws x rs reads.0 c reads.2)
+reads_with_standard ws x (r ∷ rs) b c reads = (
+  with_standard x reads.0,
+  step_with_standard ws x b (tag_of r) (mark_of r) reads.0 reads.1,
+  reads_with_standard ws x rs reads.0 c reads.2,
+)
 
 pub reads_with_event : (ws : List Wanted) (x : Held) (rs : List Reply) (b c : Table) → Reads ws b rs c
     → Reads ws (with_event x b) rs (with_event x c)
 reads_with_event ws x [] b c reads = ap (with_event x) reads
-reads_with_event ws x (r ∷ rs) b c reads = (with_event x reads.0, step_with_event ws x b (tag_of r) (mark_of r) reads.0 reads.1,
-    reads_with_event ws x rs reads.0 c reads.2)
+reads_with_event ws x (r ∷ rs) b c reads = (
+  with_event x reads.0,
+  step_with_event ws x b (tag_of r) (mark_of r) reads.0 reads.1,
+  reads_with_event ws x rs reads.0 c reads.2,
+)
 
 -- ---- where all standard commands have failed: replies count nothing, whatever is to be counted
 
@@ -219,8 +225,10 @@ joined_front (w ∷ ws) (f ∷ fs) ps = let rest = joined_front ws fs ps in (res
 
 measured_grows : (ws : List Wanted) (does : Does) (given : Option Point) (y : Tally) → Grows y (measured ws does given y)
 measured_grows ws (Does.Touches t false) (Some p) y = record { counted = front_refl y.counted; features = front_refl y.features }
-measured_grows ws (Does.Touches t true) (Some p) y = record { counted = front_refl y.counted;
-    features = joined_front ws y.features (y.points ++ p ∷ []) }
+measured_grows ws (Does.Touches t true) (Some p) y = record {
+  counted = front_refl y.counted;
+  features = joined_front ws y.features (y.points ++ p ∷ []);
+}
 measured_grows ws (Does.Touches t last) None y = grows_refl y
 measured_grows ws Does.Nothing given y = grows_refl y
 measured_grows ws Does.Homes given y = grows_refl y
@@ -232,10 +240,16 @@ counted_grows : (ws : List Wanted) (k : Kind) (given : Option Point) (todo : Lis
     → Grows y (counted_next ws k given todo y)
 counted_grows ws k given [] y = grows_refl y
 counted_grows ws k given (p ∷ todo) y =
-    let mid : Tally = record y { session = y.session || begins_session k; todo = todo; counted = y.counted ++ act_of p.does given;
-        completed = suc y.completed } in
-    grows_trans y mid (measured ws p.does given mid) (record { counted = front_more y.counted (act_of p.does given);
-        features = front_refl y.features }) (measured_grows ws p.does given mid)
+    let mid : Tally = record y {
+      session = y.session || begins_session k;
+      todo = todo;
+      counted = y.counted ++ act_of p.does given;
+      completed = suc y.completed;
+    } in
+    grows_trans y mid (measured ws p.does given mid) (record {
+      counted = front_more y.counted (act_of p.does given);
+      features = front_refl y.features;
+    }) (measured_grows ws p.does given mid)
 
 tallied_grows : (ws : List Wanted) (e : Effect) (y : Tally) → Grows y (tallied ws e y)
 tallied_grows ws Effect.Quiet y = grows_refl y
@@ -260,7 +274,7 @@ step_counts ws b t m c is =
     step_cases ws b t m c (count_open c.standard ≤ count_open b.standard) is
     (λ none same. subst (λ (x : Table). count_open x.standard ≤ count_open b.standard) same (le_refl _))
     (λ n hs e tag walk g. subst (λ (x : Table). count_open x.standard ≤ count_open b.standard) (sym g)
-        (count_keeps (not b.tally.failed) b.standard (Std n) m hs e walk))
+    (count_keeps (not b.tally.failed) b.standard (Std n) m hs e walk))
     (λ n hs e tag other walk g. subst (λ (x : Table). count_open x.standard ≤ count_open b.standard) (sym g) (le_refl _))
 
 pub reads_counts : (ws : List Wanted) (rs : List Reply) (b c : Table) → Reads ws b rs c → count_open c.standard ≤ count_open b.standard
@@ -273,7 +287,7 @@ step_distinct ws b t m c is d =
     step_cases ws b t m c (AreDistinct c.standard) is
     (λ none same. subst (λ (x : Table). AreDistinct x.standard) same d)
     (λ n hs e tag walk g. subst (λ (x : Table). AreDistinct x.standard) (sym g)
-        (distinct_keeps (not b.tally.failed) b.standard (Std n) m hs e walk d))
+    (distinct_keeps (not b.tally.failed) b.standard (Std n) m hs e walk d))
     (λ n hs e tag other walk g. subst (λ (x : Table). AreDistinct x.standard) (sym g) d)
 
 pub reads_distinct : (ws : List Wanted) (rs : List Reply) (b c : Table) → Reads ws b rs c → AreDistinct b.standard → AreDistinct c.standard
@@ -285,7 +299,7 @@ step_not_held ws u b t m c is d =
     step_cases ws b t m c (is_held u c.standard ≡ false) is
     (λ none same. subst (λ (x : Table). is_held u x.standard ≡ false) same d)
     (λ n hs e tag walk g. subst (λ (x : Table). is_held u x.standard ≡ false) (sym g)
-        (not_held_keeps u (not b.tally.failed) b.standard (Std n) m hs e walk d))
+    (not_held_keeps u (not b.tally.failed) b.standard (Std n) m hs e walk d))
     (λ n hs e tag other walk g. subst (λ (x : Table). is_held u x.standard ≡ false) (sym g) d)
 
 -- where no event command is held, none will be
@@ -295,7 +309,7 @@ step_no_event ws b t m c is none =
     (λ no_tag same. subst (λ (x : Table). x.event ≡ []) same none)
     (λ n hs e tag walk g. subst (λ (x : Table). x.event ≡ []) (sym g) none)
     (λ n hs e tag other walk g. let nowhere : heard_in true [] (Event n) m
-        ≡ two hs e = ap (λ (l : List Held). heard_in true l (Event n) m) (sym none) ∙ walk in absurd (cc))
+    ≡ two hs e = ap (λ (l : List Held). heard_in true l (Event n) m) (sym none) ∙ walk in absurd (cc))
 
 pub reads_no_event : (ws : List Wanted) (rs : List Reply) (b c : Table) → Reads ws b rs c → b.event ≡ [] → c.event ≡ []
 reads_no_event ws rs b c reads none = reads_keeps ws (λ (x : Table). x.event ≡ []) (step_no_event ws) rs b c reads none

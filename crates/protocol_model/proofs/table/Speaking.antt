@@ -111,7 +111,7 @@ goes_accepts k Stage.Received ((front, Mark.Ack) ∷ ms) h f = absurd h
 goes_accepts k Stage.Received ((front, Mark.Given p) ∷ ms) h f =
     let both : (front && asks_data k) ≡ true = ap (λ (b : Bool). b && asks_data k) f.0 ∙ h.0 in
     subst (λ (b : Bool). Goes k ms (judged_given b Stage.Received p) (λ next. Accepts k next ms)) (sym both)
-        (goes_accepts k (Stage.Given p) ms h.1 f.1)
+    (goes_accepts k (Stage.Given p) ms h.1 f.1)
 goes_accepts k Stage.Received ((front, Mark.Error) ∷ ms) h f = goes_accepts k Stage.Failed ms h f
 goes_accepts k Stage.Received ((front, Mark.Done) ∷ ms) h f =
     subst (λ (b : Bool). Goes k ms (judged_done b (asks_data k) Stage.Received) (λ next. Accepts k next ms)) (sym f.0)
@@ -208,7 +208,7 @@ replies_go asks ms (inl h) = counted_goes asks ms h
 replies_go asks ms (inr h) =
     subst (λ (x : List Mark). Goes_on asks Stage.Sent x) (sym h.ends.2)
     (instead asks Stage.Sent h.before h.missing h.rest (h.errors ++ h.ends.0) (counted_goes asks (h.before ++ h.missing ∷ h.rest) h.proper)
-        (failed_goes asks h.errors h.ends.0 h.are_errors h.ends.1))
+    (failed_goes asks h.errors h.ends.0 h.are_errors h.ends.1))
 
 -- ---- and back
 
@@ -228,10 +228,20 @@ tail_of asks [] h = record { errors = []; are_errors = tt; ending = []; ends = i
 tail_of asks (Mark.Ack ∷ ms) h = absurd h
 tail_of asks (Mark.Given p ∷ ms) h = absurd h
 tail_of asks (Mark.Error ∷ ms) h = let t : IsTail ms = tail_of asks ms h
-    in record { errors = Mark.Error ∷ t.errors; are_errors = t.are_errors; ending = t.ending; ends = t.ends;
-    is = ap (λ (x : List Mark). Mark.Error ∷ x) t.is }
-tail_of asks (Mark.Done ∷ ms) h = record { errors = []; are_errors = tt; ending = Mark.Done ∷ []; ends = inr refl;
-    is = ap (λ (x : List Mark). Mark.Done ∷ x) h }
+    in record {
+      errors = Mark.Error ∷ t.errors;
+      are_errors = t.are_errors;
+      ending = t.ending;
+      ends = t.ends;
+      is = ap (λ (x : List Mark). Mark.Error ∷ x) t.is;
+    }
+tail_of asks (Mark.Done ∷ ms) h = record {
+  errors = [];
+  are_errors = tt;
+  ending = Mark.Done ∷ [];
+  ends = inr refl;
+  is = ap (λ (x : List Mark). Mark.Done ∷ x) h;
+}
 
 failed_front : (asks : Bool) (before : List Mark) (missing : Mark) (rest ms : List Mark) → IsCounted asks (before ++ missing ∷ rest)
     → Goes_on asks Stage.Failed ms → IsRepliesFront asks (before ++ Mark.Error ∷ ms)
@@ -255,8 +265,13 @@ given_front p [] h = record { more = Mark.Done ∷ []; whole = inl (p, refl) }
 given_front p (Mark.Ack ∷ ms) h = absurd h
 given_front p (Mark.Given q ∷ ms) h = absurd h
 given_front p (Mark.Error ∷ ms) h = failed_front true (Mark.Ack ∷ Mark.Given p ∷ []) Mark.Done [] ms (p, refl) h
-given_front p (Mark.Done ∷ ms) h = record { more = []; whole = inl (p,
-    ap (λ (x : List Mark). Mark.Ack ∷ Mark.Given p ∷ Mark.Done ∷ (x ++ [])) h) }
+given_front p (Mark.Done ∷ ms) h = record {
+  more = [];
+  whole = inl (
+    p,
+    ap (λ (x : List Mark). Mark.Ack ∷ Mark.Given p ∷ Mark.Done ∷ (x ++ [])) h,
+  );
+}
 
 received_front : (asks : Bool) (ms : List Mark) → Goes_on asks Stage.Received ms → IsRepliesFront asks (Mark.Ack ∷ ms)
 received_front false [] h = record { more = Mark.Done ∷ []; whole = inl refl }

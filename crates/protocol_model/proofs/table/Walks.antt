@@ -3,8 +3,8 @@ use Rattle.std.proofs.Common.{◌≡◌, Bool, true, false, ◌&&◌, List, [], 
 use Rattle.fixed_um.specs.declared.lengths.Point.{Point}
 use Rattle.dme_line.specs.declared.tags.Tag.{Tag}
 use Rattle.protocol_model.specs.Replies.{Mark, tag_is}
-use Rattle.protocol_model.specs.Open.{Verdict, Effect, Heard, Becomes, Breaks, Closes, Counts, Refused, judged, settled, put_before,
-  heard_in, is_failed, is_held}
+use Rattle.protocol_model.specs.Open.{Verdict, Effect, Heard, Becomes, Breaks, Closes, Counts, Refused, judged, settled, put_before}
+use Rattle.protocol_model.specs.Open.{heard_in, is_failed, is_held}
 use Rattle.protocol_model.proofs.table.Basics.{if_cases, if_true, if_false}
 use Rattle.protocol_model.specs.declared.held.Stage.{Stage}
 use Rattle.protocol_model.specs.declared.held.Held.{Held}
@@ -68,9 +68,9 @@ pub heard_cases : (front : Bool) (h : Held) (hs : List Held) (t : Tag) (m : Mark
     → P
 heard_cases front h hs t m gs e P is becomes breaks closes counts past =
     if_cases {A = Heard} (tag_is h.tag t) (settled h hs (judged front h.kind h.stage m))
-        (put_before h (heard_in (front && is_failed h.stage) hs t m)) (two gs e) P is
+    (put_before h (heard_in (front && is_failed h.stage) hs t m)) (two gs e) P is
     (λ same now. settled_cases h hs gs e (judged front h.kind h.stage m) P now (λ s. becomes s same) (breaks same) (closes same)
-        (λ given. counts given same))
+    (λ given. counts given same))
     (λ other later. put_cases h (heard_in (front && is_failed h.stage) hs t m) gs e P later (λ rest. past rest other))
 
 -- ---- with one command more at the end
@@ -85,7 +85,7 @@ heard_more front (h ∷ hs) x t m gs e is =
     (λ same v g f. heard_at front h (hs ++ x ∷ []) t m same ∙ (ap (settled h (hs ++ x ∷ [])) v ∙ rw (g, f) refl))
     (λ given same v g f. heard_at front h (hs ++ x ∷ []) t m same ∙ (ap (settled h (hs ++ x ∷ [])) v ∙ rw (g, f) refl))
     (λ rest other later g. heard_past front h (hs ++ x ∷ []) t m other
-        ∙ (ap (put_before h) (heard_more (front && is_failed h.stage) hs x t m rest e later) ∙ rw g refl))
+    ∙ (ap (put_before h) (heard_more (front && is_failed h.stage) hs x t m rest e later) ∙ rw g refl))
 
 -- ---- the tags that are held become no more
 
@@ -102,7 +102,7 @@ not_held_keeps u front (h ∷ hs) t m gs e is free =
     (λ same v g f. rw g behind_it)
     (λ given same v g f. rw g behind_it)
     (λ rest other_tag later g. rw g (if_false {A = Bool} (tag_is h.tag u) true (is_held u rest) other
-        ∙ not_held_keeps u (front && is_failed h.stage) hs t m rest e later behind_it)))
+    ∙ not_held_keeps u (front && is_failed h.stage) hs t m rest e later behind_it)))
 
 -- each tag is held once
 abbrev pub AreDistinct : List Held → Type 0
@@ -118,5 +118,7 @@ distinct_keeps front (h ∷ hs) t m gs e is d =
     (λ same v g f. rw g d)
     (λ same v g f. rw g d.1)
     (λ given same v g f. rw g d.1)
-    (λ rest other later g. rw g (not_held_keeps h.tag (front && is_failed h.stage) hs t m rest e later d.0,
-        distinct_keeps (front && is_failed h.stage) hs t m rest e later d.1))
+    (λ rest other later g. rw g (
+      not_held_keeps h.tag (front && is_failed h.stage) hs t m rest e later d.0,
+      distinct_keeps (front && is_failed h.stage) hs t m rest e later d.1,
+    ))

@@ -1,6 +1,6 @@
 -- What a client has counted follows its plan, and so do the commands that are open: kept by every reply.
-use Rattle.std.proofs.Common.{◌≡◌, ℕ, suc, Bool, true, false, ◌&&◌, ◌||◌, not, List, [], ◌∷◌, ◌++◌, length, refl, sym, ◌∙◌, ap, subst,
-  arith, append_assoc, append-nil, length-append, Option, Some, None}
+use Rattle.std.proofs.Common.{◌≡◌, ℕ, suc, Bool, true, false, ◌&&◌, ◌||◌, not, List, [], ◌∷◌, ◌++◌, length, refl, sym, ◌∙◌, ap, subst}
+use Rattle.std.proofs.Common.{arith, append_assoc, append-nil, length-append, Option, Some, None}
 use Rattle.std.proofs.lemmas.Bool.{false≢true}
 use Rattle.fixed_um.specs.declared.lengths.Point.{Point}
 use Rattle.dme_line.specs.Kinds.{kind_of}
@@ -255,7 +255,7 @@ behind_kept (h ∷ hs) t m gs e calm is =
     (λ same v g f. absurd (no_closes false h.kind h.stage m calm.0 v))
     (λ given same v g f. absurd (no_counts h.kind h.stage m given v))
     (λ rest other later g. subst (λ (l : List Held). Kept (h ∷ hs) l e) (sym g)
-        (kept_behind h hs rest e calm.0 (behind_kept hs t m rest e calm.1 later)))
+    (kept_behind h hs rest e calm.0 (behind_kept hs t m rest e calm.1 later)))
 
 front_moved : (hs : List Held) (t : Tag) (m : Mark) (gs : List Held) (e : Effect) → AreCalm hs → heard_in true hs t m ≡ two gs e
     → Moved hs gs e
@@ -266,10 +266,10 @@ front_moved (h ∷ hs) t m gs e calm is =
     (λ same v g f. Stays (Broke f))
     (λ same v g f. absurd (no_closes true h.kind h.stage m calm.0 v))
     (λ given same v g f. Counted h given (ap (λ (l : List Held). h ∷ l) (sym g)) f
-        (λ none. counts_given h.kind h.stage m (v ∙ ap (λ (o : Option Point). Counts o) none)))
+    (λ none. counts_given h.kind h.stage m (v ∙ ap (λ (o : Option Point). Counts o) none)))
     (λ rest other later g. Stays (subst (λ (l : List Held). Kept (h ∷ hs) l e) (sym g)
-        (kept_behind h hs rest e calm.0 (behind_kept hs t m rest e calm.1
-        (subst (λ (b : Bool). heard_in b hs t m ≡ two rest e) calm.0 later)))))
+    (kept_behind h hs rest e calm.0 (behind_kept hs t m rest e calm.1
+    (subst (λ (b : Bool). heard_in b hs t m ≡ two rest e) calm.0 later)))))
 
 -- ---- a client's open commands and its tally follow a plan
 
@@ -310,8 +310,12 @@ counts ws steps unsent h gs y given finished (p ∷ rest) asked parts acts faile
     let same : kind_of p.command ≡ h.kind = sym (ap (λ (l : List Kind). first_kind l h.kind) calm.kinds) in
     let others : kinds_held gs ++ kinds_of unsent ≡ kinds_of rest = ap other_kinds calm.kinds in
     let one : IsAsked p = asked_at finished p rest (subst AreAsked (sym parts) asked) in
-    let mid : Tally = record y { session = y.session || begins_session h.kind; todo = rest; counted = y.counted ++ act_of p.does given;
-        completed = suc y.completed } in
+    let mid : Tally = record y {
+      session = y.session || begins_session h.kind;
+      todo = rest;
+      counted = y.counted ++ act_of p.does given;
+      completed = suc y.completed;
+    } in
     let keeps : Keeps mid (measured ws p.does given mid) = measured_keeps ws p.does given mid in
     record {
       finished = finished ++ p ∷ [];
@@ -365,27 +369,30 @@ moved_follows ws steps unsent hs gs y e asked f failed (Stays (Same quiet calm t
       finished = f.finished;
       parts = f.parts;
       acts = f.acts;
-      calm = λ still. record { calm = calm; tags = tags (length f.finished) c.tags;
-          kinds = ap (λ (l : List Kind). l ++ kinds_of unsent) kinds ∙ c.kinds };
+      calm = λ still. record {
+        calm = calm;
+        tags = tags (length f.finished) c.tags;
+        kinds = ap (λ (l : List Kind). l ++ kinds_of unsent) kinds ∙ c.kinds;
+      };
     })
 moved_follows ws steps unsent hs gs y e asked f failed (Stays (Broke failure)) =
     subst (λ (x : Effect). IsFollowing steps unsent gs (tallied ws x y)) (sym failure)
-        (record { finished = f.finished; parts = f.parts; acts = f.acts; calm = λ still. absurd (false≢true (sym still)) })
+    (record { finished = f.finished; parts = f.parts; acts = f.acts; calm = λ still. absurd (false≢true (sym still)) })
 moved_follows ws steps unsent hs gs y e asked f failed (Counted h given is count given_one) =
     subst (λ (x : Effect). IsFollowing steps unsent gs (tallied ws x y)) (sym count)
     (counts ws steps unsent h gs y given f.finished y.todo asked f.parts f.acts failed
-        (subst (λ (l : List Held). IsCalm f.finished unsent l y.todo) is (f.calm failed)) given_one)
+    (subst (λ (l : List Held). IsCalm f.finished unsent l y.todo) is (f.calm failed)) given_one)
 
 standard_follows : (ws : List Wanted) (steps unsent : List Planned) (hs gs : List Held) (y : Tally) (t : Tag) (m : Mark) (e : Effect)
     → AreAsked steps → IsFollowing steps unsent hs y → (b : Bool) → y.failed ≡ b → heard_in (not y.failed) hs t m ≡ two gs e
     → IsFollowing steps unsent gs (tallied ws e y)
 standard_follows ws steps unsent hs gs y t m e asked f true failed is =
     stays_failed ws steps unsent hs gs y e f failed (uncounted hs t m gs e
-        (subst (λ (b : Bool). heard_in (not b) hs t m ≡ two gs e) failed is))
+    (subst (λ (b : Bool). heard_in (not b) hs t m ≡ two gs e) failed is))
 standard_follows ws steps unsent hs gs y t m e asked f false calm is =
     let c : IsCalm f.finished unsent hs y.todo = f.calm calm in
     moved_follows ws steps unsent hs gs y e asked f calm (front_moved hs t m gs e c.calm
-        (subst (λ (b : Bool). heard_in (not b) hs t m ≡ two gs e) calm is))
+    (subst (λ (b : Bool). heard_in (not b) hs t m ≡ two gs e) calm is))
 
 -- each reply leaves a table that follows the plan
 abbrev pub Follows : List Planned → List Planned → Table → Type 0
@@ -397,5 +404,5 @@ heard_follows ws steps unsent asked b t m c is f =
     step_cases ws b t m c (Follows steps unsent c) is
     (λ zero_tag same. subst (Follows steps unsent) same f)
     (λ n hs e tag here after. subst (Follows steps unsent) (sym after)
-        (standard_follows ws steps unsent b.standard hs b.tally (Std n) m e asked f b.tally.failed refl here))
+    (standard_follows ws steps unsent b.standard hs b.tally (Std n) m e asked f b.tally.failed refl here))
     (λ n hs e tag other here after. subst (Follows steps unsent) (sym after) f)

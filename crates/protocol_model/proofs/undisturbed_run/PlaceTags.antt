@@ -1,6 +1,6 @@
 -- Where few commands are open, each next one goes out under the tag of its place in the plan.
-use Rattle.std.proofs.Common.{◌≡◌, ℕ, zero, suc, ◌+◌, ◌-◌, ◌<◌, ◌≤◌, ◌%◌, ◌⊎◌, inl, inr, Bool, true, false, List, [], ◌∷◌, ◌++◌, length,
-  refl, sym, ◌∙◌, ap, subst, arith, Option, Some, None, eqb, ne_eqb}
+use Rattle.std.proofs.Common.{◌≡◌, ℕ, zero, suc, ◌+◌, ◌-◌, ◌<◌, ◌≤◌, ◌%◌, ◌⊎◌, inl, inr, Bool, true, false, List, [], ◌∷◌, ◌++◌, length}
+use Rattle.std.proofs.Common.{refl, sym, ◌∙◌, ap, subst, arith, Option, Some, None, eqb, ne_eqb}
 use Rattle.std.proofs.lemmas.Bool.{eqb-true, eqb-false}
 use Rattle.dme_line.specs.declared.tags.Tag.{Tag}
 use Rattle.dme_line.specs.declared.tags.Tag.TheVariants.{Std}
@@ -30,7 +30,7 @@ pub next_is_free : (hs : List Held) (i j : ℕ) → HaveTags i hs → i + length
 next_is_free [] i j h e few = refl
 next_is_free (x ∷ hs) i j h e few =
     if_false {A = Bool} (tag_is x.tag (tag_at j)) true (is_held (tag_at j) hs) (ap (λ (t : Tag). tag_is t (tag_at j)) h.0
-        ∙ ne_eqb (number_at i) (number_at j) (far_apart i j (omega (arith, e)) (omega (arith, e, few))))
+    ∙ ne_eqb (number_at i) (number_at j) (far_apart i j (omega (arith, e)) (omega (arith, e, few))))
     ∙ next_is_free hs (suc i) j h.1 (omega (arith, e)) (omega (arith, few))
 
 first_is : (hs : List Held) (n left : ℕ) → is_held (Std n) hs ≡ false → first_free Std hs n (suc left) ≡ Some n
@@ -42,7 +42,7 @@ next_by : (hs : List Held) (d m : ℕ) → is_held (Std m) hs ≡ false → ((d 
 next_by hs d m free (inl h) =
     let left : 9999 - d ≡ suc (9998 - d) = omega (arith, h.0) in
     let found : first_free Std hs (suc d) (9999 - d) ≡ Some (suc d) = ap (λ (k : ℕ). first_free Std hs (suc d) k) left
-        ∙ first_is hs (suc d) (9998 - d) (subst (λ (k : ℕ). is_held (Std k) hs ≡ false) h.1 free) in
+    ∙ first_is hs (suc d) (9998 - d) (subst (λ (k : ℕ). is_held (Std k) hs ≡ false) h.1 free) in
     ap (λ (o : Option ℕ). or_else o (first_free Std hs 1 9999)) found ∙ ap (λ (k : ℕ). Some k) (sym h.1)
 next_by hs d m free (inr h) =
     let left : 9999 - d ≡ 0 = omega (arith, h.0) in

@@ -1,6 +1,6 @@
 -- A client that follows one plan from its first command on: what it has sent are the first lines of the plan.
-use Rattle.std.proofs.Common.{◌≡◌, ℕ, suc, ◌+◌, Bool, true, false, cond, List, [], ◌∷◌, ◌++◌, length, refl, sym, ◌∙◌, ap, subst, arith,
-  append_assoc, length-append, Option, Some, None, Result, Ok, Err, eqb}
+use Rattle.std.proofs.Common.{◌≡◌, ℕ, suc, ◌+◌, Bool, true, false, cond, List, [], ◌∷◌, ◌++◌, length, refl, sym, ◌∙◌, ap, subst, arith}
+use Rattle.std.proofs.Common.{append_assoc, length-append, Option, Some, None, Result, Ok, Err, eqb}
 use Rattle.fixed_um.specs.declared.lengths.Point.{Point}
 use Rattle.dme_line.specs.Kinds.{kind_of}
 use Rattle.dme_line.specs.declared.tags.Tag.{Tag}
@@ -16,8 +16,8 @@ use Rattle.line_framing.specs.declared.faults.FramingFault.TheVariants as framin
 use Rattle.protocol_model.specs.Replies.{Mark, tag_is}
 use Rattle.protocol_model.specs.Lines.{Readers, command_bytes}
 use Rattle.protocol_model.specs.Open.{asks_data, count_open}
-use Rattle.protocol_model.specs.Client.{Client, Table, faulted, is_apart, held_now, sends_next, client_hears, client_read, heard_on, heard,
-  first_state, last_state, is_whole, ends_abort, client_connected}
+use Rattle.protocol_model.specs.Client.{Client, Table, faulted, is_apart, held_now, sends_next, client_hears, client_read, heard_on, heard}
+use Rattle.protocol_model.specs.Client.{first_state, last_state, is_whole, ends_abort, client_connected}
 use Rattle.protocol_model.specs.Ends.{held_under, given_point, given_under, response_read, line_read, front_read}
 use Rattle.protocol_model.specs.Plan.{plan}
 use Rattle.protocol_model.specs.Undisturbed.{tag_at, lines_from}
@@ -74,8 +74,16 @@ first_away State.Faulted ends failed h = refl
 
 pub stays_faulted : (steps : List Planned) (c : Client) (written : List ℕ) (cause : Cause) → IsOnPlan steps c written
     → IsOnPlan steps (faulted cause c) written
-stays_faulted steps c written cause h = record { on = h.on; away = refl; first = h.first; follows = h.follows; sent = h.sent;
-    whole = h.whole; drawn = h.drawn; written_is = h.written_is }
+stays_faulted steps c written cause h = record {
+  on = h.on;
+  away = refl;
+  first = h.first;
+  follows = h.follows;
+  sent = h.sent;
+  whole = h.whole;
+  drawn = h.drawn;
+  written_is = h.written_is;
+}
 
 hears_on : (steps : List Planned) (c : Client) (written : List ℕ) (t : Tag) (m : Mark) → AreAsked steps → IsOnPlan steps c written
     → (r : Result Table Cause) → heard c.program.features c.table t m ≡ r → IsOnPlan steps (client_hears c t m r) written
@@ -119,14 +127,14 @@ under_on : (readers : Readers) (steps : List Planned) (c : Client) (written : Li
 under_on readers steps c written t text None asked h = stays_faulted steps c written Cause.UnknownTag h
 under_on readers steps c written t text (Some k) asked h =
     one_of steps written (asks_data k) (given_point c t (readers.point text)) (faulted Cause.OutOfOrder c)
-        (point_on steps c written t (readers.point text) asked h) (stays_faulted steps c written Cause.OutOfOrder h)
+    (point_on steps c written t (readers.point text) asked h) (stays_faulted steps c written Cause.OutOfOrder h)
 
 response_on : (readers : Readers) (steps : List Planned) (c : Client) (written : List ℕ) (t : Tag) (m : Marked) → AreAsked steps
     → IsOnPlan steps c written → IsOnPlan steps (response_read readers c t m) written
 response_on readers steps c written t mark.Ack asked h = read_on steps c written t Mark.Ack asked h
 response_on readers steps c written t (mark.Given text) asked h =
     one_of steps written (tag_is t (tag.Event 0)) c (given_under readers c t text (held_under t c)) h
-        (under_on readers steps c written t text (held_under t c) asked h)
+    (under_on readers steps c written t text (held_under t c) asked h)
 response_on readers steps c written t mark.Done asked h = read_on steps c written t Mark.Done asked h
 response_on readers steps c written t (mark.Error text) asked h = read_on steps c written t Mark.Error asked h
 
@@ -163,7 +171,7 @@ places finished todo sent unsent steps hs f s k =
     let a : length finished + length todo ≡ length steps = sym (length-append finished todo) ∙ ap length f in
     let b : length sent + length unsent ≡ length steps = sym (length-append sent unsent) ∙ ap length s in
     let c : length (kinds_held hs) + length (kinds_of unsent) ≡ length (kinds_of todo) =
-        sym (length-append (kinds_held hs) (kinds_of unsent)) ∙ ap length k in
+    sym (length-append (kinds_held hs) (kinds_of unsent)) ∙ ap length k in
     omega (arith, a, b, c, held_long hs, kinds_long unsent, kinds_long todo)
 
 -- the next command, under the tag of its place
@@ -173,7 +181,7 @@ pub sends_on : (steps : List Planned) (c : Client) (written : List ℕ) (p : Pla
     ++ command_bytes (sends_next c (p ∷ others) number).lines)
 sends_on steps c written p others number h unsent failed is =
     subst (λ (o : Option ℕ). IsOnPlan steps (sends_next c (p ∷ others) o).client (written
-        ++ command_bytes (sends_next c (p ∷ others) o).lines)) (sym is) (record {
+    ++ command_bytes (sends_next c (p ∷ others) o).lines)) (sym is) (record {
       on = h.on;
       away = h.away;
       first = h.first;
@@ -184,7 +192,7 @@ sends_on steps c written p others number h unsent failed is =
         calm = λ e.
             let k : IsCalm h.follows.finished c.unsent c.table.standard c.table.tally.todo = h.follows.calm e in
             let at : length h.follows.finished + length c.table.standard ≡ length h.sent =
-                places h.follows.finished c.table.tally.todo h.sent c.unsent steps c.table.standard h.follows.parts h.whole k.kinds in
+            places h.follows.finished c.table.tally.todo h.sent c.unsent steps c.table.standard h.follows.parts h.whole k.kinds in
             record {
               calm = calm_more c.table.standard x k.calm refl;
               tags = tags_more c.table.standard (length h.follows.finished) (length h.sent) x k.tags at refl;

@@ -1,6 +1,6 @@
 -- Undisturbed runs follow the plan: what is written, what is done, and what is counted.
-use Rattle.std.proofs.Common.{◌≡◌, ℕ, suc, ◌<◌, ◌≤◌, ◌+◌, ◌⊎◌, inl, inr, Bool, true, false, cond, List, [], ◌∷◌, ◌++◌, length, refl, sym,
-  ◌∙◌, ap, subst, arith, append-nil, Option, Some, None, Ok, Err, eqb, eq-eqb, le_trans}
+use Rattle.std.proofs.Common.{◌≡◌, ℕ, suc, ◌<◌, ◌≤◌, ◌+◌, ◌⊎◌, inl, inr, Bool, true, false, cond, List, [], ◌∷◌, ◌++◌, length, refl, sym}
+use Rattle.std.proofs.Common.{◌∙◌, ap, subst, arith, append-nil, Option, Some, None, Ok, Err, eqb, eq-eqb, le_trans}
 use Rattle.std.proofs.lemmas.Bool.{false≢true, and_parts, ltb-true, leb-true}
 use Rattle.dmis_program.specs.Meaning.{Meaning}
 use Rattle.dmis_program.specs.Programs.{IsProgram}
@@ -18,10 +18,11 @@ use Rattle.protocol_model.specs.Ends.{ServerEnd, front_served, serving_turned, s
 use Rattle.protocol_model.specs.Typed.{World as Lined}
 use Rattle.protocol_model.specs.World.{World, start, can, happens, after, run_of, server_writes, connected}
 use Rattle.protocol_model.specs.declared.events.Event.{Event}
-use Rattle.protocol_model.specs.declared.events.Event.TheVariants.{Connect, Accept, ClientSends, Up, ServerReads, ServerTurn, Machine, Down,
-  ClientReads, ClientLeaves, ServerLeaves, Abort, Resume, ClientRestart, ServerRestart}
-use Rattle.protocol_model.specs.Undisturbed.{IsUndisturbed, AreUndisturbed, lines_from, AreFirstLines, acts_planned, AreFirstActs, acts_in,
-  AreFirstOf}
+use Rattle.protocol_model.specs.declared.events.Event.TheVariants.{Connect, Accept, ClientSends, Up, ServerReads, ServerTurn, Machine, Down}
+use Rattle.protocol_model.specs.declared.events.Event.TheVariants.{ClientReads, ClientLeaves, ServerLeaves, Abort, Resume, ClientRestart}
+use Rattle.protocol_model.specs.declared.events.Event.TheVariants.{ServerRestart}
+use Rattle.protocol_model.specs.Undisturbed.{IsUndisturbed, AreUndisturbed, lines_from, AreFirstLines, acts_planned, AreFirstActs, acts_in}
+use Rattle.protocol_model.specs.Undisturbed.{AreFirstOf}
 use Rattle.protocol_model.proofs.table.Basics.{if_true}
 use Rattle.protocol_model.proofs.plan.Blocks.{program_is_plain}
 use Rattle.protocol_model.proofs.plan.Fitting.{unknown}
@@ -124,28 +125,30 @@ can_send w inv running = go inv.side
   where
     go : IsOff w ⊎ IsLive w → CanSend w.client
     go (inl off) = absurd (subst IsAtRest running off.rest)
-    go (inr live) = record { failed = subst (λ (s : State). HasState s w.client.table) running live.state;
-        few = le_trans live.within inv.window }
+    go (inr live) = record {
+      failed = subst (λ (s : State). HasState s w.client.table) running live.state;
+      few = le_trans live.within inv.window;
+    }
 
 sends_stays : (p : Meaning) (b : World) → IsCarried b → IsUnderWay p b → (d : IsDue b.client.client)
     → IsOnPlan (steps_for p) (sends_next b.client.client b.client.client.unsent
     (next_number Std b.client.client.table.standard b.client.client.drawn)).client
     (b.written ++ (b.client.out ++ command_bytes (sends_next b.client.client b.client.client.unsent
-        (next_number Std b.client.client.table.standard b.client.client.drawn)).lines))
+    (next_number Std b.client.client.table.standard b.client.client.drawn)).lines))
 sends_stays p b k h d =
     let c : Client = b.client.client in
     let may : CanSend c = can_send (lined b k.up k.down) k.inv d.running in
     let calm : IsCalm h.client.follows.finished c.unsent c.table.standard c.table.tally.todo = h.client.follows.calm may.failed in
     let at : length h.client.follows.finished + length c.table.standard ≡ length h.client.sent =
-        places h.client.follows.finished c.table.tally.todo h.client.sent c.unsent (steps_for p) c.table.standard h.client.follows.parts
-        h.client.whole calm.kinds in
+    places h.client.follows.finished c.table.tally.todo h.client.sent c.unsent (steps_for p) c.table.standard h.client.follows.parts
+    h.client.whole calm.kinds in
     let few : length c.table.standard ≤ 16 = subst (λ (n : ℕ). n ≤ 16) (count_calm c.table.standard calm.calm) may.few in
     let number : next_number Std c.table.standard c.drawn ≡ Some (number_at (length h.client.sent)) =
-        next_is c.table.standard (length h.client.follows.finished) (length h.client.sent) c.drawn calm.tags at few h.client.drawn in
+    next_is c.table.standard (length h.client.follows.finished) (length h.client.sent) c.drawn calm.tags at few h.client.drawn in
     subst (λ (o : List ℕ). IsOnPlan (steps_for p) (sends_next c c.unsent (next_number Std c.table.standard c.drawn)).client (b.written
-        ++ (o ++ command_bytes (sends_next c c.unsent (next_number Std c.table.standard c.drawn)).lines))) (sym k.client_out)
+    ++ (o ++ command_bytes (sends_next c c.unsent (next_number Std c.table.standard c.drawn)).lines))) (sym k.client_out)
     (subst (λ (ps : List Planned). IsOnPlan (steps_for p) (sends_next c ps (next_number Std c.table.standard c.drawn)).client (b.written
-        ++ command_bytes (sends_next c ps (next_number Std c.table.standard c.drawn)).lines)) (sym d.unsent)
+    ++ command_bytes (sends_next c ps (next_number Std c.table.standard c.drawn)).lines)) (sym d.unsent)
     (sends_on (steps_for p) c b.written d.planned d.others (next_number Std c.table.standard c.drawn) h.client d.unsent may.failed number))
 
 -- ---- events on the connection
@@ -159,8 +162,12 @@ stays_planned readers p asked Connect b quiet k may h = absurd (false≢true (sy
 stays_planned readers p asked (Accept n) b quiet k may h =
     let parts = and_parts _ _ may in
     let numbers = and_parts _ _ parts.1 in
-    record { client = h.client; serving = λ on. only_one b.server.server.last n b.client.client.last (ltb-true _ _ numbers.0)
-        (subst (λ (i : ℕ). n ≤ i) k.wired.made (leb-true _ _ numbers.1)) h.client.first; ledger = h.ledger }
+    record {
+      client = h.client;
+      serving = λ on. only_one b.server.server.last n b.client.client.last (ltb-true _ _ numbers.0)
+          (subst (λ (i : ℕ). n ≤ i) k.wired.made (leb-true _ _ numbers.1)) h.client.first;
+      ledger = h.ledger;
+    }
 stays_planned readers p asked ClientSends b quiet k may h =
     record { client = sends_stays p b k h (due_is b.client.client may); serving = h.serving; ledger = h.ledger }
 stays_planned readers p asked (Up i) b quiet k may h = record { client = h.client; serving = h.serving; ledger = h.ledger }
@@ -173,8 +180,11 @@ stays_planned readers p asked (Machine outcome) b quiet k may h = let moves = ma
     in server_step p b (serving_machined outcome b.server) moves.0 h (machine_on b outcome k may) moves.1
 stays_planned readers p asked (Down i) b quiet k may h = record { client = h.client; serving = h.serving; ledger = h.ledger }
 stays_planned readers p asked ClientReads b quiet k may h =
-    record { client = front_on readers (steps_for p) b.client.client b.written (next_of b.client.input.rest) asked h.client;
-    serving = h.serving; ledger = h.ledger }
+    record {
+      client = front_on readers (steps_for p) b.client.client b.written (next_of b.client.input.rest) asked h.client;
+      serving = h.serving;
+      ledger = h.ledger;
+    }
 stays_planned readers p asked ClientLeaves b quiet k may h = absurd quiet
 stays_planned readers p asked ServerLeaves b quiet k may h = absurd quiet
 stays_planned readers p asked Abort b quiet k may h = absurd quiet
@@ -193,7 +203,7 @@ begins p b h =
     record {
       client = subst (λ (q : Meaning). IsOnPlan (plan q 0 Start.NewConnection) (client_connected (suc c.last) c) []) h.program
           (subst (λ (fs : List Feature). IsOnPlan (plan c.program (length fs) Start.NewConnection) (client_connected (suc c.last) c) [])
-              h.features (begins_on c h.first));
+          h.features (begins_on c h.first));
       serving = λ on. absurd (false≢true (sym h.server_off ∙ on));
       ledger = subst (AreOn 1) (sym h.ledger) tt;
     }
@@ -205,7 +215,7 @@ starts_planned readers p (Accept n) b quiet k may h =
     let parts = and_parts _ _ may in
     let numbers = and_parts _ _ parts.1 in
     absurd (none_made b.server.server.last n b.client.client.last (ltb-true _ _ numbers.0)
-        (subst (λ (i : ℕ). n ≤ i) k.wired.made (leb-true _ _ numbers.1)) h.first)
+    (subst (λ (i : ℕ). n ≤ i) k.wired.made (leb-true _ _ numbers.1)) h.first)
 starts_planned readers p ClientSends b quiet k may h = let d : IsDue b.client.client = due_is b.client.client may
     in absurd (false≢true (ap is_apart (sym d.running) ∙ ap is_apart h.apart))
 starts_planned readers p (Up i) b quiet k may h = absurd (false≢true (sym h.server_off ∙ (and_parts _ _ may).0))
@@ -234,8 +244,10 @@ happens_planned readers p asked e b quiet k may (inr h) = inr (stays_planned rea
 
 after_planned : (readers : Readers) → AreReaders readers → (p : Meaning) → AreAsked (steps_for p) → (e : Event) (b : World)
     → IsUndisturbed e → IsRunning p b → (t : Bool) → can e b ≡ t → IsRunning p (cond t (happens readers e b) b)
-after_planned readers are p asked e b quiet h true may = record { carried = happens_carried readers are e b h.carried may;
-    planned = happens_planned readers p asked e b quiet h.carried may h.planned }
+after_planned readers are p asked e b quiet h true may = record {
+  carried = happens_carried readers are e b h.carried may;
+  planned = happens_planned readers p asked e b quiet h.carried may h.planned;
+}
 after_planned readers are p asked e b quiet h false may = h
 
 run_planned : (readers : Readers) → AreReaders readers → (p : Meaning) → AreAsked (steps_for p) → (es : List Event) (b : World)
@@ -251,10 +263,19 @@ from_start : (readers : Readers) → AreReaders readers → (p : Meaning) (rack 
     → window ≤ 16 → AreUndisturbed es → IsRunning p (run_of readers es (start p rack window))
 from_start readers are p rack window es program le quiet = run_planned readers are p (steps_asked p program) es (start p rack window) quiet
     (record {
-  carried = start_carried p rack window program le;
-  planned = inl (record { off = refl; apart = refl; first = refl; program = refl; features = refl; counted = refl; written = refl;
-      server_off = refl; ledger = refl });
-})
+      carried = start_carried p rack window program le;
+      planned = inl (record {
+        off = refl;
+        apart = refl;
+        first = refl;
+        program = refl;
+        features = refl;
+        counted = refl;
+        written = refl;
+        server_off = refl;
+        ledger = refl;
+      });
+    })
 
 -- ---- the claims
 
@@ -281,22 +302,24 @@ done_acts p b asked k (inr h) = go k.inv.side
     go (inl off) = absurd (false≢true (sym off.off ∙ h.client.on))
     go (inr live) =
         let f : Follows (steps_for p) b.client.client.unsent live.table =
-            reads_keeps b.client.client.program.features (Follows (steps_for p) b.client.client.unsent)
-            (heard_follows b.client.client.program.features (steps_for p) b.client.client.unsent asked) k.down b.client.client.table
-            live.table live.reads h.client.follows in
+        reads_keeps b.client.client.program.features (Follows (steps_for p) b.client.client.unsent)
+        (heard_follows b.client.client.program.features (steps_for p) b.client.client.unsent asked) k.down b.client.client.table
+        live.table live.reads h.client.follows in
         let whole : acts_planned f.finished ++ acts_planned live.table.tally.todo ≡ acts_planned (steps_for p) =
-            sym (planned_more f.finished live.table.tally.todo) ∙ ap acts_planned f.parts in
+        sym (planned_more f.finished live.table.tally.todo) ∙ ap acts_planned f.parts in
         subst (λ (l : List Act). AreFirstActs l (acts_planned (steps_for p))) (live.counted ∙ acts_are_on p b h)
         (subst (λ (ds : List Does). AreFirstActs live.table.tally.counted ds) whole
-            (first_acts live.table.tally.counted (acts_planned f.finished) (acts_planned live.table.tally.todo) f.acts))
+        (first_acts live.table.tally.counted (acts_planned f.finished) (acts_planned live.table.tally.todo) f.acts))
 
 counted_acts : (p : Meaning) (b : World) → IsCarried b → IsPlanned p b
     → AreFirstOf b.client.client.table.tally.counted (acts_in b.server.server.ledger)
-counted_acts p b k (inl h) = record { more = acts_in b.server.server.ledger;
-    parts = ap (λ (l : List Act). l ++ acts_in b.server.server.ledger) h.counted }
+counted_acts p b k (inl h) = record {
+  more = acts_in b.server.server.ledger;
+  parts = ap (λ (l : List Act). l ++ acts_in b.server.server.ledger) h.counted;
+}
 counted_acts p b k (inr h) =
     let told : IsFront b.client.client.table.tally.counted (acts_on b.client.client.last b.server.server.ledger) =
-        told_now (lined b k.up k.down) k.inv in
+    told_now (lined b k.up k.down) k.inv in
     record { more = told.0; parts = told.1 ∙ acts_are_on p b h }
 
 pub undisturbed_lines : (readers : Readers) → AreReaders readers → (p : Meaning) (rack : List (List ℕ)) (window : ℕ) (es : List Event)

@@ -1,6 +1,6 @@
 -- Both ends with their bytes carry both ends with their lines: what always holds, and the events that move bytes or answer lines.
-use Rattle.std.proofs.Common.{◌≡◌, ℕ, ◌<◌, Bool, true, false, cond, not, ◌&&◌, List, [], ◌∷◌, ◌++◌, take, refl, sym, ◌∙◌, ap, subst, arith,
-  Option, Some, None, is_none, Result, Ok, Err, eqb, eqb-true, eq-eqb, ne_eqb}
+use Rattle.std.proofs.Common.{◌≡◌, ℕ, ◌<◌, Bool, true, false, cond, not, ◌&&◌, List, [], ◌∷◌, ◌++◌, take, refl, sym, ◌∙◌, ap, subst, arith}
+use Rattle.std.proofs.Common.{Option, Some, None, is_none, Result, Ok, Err, eqb, eqb-true, eq-eqb, ne_eqb}
 use Rattle.std.proofs.lemmas.Bool.{false≢true, eqb-false}
 use Rattle.line_framing.specs.Next.{Front, next_of}
 use Rattle.line_framing.specs.Framing.{Framing, no_bytes, fed, fed_behind}
@@ -12,8 +12,8 @@ use Rattle.protocol_model.specs.Client.{Client}
 use Rattle.protocol_model.specs.Server.{Server, Answer, server_read, server_turned, server_machined, may_end}
 use Rattle.protocol_model.specs.Ends.{ServerEnd, with_answer, front_served, serving_read, serving_turned, serving_machined}
 use Rattle.protocol_model.specs.Typed.{World as Lined, answered}
-use Rattle.protocol_model.specs.World.{World, Link, link_of, with_link, client_link, server_link, server_writes, moved_up, moved_down,
-  is_line}
+use Rattle.protocol_model.specs.World.{World, Link, link_of, with_link, client_link, server_link, server_writes, moved_up, moved_down}
+use Rattle.protocol_model.specs.World.{is_line}
 use Rattle.protocol_model.proofs.table.Basics.{if_true, if_false}
 use Rattle.protocol_model.proofs.invariant.Holding.{Inv, IsIdle}
 use Rattle.protocol_model.proofs.invariant.Moves.{Moves, read_moves, turned_moves, machined_moves}
@@ -69,10 +69,10 @@ answer_carried b h up rest a acts on moves plain wired inv = record {
   wired = subst (λ (o : Bool). IsWired new n c.on b.client.input.rest a.server.last o rest up now) (sym (moves.on ∙ on))
       (subst (λ (i : ℕ). IsWired new n c.on b.client.input.rest i true rest up now) (sym moves.last)
       (subst (λ (bytes : List ℕ). IsWired (with_link b.links m (record { up = (server_link b).up; down = (server_link b).down ++ bytes })) n
-          c.on b.client.input.rest m true rest up now) (sym out_is)
+      c.on b.client.input.rest m true rest up now) (sym out_is)
       (wired_answers b.links n c.on b.client.input.rest m rest up h.down now (reply_bytes a.said)
       (subst (λ (o : Bool). IsWired b.links n c.on b.client.input.rest m o rest up h.down) on wired) (written now_cases)
-          (λ same. now_is same) (λ apart. now_was apart))));
+      (λ same. now_is same) (λ apart. now_was apart))));
 }
   where
     c : Client
@@ -91,8 +91,11 @@ answer_carried b h up rest a acts on moves plain wired inv = record {
     out_is = ap (λ (l : List ℕ). l ++ reply_bytes a.said) h.server_out
 
     new : List Link
-    new = with_link b.links b.server.server.last (record { up = (server_link b).up; down = (server_link b).down
-        ++ (b.server.out ++ reply_bytes a.said) })
+    new = with_link b.links b.server.server.last (record {
+      up = (server_link b).up;
+      down = (server_link b).down
+          ++ (b.server.out ++ reply_bytes a.said);
+    })
 
     now_is : b.server.server.last ≡ b.client.client.last → reply_bytes now ≡ reply_bytes h.down ++ reply_bytes a.said
     now_is same = ap reply_bytes (if_true {A = List Reply} _ _ _ (eq-eqb _ _ same)) ∙ reply_bytes_more h.down a.said
@@ -141,7 +144,7 @@ serving_is : (readers : Readers) → AreReaders readers → (e : ServerEnd) (lin
 serving_is readers are e line rest l next text w =
     let read : readers.command line ≡ Ok (l.tag, l.command) = ap readers.command text ∙ command_read readers are l.tag l.command w in
     ap (front_served readers e) next ∙ ap (λ (r : Result _ _). with_answer e (record { rest = rest; fault = e.input.fault })
-        (server_read e.server (reading_of r))) read
+    (server_read e.server (reading_of r))) read
 
 pub reads_carried : (readers : Readers) → AreReaders readers → (b : World) (h : IsCarried b) → b.server.server.on ≡ true
     → is_line (next_of b.server.input.rest) ≡ true → IsCarried (server_writes b (serving_read readers b.server))
@@ -158,30 +161,30 @@ reads_carried readers are b h on due = go (next_of b.server.input.rest) refl due
     at_it line rest next true same =
         let equal : b.server.server.last ≡ b.client.client.last = eqb-true _ _ same in
         let t : NextCommand h.up line rest (link_of b.links n).up =
-            next_command h.up b.server.input.rest (link_of b.links n).up line rest h.wired.lines (h.wired.newest_serves on equal) next in
+        next_command h.up b.server.input.rest (link_of b.links n).up line rest h.wired.lines (h.wired.newest_serves on equal) next in
         let writable = subst Rattle.protocol_model.proofs.written_lines.Writable.AreWritable t.lines_are h.wired.lines in
         let inv : Inv (answered (lined b (t.first ∷ t.others) h.down) t.others (server_read s (Ok t.first))) =
         reads_event (lined b (t.first ∷ t.others) h.down) (subst (λ (ls : List Line). Inv (lined b ls h.down)) t.lines_are h.inv) on same in
         subst IsCarried (ap (λ (e : ServerEnd). server_writes b e)
-            (sym (serving_is readers are b.server line rest t.first next t.text writable.0)))
+        (sym (serving_is readers are b.server line rest t.first next t.text writable.0)))
         (answer_carried b h t.others rest (server_read s (Ok t.first)) [] on (read_moves s (Ok t.first))
-            (read_plain s t.first h.server writable.0)
+        (read_plain s t.first h.server writable.0)
         (shorter b h line rest on next t.others (λ e. t.behind) (λ lt. absurd (apart equal lt))
         (record { lines = t.others; writable = writable.1; is = ap (λ (i : ℕ). rest ++ (link_of b.links i).up) equal ∙ t.behind })
-            writable.1) inv)
+        writable.1) inv)
       where
         apart : b.server.server.last ≡ b.client.client.last → b.server.server.last < b.client.client.last → ⊥
         apart e lt = omega arith
     at_it line rest next false other =
         let whole : IsWhole (b.server.input.rest ++ (link_of b.links b.server.server.last).up) = h.wired.serves on in
         let t : NextCommand whole.lines line rest (link_of b.links b.server.server.last).up =
-            next_command whole.lines b.server.input.rest (link_of b.links b.server.server.last).up line rest whole.writable whole.is next in
+        next_command whole.lines b.server.input.rest (link_of b.links b.server.server.last).up line rest whole.writable whole.is next in
         let writable = subst Rattle.protocol_model.proofs.written_lines.Writable.AreWritable t.lines_are whole.writable in
         let differs : b.server.server.last ≡ b.client.client.last → ⊥ = eqb-false _ _ other in
         subst IsCarried (ap (λ (e : ServerEnd). server_writes b e)
-            (sym (serving_is readers are b.server line rest t.first next t.text writable.0)))
+        (sym (serving_is readers are b.server line rest t.first next t.text writable.0)))
         (answer_carried b h h.up rest (server_read s (Ok t.first)) [] on (read_moves s (Ok t.first))
-            (read_plain s t.first h.server writable.0)
+        (read_plain s t.first h.server writable.0)
         (shorter b h line rest on next h.up (λ e. absurd (differs e)) (λ lt. refl)
         (record { lines = t.others; writable = writable.1; is = t.behind }) h.wired.lines)
         (reads_old_event (lined b h.up h.down) (Ok t.first) h.inv on other))
@@ -204,26 +207,26 @@ pub turn_carried : (b : World) (h : IsCarried b) → b.server.server.on ≡ true
 turn_carried b h on can =
     let moves = turned_moves b.server.server in
     answer_carried b h h.up b.server.input.rest (server_turned b.server.server) moves.0 on moves.1 (turned_plain b.server.server h.server)
-        h.wired (turn_event (lined b h.up h.down) h.inv can)
+    h.wired (turn_event (lined b h.up h.down) h.inv can)
 
 pub machine_carried : (b : World) (outcome : Outcome) (h : IsCarried b) → b.server.server.on ≡ true
     → may_end b.server.server.running outcome ≡ true → IsCarried (server_writes b (serving_machined outcome b.server))
 machine_carried b outcome h on can =
     let moves = machined_moves b.server.server outcome in
     answer_carried b h h.up b.server.input.rest (server_machined b.server.server outcome) moves.0 on moves.1
-        (machined_plain b.server.server outcome h.server can) h.wired (machine_event (lined b h.up h.down) outcome h.inv can)
+    (machined_plain b.server.server outcome h.server can) h.wired (machine_event (lined b h.up h.down) outcome h.inv can)
 
 -- ---- bytes that move
 
 pub up_carried : (b : World) (k : ℕ) (h : IsCarried b) → b.server.server.on ≡ true → IsCarried (moved_up k b)
 up_carried b k h on =
     let fed_is : fed b.server.input (take k (server_link b).up)
-        ≡ record { rest = b.server.input.rest ++ take k (server_link b).up; fault = None } =
-        ap (λ (f : Option FramingFault). fed_behind f b.server.input.rest (take k (server_link b).up)) h.server_fault in
+    ≡ record { rest = b.server.input.rest ++ take k (server_link b).up; fault = None } =
+    ap (λ (f : Option FramingFault). fed_behind f b.server.input.rest (take k (server_link b).up)) h.server_fault in
     let wired = wired_up b.links b.client.client.last b.client.client.on b.client.input.rest b.server.server.last b.server.input.rest h.up
-        h.down k
+    h.down k
     (subst (λ (o : Bool). IsWired b.links b.client.client.last b.client.client.on b.client.input.rest b.server.server.last o
-        b.server.input.rest h.up h.down) on h.wired) in
+    b.server.input.rest h.up h.down) on h.wired) in
     record {
       up = h.up;
       down = h.down;
@@ -238,18 +241,18 @@ up_carried b k h on =
       wired = subst (λ (f : Framing). IsWired (moved_up k b).links b.client.client.last b.client.client.on b.client.input.rest
           b.server.server.last b.server.server.on f.rest h.up h.down) (sym fed_is)
           (subst (λ (o : Bool). IsWired (moved_up k b).links b.client.client.last b.client.client.on b.client.input.rest
-              b.server.server.last o (b.server.input.rest ++ take k (server_link b).up) h.up h.down) (sym on) wired);
+          b.server.server.last o (b.server.input.rest ++ take k (server_link b).up) h.up h.down) (sym on) wired);
     }
 
 pub down_carried : (b : World) (k : ℕ) (h : IsCarried b) → b.client.client.on ≡ true → IsCarried (moved_down k b)
 down_carried b k h on =
     let fed_is : fed b.client.input (take k (client_link b).down)
-        ≡ record { rest = b.client.input.rest ++ take k (client_link b).down; fault = None } =
-        ap (λ (f : Option FramingFault). fed_behind f b.client.input.rest (take k (client_link b).down)) h.client_fault in
+    ≡ record { rest = b.client.input.rest ++ take k (client_link b).down; fault = None } =
+    ap (λ (f : Option FramingFault). fed_behind f b.client.input.rest (take k (client_link b).down)) h.client_fault in
     let wired = wired_down b.links b.client.client.last b.client.input.rest b.server.server.last b.server.server.on b.server.input.rest h.up
-        h.down k
+    h.down k
     (subst (λ (o : Bool). IsWired b.links b.client.client.last o b.client.input.rest b.server.server.last b.server.server.on
-        b.server.input.rest h.up h.down) on h.wired) in
+    b.server.input.rest h.up h.down) on h.wired) in
     record {
       up = h.up;
       down = h.down;
@@ -264,5 +267,5 @@ down_carried b k h on =
       wired = subst (λ (f : Framing). IsWired (moved_down k b).links b.client.client.last b.client.client.on f.rest b.server.server.last
           b.server.server.on b.server.input.rest h.up h.down) (sym fed_is)
           (subst (λ (o : Bool). IsWired (moved_down k b).links b.client.client.last o (b.client.input.rest ++ take k (client_link b).down)
-              b.server.server.last b.server.server.on b.server.input.rest h.up h.down) (sym on) wired);
+          b.server.server.last b.server.server.on b.server.input.rest h.up h.down) (sym on) wired);
     }

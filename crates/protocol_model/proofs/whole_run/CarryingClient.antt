@@ -1,6 +1,6 @@
 -- The other events keep what both ends with their bytes carry.
-use Rattle.std.proofs.Common.{◌≡◌, ℕ, suc, ◌⊎◌, inl, inr, Bool, true, false, cond, not, ◌&&◌, List, [], ◌∷◌, ◌++◌, length, refl, sym, ◌∙◌,
-  ap, subst, Option, Some, None, is_some, Result, Ok, Err, nat_lt, nat_le}
+use Rattle.std.proofs.Common.{◌≡◌, ℕ, suc, ◌⊎◌, inl, inr, Bool, true, false, cond, not, ◌&&◌, List, [], ◌∷◌, ◌++◌, length, refl, sym, ◌∙◌}
+use Rattle.std.proofs.Common.{ap, subst, Option, Some, None, is_some, Result, Ok, Err, nat_lt, nat_le}
 use Rattle.std.proofs.lemmas.Bool.{false≢true, and_parts, ltb-true, leb-true}
 use Rattle.dme_line.specs.declared.tags.Tag.{Tag}
 use Rattle.dme_line.specs.declared.tags.Tag.TheVariants.{Std, Event}
@@ -8,11 +8,11 @@ use Rattle.line_framing.specs.Next.{Front, next_of}
 use Rattle.line_framing.specs.Framing.{Framing, no_bytes, left_by}
 use Rattle.protocol_model.specs.Replies.{Reply, Mark, tag_of, mark_of, tag_is}
 use Rattle.protocol_model.specs.Lines.{Readers, AreReaders, command_bytes, reply_bytes}
-use Rattle.protocol_model.specs.Client.{Client, Table, Sends, due, may_abort, may_resume, client_sent, client_aborted, client_read,
-  client_hears, heard_on, sends_next, sends_abort, next_number}
+use Rattle.protocol_model.specs.Client.{Client, Table, Sends, due, may_abort, may_resume, client_sent, client_aborted, client_read}
+use Rattle.protocol_model.specs.Client.{client_hears, heard_on, sends_next, sends_abort, next_number}
 use Rattle.protocol_model.specs.Server.{Server, server_accepted, server_left}
-use Rattle.protocol_model.specs.Ends.{with_lines, end_sent, end_aborted, end_read, end_resumed, end_left, end_restarted, front_read,
-  line_read, serving_accepted, serving_left, serving_restarted}
+use Rattle.protocol_model.specs.Ends.{with_lines, end_sent, end_aborted, end_read, end_resumed, end_left, end_restarted, front_read}
+use Rattle.protocol_model.specs.Ends.{line_read, serving_accepted, serving_left, serving_restarted}
 use Rattle.protocol_model.specs.Typed.{World as Lined, sent}
 use Rattle.protocol_model.specs.World.{World, Link, with_link, client_link, client_writes, connected, is_any}
 use Rattle.protocol_model.proofs.invariant.Holding.{Inv, IsOff, IsLive, IsAtRest}
@@ -22,8 +22,8 @@ use Rattle.protocol_model.proofs.each_event.ClientWrites.{IsDue, due_is, sends_e
 use Rattle.protocol_model.proofs.each_event.ClientResumes.{never_off, abort_event, resume_event}
 use Rattle.protocol_model.proofs.each_event.Hearing.{hear_event}
 use Rattle.protocol_model.proofs.whole_run.PlainServer.{IsPlainServer, left_plain}
-use Rattle.protocol_model.proofs.written_lines.PlainClient.{IsPlainSends, plain_connected, plain_sent, plain_aborted, plain_read, plain_resumed,
-  plain_left, plain_restarted}
+use Rattle.protocol_model.proofs.written_lines.PlainClient.{IsPlainSends, plain_connected, plain_sent, plain_aborted, plain_read}
+use Rattle.protocol_model.proofs.written_lines.PlainClient.{plain_resumed, plain_left, plain_restarted}
 use Rattle.protocol_model.proofs.whole_run.Wires.{IsWired, wired_connect, wired_accept, wired_left, wired_gone, wired_writes}
 use Rattle.protocol_model.proofs.written_lines.LineTaking.{NextReply, next_reply, no_reply_fault, reply_heard}
 use Rattle.protocol_model.proofs.whole_run.Carrying.{lined, IsCarried}
@@ -49,14 +49,20 @@ connect_carried b h = record {
 }
 
 accepted_plain : (s : Server) (n : ℕ) → IsPlainServer s → IsPlainServer (server_accepted n s)
-accepted_plain s n h = record { lines = h.lines; waiting_is = h.waiting_is; running = h.running; waiting = h.waiting; stored = h.stored;
-    frame = h.frame }
+accepted_plain s n h = record {
+  lines = h.lines;
+  waiting_is = h.waiting_is;
+  running = h.running;
+  waiting = h.waiting;
+  stored = h.stored;
+  frame = h.frame;
+}
 
 pub accept_carried : (b : World) (n : ℕ) (h : IsCarried b) → (not b.server.server.on
     && (nat_lt b.server.server.last n && nat_le n (length b.links))) ≡ true → IsCarried (record b { server = serving_accepted n b.server })
 accept_carried b n h can =
     let can_lined : (not b.server.server.on && (nat_lt b.server.server.last n && nat_le n b.client.client.last)) ≡ true =
-        subst (λ (i : ℕ). (not b.server.server.on && (nat_lt b.server.server.last n && nat_le n i)) ≡ true) h.wired.made can in
+    subst (λ (i : ℕ). (not b.server.server.on && (nat_lt b.server.server.last n && nat_le n i)) ≡ true) h.wired.made can in
     let parts = and_parts _ _ can_lined in
     let numbers = and_parts _ _ parts.1 in
     let off : b.server.server.on ≡ false = is_off b.server.server.on parts.0 in
@@ -75,7 +81,7 @@ accept_carried b n h can =
       wired = subst (λ (bytes : List ℕ). IsWired b.links b.client.client.last b.client.client.on b.client.input.rest n true bytes h.up
           h.down) (sym rest)
           (wired_accept b.links b.client.client.last b.client.client.on b.client.input.rest b.server.server.last n b.server.server.on
-              b.server.input.rest h.up h.down h.wired (ltb-true _ _ numbers.0) (leb-true _ _ numbers.1));
+          b.server.input.rest h.up h.down h.wired (ltb-true _ _ numbers.0) (leb-true _ _ numbers.1));
     }
   where
     is_off : (t : Bool) → not t ≡ true → t ≡ false
@@ -115,8 +121,13 @@ client_restart_carried b k h = record {
 }
 
 gone_carried : (b : World) (homed : Bool) (tool : Option (List ℕ)) → IsCarried b
-    → IsCarried (record b { server = record { server = record (server_left b.server.server) { homed = homed; tool = tool };
-    input = no_bytes; out = [] } })
+    → IsCarried (record b {
+      server = record {
+        server = record (server_left b.server.server) { homed = homed; tool = tool };
+        input = no_bytes;
+        out = [];
+      };
+    })
 gone_carried b homed tool h = record {
   up = h.up;
   down = h.down;
@@ -170,12 +181,12 @@ writes_carried b h s on stays plain inv = record {
   wired = subst (λ (o : Bool). IsWired new s.client.last o heard b.server.server.last b.server.server.on b.server.input.rest (h.up
       ++ s.lines) h.down) (sym (stays.on ∙ on))
       (subst (λ (i : ℕ). IsWired new i true heard b.server.server.last b.server.server.on b.server.input.rest (h.up ++ s.lines) h.down)
-          (sym stays.last)
+      (sym stays.last)
       (subst (λ (bytes : List ℕ). IsWired (with_link b.links n (record { up = (client_link b).up ++ bytes; down = (client_link b).down })) n
-          true heard b.server.server.last b.server.server.on b.server.input.rest (h.up ++ s.lines) h.down) (sym out_is)
+      true heard b.server.server.last b.server.server.on b.server.input.rest (h.up ++ s.lines) h.down) (sym out_is)
       (wired_writes b.links n heard b.server.server.last b.server.server.on b.server.input.rest h.up h.down s.lines
       (subst (λ (o : Bool). IsWired b.links n o heard b.server.server.last b.server.server.on b.server.input.rest h.up h.down) on h.wired)
-          plain.lines)));
+      plain.lines)));
 }
   where
     n : ℕ
@@ -188,8 +199,10 @@ writes_carried b h s on stays plain inv = record {
     out_is = ap (λ (l : List ℕ). l ++ command_bytes s.lines) h.client_out
 
     new : List Link
-    new = with_link b.links b.client.client.last (record { up = (client_link b).up ++ (b.client.out ++ command_bytes s.lines);
-        down = (client_link b).down })
+    new = with_link b.links b.client.client.last (record {
+      up = (client_link b).up ++ (b.client.out ++ command_bytes s.lines);
+      down = (client_link b).down;
+    })
 
 due_on : (w : Lined) → Inv w → is_some (due w.client) ≡ true → w.client.on ≡ true
 due_on w inv can = go inv.side
@@ -253,14 +266,19 @@ read_stays c t m = go (tag_is t (Event 0))
 -- a reply is read off the front
 heard_carried : (b : World) (h : IsCarried b) (r : Reply) (others : List Reply) (rest : List ℕ) → b.client.client.on ≡ true
     → h.down ≡ r ∷ others → rest ++ (client_link b).down ≡ reply_bytes others
-    → IsCarried (record b { client = record { client = client_read b.client.client (tag_of r) (mark_of r);
-    input = record { rest = rest; fault = b.client.input.fault }; out = b.client.out } })
+    → IsCarried (record b {
+      client = record {
+        client = client_read b.client.client (tag_of r) (mark_of r);
+        input = record { rest = rest; fault = b.client.input.fault };
+        out = b.client.out;
+      };
+    })
 heard_carried b h r others rest on down_is behind =
     let stays : StaysOn b.client.client (client_read b.client.client (tag_of r) (mark_of r)) =
-        read_stays b.client.client (tag_of r) (mark_of r) in
+    read_stays b.client.client (tag_of r) (mark_of r) in
     let replies = subst Rattle.protocol_model.proofs.written_lines.Writable.AreReplies down_is h.wired.replies in
     let wired : IsWired b.links b.client.client.last b.client.client.on rest b.server.server.last b.server.server.on b.server.input.rest
-        h.up others = record {
+    h.up others = record {
       made = h.wired.made;
       numbers = h.wired.numbers;
       first = h.wired.first;
@@ -287,7 +305,7 @@ heard_carried b h r others rest on down_is behind =
       wired = subst (λ (o : Bool). IsWired b.links (client_read b.client.client (tag_of r) (mark_of r)).last o rest b.server.server.last
           b.server.server.on b.server.input.rest h.up others) (sym stays.on)
           (subst (λ (i : ℕ). IsWired b.links i b.client.client.on rest b.server.server.last b.server.server.on b.server.input.rest h.up
-              others) (sym stays.last) wired);
+          others) (sym stays.last) wired);
     }
 
 pub hears_carried : (readers : Readers) → AreReaders readers → (b : World) (h : IsCarried b) → b.client.client.on ≡ true
@@ -301,18 +319,25 @@ hears_carried readers are b h on due_now = go (next_of b.client.input.rest) refl
         → IsCarried (record b { client = end_read readers b.client })
     line_case line rest next =
         let t : NextReply h.down line rest (client_link b).down =
-            next_reply h.down b.client.input.rest (client_link b).down line rest h.wired.replies bytes next in
+        next_reply h.down b.client.input.rest (client_link b).down line rest h.wired.replies bytes next in
         let replies = subst Rattle.protocol_model.proofs.written_lines.Writable.AreReplies t.replies_are h.wired.replies in
         let client_is : front_read readers b.client.client (next_of b.client.input.rest)
-            ≡ client_read b.client.client (tag_of t.first) (mark_of t.first) =
+        ≡ client_read b.client.client (tag_of t.first) (mark_of t.first) =
         ap (front_read readers b.client.client) next ∙ (ap (λ (l : List ℕ). line_read readers b.client.client (readers.response l)) t.text
-            ∙ reply_heard readers are b.client.client t.first replies.0) in
+        ∙ reply_heard readers are b.client.client t.first replies.0) in
         let input_is : left_by (next_of b.client.input.rest) b.client.input ≡ record { rest = rest; fault = b.client.input.fault } =
-            ap (λ (f : Front). left_by f b.client.input) next in
-        subst (λ (c : Client). IsCarried (record b { client = record { client = c;
-            input = left_by (next_of b.client.input.rest) b.client.input; out = b.client.out } })) (sym client_is)
-        (subst (λ (f : Framing). IsCarried (record b { client = record
-            { client = client_read b.client.client (tag_of t.first) (mark_of t.first); input = f; out = b.client.out } })) (sym input_is)
+        ap (λ (f : Front). left_by f b.client.input) next in
+        subst (λ (c : Client). IsCarried (record b {
+          client = record {
+            client = c;
+            input = left_by (next_of b.client.input.rest) b.client.input;
+            out = b.client.out;
+          };
+        })) (sym client_is)
+        (subst (λ (f : Framing). IsCarried (record b {
+          client = record
+              { client = client_read b.client.client (tag_of t.first) (mark_of t.first); input = f; out = b.client.out };
+        })) (sym input_is)
         (heard_carried b h t.first t.others rest on t.replies_are t.behind))
 
     go : (f : Front) → next_of b.client.input.rest ≡ f → is_any f ≡ true → IsCarried (record b { client = end_read readers b.client })

@@ -1,6 +1,6 @@
 -- A server that has read commands that can be written answers replies that can be written.
-use Rattle.std.proofs.Common.{◌≡◌, ℕ, Bool, true, false, cond, not, ◌&&◌, ◌||◌, List, [], ◌∷◌, ◌++◌, length, refl, sym, ◌∙◌, ap, subst,
-  arith, Option, Some, None, Ok, nat_le}
+use Rattle.std.proofs.Common.{◌≡◌, ℕ, Bool, true, false, cond, not, ◌&&◌, ◌||◌, List, [], ◌∷◌, ◌++◌, length, refl, sym, ◌∙◌, ap, subst}
+use Rattle.std.proofs.Common.{arith, Option, Some, None, Ok, nat_le}
 use Rattle.std.proofs.lemmas.Bool.{false≢true, and_parts, leb-true}
 use Rattle.fixed_um.specs.Shapes.{Direction}
 use Rattle.fixed_um.specs.Points.{IsInVolume}
@@ -17,13 +17,14 @@ use Rattle.dme_line.specs.declared.commands.Command.{Command}
 use Rattle.dme_line.specs.declared.commands.Command.TheVariants as command
 use Rattle.dme_line.specs.declared.commands.Kind.{Kind}
 use Rattle.protocol_model.specs.Replies.{Reply}
-use Rattle.protocol_model.specs.Server.{Server, Answer, origin, fails, all_fail, in_error, queued, runs_under, waits_under, is_abort,
-  is_clear, running_fails, aborted, stands, server_read, refusal, frame_of, carried_out, taken, turned_to, server_turned, offset, in_volume,
-  stopped, idle, finished, touched, machined, server_machined, has_outcome, may_end, server_left}
+use Rattle.protocol_model.specs.Server.{Server, Answer, origin, fails, all_fail, in_error, queued, runs_under, waits_under, is_abort}
+use Rattle.protocol_model.specs.Server.{is_clear, running_fails, aborted, stands, server_read, refusal, frame_of, carried_out, taken}
+use Rattle.protocol_model.specs.Server.{turned_to, server_turned, offset, in_volume, stopped, idle, finished, touched, machined}
+use Rattle.protocol_model.specs.Server.{server_machined, has_outcome, may_end, server_left}
 use Rattle.protocol_model.proofs.invariant.Holding.{listed, waits, all_wait}
 use Rattle.protocol_model.proofs.invariant.LineFacts.{wait_more}
-use Rattle.protocol_model.proofs.written_lines.Writable.{AreWritable, writable_join, AreReplies, replies_join, difference_on_wire,
-  opposite_in_volume}
+use Rattle.protocol_model.proofs.written_lines.Writable.{AreWritable, writable_join, AreReplies, replies_join, difference_on_wire}
+use Rattle.protocol_model.proofs.written_lines.Writable.{opposite_in_volume}
 use Rattle.protocol_model.specs.declared.lines.Line.{Line}
 use Rattle.protocol_model.specs.declared.lines.Waiting.{Waiting}
 use Rattle.protocol_model.specs.declared.machine.Outcome.{Outcome}
@@ -110,11 +111,17 @@ stands_plain : (s : Server) (t : Tag) (c : Command) → IsPlainServer s → IsWr
 stands_plain s t c h w =
     let tag : IsTag t = tag_of_numbered t w.tagged.numbered in
     either IsPlainAnswer (s.error && not (is_clear (Ok c))) _ _
-        (record { server = h; said = (tag, fails_plain t 9008 (Some (kind_of c)) tag) })
+    (record { server = h; said = (tag, fails_plain t 9008 (Some (kind_of c)) tag) })
     (either IsPlainAnswer s.error _ _ (record { server = queued_server s t c false h w; said = (tag, tt) })
     (either IsPlainAnswer (nat_le 64 (length s.waiting)) _ _
-    (record { server = failed_server s h; said = (tag, replies_join (fails t 9009 (Some (kind_of c))) (all_fail 9007 s.waiting)
-        (fails_plain t 9009 (Some (kind_of c)) tag) (all_fail_by 9007 s.waiting h.lines h.waiting_is h.waiting)) })
+    (record {
+      server = failed_server s h;
+      said = (
+        tag,
+        replies_join (fails t 9009 (Some (kind_of c))) (all_fail 9007 s.waiting)
+            (fails_plain t 9009 (Some (kind_of c)) tag) (all_fail_by 9007 s.waiting h.lines h.waiting_is h.waiting),
+      );
+    })
     (record { server = queued_server s t c s.error h w; said = (tag, tt) })))
 
 aborted_plain : (s : Server) (t : Tag) → IsPlainServer s → IsTag t → IsPlainAnswer (aborted s t)
@@ -136,33 +143,93 @@ read_plain s l h w =
 -- ---- a turn
 
 runs_plain : (s : Server) (l : Line) → IsPlainServer s → IsWritable l.tag l.command → IsPlainServer (record s { running = Some l })
-runs_plain s l h w = record { lines = h.lines; waiting_is = h.waiting_is; running = (w, tt); waiting = h.waiting; stored = h.stored;
-    frame = h.frame }
+runs_plain s l h w = record {
+  lines = h.lines;
+  waiting_is = h.waiting_is;
+  running = (w, tt);
+  waiting = h.waiting;
+  stored = h.stored;
+  frame = h.frame;
+}
 
 frame_plain : (system : Csy) (stored : Point) → IsInVolume stored → IsInVolume (offset (frame_of system stored))
 frame_plain MachineCsy stored h = origin_in_volume
 frame_plain PartCsy stored h = h
 
 carried_plain : (s : Server) (t : Tag) (c : Command) → IsPlainServer s → IsWritable t c → IsPlainAnswer (carried_out s t c)
-carried_plain s t command.StartSession h w = record { server = record { lines = h.lines; waiting_is = h.waiting_is; running = h.running;
-    waiting = h.waiting; stored = h.stored; frame = h.frame }; said = (tag_of_numbered t w.tagged.numbered, tt) }
-carried_plain s t command.EndSession h w = record { server = record { lines = h.lines; waiting_is = h.waiting_is; running = h.running;
-    waiting = h.waiting; stored = h.stored; frame = h.frame }; said = (tag_of_numbered t w.tagged.numbered, tt) }
+carried_plain s t command.StartSession h w = record {
+  server = record {
+    lines = h.lines;
+    waiting_is = h.waiting_is;
+    running = h.running;
+    waiting = h.waiting;
+    stored = h.stored;
+    frame = h.frame;
+  };
+  said = (tag_of_numbered t w.tagged.numbered, tt);
+}
+carried_plain s t command.EndSession h w = record {
+  server = record {
+    lines = h.lines;
+    waiting_is = h.waiting_is;
+    running = h.running;
+    waiting = h.waiting;
+    stored = h.stored;
+    frame = h.frame;
+  };
+  said = (tag_of_numbered t w.tagged.numbered, tt);
+}
 carried_plain s t command.ClearAllErrors h w = record { server = h; said = (tag_of_numbered t w.tagged.numbered, tt) }
 carried_plain s t command.OnPtMeasReport h w = record { server = h; said = (tag_of_numbered t w.tagged.numbered, tt) }
-carried_plain s t (command.SetCsyTransformation p) h w = record
-    { server = record { lines = h.lines; waiting_is = h.waiting_is; running = h.running; waiting = h.waiting;
-    stored = opposite_in_volume p w.arguments; frame = h.frame }; said = (tag_of_numbered t w.tagged.numbered, tt) }
-carried_plain s t (command.SetCoordSystem system) h w = record
-    { server = record { lines = h.lines; waiting_is = h.waiting_is; running = h.running; waiting = h.waiting; stored = h.stored;
-    frame = frame_plain system s.stored h.stored }; said = (tag_of_numbered t w.tagged.numbered, tt) }
-carried_plain s t command.Home h w = record { server = record { lines = h.lines; waiting_is = h.waiting_is; running = (w, tt);
-    waiting = h.waiting; stored = h.stored; frame = h.frame }; said = tt }
-carried_plain s t (command.ChangeTool n) h w = record { server = record { lines = h.lines; waiting_is = h.waiting_is; running = (w, tt);
-    waiting = h.waiting; stored = h.stored; frame = h.frame }; said = tt }
+carried_plain s t (command.SetCsyTransformation p) h w = record {
+  server = record {
+    lines = h.lines;
+    waiting_is = h.waiting_is;
+    running = h.running;
+    waiting = h.waiting;
+    stored = opposite_in_volume p w.arguments;
+    frame = h.frame;
+  };
+  said = (tag_of_numbered t w.tagged.numbered, tt);
+}
+carried_plain s t (command.SetCoordSystem system) h w = record {
+  server = record {
+    lines = h.lines;
+    waiting_is = h.waiting_is;
+    running = h.running;
+    waiting = h.waiting;
+    stored = h.stored;
+    frame = frame_plain system s.stored h.stored;
+  };
+  said = (tag_of_numbered t w.tagged.numbered, tt);
+}
+carried_plain s t command.Home h w = record {
+  server = record {
+    lines = h.lines;
+    waiting_is = h.waiting_is;
+    running = (w, tt);
+    waiting = h.waiting;
+    stored = h.stored;
+    frame = h.frame;
+  };
+  said = tt;
+}
+carried_plain s t (command.ChangeTool n) h w = record {
+  server = record {
+    lines = h.lines;
+    waiting_is = h.waiting_is;
+    running = (w, tt);
+    waiting = h.waiting;
+    stored = h.stored;
+    frame = h.frame;
+  };
+  said = tt;
+}
 carried_plain s t (command.GoTo p) h w = record { server = runs_plain s (record { tag = t; command = command.GoTo p }) h w; said = tt }
-carried_plain s t (command.PtMeas p d) h w = record { server = runs_plain s (record { tag = t; command = command.PtMeas p d }) h w;
-    said = tt }
+carried_plain s t (command.PtMeas p d) h w = record {
+  server = runs_plain s (record { tag = t; command = command.PtMeas p d }) h w;
+  said = tt;
+}
 carried_plain s t command.AbortE h w = record { server = h; said = tt }
 
 turned_by : (s : Server) (ls : List Line) → IsPlainServer s → AreWritable ls → IsPlainAnswer (turned_to s (all_wait ls))
@@ -170,8 +237,11 @@ turned_by s [] h w = record { server = h; said = tt }
 turned_by s (l ∷ ls) h w = go (refusal s (Ok l.command))
   where
     go : (number : Option ℕ) → IsPlainAnswer (taken s (waits l) (all_wait ls) number)
-    go (Some number) = record { server = failed_server s h; said = replies_join (fails l.tag number (Some (kind_of l.command)))
-        (all_fail 9007 (all_wait ls)) (fails_plain l.tag number (Some (kind_of l.command)) (line_tag l w.0)) (all_fail_plain 9007 ls w.1) }
+    go (Some number) = record {
+      server = failed_server s h;
+      said = replies_join (fails l.tag number (Some (kind_of l.command)))
+          (all_fail 9007 (all_wait ls)) (fails_plain l.tag number (Some (kind_of l.command)) (line_tag l w.0)) (all_fail_plain 9007 ls w.1);
+    }
     go None = carried_plain (record s { waiting = all_wait ls }) l.tag l.command
         (record { lines = ls; waiting_is = refl; running = h.running; waiting = w.1; stored = h.stored; frame = h.frame }) w.0
 
@@ -188,18 +258,43 @@ stopped_plain s l number h w = record {
 }
 
 idle_plain : (s : Server) → IsPlainServer s → IsPlainServer (idle s)
-idle_plain s h = record { lines = h.lines; waiting_is = h.waiting_is; running = tt; waiting = h.waiting; stored = h.stored;
-    frame = h.frame }
+idle_plain s h = record {
+  lines = h.lines;
+  waiting_is = h.waiting_is;
+  running = tt;
+  waiting = h.waiting;
+  stored = h.stored;
+  frame = h.frame;
+}
 
 finished_plain : (s : Server) (t : Tag) (c : Command) → IsPlainServer s → IsTag t → has_outcome c Outcome.Done ≡ true
     → IsPlainAnswer (finished s t c)
-finished_plain s t command.Home h tag can = record { server = record { lines = h.lines; waiting_is = h.waiting_is; running = tt;
-    waiting = h.waiting; stored = h.stored; frame = h.frame }; said = (tag, tt) }
-finished_plain s t (command.ChangeTool n) h tag can = record
-    { server = record { lines = h.lines; waiting_is = h.waiting_is; running = tt; waiting = h.waiting; stored = h.stored; frame = h.frame };
-    said = (tag, tt) }
-finished_plain s t (command.GoTo p) h tag can = record { server = record { lines = h.lines; waiting_is = h.waiting_is; running = tt;
-    waiting = h.waiting; stored = h.stored; frame = h.frame }; said = (tag, tt) }
+finished_plain s t command.Home h tag can = record {
+  server = record {
+    lines = h.lines;
+    waiting_is = h.waiting_is;
+    running = tt;
+    waiting = h.waiting;
+    stored = h.stored;
+    frame = h.frame;
+  };
+  said = (tag, tt);
+}
+finished_plain s t (command.ChangeTool n) h tag can = record {
+  server = record { lines = h.lines; waiting_is = h.waiting_is; running = tt; waiting = h.waiting; stored = h.stored; frame = h.frame };
+  said = (tag, tt);
+}
+finished_plain s t (command.GoTo p) h tag can = record {
+  server = record {
+    lines = h.lines;
+    waiting_is = h.waiting_is;
+    running = tt;
+    waiting = h.waiting;
+    stored = h.stored;
+    frame = h.frame;
+  };
+  said = (tag, tt);
+}
 finished_plain s t command.StartSession h tag can = record { server = h; said = tt }
 finished_plain s t command.EndSession h tag can = record { server = h; said = tt }
 finished_plain s t command.ClearAllErrors h tag can = record { server = h; said = tt }
@@ -253,11 +348,17 @@ machined_plain s outcome h can = go s.running refl
     go (Some l) e =
         let running : AreWritable (l ∷ []) = subst (λ (o : Option Line). AreWritable (listed o)) e h.running in
         subst (λ (o : Option Line). IsPlainAnswer (machined s outcome o)) (sym e)
-            (machined_by s outcome l h running.0 (subst (λ (o : Option Line). may_end o outcome ≡ true) e can))
+        (machined_by s outcome l h running.0 (subst (λ (o : Option Line). may_end o outcome ≡ true) e can))
 
 -- ---- leaving
 
 pub left_plain : (s : Server) (homed : Bool) (tool : Option (List ℕ))
     → IsPlainServer (record (server_left s) { homed = homed; tool = tool })
-left_plain s homed tool = record { lines = []; waiting_is = refl; running = tt; waiting = tt; stored = origin_in_volume;
-    frame = origin_in_volume }
+left_plain s homed tool = record {
+  lines = [];
+  waiting_is = refl;
+  running = tt;
+  waiting = tt;
+  stored = origin_in_volume;
+  frame = origin_in_volume;
+}

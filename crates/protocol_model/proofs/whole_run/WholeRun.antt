@@ -8,8 +8,9 @@ use Rattle.protocol_model.specs.Server.{may_end}
 use Rattle.protocol_model.specs.Claims.{Sound, Told}
 use Rattle.protocol_model.specs.World.{World, start, can, happens, after, run_of}
 use Rattle.protocol_model.specs.declared.events.Event.{Event}
-use Rattle.protocol_model.specs.declared.events.Event.TheVariants.{Connect, Accept, ClientSends, Up, ServerReads, ServerTurn, Machine, Down,
-  ClientReads, ClientLeaves, ServerLeaves, Abort, Resume, ClientRestart, ServerRestart}
+use Rattle.protocol_model.specs.declared.events.Event.TheVariants.{Connect, Accept, ClientSends, Up, ServerReads, ServerTurn, Machine, Down}
+use Rattle.protocol_model.specs.declared.events.Event.TheVariants.{ClientReads, ClientLeaves, ServerLeaves, Abort, Resume, ClientRestart}
+use Rattle.protocol_model.specs.declared.events.Event.TheVariants.{ServerRestart}
 use Rattle.protocol_model.proofs.plan.Blocks.{program_is_plain}
 use Rattle.protocol_model.proofs.whole_run.SameProgram.{run_same}
 use Rattle.protocol_model.proofs.invariant.Served.{served_sound}
@@ -17,10 +18,11 @@ use Rattle.protocol_model.proofs.each_event.ClientEvents.{served_now, told_now, 
 use Rattle.protocol_model.proofs.each_event.ServerEvents.{not_nothing, on_by}
 use Rattle.protocol_model.proofs.each_event.Whole.{start_holds}
 use Rattle.protocol_model.proofs.whole_run.PlainServer.{plain_new}
-use Rattle.protocol_model.proofs.whole_run.Carrying.{lined, IsCarried, reads_carried, turn_carried, machine_carried, up_carried,
-  down_carried}
-use Rattle.protocol_model.proofs.whole_run.CarryingClient.{connect_carried, accept_carried, client_left_carried, client_restart_carried,
-  server_left_carried, server_restart_carried, sends_carried, abort_carried, resume_carried, hears_carried}
+use Rattle.protocol_model.proofs.whole_run.Carrying.{lined, IsCarried, reads_carried, turn_carried, machine_carried, up_carried}
+use Rattle.protocol_model.proofs.whole_run.Carrying.{down_carried}
+use Rattle.protocol_model.proofs.whole_run.CarryingClient.{connect_carried, accept_carried, client_left_carried, client_restart_carried}
+use Rattle.protocol_model.proofs.whole_run.CarryingClient.{server_left_carried, server_restart_carried, sends_carried, abort_carried}
+use Rattle.protocol_model.proofs.whole_run.CarryingClient.{resume_carried, hears_carried}
 use Rattle.protocol_model.specs.declared.lines.Line.{Line}
 use Rattle.protocol_model.specs.declared.states.State.{State}
 
@@ -37,8 +39,8 @@ happens_carried readers are ServerTurn b h can =
     turn_carried b h (on_by (lined b h.up h.down) h.inv b.server.server.on refl (λ r e. not_nothing b.server.server.waiting parts.1 e)) can
 happens_carried readers are (Machine outcome) b h can =
     machine_carried b outcome h (on_by (lined b h.up h.down) h.inv b.server.server.on refl
-        (λ r e. let no_end : may_end None outcome ≡ true = subst (λ (o : Option Line). may_end o outcome ≡ true) r can
-        in false≢true no_end)) can
+    (λ r e. let no_end : may_end None outcome ≡ true = subst (λ (o : Option Line). may_end o outcome ≡ true) r can
+    in false≢true no_end)) can
 happens_carried readers are (Down k) b h can = down_carried b k h (and_parts _ _ can).0
 happens_carried readers are ClientReads b h can = let parts = and_parts _ _ can
     in hears_carried readers are b h parts.0 (and_parts _ _ parts.1).1
@@ -101,9 +103,9 @@ always_sound readers are p rack window es program le =
     let b : World = run_of readers es (start p rack window) in
     let h : IsCarried b = run_carried readers are es (start p rack window) (start_carried p rack window program le) in
     subst (λ (q : Meaning). Sound q.features b.client.client.table.tally.features b.server.server.ledger)
-        (run_same readers es (start p rack window))
+    (run_same readers es (start p rack window))
     (served_sound b.client.client.program.features b.client.client.table.tally.features b.server.server.ledger
-        (served_now (lined b h.up h.down) h.inv))
+    (served_now (lined b h.up h.down) h.inv))
 
 pub always_told : (readers : Readers) → AreReaders readers → (p : Meaning) (rack : List (List ℕ)) (window : ℕ) (es : List Event)
     → IsProgram p → window ≤ 16

@@ -1,6 +1,6 @@
 -- The bytes of all connections, as the lines that they carry.
-use Rattle.std.proofs.Common.{◌≡◌, ℕ, suc, ◌<◌, ◌≤◌, Bool, true, false, List, [], ◌∷◌, ◌++◌, length, take, drop, take-append-drop, refl,
-  sym, ◌∙◌, ap, subst, arith, append_assoc, eqb, eqb-true}
+use Rattle.std.proofs.Common.{◌≡◌, ℕ, suc, ◌<◌, ◌≤◌, Bool, true, false, List, [], ◌∷◌, ◌++◌, length, take, drop, take-append-drop, refl}
+use Rattle.std.proofs.Common.{sym, ◌∙◌, ap, subst, arith, append_assoc, eqb, eqb-true}
 use Rattle.std.proofs.lemmas.Bool.{false≢true, eqb-false}
 use Rattle.protocol_model.specs.Replies.{Reply}
 use Rattle.protocol_model.specs.Lines.{command_bytes, reply_bytes}
@@ -71,7 +71,7 @@ wired_connect links n client_on heard m server_on read up down h = record {
         let apart : k ≡ suc n → ⊥ = eqb-false k (suc n) other in
         let small : k ≤ n = omega arith in
         subst (λ (l : Link). IsWhole l.up) (sym (link_old links k no_link (omega arith) (subst (λ (i : ℕ). k ≤ i) (sym h.made) small)))
-            (h.waits k lt small)
+        (h.waits k lt small)
 
 pub wired_accept : (links : List Link) (n : ℕ) (client_on : Bool) (heard : List ℕ) (m k : ℕ) (server_on : Bool) (read : List ℕ)
     (up : List Line) (down : List Reply)
@@ -166,7 +166,7 @@ wired_writes links n heard m server_on read up down ls h w = record {
         let equal : k ≡ n = eqb-true k n same in
         let old : IsWhole (link_of links n).up = subst (λ (i : ℕ). IsWhole (link_of links i).up) equal (h.waits k lt le) in
         subst (λ (i : ℕ). IsWhole (link_of (with_link links n new) i).up) (sym equal)
-            (subst (λ (l : Link). IsWhole l.up) (sym here) (whole_join (link_of links n).up ls old w))
+        (subst (λ (l : Link). IsWhole l.up) (sym here) (whole_join (link_of links n).up ls old w))
     waits_for k lt le false other = subst (λ (l : Link). IsWhole l.up)
         (sym (link_other links n k new (h.first refl) (omega arith) (eqb-false k n other))) (h.waits k lt le)
 
@@ -176,8 +176,8 @@ wired_writes links n heard m server_on read up down ls h w = record {
         let old : IsWhole (read ++ (link_of links n).up) = subst (λ (i : ℕ). IsWhole (read ++ (link_of links i).up)) equal (h.serves e) in
         subst (λ (i : ℕ). IsWhole (read ++ (link_of (with_link links n new) i).up)) (sym equal)
         (subst (λ (l : Link). IsWhole (read ++ l.up)) (sym here)
-            (subst IsWhole (append_assoc read (link_of links n).up (command_bytes ls))
-            (whole_join (read ++ (link_of links n).up) ls old w)))
+        (subst IsWhole (append_assoc read (link_of links n).up (command_bytes ls))
+        (whole_join (read ++ (link_of links n).up) ls old w)))
     serves_for e false other = subst (λ (l : Link). IsWhole (read ++ l.up))
         (sym (link_other links n m new (h.first refl) (h.taken e) (eqb-false m n other))) (h.serves e)
 
@@ -228,7 +228,7 @@ wired_answers links n client_on heard m read up down now more h w same_one other
     heard_by e true is =
         let equal : n ≡ m = eqb-true n m is in
         let there : link_of (with_link links m new) n ≡ new = ap (λ (i : ℕ). link_of (with_link links m new) i) equal
-            ∙ link_same links m new (h.taken refl) within in
+        ∙ link_same links m new (h.taken refl) within in
         ap (λ (l : Link). heard ++ l.down) there
         ∙ (sym (append_assoc heard (link_of links m).down more)
         ∙ (ap (λ (i : ℕ). (heard ++ (link_of links i).down) ++ more) (sym equal)

@@ -1,6 +1,6 @@
 -- What the claim allows and refuses beside ledgers that are written out.
-use Rattle.std.proofs.Common.{◌≡◌, ℕ, zero, suc, pos, unsigned_abs, ◌+◌, Bool, true, false, List, [], ◌∷◌, codes, take, drop, refl, sym,
-  ◌∙◌, ap, arith, Option, Some, None}
+use Rattle.std.proofs.Common.{◌≡◌, ℕ, zero, suc, pos, unsigned_abs, ◌+◌, Bool, true, false, List, [], ◌∷◌, codes, take, drop, refl, sym}
+use Rattle.std.proofs.Common.{◌∙◌, ap, arith, Option, Some, None}
 use Rattle.std.specs.Prelude.{bytes_eq}
 use Rattle.std.proofs.lemmas.Bool.{false≢true}
 use Rattle.fixed_um.specs.Shapes.{Direction}
@@ -12,8 +12,8 @@ use Rattle.contact_ledger.specs.declared.acts.Act.TheVariants as act
 use Rattle.dmis_program.specs.declared.features.Touch.{Touch}
 use Rattle.protocol_model.specs.Claims.{Made, IsServed, Serves, AreRuns, Sound, Told}
 use Rattle.protocol_model.specs.Rows.{at, along, from_above, tool, part, feature}
-use Rattle.protocol_model.specs.LedgerRows.{contact_of, first_touch, second_touch, one_wanted, two_wanted, first_point, second_point,
-  first_contact, second_contact, ledger_with, right_ledger, measured_as, two_connections}
+use Rattle.protocol_model.specs.LedgerRows.{contact_of, first_touch, second_touch, one_wanted, two_wanted, first_point, second_point}
+use Rattle.protocol_model.specs.LedgerRows.{first_contact, second_contact, ledger_with, right_ledger, measured_as, two_connections}
 
 -- ---- what is allowed
 
@@ -24,8 +24,15 @@ served touch point = record { on = refl; target = refl; dir = refl; tool = refl;
 pub right_is : Sound one_wanted (measured_as (codes "A") ∷ []) right_ledger
 right_is = record {
   starts = 0 ∷ [];
-  runs = (omega arith, record { label = refl; connection = 1;
-      serves = (served first_touch first_point, (served second_touch second_point, tt)) }, tt);
+  runs = (
+    omega arith,
+    record {
+      label = refl;
+      connection = 1;
+      serves = (served first_touch first_point, (served second_touch second_point, tt));
+    },
+    tt,
+  );
 }
 
 pub nothing_is : Sound one_wanted [] []
@@ -38,8 +45,15 @@ both_are = record {
   runs = (
     omega arith,
     record { label = refl; connection = 1; serves = (served first_touch first_point, (served second_touch second_point, tt)) },
-    (omega arith, record { label = refl; connection = 1; serves = (served first_touch first_point, (served second_touch second_point, tt))
-        }, tt),
+    (
+      omega arith,
+      record {
+        label = refl;
+        connection = 1;
+        serves = (served first_touch first_point, (served second_touch second_point, tt));
+      },
+      tt,
+    ),
   );
 }
 

@@ -1,6 +1,6 @@
 -- Whether tokens are spelled as arguments are, and what their words say: all of it can be computed.
-use Rattle.std.proofs.Common.{◌≡◌, ℕ, zero, suc, ◌⊎◌, inl, inr, Bool, true, false, List, [], ◌∷◌, ◌++◌, length, take, drop, refl, sym, ◌∙◌,
-  ap, subst, arith, Option, Some, None, MatchOption, Result, Ok, Err, ℤ, pos, negsuc, codes, take-append-drop}
+use Rattle.std.proofs.Common.{◌≡◌, ℕ, zero, suc, ◌⊎◌, inl, inr, Bool, true, false, List, [], ◌∷◌, ◌++◌, length, take, drop, refl, sym, ◌∙◌}
+use Rattle.std.proofs.Common.{ap, subst, arith, Option, Some, None, MatchOption, Result, Ok, Err, ℤ, pos, negsuc, codes, take-append-drop}
 use Rattle.std.specs.Prelude.{bytes_eq, if◌then◌else◌}
 use Rattle.std.proofs.lemmas.Bool.{false≢true}
 use Rattle.std.proofs.lemmas.Slice.Eq.{bytes_eq-Decides}
@@ -16,8 +16,9 @@ use Rattle.dme_line.specs.Tokens.{Token, Open, Close, Comma, Word}
 use Rattle.dme_line.specs.Words.{is_word}
 use Rattle.dme_line.specs.Kinds.{csy_name}
 use Rattle.dme_line.specs.Taken.{bare_word}
-use Rattle.dme_line.specs.Arguments.{Argument, Single, Triple, argument_tokens, list_tokens, enclosed, single_named, triple_named, IsAxis,
-  IsAlong, IsTarget, IsPlace, IsReport, IsOneWord, IsTool, IsSystem, Seven, HasLengths, HasNoAngles, IsTransformation, Says}
+use Rattle.dme_line.specs.Arguments.{Argument, Single, Triple, argument_tokens, list_tokens, enclosed, single_named, triple_named, IsAxis}
+use Rattle.dme_line.specs.Arguments.{IsAlong, IsTarget, IsPlace, IsReport, IsOneWord, IsTool, IsSystem, Seven, HasLengths, HasNoAngles}
+use Rattle.dme_line.specs.Arguments.{IsTransformation, Says}
 use Rattle.dme_line.specs.declared.commands.Csy.{Csy}
 use Rattle.dme_line.specs.declared.commands.Csy.TheVariants.{MachineCsy, PartCsy}
 use Rattle.dme_line.specs.declared.commands.Kind.{Kind}
@@ -125,7 +126,7 @@ front_is ns ts = decided_by here there (has_shape ns (take (length ns) ts))
     there f =
         let long : length ns ≡ length f.front = ap length (sym f.shaped) ∙ length_shapes f.front in
         ap shapes (ap (λ (l : List Token). take (length ns) l) f.parts
-            ∙ (ap (λ (k : ℕ). take k (f.front ++ f.behind)) long ∙ take_front f.front f.behind)) ∙ f.shaped
+        ∙ (ap (λ (k : ℕ). take k (f.front ++ f.behind)) long ∙ take_front f.front f.behind)) ∙ f.shaped
 
 -- ---- arguments
 
@@ -140,10 +141,18 @@ first_argument ts = go (front_is (3 ∷ 0 ∷ 3 ∷ 1 ∷ []) ts) (front_is (3 �
   where
     none_of : (Front (3 ∷ 0 ∷ 3 ∷ 1 ∷ []) ts → ⊥) → (Front (3 ∷ 0 ∷ 3 ∷ 2 ∷ 3 ∷ 2 ∷ 3 ∷ 1 ∷ []) ts → ⊥) → (a : Argument) (us : List Token)
         → ts ≡ argument_tokens a ++ us → ⊥
-    none_of single triple (Single n x) us e = single (record { front = argument_tokens (Single n x); behind = us; shaped = refl;
-        parts = e })
-    none_of single triple (Triple n i j k) us e = triple (record { front = argument_tokens (Triple n i j k); behind = us; shaped = refl;
-        parts = e })
+    none_of single triple (Single n x) us e = single (record {
+      front = argument_tokens (Single n x);
+      behind = us;
+      shaped = refl;
+      parts = e;
+    })
+    none_of single triple (Triple n i j k) us e = triple (record {
+      front = argument_tokens (Triple n i j k);
+      behind = us;
+      shaped = refl;
+      parts = e;
+    })
 
     go : Decided (Front (3 ∷ 0 ∷ 3 ∷ 1 ∷ []) ts) → Decided (Front (3 ∷ 0 ∷ 3 ∷ 2 ∷ 3 ∷ 2 ∷ 3 ∷ 1 ∷ []) ts) → Decided (FirstArgument ts)
     go (inl f) triple =
@@ -198,13 +207,20 @@ chain_is mark k ts one rest = go (front_is (shape mark ∷ []) ts)
     })
 
     argued : (us : List Token) → ts ≡ mark ∷ us → Decided (FirstArgument us) → Decided (Chain mark k ts)
-    argued us is (inr none) = inr (λ c. none (record { argument = c.argument; behind = tail_tokens c.more;
-        parts = cons_behind mark us _ (sym is ∙ c.parts) }))
+    argued us is (inr none) = inr (λ c. none (record {
+      argument = c.argument;
+      behind = tail_tokens c.more;
+      parts = cons_behind mark us _ (sym is ∙ c.parts);
+    }))
     argued us is (inl a) = told us is a (rest a.behind)
 
     go : Decided (Front (shape mark ∷ []) ts) → Decided (Chain mark k ts)
-    go (inr none) = inr (λ c. none (record { front = mark ∷ []; behind = argument_tokens c.argument ++ tail_tokens c.more; shaped = refl;
-        parts = c.parts }))
+    go (inr none) = inr (λ c. none (record {
+      front = mark ∷ [];
+      behind = argument_tokens c.argument ++ tail_tokens c.more;
+      shaped = refl;
+      parts = c.parts;
+    }))
     go (inl f) = argued f.behind (f.parts ∙ ap (λ (l : List Token). l ++ f.behind) (filled_of (shape mark ∷ []) f.front f.shaped
         ∙ one (words f.front))) (first_argument f.behind)
 
@@ -236,13 +252,22 @@ listed_is k ts = decided_by here (λ (l : Listed k ts). there l.arguments l.long
     (chain_is Open k ts (λ ws. refl) (λ us. behind_is k us))
   where
     here : Chain Open k ts → Listed k ts
-    here c = record { arguments = c.argument ∷ c.more; long = ap suc c.long; spelled = c.parts
-        ∙ ap (λ (l : List Token). Open ∷ l) (sym (list_tokens-tail c.argument c.more)) }
+    here c = record {
+      arguments = c.argument ∷ c.more;
+      long = ap suc c.long;
+      spelled = c.parts
+          ∙ ap (λ (l : List Token). Open ∷ l) (sym (list_tokens-tail c.argument c.more));
+    }
 
     there : (args : List Argument) → length args ≡ suc k → ts ≡ enclosed (list_tokens args) → Chain Open k ts
     there [] e f = absurd (omega (arith, e))
-    there (a ∷ more) e f = record { argument = a; more = more; long = omega (arith, e); parts = f
-        ∙ ap (λ (l : List Token). Open ∷ l) (list_tokens-tail a more) }
+    there (a ∷ more) e f = record {
+      argument = a;
+      more = more;
+      long = omega (arith, e);
+      parts = f
+          ∙ ap (λ (l : List Token). Open ∷ l) (list_tokens-tail a more);
+    }
 
 -- ---- numerals and places
 
@@ -281,12 +306,19 @@ target_is : (args : List Argument) → Decided (Target args)
 target_is args = decided_by here there (both (axis_is (codes "X") args) (both (axis_is (codes "Y") args) (axis_is (codes "Z") args)))
   where
     here : Axis (codes "X") args × (Axis (codes "Y") args × Axis (codes "Z") args) → Target args
-    here h = record { point = record { x = h.0.value; y = h.1.0.value; z = h.1.1.value };
-        is = record { x = h.0.is; y = h.1.0.is; z = h.1.1.is } }
+    here h = record {
+      point = record { x = h.0.value; y = h.1.0.value; z = h.1.1.value };
+      is = record { x = h.0.is; y = h.1.0.is; z = h.1.1.is };
+    }
 
     there : Target args → Axis (codes "X") args × (Axis (codes "Y") args × Axis (codes "Z") args)
-    there t = (record { value = t.point.x; is = t.is.x }, (record { value = t.point.y; is = t.is.y },
-        record { value = t.point.z; is = t.is.z }))
+    there t = (
+      record { value = t.point.x; is = t.is.x },
+      (
+        record { value = t.point.y; is = t.is.y },
+        record { value = t.point.z; is = t.is.z },
+      ),
+    )
 
 -- three words as a direction
 record Heading (i j k : List ℕ) : Type 0 where
@@ -357,8 +389,15 @@ move_is : (ts : List Token) → Decided (Move ts)
 move_is ts = go (listed_is 2 ts)
   where
     aimed : (l : Listed 2 ts) → Decided (Target l.arguments) → Decided (Move ts)
-    aimed l (inl t) = inl (record { point = t.point; is = record { arguments = l.arguments; spelled = l.spelled; target = t.is;
-        ijk = l.long } })
+    aimed l (inl t) = inl (record {
+      point = t.point;
+      is = record {
+        arguments = l.arguments;
+        spelled = l.spelled;
+        target = t.is;
+        ijk = l.long;
+      };
+    })
     aimed l (inr none) = inr (λ m. none (record { point = m.point; is = place_target ts l.arguments m.point None l.spelled m.is }))
 
     go : Decided (Listed 2 ts) → Decided (Move ts)
@@ -374,8 +413,11 @@ directed_is : (ts : List Token) → Decided (Directed ts)
 directed_is ts = go (listed_is 3 ts)
   where
     aimed : (l : Listed 3 ts) → Decided (Target l.arguments × Along l.arguments) → Decided (Directed ts)
-    aimed l (inl h) = inl (record { point = h.0.point; direction = h.1.direction;
-        is = record { arguments = l.arguments; spelled = l.spelled; target = h.0.is; ijk = (l.long, h.1.is) } })
+    aimed l (inl h) = inl (record {
+      point = h.0.point;
+      direction = h.1.direction;
+      is = record { arguments = l.arguments; spelled = l.spelled; target = h.0.is; ijk = (l.long, h.1.is) };
+    })
     aimed l (inr none) = inr (λ a. none (
       record { point = a.point; is = place_target ts l.arguments a.point (Some a.direction) l.spelled a.is },
       record { direction = a.direction; is = (place_ijk ts l.arguments a.point (Some a.direction) l.spelled a.is).1 },
@@ -392,8 +434,10 @@ pub record OneWord (ts : List Token) : Type 0 where
   pub spelled : IsOneWord ts word
 
 one_word : (ts : List Token) → Decided (OneWord ts)
-one_word ts = decided_by (λ (e : shapes ts ≡ 0 ∷ 3 ∷ 1 ∷ []). record { word = first_of (words ts);
-    spelled = filled_of (0 ∷ 3 ∷ 1 ∷ []) ts e }) (λ (w : OneWord ts). ap shapes w.spelled) (has_shape (0 ∷ 3 ∷ 1 ∷ []) ts)
+one_word ts = decided_by (λ (e : shapes ts ≡ 0 ∷ 3 ∷ 1 ∷ []). record {
+  word = first_of (words ts);
+  spelled = filled_of (0 ∷ 3 ∷ 1 ∷ []) ts e;
+}) (λ (w : OneWord ts). ap shapes w.spelled) (has_shape (0 ∷ 3 ∷ 1 ∷ []) ts)
 
 record Tool (ts : List Token) : Type 0 where
   pub name : List ℕ
@@ -447,8 +491,15 @@ report_is ts = decided_by here there (both (has_shape report_shape ts)
     here : (shapes ts ≡ report_shape) × ((is_word (codes "X") (first_of (words ts)) ≡ true)
         × ((is_word (codes "Y") (first_of (others_of (words ts))) ≡ true)
         × (is_word (codes "Z") (first_of (others_of (others_of (words ts)))) ≡ true))) → IsReport ts
-    here h = record { x = first_of (words ts); y = first_of (others_of (words ts)); z = first_of (others_of (others_of (words ts)));
-        spelled = filled_of report_shape ts h.0; x_named = h.1.0; y_named = h.1.1.0; z_named = h.1.1.1 }
+    here h = record {
+      x = first_of (words ts);
+      y = first_of (others_of (words ts));
+      z = first_of (others_of (others_of (words ts)));
+      spelled = filled_of report_shape ts h.0;
+      x_named = h.1.0;
+      y_named = h.1.1.0;
+      z_named = h.1.1.1;
+    }
 
     there : IsReport ts → (shapes ts ≡ report_shape) × ((is_word (codes "X") (first_of (words ts)) ≡ true)
         × ((is_word (codes "Y") (first_of (others_of (words ts))) ≡ true)
@@ -495,12 +546,19 @@ lengths_are s = decided_by here there (both (length_is 3 volume_limit s.x)
     (both (length_is 3 volume_limit s.y) (length_is 3 volume_limit s.z)))
   where
     here : Length 3 volume_limit s.x × (Length 3 volume_limit s.y × Length 3 volume_limit s.z) → Lengths s
-    here h = record { point = record { x = h.0.value; y = h.1.0.value; z = h.1.1.value };
-        are = record { x = h.0.reads; y = h.1.0.reads; z = h.1.1.reads } }
+    here h = record {
+      point = record { x = h.0.value; y = h.1.0.value; z = h.1.1.value };
+      are = record { x = h.0.reads; y = h.1.0.reads; z = h.1.1.reads };
+    }
 
     there : Lengths s → Length 3 volume_limit s.x × (Length 3 volume_limit s.y × Length 3 volume_limit s.z)
-    there l = (record { value = l.point.x; reads = l.are.x }, (record { value = l.point.y; reads = l.are.y },
-        record { value = l.point.z; reads = l.are.z }))
+    there l = (
+      record { value = l.point.x; reads = l.are.x },
+      (
+        record { value = l.point.y; reads = l.are.y },
+        record { value = l.point.z; reads = l.are.z },
+      ),
+    )
 
 angles_are : (s : Seven) → Decided (HasNoAngles s)
 angles_are s = decided_by (λ (h : IsZero s.a × (IsZero s.b × IsZero s.c)). record { a = h.0; b = h.1.0; c = h.1.1 })
@@ -513,8 +571,16 @@ transformation_is ts = decided_by here there (both (has_shape seven_shape ts)
   where
     here : (shapes ts ≡ seven_shape) × ((is_word (codes "PartCsy") (seven_of (words ts)).system ≡ true)
         × (Lengths (seven_of (words ts)) × HasNoAngles (seven_of (words ts)))) → Transformation ts
-    here h = record { point = h.1.1.0.point; is = record { words = seven_of (words ts); spelled = filled_of seven_shape ts h.0;
-        named = h.1.0; lengths = h.1.1.0.are; angles = h.1.1.1 } }
+    here h = record {
+      point = h.1.1.0.point;
+      is = record {
+        words = seven_of (words ts);
+        spelled = filled_of seven_shape ts h.0;
+        named = h.1.0;
+        lengths = h.1.1.0.are;
+        angles = h.1.1.1;
+      };
+    }
 
     there : Transformation ts → (shapes ts ≡ seven_shape) × ((is_word (codes "PartCsy") (seven_of (words ts)).system ≡ true)
         × (Lengths (seven_of (words ts)) × HasNoAngles (seven_of (words ts))))
@@ -523,8 +589,10 @@ transformation_is ts = decided_by here there (both (has_shape seven_shape ts)
           ap shapes t.is.spelled,
           (
             subst (λ (s : Seven). is_word (codes "PartCsy") s.system ≡ true) same t.is.named,
-            (record { point = t.point; are = subst (λ (s : Seven). HasLengths s t.point) same t.is.lengths },
-                subst (λ (s : Seven). HasNoAngles s) same t.is.angles),
+            (
+              record { point = t.point; are = subst (λ (s : Seven). HasLengths s t.point) same t.is.lengths },
+              subst (λ (s : Seven). HasNoAngles s) same t.is.angles,
+            ),
           ),
         )
 
@@ -547,8 +615,10 @@ touch_is ts = go (move_is ts) (directed_is ts)
 
     go : Decided (Move ts) → Decided (Directed ts) → Decided (Saying kind.PtMeas ts)
     go (inl m) a = inl (record { command = command.PtMeas m.point None; says = (m.point, None, m.is, refl) })
-    go (inr m) (inl a) = inl (record { command = command.PtMeas a.point (Some a.direction);
-        says = (a.point, Some a.direction, a.is, refl) })
+    go (inr m) (inl a) = inl (record {
+      command = command.PtMeas a.point (Some a.direction);
+      says = (a.point, Some a.direction, a.is, refl);
+    })
     go (inr m) (inr a) = inr (λ s. neither m a s.says.0 s.says.1 s.says.2)
 
 pub saying : (k : Kind) (ts : List Token) → Decided (Saying k ts)
@@ -567,10 +637,14 @@ saying kind.GoTo ts = decided_by (λ (m : Move ts). record { command = command.G
 saying kind.PtMeas ts = touch_is ts
 saying kind.ChangeTool ts = decided_by (λ (t : Tool ts). record { command = command.ChangeTool t.name; says = (t.name, t.is, refl) })
     (λ (s : Saying kind.ChangeTool ts). record { name = s.says.0; is = s.says.1 }) (tool_is ts)
-saying kind.SetCsyTransformation ts = decided_by (λ (t : Transformation ts). record { command = command.SetCsyTransformation t.point;
-    says = (t.point, t.is, refl) }) (λ (s : Saying kind.SetCsyTransformation ts). record { point = s.says.0; is = s.says.1 })
+saying kind.SetCsyTransformation ts = decided_by (λ (t : Transformation ts). record {
+  command = command.SetCsyTransformation t.point;
+  says = (t.point, t.is, refl);
+}) (λ (s : Saying kind.SetCsyTransformation ts). record { point = s.says.0; is = s.says.1 })
     (transformation_is ts)
-saying kind.SetCoordSystem ts = decided_by (λ (t : System ts). record { command = command.SetCoordSystem t.csy;
-    says = (t.csy, t.is, refl) }) (λ (s : Saying kind.SetCoordSystem ts). record { csy = s.says.0; is = s.says.1 }) (system_is ts)
+saying kind.SetCoordSystem ts = decided_by (λ (t : System ts). record {
+  command = command.SetCoordSystem t.csy;
+  says = (t.csy, t.is, refl);
+}) (λ (s : Saying kind.SetCoordSystem ts). record { csy = s.says.0; is = s.says.1 }) (system_is ts)
 saying kind.AbortE ts = decided_by (λ (e : ts ≡ enclosed []). record { command = command.AbortE; says = (e, refl) })
     (λ (s : Saying kind.AbortE ts). s.says.0) (nothing_is ts)

@@ -1,6 +1,6 @@
 -- A line that stands at the front of bytes is the first of the lines that they carry, and reads as what was written.
-use Rattle.std.proofs.Common.{◌≡◌, ℕ, Bool, true, false, cond, not, ◌&&◌, List, [], ◌∷◌, ◌++◌, refl, sym, ◌∙◌, ap, Option, Some, None, Ok,
-  Err}
+use Rattle.std.proofs.Common.{◌≡◌, ℕ, Bool, true, false, cond, not, ◌&&◌, List, [], ◌∷◌, ◌++◌, refl, sym, ◌∙◌, ap, Option, Some, None, Ok}
+use Rattle.std.proofs.Common.{Err}
 use Rattle.fixed_um.specs.declared.lengths.Point.{Point}
 use Rattle.dme_line.specs.Points.{written_point}
 use Rattle.dme_line.specs.declared.tags.Tag.{Tag}
@@ -12,14 +12,14 @@ use Rattle.line_framing.specs.declared.faults.FramingFault.{FramingFault}
 use Rattle.line_framing.proofs.Streams.{takes_first, no_fault}
 use Rattle.dmis_program.specs.declared.features.Wanted.{Wanted}
 use Rattle.protocol_model.specs.Replies.{Reply, Mark, tag_of, mark_of, tag_is}
-use Rattle.protocol_model.specs.Lines.{command_text, reply_text, command_texts, reply_texts, command_bytes, reply_bytes, Readers,
-  AreReaders}
+use Rattle.protocol_model.specs.Lines.{command_text, reply_text, command_texts, reply_texts, command_bytes, reply_bytes, Readers}
+use Rattle.protocol_model.specs.Lines.{AreReaders}
 use Rattle.protocol_model.specs.Open.{Heard, Refused, judged, judged_given, settled, put_before, heard_in, is_failed, asks_data}
 use Rattle.protocol_model.specs.Client.{Client, heard_standard, heard_event, heard_on, client_hears, client_read, faulted}
 use Rattle.protocol_model.specs.Ends.{held_kind, held_under, given_point, given_under, given, response_read, line_read}
 use Rattle.protocol_model.proofs.table.Basics.{if_cases, if_true, if_false, and_false}
-use Rattle.protocol_model.proofs.written_lines.Writable.{AreWritable, command_lines, IsWritableReply, AreReplies, reply_lines, response_of,
-  reply_read, point_read}
+use Rattle.protocol_model.proofs.written_lines.Writable.{AreWritable, command_lines, IsWritableReply, AreReplies, reply_lines, response_of}
+use Rattle.protocol_model.proofs.written_lines.Writable.{reply_read, point_read}
 use Rattle.protocol_model.specs.declared.lines.Line.{Line}
 use Rattle.protocol_model.specs.declared.states.Cause.{Cause}
 use Rattle.protocol_model.specs.declared.held.Held.{Held}
@@ -92,8 +92,8 @@ unknown_in front (h ∷ hs) t m e = if_cases {A = Option Kind} (tag_is h.tag t) 
     (heard_in front (h ∷ hs) t m ≡ Err Cause.UnknownTag) e
     (λ same found. absurd (cc))
     (λ other rest. if_false {A = Heard} (tag_is h.tag t) (settled h hs (judged front h.kind h.stage m))
-        (put_before h (heard_in (front && is_failed h.stage) hs t m)) other
-        ∙ ap (put_before h) (unknown_in (front && is_failed h.stage) hs t m rest))
+    (put_before h (heard_in (front && is_failed h.stage) hs t m)) other
+    ∙ ap (put_before h) (unknown_in (front && is_failed h.stage) hs t m rest))
 
 -- under a tag of a command that asks for no data, a data mark is out of order
 data_out : (b : Bool) (k : Kind) (s : Stage) (p : Point) → asks_data k ≡ false
@@ -108,11 +108,11 @@ out_of_order_in front (h ∷ hs) t k p e asks = if_cases {A = Option Kind} (tag_
     (λ same found.
     let kind : h.kind ≡ k = cc in
     if_true {A = Heard} (tag_is h.tag t) (settled h hs (judged front h.kind h.stage (Mark.Given p)))
-        (put_before h (heard_in (front && is_failed h.stage) hs t (Mark.Given p))) same
+    (put_before h (heard_in (front && is_failed h.stage) hs t (Mark.Given p))) same
     ∙ ap (settled h hs) (data_out front h.kind h.stage p (ap asks_data kind ∙ asks)))
     (λ other rest. if_false {A = Heard} (tag_is h.tag t) (settled h hs (judged front h.kind h.stage (Mark.Given p)))
-        (put_before h (heard_in (front && is_failed h.stage) hs t (Mark.Given p))) other
-        ∙ ap (put_before h) (out_of_order_in (front && is_failed h.stage) hs t k p rest asks))
+    (put_before h (heard_in (front && is_failed h.stage) hs t (Mark.Given p))) other
+    ∙ ap (put_before h) (out_of_order_in (front && is_failed h.stage) hs t k p rest asks))
 
 unknown_on : (ws : List Wanted) (c : Client) (t : Tag) (m : Mark) → held_under t c ≡ None → heard_on ws c.table t m ≡ Err Cause.UnknownTag
 unknown_on ws c (Std n) m e = ap (heard_standard ws c.table) (unknown_in (not c.table.tally.failed) c.table.standard (Std n) m e)

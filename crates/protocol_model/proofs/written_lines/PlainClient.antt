@@ -1,6 +1,6 @@
 -- What a client writes are commands that can be written.
-use Rattle.std.proofs.Common.{◌≡◌, ℕ, zero, suc, ◌-◌, ◌≤◌, Bool, true, false, cond, List, [], ◌∷◌, ◌++◌, length, refl, sym, arith, Option,
-  Some, None, Result, Ok, Err, IfSome}
+use Rattle.std.proofs.Common.{◌≡◌, ℕ, zero, suc, ◌-◌, ◌≤◌, Bool, true, false, cond, List, [], ◌∷◌, ◌++◌, length, refl, sym, arith, Option}
+use Rattle.std.proofs.Common.{Some, None, Result, Ok, Err, IfSome}
 use Rattle.std.specs.List.{AllByRecursion}
 use Rattle.std.proofs.lemmas.Bool.{false≢true}
 use Rattle.fixed_um.specs.Names.{IsName}
@@ -19,10 +19,11 @@ use Rattle.dme_line.specs.declared.commands.Command.{Command}
 use Rattle.dme_line.specs.declared.commands.Command.TheVariants as command
 use Rattle.dme_line.proofs.CommandBack.{volume_on_wire}
 use Rattle.protocol_model.specs.Replies.{Mark, tag_is}
-use Rattle.protocol_model.specs.Plan.{tool_behind, frame_behind, is_empty, behind, up_to, framing, tooling, stepping, measuring, clearing,
-  plan}
-use Rattle.protocol_model.specs.Client.{Client, Table, Sends, first_free, or_else, next_number, sends_next, client_sent, sends_abort,
-  client_aborted, client_connected, client_resumed, client_left, client_restarted, client_hears, client_read, heard_on}
+use Rattle.protocol_model.specs.Plan.{tool_behind, frame_behind, is_empty, behind, up_to, framing, tooling, stepping, measuring, clearing}
+use Rattle.protocol_model.specs.Plan.{plan}
+use Rattle.protocol_model.specs.Client.{Client, Table, Sends, first_free, or_else, next_number, sends_next, client_sent, sends_abort}
+use Rattle.protocol_model.specs.Client.{client_aborted, client_connected, client_resumed, client_left, client_restarted, client_hears}
+use Rattle.protocol_model.specs.Client.{client_read, heard_on}
 use Rattle.protocol_model.specs.Server.{is_abort}
 use Rattle.protocol_model.proofs.plan.Marks.{HasNoAbort, plan_no_abort}
 use Rattle.protocol_model.proofs.table.Drawing.{IsFound, found, or_cases}
@@ -94,8 +95,11 @@ steps_up_to zero ss h = tt
 steps_up_to (suc k) [] h = tt
 steps_up_to (suc k) (step.Goto p ∷ ss) h = (h.0, steps_up_to (suc k) ss h.1)
 steps_up_to (suc k) (step.Begin l ∷ ss) h = (h.0, steps_up_to (suc k) ss h.1)
-steps_up_to (suc k) (step.Touch t ∷ ss) h = (h.0, cond_steps (is_empty (block_touches ss)) _ _ (steps_up_to k ss h.1)
-    (steps_up_to (suc k) ss h.1))
+steps_up_to (suc k) (step.Touch t ∷ ss) h = (
+  h.0,
+  cond_steps (is_empty (block_touches ss)) _ _ (steps_up_to k ss h.1)
+      (steps_up_to (suc k) ss h.1),
+)
 steps_up_to (suc k) (step.Tool n ∷ ss) h = (h.0, steps_up_to (suc k) ss h.1)
 steps_up_to (suc k) (step.Recall p ∷ ss) h = (h.0, steps_up_to (suc k) ss h.1)
 steps_up_to (suc k) (step.End ∷ ss) h = (h.0, steps_up_to (suc k) ss h.1)
@@ -122,16 +126,25 @@ arguments_measuring : (tool : Option (List ℕ)) (frame : Frame) (ss : List Step
     → HaveArguments (measuring tool frame ss)
 arguments_measuring tool frame ss t f h =
     arguments_join (tooling tool) _ (arguments_tooling tool t)
-        (arguments_join (framing frame) _ (arguments_framing frame f)
-        (arguments_join (stepping frame ss) _ (arguments_steps frame ss h) (tt, tt)))
+    (arguments_join (framing frame) _ (arguments_framing frame f)
+    (arguments_join (stepping frame ss) _ (arguments_steps frame ss h) (tt, tt)))
 
 pub plan_arguments : (p : Program) (k : ℕ) (start : Start) → IsProgram p → HaveArguments (plan p k start)
 plan_arguments p k start h = go start
   where
     rest : HaveArguments (clearing (measuring (tool_behind None (up_to k p.steps)) (frame_behind Machine (up_to k p.steps))
         (behind k p.steps)))
-    rest = (tt, (tt, (tt, arguments_measuring _ _ (behind k p.steps) (tool_is None (up_to k p.steps) tt (steps_up_to k p.steps h.steps))
-        (frame_is Machine (up_to k p.steps) tt (steps_up_to k p.steps h.steps)) (steps_behind k p.steps h.steps))))
+    rest = (
+      tt,
+      (
+        tt,
+        (
+          tt,
+          arguments_measuring _ _ (behind k p.steps) (tool_is None (up_to k p.steps) tt (steps_up_to k p.steps h.steps))
+              (frame_is Machine (up_to k p.steps) tt (steps_up_to k p.steps h.steps)) (steps_behind k p.steps h.steps),
+        ),
+      ),
+    )
 
     go : (s : Start) → HaveArguments (plan p k s)
     go NewConnection = (tt, rest)
@@ -143,7 +156,7 @@ number_below : (sort : ℕ → Tag) (hs : List Held) (last all n : ℕ) → last
     → or_else (first_free sort hs (suc last) (all - last)) (first_free sort hs 1 all) ≡ Some n → (1 ≤ n) × (n ≤ all)
 number_below sort hs last all n le e = or_cases _ _ n ((1 ≤ n) × (n ≤ all)) e
     (λ first. let f : IsFound sort hs (suc last) (all - last) n = found sort hs (suc last) (all - last) n first
-        in (omega (arith, f.from), omega (arith, f.below)))
+    in (omega (arith, f.from), omega (arith, f.below)))
     (λ other. let f : IsFound sort hs 1 all n = found sort hs 1 all n other in (f.from, omega (arith, f.below)))
 
 -- ---- the client
@@ -184,14 +197,27 @@ plain_connected n c h = record {
 sends_by : (c : Client) (ps : List Planned) (number : Option ℕ) → IsPlainClient c → HaveArguments ps → HasNoAbort ps
     → ((n : ℕ) → number ≡ Some n → (1 ≤ n) × (n ≤ 9999)) → IsPlainSends (sends_next c ps number)
 sends_by c [] number h a b within = record { client = h; lines = tt }
-sends_by c (p ∷ ps) None h a b within = record { client = record { program = h.program; drawn = h.drawn; event_drawn = h.event_drawn;
-    unsent = h.unsent; no_abort = h.no_abort }; lines = tt }
+sends_by c (p ∷ ps) None h a b within = record {
+  client = record {
+    program = h.program;
+    drawn = h.drawn;
+    event_drawn = h.event_drawn;
+    unsent = h.unsent;
+    no_abort = h.no_abort;
+  };
+  lines = tt;
+}
 sends_by c (p ∷ ps) (Some n) h a b within =
     let bounds = within n refl in
     record {
       client = record { program = h.program; drawn = bounds.1; event_drawn = h.event_drawn; unsent = a.1; no_abort = b.1 };
-      lines = (record { tagged = record { numbered = (bounds.0, omega (arith, bounds.1)); sort = standard_kind p.command b.0 };
-          arguments = a.0 }, tt);
+      lines = (
+        record {
+          tagged = record { numbered = (bounds.0, omega (arith, bounds.1)); sort = standard_kind p.command b.0 };
+          arguments = a.0;
+        },
+        tt,
+      );
     }
 
 pub plain_sent : (c : Client) → IsPlainClient c → IsPlainSends (client_sent c)
@@ -200,8 +226,16 @@ plain_sent c h = sends_by c c.unsent (next_number Std c.table.standard c.drawn) 
 
 aborts_by : (c : Client) (number : Option ℕ) → IsPlainClient c → ((n : ℕ) → number ≡ Some n → (1 ≤ n) × (n ≤ 9999))
     → IsPlainSends (sends_abort c number)
-aborts_by c None h within = record { client = record { program = h.program; drawn = h.drawn; event_drawn = h.event_drawn; unsent = h.unsent;
-    no_abort = h.no_abort }; lines = tt }
+aborts_by c None h within = record {
+  client = record {
+    program = h.program;
+    drawn = h.drawn;
+    event_drawn = h.event_drawn;
+    unsent = h.unsent;
+    no_abort = h.no_abort;
+  };
+  lines = tt;
+}
 aborts_by c (Some n) h within =
     let bounds = within n refl in
     record {
@@ -214,10 +248,20 @@ plain_aborted c h = aborts_by c (next_number Event c.table.event c.event_drawn) 
     (λ n e. number_below Event c.table.event c.event_drawn 9999 n h.event_drawn e)
 
 hears_plain : (c : Client) (t : Tag) (m : Mark) (r : Result Table Cause) → IsPlainClient c → IsPlainClient (client_hears c t m r)
-hears_plain c t m (Ok b) h = record { program = h.program; drawn = h.drawn; event_drawn = h.event_drawn; unsent = h.unsent;
-    no_abort = h.no_abort }
-hears_plain c t m (Err cause) h = record { program = h.program; drawn = h.drawn; event_drawn = h.event_drawn; unsent = h.unsent;
-    no_abort = h.no_abort }
+hears_plain c t m (Ok b) h = record {
+  program = h.program;
+  drawn = h.drawn;
+  event_drawn = h.event_drawn;
+  unsent = h.unsent;
+  no_abort = h.no_abort;
+}
+hears_plain c t m (Err cause) h = record {
+  program = h.program;
+  drawn = h.drawn;
+  event_drawn = h.event_drawn;
+  unsent = h.unsent;
+  no_abort = h.no_abort;
+}
 
 pub plain_read : (c : Client) (t : Tag) (m : Mark) → IsPlainClient c → IsPlainClient (client_read c t m)
 plain_read c t m h = go (tag_is t (Event 0))

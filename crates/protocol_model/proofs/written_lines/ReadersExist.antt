@@ -1,6 +1,6 @@
 -- There are functions that read as the interface says: each reading is computed, with what shows that it is the one.
-use Rattle.std.proofs.Common.{◌≡◌, ℕ, ◌+◌, ◌*◌, ◌-◌, ◌/◌, ◌≤◌, ◌⊎◌, inl, inr, Bool, true, false, ◌&&◌, List, [], ◌∷◌, ◌++◌, take, drop,
-  refl, sym, ◌∙◌, ap, subst, arith, Option, Some, None, Result, Ok, Err, codes}
+use Rattle.std.proofs.Common.{◌≡◌, ℕ, ◌+◌, ◌*◌, ◌-◌, ◌/◌, ◌≤◌, ◌⊎◌, inl, inr, Bool, true, false, ◌&&◌, List, [], ◌∷◌, ◌++◌, take, drop}
+use Rattle.std.proofs.Common.{refl, sym, ◌∙◌, ap, subst, arith, Option, Some, None, Result, Ok, Err, codes}
 use Rattle.std.specs.Prelude.{◌==◌, nat_le, if◌then◌else◌}
 use Rattle.std.specs.List.{prefix_len}
 use Rattle.std.proofs.lemmas.Bool.{false≢true, and_parts, and_from, leb-true, le-leb, eqb-true, eq-eqb}
@@ -31,8 +31,8 @@ use Rattle.dme_line.proofs.NameCutLemmas.{name_cut}
 use Rattle.dme_line.proofs.CommandLemmas.{SaysHere, says_here}
 use Rattle.protocol_model.specs.Lines.{Readers, AreReaders}
 use Rattle.protocol_model.proofs.table.Basics.{if_cases}
-use Rattle.protocol_model.proofs.written_lines.Deciding.{Decided, decided_by, both, test, same_bytes, shapes, words, first_of, others_of, filled,
-  filled_of, has_shape, Length, length_is, Saying, saying}
+use Rattle.protocol_model.proofs.written_lines.Deciding.{Decided, decided_by, both, test, same_bytes, shapes, words, first_of, others_of}
+use Rattle.protocol_model.proofs.written_lines.Deciding.{filled, filled_of, has_shape, Length, length_is, Saying, saying}
 
 -- ---- tags
 
@@ -195,13 +195,26 @@ known line t name rest k b is (inr sort) says = record {
 }
 known line t name rest k b is (inl sort) (inr none) = record {
   result = Err (fault.BadArguments t k);
-  reads = (name, rest, b, is, λ c h. let here : SaysHere t k rest c = says_here line t t name rest k c b is h
-      in none (record { command = c; says = here.says }));
+  reads = (
+    name,
+    rest,
+    b,
+    is,
+    λ c h. let here : SaysHere t k rest c = says_here line t t name rest k c b is h
+        in none (record { command = c; says = here.says }),
+  );
 }
 known line t name rest k b is (inl sort) (inl s) = record {
   result = Ok (t, s.command);
-  reads = record { name = name; rest = rest; kind = k; begins = b; known = is; fits = record { numbered = b.tagged.numbered; sort = sort };
-      says = s.says };
+  reads = record {
+    name = name;
+    rest = rest;
+    kind = k;
+    begins = b;
+    known = is;
+    fits = record { numbered = b.tagged.numbered; sort = sort };
+    says = s.says;
+  };
 }
 
 -- a word is the name of one of these kinds
@@ -267,8 +280,11 @@ command_reading line = go (tagged line)
     numbers : (a : Tagged line) → Decided (IsNumbered a.tag) → CommandRead line
     numbers a (inl n) =
         let k : ℕ = prefix_len is_name_part a.text in
-        named line a.tag (take k a.text) (drop k a.text) (record { text = a.text; tagged = record { numbered = n; parts = a.parts };
-            named = name_cut a.text })
+        named line a.tag (take k a.text) (drop k a.text) (record {
+          text = a.text;
+          tagged = record { numbered = n; parts = a.parts };
+          named = name_cut a.text;
+        })
     numbers a (inr none) = no_tag line (λ t text h. none (subst IsNumbered (sym (same_tagged a t text h)) h.numbered))
 
     go : Decided (Tagged line) → CommandRead line
@@ -320,14 +336,14 @@ given_found : (text : List ℕ) (m : Mark) → given_of text ≡ Some m → IsMa
 given_found [] m e = absurd (no_mark m e)
 given_found (s ∷ text) m e = if_cases {A = Option Mark} (s == 32) (Some (mark.Given text)) None (Some m) (IsMarkText (35 ∷ s ∷ text) m) e
     (λ is same. subst (IsMarkText (35 ∷ s ∷ text)) (some_mark (mark.Given text) m same)
-        (ap (λ (l : List ℕ). 35 ∷ l) (first_same s 32 text (eqb-true s 32 is))))
+    (ap (λ (l : List ℕ). 35 ∷ l) (first_same s 32 text (eqb-true s 32 is))))
     (λ is none. absurd (no_mark m none))
 
 error_found : (text : List ℕ) (m : Mark) → error_of text ≡ Some m → IsMarkText (33 ∷ text) m
 error_found [] m e = subst (IsMarkText (33 ∷ [])) (some_mark (mark.Error []) m e) (inr (refl, refl))
 error_found (s ∷ text) m e = if_cases {A = Option Mark} (s == 32) (Some (mark.Error text)) None (Some m) (IsMarkText (33 ∷ s ∷ text) m) e
     (λ is same. subst (IsMarkText (33 ∷ s ∷ text)) (some_mark (mark.Error text) m same)
-        (inl (ap (λ (l : List ℕ). 33 ∷ l) (first_same s 32 text (eqb-true s 32 is)))))
+    (inl (ap (λ (l : List ℕ). 33 ∷ l) (first_same s 32 text (eqb-true s 32 is)))))
     (λ is none. absurd (no_mark m none))
 
 spaces_found : (c : ℕ) (text : List ℕ) (n m : Mark) → ((are_spaces text ≡ true) → IsMarkText (c ∷ text) n)
@@ -367,8 +383,11 @@ response_reading line = go (tagged line)
 
     go : Decided (Tagged line) → ResponseRead line
     go (inl a) = marks a (mark_from a.text) refl
-    go (inr none) = record { result = Err (record {}); reads = λ r h. none
-        (record { tag = r.tag; text = h.text; is_tag = h.tagged; parts = h.parts }) }
+    go (inr none) = record {
+      result = Err (record {});
+      reads = λ r h. none
+          (record { tag = r.tag; text = h.text; is_tag = h.tagged; parts = h.parts });
+    }
 
 -- ---- points
 
@@ -415,12 +434,16 @@ coordinates : (x y z : List ℕ) → Decided (Coordinates x y z)
 coordinates x y z = decided_by here there (both (length_is 3 wire_limit x) (both (length_is 3 wire_limit y) (length_is 3 wire_limit z)))
   where
     here : Length 3 wire_limit x × (Length 3 wire_limit y × Length 3 wire_limit z) → Coordinates x y z
-    here h = record { point = record { x = h.0.value; y = h.1.0.value; z = h.1.1.value };
-        has = record { x_reads = h.0.reads; y_reads = h.1.0.reads; z_reads = h.1.1.reads } }
+    here h = record {
+      point = record { x = h.0.value; y = h.1.0.value; z = h.1.1.value };
+      has = record { x_reads = h.0.reads; y_reads = h.1.0.reads; z_reads = h.1.1.reads };
+    }
 
     there : Coordinates x y z → Length 3 wire_limit x × (Length 3 wire_limit y × Length 3 wire_limit z)
-    there c = (record { value = c.point.x; reads = c.has.x_reads },
-        (record { value = c.point.y; reads = c.has.y_reads }, record { value = c.point.z; reads = c.has.z_reads }))
+    there c = (
+      record { value = c.point.x; reads = c.has.x_reads },
+      (record { value = c.point.y; reads = c.has.y_reads }, record { value = c.point.z; reads = c.has.z_reads }),
+    )
 
 record Spelled (text : List ℕ) : Type 0 where
   pub point : Point

@@ -24,8 +24,8 @@ use Rattle.dme_line.proofs.WireTexts.{point-wire}
 use Rattle.line_framing.specs.Content.{IsLine, AreLines, line_bytes}
 use Rattle.line_framing.proofs.Streams.{line_bytes-append}
 use Rattle.protocol_model.specs.Replies.{Reply}
-use Rattle.protocol_model.specs.Lines.{command_text, reply_text, command_texts, reply_texts, command_bytes, reply_bytes, Readers,
-  AreReaders}
+use Rattle.protocol_model.specs.Lines.{command_text, reply_text, command_texts, reply_texts, command_bytes, reply_bytes, Readers}
+use Rattle.protocol_model.specs.Lines.{AreReaders}
 use Rattle.protocol_model.specs.declared.lines.Line.{Line}
 
 -- ---- commands
@@ -111,8 +111,8 @@ reply_read r h (Reply.Given t p) w = response_back r h (record { tag = t; mark =
 reply_read r h (Reply.Done t) w = response_back r h (record { tag = t; mark = mark.Done }) w
 reply_read r h (Reply.Error t code name) w =
     one_response_reading (written_error t code name) (r.response (written_error t code name))
-        (Ok (record { tag = t; mark = mark.Error (error_report code name) })) (h.response (written_error t code name))
-        (error_reads_back t code name w)
+    (Ok (record { tag = t; mark = mark.Error (error_report code name) })) (h.response (written_error t code name))
+    (error_reads_back t code name w)
 
 pub point_read : (r : Readers) → AreReaders r → (p : Point) → IsOnWire p → r.point (written_point p) ≡ Ok p
 point_read r h p w = one_point_reading (written_point p) (r.point (written_point p)) (Ok p) (h.point (written_point p))
@@ -124,8 +124,11 @@ abs_difference : (a b : ℤ) → unsigned_abs a ≤ volume_limit → unsigned_ab
 abs_difference a b h g = omega (arith, ints)
 
 pub difference_on_wire : (p q : Point) → IsInVolume p → IsInVolume q → IsOnWire (point_difference p q)
-difference_on_wire p q h g = record { x = abs_difference p.x q.x h.x g.x; y = abs_difference p.y q.y h.y g.y;
-    z = abs_difference p.z q.z h.z g.z }
+difference_on_wire p q h g = record {
+  x = abs_difference p.x q.x h.x g.x;
+  y = abs_difference p.y q.y h.y g.y;
+  z = abs_difference p.z q.z h.z g.z;
+}
 
 abs_opposite : (a : ℤ) → unsigned_abs a ≤ volume_limit → unsigned_abs (neg_ℤ a) ≤ volume_limit
 abs_opposite a h = omega (arith, ints)

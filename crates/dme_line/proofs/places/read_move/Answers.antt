@@ -10,4 +10,4 @@ pub returns-in-Some-default-Some : goal.returns-in-Some-default-Some
 returns-in-Some-default-Some c =
     let some = c.in-Some-default-Some.field-0-1-is in
     no_move (tokens c.args.bytes.now) c.in-Some-default-Some.field-0-0 c.in-Some-default-Some.field-0-1 c.in-Some-default-Some.ensures
-        (λ e. cc)
+    (λ e. cc)

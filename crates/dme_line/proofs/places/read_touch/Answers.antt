@@ -11,4 +11,4 @@ pub returns-in_err-direction-in-Some : goal.returns-in_err-direction-in-Some
 returns-in_err-direction-in-Some c =
     let four : length (the_list c.in_ok-place.place) ≡ 4 = rw c.in-Some.is refl in
     rw c.from_residual-in_err-direction-in-Some.ensures (no_along _ (the_list c.in_ok-place.place) c.in_ok-place.ensures four
-        c.in_err-direction-in-Some.ensures)
+    c.in_err-direction-in-Some.ensures)

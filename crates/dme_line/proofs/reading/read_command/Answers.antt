@@ -6,22 +6,22 @@ use Rattle.dme_line.proofs.reading.read_command.Goals as goal
 pub returns-then-is_event-clause-reads : goal.returns-then-is_event-clause-reads
 returns-then-is_event-clause-reads c =
     let begins : Begins c.args.line.now c.in-Some.tag c.cut_name.result.0.now c.cut_name.result.1.now =
-        record { text = c.in-Some.text.now; tagged = c.in-Some.ensures; named = c.cut_name.ensures } in (
+    record { text = c.in-Some.text.now; tagged = c.in-Some.ensures; named = c.cut_name.ensures } in (
       c.cut_name.result.0.now,
       c.cut_name.result.1.now,
       begins,
       c.in-Some-kind_named.ensures,
       λ command h.
           let here = says_here c.args.line.now c.in-Some.tag c.in-Some.tag c.cut_name.result.0.now c.cut_name.result.1.now
-              c.in-Some-kind_named.kind command begins c.in-Some-kind_named.ensures h in
+          c.in-Some-kind_named.kind command begins c.in-Some-kind_named.ensures h in
           wrong_sort c.is_event.result c.is_event-2.result (c.is_event.ensures ∙ here.fits.sort
-              ∙ sym c.is_event-2.ensures) c.if-is_event.true,
+          ∙ sym c.is_event-2.ensures) c.if-is_event.true,
     )
 
 pub returns-in-None-clause-reads : goal.returns-in-None-clause-reads
 returns-in-None-clause-reads c =
     let begins : Begins c.args.line.now c.in-Some.tag c.cut_name.result.0.now c.cut_name.result.1.now =
-        record { text = c.in-Some.text.now; tagged = c.in-Some.ensures; named = c.cut_name.ensures } in
+    record { text = c.in-Some.text.now; tagged = c.in-Some.ensures; named = c.cut_name.ensures } in
     let none = rw c.in-None.is at c.in_ok-command.ensures.read in (
       c.cut_name.result.0.now,
       c.cut_name.result.1.now,
@@ -29,5 +29,5 @@ returns-in-None-clause-reads c =
       c.in-Some-kind_named.ensures,
       λ command h.
           none command (says_here c.args.line.now c.in-Some.tag c.in-Some.tag c.cut_name.result.0.now c.cut_name.result.1.now
-              c.in-Some-kind_named.kind command begins c.in-Some-kind_named.ensures h).says,
+          c.in-Some-kind_named.kind command begins c.in-Some-kind_named.ensures h).says,
     )

@@ -14,7 +14,7 @@ pub returns : goal.returns
 returns c =
     let shape : app_of c.in-Ok.command ≡ whole_line = c.in-Ok.ensures.shape in
     let both = asked_or_refused (app_of c.in-Ok.command) (map (λ word. word.now) c.args.words.now) c.try_get_matches_from.result
-        c.answered.result shape
+    c.answered.result shape
     (c.try_get_matches_from.ensures.kinds (ap is_simple_and_free shape ∙ refl)) c.try_get_matches_from.ensures.matches
     c.answered.ensures.order c.answered.ensures.taken c.answered.ensures.refused in
     record { order = both.0; refused = both.1 }

@@ -21,7 +21,7 @@ returns-clause-ok c =
     let at = rw c.deref.ensures.value at c.in_ok-index.ensures.found in
     let front = rw c.deref-2.ensures.value at c.is_front.ensures in
     rw c.remove.ensures.items (ended_at c.args.front _ _ Mark.Done _ _ (effect_of c.in_ok-ended.ended) _ at front
-        (c.in_ok-ended.ensures.ok _))
+    (c.in_ok-ended.ensures.ok _))
 
 pub returns-clause-in_order : goal.returns-clause-in_order
 returns-clause-in_order c =

@@ -7,7 +7,7 @@ use Rattle.dme_tags.proofs.marks.find.Goals as goal
 pub loop-index-preserved : goal.loop-index-preserved
 loop-index-preserved c =
     not_yet c.args.tag c.args.commands.now c.loop-index.index c.index-commands-index.result c.loop-index-test.true c.index-commands-index.is
-        c.loop-index.invariant
+    c.loop-index.invariant
     (sym c.is_same.ensures ∙ c.if-is_same.false)
 
 pub returns-clause-unknown : goal.returns-clause-unknown

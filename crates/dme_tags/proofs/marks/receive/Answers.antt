@@ -14,9 +14,9 @@ pub returns-in_err-next-clause-refused : goal.returns-in_err-next-clause-refused
 returns-in_err-next-clause-refused c =
     let p = err_from_is_err_and c.from_residual-in_err-next.result c.from_residual-in_err-next.ensures.1 in
     rw (p.1, p.2, ← c.deref.ensures.value) (λ front. refused_at front _ _ Mark.Ack _ _ _ _ c.in_ok-index.ensures.found refl
-        (c.in_err-next.ensures.refused true _))
+    (c.in_err-next.ensures.refused true _))
 
 pub returns-clause-ok : goal.returns-clause-ok
 returns-clause-ok c =
     rw (← c.deref.ensures.value) (λ front. changed_at front _ _ Mark.Ack _ _ _ Effect.Quiet _ c.in_ok-index.ensures.found refl
-        (c.in_ok-next.ensures.ok true _))
+    (c.in_ok-next.ensures.ok true _))

@@ -1,5 +1,6 @@
-use Rattle.protocol_model.proofs.worked_rows.LedgerRefused.{first_connection_is, second_connection_is, front_is, nothing_counted_is,
-  no_front_is_none, exchanged_is_none, never_done_is_none, too_many_are_none, other_connection_is_none, no_connection_is_none}
+use Rattle.protocol_model.proofs.worked_rows.LedgerRefused.{first_connection_is, second_connection_is, front_is, nothing_counted_is}
+use Rattle.protocol_model.proofs.worked_rows.LedgerRefused.{no_front_is_none, exchanged_is_none, never_done_is_none, too_many_are_none}
+use Rattle.protocol_model.proofs.worked_rows.LedgerRefused.{other_connection_is_none, no_connection_is_none}
 use Rattle.protocol_model.proofs.ledger_rows.counted_rows.Goals as goal
 
 pub returns-clause-first_connection : goal.returns-clause-first_connection

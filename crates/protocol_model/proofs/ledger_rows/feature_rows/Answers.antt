@@ -1,7 +1,9 @@
-use Rattle.protocol_model.proofs.worked_rows.LedgerRefused.{right_is, nothing_is, other_tool_is_none, other_frame_is_none,
-  other_target_is_none, other_direction_is_none, no_direction_is_none, other_point_is_none, two_connections_are_none, other_label_is_none,
-  fewer_points_are_none, no_points_are_none, more_points_are_none, exchanged_points_are_none, no_contact_is_none, more_features_are_none,
-  both_are, first_left_out_is_none}
+use Rattle.protocol_model.proofs.worked_rows.LedgerRefused.{right_is, nothing_is, other_tool_is_none, other_frame_is_none}
+use Rattle.protocol_model.proofs.worked_rows.LedgerRefused.{other_target_is_none, other_direction_is_none, no_direction_is_none}
+use Rattle.protocol_model.proofs.worked_rows.LedgerRefused.{other_point_is_none, two_connections_are_none, other_label_is_none}
+use Rattle.protocol_model.proofs.worked_rows.LedgerRefused.{fewer_points_are_none, no_points_are_none, more_points_are_none}
+use Rattle.protocol_model.proofs.worked_rows.LedgerRefused.{exchanged_points_are_none, no_contact_is_none, more_features_are_none, both_are}
+use Rattle.protocol_model.proofs.worked_rows.LedgerRefused.{first_left_out_is_none}
 use Rattle.protocol_model.proofs.ledger_rows.feature_rows.Goals as goal
 
 pub returns-clause-right : goal.returns-clause-right

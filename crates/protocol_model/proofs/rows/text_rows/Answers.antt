@@ -1,5 +1,5 @@
-use Rattle.protocol_model.proofs.worked_rows.Texts.{empty_text, one_point_text, circle_text, two_frames_text, two_points_text,
-  same_twice_text}
+use Rattle.protocol_model.proofs.worked_rows.Texts.{empty_text, one_point_text, circle_text, two_frames_text, two_points_text}
+use Rattle.protocol_model.proofs.worked_rows.Texts.{same_twice_text}
 use Rattle.protocol_model.proofs.rows.text_rows.Goals as goal
 
 pub returns-clause-empty : goal.returns-clause-empty

@@ -6,5 +6,5 @@ pub invariant_of-self-2 : goal.invariant_of-self-2
 invariant_of-self-2 c =
     line_reached c.self.inside.executor c.hear_line.new.self c.self.inside.input c.drop_line.new.self c.self.inside.out.items
     (take c.in-Ok-Some.length c.self.inside.input.rest) (drop (c.in-Ok-Some.length + 2) c.self.inside.input.rest) c.self.invariant
-        (search rules)
+    (search rules)
     (search rules) (search rules) (search rules)

@@ -3,8 +3,8 @@ use Rattle.protocol_model.specs.Open.{count_open}
 use Rattle.protocol_model.specs.Ends.{ClientEnd}
 use Rattle.client_core.specs.Clients.{are_ours, is_faulted}
 use Rattle.client_core.specs.Always.{IsReached, FitsState, IsQuiet}
-use Rattle.client_core.proofs.Reached.{fits_state, has_cause, window_some, window_few, open_within, last_within, features_ours,
-  off_is_quiet, no_fault_unmet}
+use Rattle.client_core.proofs.Reached.{fits_state, has_cause, window_some, window_few, open_within, last_within, features_ours}
+use Rattle.client_core.proofs.Reached.{off_is_quiet, no_fault_unmet}
 use Rattle.client_core.proofs.client.Client.state.Goals as goal
 
 pub returns-clause-reached : goal.returns-clause-reached

@@ -1,5 +1,5 @@
-use Rattle.std.proofs.Common.{rules, ◌≡◌, ◌<◌, length, slice_index_or, false, None, ap, sym, ◌∙◌, ◌++◌, add-one, List, append_assoc, arith,
-  ◌∷◌, []}
+use Rattle.std.proofs.Common.{rules, ◌≡◌, ◌<◌, length, slice_index_or, false, None, ap, sym, ◌∙◌, ◌++◌, add-one, List, append_assoc, arith}
+use Rattle.std.proofs.Common.{◌∷◌, []}
 use Rattle.dme_line.specs.Written.{written_command}
 use Rattle.dme_line.specs.Kinds.{kind_of, is_event_kind}
 use Rattle.dme_tags.specs.Opened.{next_tag}
@@ -15,10 +15,10 @@ pub returns-in-Ok-clause-ok : goal.returns-in-Ok-clause-ok
 returns-in-Ok-clause-ok c =
     let within : c.self.inside.sent < length c.self.inside.progress.plan.items = search rules in
     let is : c.in-Some.planned.now ≡ slice_index_or c.self.inside.progress.plan.items c.self.inside.sent c.in-Some.planned.now =
-        search rules in
+    search rules in
     let standard : is_event_kind (kind_of c.in-Some.planned.now.command) ≡ false = search rules in
     rw add-one (sent_client c.self.inside.program c.self.inside.window c.self.inside.on c.self.inside.last c.self.inside.state
-        c.self.inside.cause c.self.inside.commands c.draw.new.self c.self.inside.progress
+    c.self.inside.cause c.self.inside.commands c.draw.new.self c.self.inside.progress
     c.self.inside.sent c.self.inside.abort c.in-Some.planned.now c.in-Ok.tag within is standard (search rules) (search rules)
     ∙ ap (λ x. (client_sent x).client) c.self.view_is)
 
@@ -26,29 +26,29 @@ pub returns-in-Ok-clause-text : goal.returns-in-Ok-clause-text
 returns-in-Ok-clause-text c =
     let within : c.self.inside.sent < length c.self.inside.progress.plan.items = search rules in
     let is : c.in-Some.planned.now ≡ slice_index_or c.self.inside.progress.plan.items c.self.inside.sent c.in-Some.planned.now =
-        search rules in
+    search rules in
     let standard : is_event_kind (kind_of c.in-Some.planned.now.command) ≡ false = search rules in
     let lines_are = sent_lines c.self.inside.program c.self.inside.window c.self.inside.on c.self.inside.last c.self.inside.state
-        c.self.inside.cause c.self.inside.commands c.self.inside.progress
+    c.self.inside.cause c.self.inside.commands c.self.inside.progress
     c.self.inside.sent c.self.inside.abort c.in-Some.planned.now c.in-Ok.tag within is standard (search rules) in
     rw (c.write_end.ensures.text, c.write_command_reserved.ensures.text)
-        (append_assoc c.args.out.now.items (written_command c.in-Ok.tag c.in-Some.planned.now.command) (13 ∷ 10 ∷ [])
-        ∙ ap (λ (ls : List Line). c.args.out.now.items ++ command_bytes ls) (sym lines_are
-        ∙ ap (λ x. (client_sent x).lines) c.self.view_is))
+    (append_assoc c.args.out.now.items (written_command c.in-Ok.tag c.in-Some.planned.now.command) (13 ∷ 10 ∷ [])
+    ∙ ap (λ (ls : List Line). c.args.out.now.items ++ command_bytes ls) (sym lines_are
+    ∙ ap (λ x. (client_sent x).lines) c.self.view_is))
 
 pub returns-in-Err : goal.returns-in-Err
 returns-in-Err c =
     let within : c.self.inside.sent < length c.self.inside.progress.plan.items = search rules in
     let is : c.in-Some.planned.now ≡ slice_index_or c.self.inside.progress.plan.items c.self.inside.sent c.in-Some.planned.now =
-        search rules in
+    search rules in
     let standard : is_event_kind (kind_of c.in-Some.planned.now.command) ≡ false = search rules in
     let none : next_tag c.self.inside.commands (kind_of c.in-Some.planned.now.command) ≡ None = search rules in
     let whole = sent_none c.self.inside.program c.self.inside.window c.self.inside.on c.self.inside.last c.self.inside.state
-        c.self.inside.cause c.self.inside.commands c.self.inside.progress c.self.inside.sent c.self.inside.abort c.in-Some.planned.now
-        within is standard none in
+    c.self.inside.cause c.self.inside.commands c.self.inside.progress c.self.inside.sent c.self.inside.abort c.in-Some.planned.now
+    within is standard none in
     let same : c.draw.new.self ≡ c.self.inside.commands = search rules in
     let lines_are : (client_sent c.args.self.now).lines ≡ [] = sym (ap (λ x. (client_sent x).lines) c.self.view_is)
-        ∙ ap (λ (s : Sends). s.lines) whole in
+    ∙ ap (λ (s : Sends). s.lines) whole in
     record {
       ok = c.fault.ensures ∙ (ap (λ o. faulted Cause.TagsSpent (seen c.self.inside.program c.self.inside.window c.self.inside.on
           c.self.inside.last c.self.inside.state c.self.inside.cause o c.self.inside.progress c.self.inside.sent c.self.inside.abort)) same

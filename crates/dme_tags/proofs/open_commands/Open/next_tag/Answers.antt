@@ -23,12 +23,12 @@ pub returns-in-Standard-clause-all_held : goal.returns-in-Standard-clause-all_he
 returns-in-Standard-clause-all_held c =
     spent_exactly c.args.self.now c.args.kind _
     (IfOk-weaker c.next_tag.result _ _ (λ tag e. next_standard c.args.self.now c.args.kind c.of.result _ _ (Some tag) c.of.ensures
-        c.in-Standard.is
+    c.in-Standard.is
     (c.deref.ensures.value ∙ ap (λ (o : Opened). o.standard) c.self.view_is) (ap (λ (o : Opened). o.drawn) c.self.view_is) e)
-        c.next_tag.ensures.next)
+    c.next_tag.ensures.next)
     (on_err_weaker c.next_tag.result
     (λ all. spent_standard c.args.self.now c.args.kind c.of.result _ c.of.ensures c.in-Standard.is (c.deref.ensures.value
-        ∙ ap (λ (o : Opened). o.standard) c.self.view_is) all)
+    ∙ ap (λ (o : Opened). o.standard) c.self.view_is) all)
     c.next_tag.ensures.all_held)
     c.next_tag.ensures.named
 
@@ -37,7 +37,7 @@ returns-in-Event-clause-next c =
     IfOk-weaker c.next_tag-in-Event.result _ _
     (λ tag e. next_event c.args.self.now c.args.kind c.of.result _ _ (Some tag) c.of.ensures c.in-Event.is
     (c.deref-in-Event.ensures.value ∙ ap (λ (o : Opened). o.event) c.self.view_is) (c.from.ensures
-        ∙ ap (λ (o : Opened). o.event_drawn) c.self.view_is) e)
+    ∙ ap (λ (o : Opened). o.event_drawn) c.self.view_is) e)
     c.next_tag-in-Event.ensures.next
 
 pub returns-in-Event-clause-spent : goal.returns-in-Event-clause-spent
@@ -45,19 +45,19 @@ returns-in-Event-clause-spent c =
     on_err_weaker c.next_tag-in-Event.result
     (λ e. next_event c.args.self.now c.args.kind c.of.result _ _ None c.of.ensures c.in-Event.is
     (c.deref-in-Event.ensures.value ∙ ap (λ (o : Opened). o.event) c.self.view_is) (c.from.ensures
-        ∙ ap (λ (o : Opened). o.event_drawn) c.self.view_is) e)
+    ∙ ap (λ (o : Opened). o.event_drawn) c.self.view_is) e)
     c.next_tag-in-Event.ensures.spent
 
 pub returns-in-Event-clause-all_held : goal.returns-in-Event-clause-all_held
 returns-in-Event-clause-all_held c =
     spent_exactly c.args.self.now c.args.kind _
     (IfOk-weaker c.next_tag-in-Event.result _ _ (λ tag e. next_event c.args.self.now c.args.kind c.of.result _ _ (Some tag) c.of.ensures
-        c.in-Event.is
+    c.in-Event.is
     (c.deref-in-Event.ensures.value ∙ ap (λ (o : Opened). o.event) c.self.view_is) (c.from.ensures
-        ∙ ap (λ (o : Opened). o.event_drawn) c.self.view_is) e) c.next_tag-in-Event.ensures.next)
+    ∙ ap (λ (o : Opened). o.event_drawn) c.self.view_is) e) c.next_tag-in-Event.ensures.next)
     (on_err_weaker c.next_tag-in-Event.result
     (λ all. spent_event c.args.self.now c.args.kind c.of.result _ c.of.ensures c.in-Event.is (c.deref-in-Event.ensures.value
-        ∙ ap (λ (o : Opened). o.event) c.self.view_is) all)
+    ∙ ap (λ (o : Opened). o.event) c.self.view_is) all)
     c.next_tag-in-Event.ensures.all_held)
     c.next_tag-in-Event.ensures.named
 
@@ -65,7 +65,7 @@ pub returns-in-Standard-clause-passed : goal.returns-in-Standard-clause-passed
 returns-in-Standard-clause-passed c =
     IfOk-weaker c.next_tag.result _ _
     (λ tag e. passed_over c.args.self.now c.args.kind tag (next_standard c.args.self.now c.args.kind c.of.result _ _ (Some tag) c.of.ensures
-        c.in-Standard.is
+    c.in-Standard.is
     (c.deref.ensures.value ∙ ap (λ (o : Opened). o.standard) c.self.view_is) (ap (λ (o : Opened). o.drawn) c.self.view_is) e))
     c.next_tag.ensures.next
 
@@ -73,7 +73,7 @@ pub returns-in-Event-clause-passed : goal.returns-in-Event-clause-passed
 returns-in-Event-clause-passed c =
     IfOk-weaker c.next_tag-in-Event.result _ _
     (λ tag e. passed_over c.args.self.now c.args.kind tag (next_event c.args.self.now c.args.kind c.of.result _ _ (Some tag) c.of.ensures
-        c.in-Event.is
+    c.in-Event.is
     (c.deref-in-Event.ensures.value ∙ ap (λ (o : Opened). o.event) c.self.view_is) (c.from.ensures
-        ∙ ap (λ (o : Opened). o.event_drawn) c.self.view_is) e))
+    ∙ ap (λ (o : Opened). o.event_drawn) c.self.view_is) e))
     c.next_tag-in-Event.ensures.next

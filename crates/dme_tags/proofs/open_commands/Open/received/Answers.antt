@@ -12,57 +12,57 @@ pub returns-in-Std-clause-refused : goal.returns-in-Std-clause-refused
 returns-in-Std-clause-refused c =
     IfErr-weaker c.receive.result _ _
     (λ fault h. refused_standard c.args.self.now _ c.args.tag c.in-Std.field-0 Mark.Ack _ c.in-Std.is
-        (ap (λ (o : Opened). o.standard) c.self.view_is) (h _))
+    (ap (λ (o : Opened). o.standard) c.self.view_is) (h _))
     c.receive.ensures.refused
 
 pub returns-in-Event-clause-refused : goal.returns-in-Event-clause-refused
 returns-in-Event-clause-refused c =
     IfErr-weaker c.receive-in-Event.result _ _
     (λ fault h. refused_event c.args.self.now _ c.args.tag c.in-Event.field-0 Mark.Ack _ c.in-Event.is
-        (ap (λ (o : Opened). o.event) c.self.view_is) (h _))
+    (ap (λ (o : Opened). o.event) c.self.view_is) (h _))
     c.receive-in-Event.ensures.refused
 
 pub returns-in-Std-clause-due : goal.returns-in-Std-clause-due
 returns-in-Std-clause-due c =
     unread_exactly c.args.self.now c.args.tag _
     (agrees_standard c.args.self.now _ _ _ c.args.tag c.in-Std.field-0 Mark.Ack (λ _. Effect.Quiet) _ c.in-Std.is
-        (ap (λ (o : Opened). o.failed) c.self.view_is) (ap (λ (o : Opened). o.standard) c.self.view_is)
-        (IfOk-weaker c.receive.result _ _ (λ _ h. h (not c.self.inside.failed)) c.receive.ensures.ok)
-        (IfErr-weaker c.receive.result _ _ (λ _ h. h (not c.self.inside.failed)) c.receive.ensures.refused))
+    (ap (λ (o : Opened). o.failed) c.self.view_is) (ap (λ (o : Opened). o.standard) c.self.view_is)
+    (IfOk-weaker c.receive.result _ _ (λ _ h. h (not c.self.inside.failed)) c.receive.ensures.ok)
+    (IfErr-weaker c.receive.result _ _ (λ _ h. h (not c.self.inside.failed)) c.receive.ensures.refused))
 
 pub returns-in-Std-clause-unknown : goal.returns-in-Std-clause-unknown
 returns-in-Std-clause-unknown c =
     unknown_exactly c.args.self.now c.args.tag Mark.Ack _
     (agrees_standard c.args.self.now _ _ _ c.args.tag c.in-Std.field-0 Mark.Ack (λ _. Effect.Quiet) _ c.in-Std.is
-        (ap (λ (o : Opened). o.failed) c.self.view_is) (ap (λ (o : Opened). o.standard) c.self.view_is)
-        (IfOk-weaker c.receive.result _ _ (λ _ h. h (not c.self.inside.failed)) c.receive.ensures.ok)
-        (IfErr-weaker c.receive.result _ _ (λ _ h. h (not c.self.inside.failed)) c.receive.ensures.refused))
+    (ap (λ (o : Opened). o.failed) c.self.view_is) (ap (λ (o : Opened). o.standard) c.self.view_is)
+    (IfOk-weaker c.receive.result _ _ (λ _ h. h (not c.self.inside.failed)) c.receive.ensures.ok)
+    (IfErr-weaker c.receive.result _ _ (λ _ h. h (not c.self.inside.failed)) c.receive.ensures.refused))
 
 pub returns-in-Std-clause-named : goal.returns-in-Std-clause-named
 returns-in-Std-clause-named c =
     receipt_named c.args.self.now c.args.tag _
     (agrees_standard c.args.self.now _ _ _ c.args.tag c.in-Std.field-0 Mark.Ack (λ _. Effect.Quiet) _ c.in-Std.is
-        (ap (λ (o : Opened). o.failed) c.self.view_is) (ap (λ (o : Opened). o.standard) c.self.view_is)
-        (IfOk-weaker c.receive.result _ _ (λ _ h. h (not c.self.inside.failed)) c.receive.ensures.ok)
-        (IfErr-weaker c.receive.result _ _ (λ _ h. h (not c.self.inside.failed)) c.receive.ensures.refused))
+    (ap (λ (o : Opened). o.failed) c.self.view_is) (ap (λ (o : Opened). o.standard) c.self.view_is)
+    (IfOk-weaker c.receive.result _ _ (λ _ h. h (not c.self.inside.failed)) c.receive.ensures.ok)
+    (IfErr-weaker c.receive.result _ _ (λ _ h. h (not c.self.inside.failed)) c.receive.ensures.refused))
 
 pub returns-in-Event-clause-due : goal.returns-in-Event-clause-due
 returns-in-Event-clause-due c =
     unread_exactly c.args.self.now c.args.tag _
     (agrees_event c.args.self.now _ _ c.args.tag c.in-Event.field-0 Mark.Ack (λ _. Effect.Quiet) _ c.in-Event.is
-        (ap (λ (o : Opened). o.event) c.self.view_is) (IfOk-weaker c.receive-in-Event.result _ _ (λ _ h. h true)
-        c.receive-in-Event.ensures.ok) (IfErr-weaker c.receive-in-Event.result _ _ (λ _ h. h true) c.receive-in-Event.ensures.refused))
+    (ap (λ (o : Opened). o.event) c.self.view_is) (IfOk-weaker c.receive-in-Event.result _ _ (λ _ h. h true)
+    c.receive-in-Event.ensures.ok) (IfErr-weaker c.receive-in-Event.result _ _ (λ _ h. h true) c.receive-in-Event.ensures.refused))
 
 pub returns-in-Event-clause-unknown : goal.returns-in-Event-clause-unknown
 returns-in-Event-clause-unknown c =
     unknown_exactly c.args.self.now c.args.tag Mark.Ack _
     (agrees_event c.args.self.now _ _ c.args.tag c.in-Event.field-0 Mark.Ack (λ _. Effect.Quiet) _ c.in-Event.is
-        (ap (λ (o : Opened). o.event) c.self.view_is) (IfOk-weaker c.receive-in-Event.result _ _ (λ _ h. h true)
-        c.receive-in-Event.ensures.ok) (IfErr-weaker c.receive-in-Event.result _ _ (λ _ h. h true) c.receive-in-Event.ensures.refused))
+    (ap (λ (o : Opened). o.event) c.self.view_is) (IfOk-weaker c.receive-in-Event.result _ _ (λ _ h. h true)
+    c.receive-in-Event.ensures.ok) (IfErr-weaker c.receive-in-Event.result _ _ (λ _ h. h true) c.receive-in-Event.ensures.refused))
 
 pub returns-in-Event-clause-named : goal.returns-in-Event-clause-named
 returns-in-Event-clause-named c =
     receipt_named c.args.self.now c.args.tag _
     (agrees_event c.args.self.now _ _ c.args.tag c.in-Event.field-0 Mark.Ack (λ _. Effect.Quiet) _ c.in-Event.is
-        (ap (λ (o : Opened). o.event) c.self.view_is) (IfOk-weaker c.receive-in-Event.result _ _ (λ _ h. h true)
-        c.receive-in-Event.ensures.ok) (IfErr-weaker c.receive-in-Event.result _ _ (λ _ h. h true) c.receive-in-Event.ensures.refused))
+    (ap (λ (o : Opened). o.event) c.self.view_is) (IfOk-weaker c.receive-in-Event.result _ _ (λ _ h. h true)
+    c.receive-in-Event.ensures.ok) (IfErr-weaker c.receive-in-Event.result _ _ (λ _ h. h true) c.receive-in-Event.ensures.refused))

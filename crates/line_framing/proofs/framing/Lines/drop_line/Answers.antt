@@ -8,4 +8,4 @@ pub invariant_of-self : goal.invariant_of-self
 invariant_of-self c =
     let n = c.args.length in
     kept_behind _ _ _ n _ _ c.self.invariant (subst (λ (f : Framing). next_of f.rest ≡ Ok (Some (take n f.rest, drop (n + 2) f.rest)))
-        (sym c.self.view_is) c.requires) (omega arith)
+    (sym c.self.view_is) c.requires) (omega arith)

@@ -14,7 +14,7 @@ pub returns-in_default-get_mut-clause-not_now : goal.returns-in_default-get_mut-
 returns-in_default-get_mut-clause-not_now c =
     let p : Placed c.self.inside.server c.self.inside.connections.items c.in-Some.at =
     placed c.args.self.now c.self.inside.client c.self.inside.server c.self.inside.connections.items c.self.inside.written.items
-        c.in-Some.at (sym c.self.view_is) (search rules) (search rules) (search rules) in
+    c.in-Some.at (sym c.self.view_is) (search rules) (search rules) (search rules) in
     let none : c.in-Some.at < vec_len c.self.inside.connections → ⊥ = λ short. search rules in
     absurd (none (search rules))
 
@@ -22,44 +22,46 @@ pub end_job-requires : goal.end_job-requires
 end_job-requires c =
     let p : Placed c.self.inside.server c.self.inside.connections.items c.in-Some.at =
     placed c.args.self.now c.self.inside.client c.self.inside.server c.self.inside.connections.items c.self.inside.written.items
-        c.in-Some.at (sym c.self.view_is) (search rules) (search rules) (search rules) in
-    record { quiet = server_quiet c.self.inside.client c.self.inside.server c.self.inside.connections.items c.self.inside.written.items
-        c.self.invariant }
+    c.in-Some.at (sym c.self.view_is) (search rules) (search rules) (search rules) in
+    record {
+      quiet = server_quiet c.self.inside.client c.self.inside.server c.self.inside.connections.items c.self.inside.written.items
+          c.self.invariant;
+    }
 
 pub invariant_of-self-in-Err : goal.invariant_of-self-in-Err
 invariant_of-self-in-Err c =
     let p : Placed c.self.inside.server c.self.inside.connections.items c.in-Some.at =
     placed c.args.self.now c.self.inside.client c.self.inside.server c.self.inside.connections.items c.self.inside.written.items
-        c.in-Some.at (sym c.self.view_is) (search rules) (search rules) (search rules) in
+    c.in-Some.at (sym c.self.view_is) (search rules) (search rules) (search rules) in
     same_reached c.self.inside.client c.self.inside.server c.end_job.new.server c.self.inside.connections.items c.self.inside.written.items
-        c.in-Some.at c.in-Some-get_mut.connection.now c.end_job.new.connection
+    c.in-Some.at c.in-Some-get_mut.connection.now c.end_job.new.connection
     c.self.invariant p.short (search rules) (search rules) (search rules)
 
 pub returns-in-Err-clause-err : goal.returns-in-Err-clause-err
 returns-in-Err-clause-err c =
     let p : Placed c.self.inside.server c.self.inside.connections.items c.in-Some.at =
     placed c.args.self.now c.self.inside.client c.self.inside.server c.self.inside.connections.items c.self.inside.written.items
-        c.in-Some.at (sym c.self.view_is) (search rules) (search rules) (search rules) in
+    c.in-Some.at (sym c.self.view_is) (search rules) (search rules) (search rules) in
     same_seen c.args.self.now c.self.inside.client c.self.inside.server c.end_job.new.server c.self.inside.connections.items
-        c.self.inside.written.items c.in-Some.at c.in-Some-get_mut.connection.now c.end_job.new.connection
+    c.self.inside.written.items c.in-Some.at c.in-Some-get_mut.connection.now c.end_job.new.connection
     (sym c.self.view_is) p.short (search rules) (search rules) (search rules)
 
 pub invariant_of-self-2 : goal.invariant_of-self-2
 invariant_of-self-2 c =
     let p : Placed c.self.inside.server c.self.inside.connections.items c.in-Some.at =
     placed c.args.self.now c.self.inside.client c.self.inside.server c.self.inside.connections.items c.self.inside.written.items
-        c.in-Some.at (sym c.self.view_is) (search rules) (search rules) (search rules) in
+    c.in-Some.at (sym c.self.view_is) (search rules) (search rules) (search rules) in
     answered_reached (event.Machine c.args.outcome) (λ readers. serving_machined c.args.outcome c.self.inside.server.end)
-        c.self.inside.client c.self.inside.server c.end_job.new.server c.self.inside.connections.items c.self.inside.written.items
+    c.self.inside.client c.self.inside.server c.end_job.new.server c.self.inside.connections.items c.self.inside.written.items
     c.in-Some.at c.in-Some-get_mut.connection.now c.end_job.new.connection c.self.invariant (search rules) (λ readers. refl) p.place p.short
-        (search rules) (search rules) (λ readers are. search rules) (λ readers are. search rules)
+    (search rules) (search rules) (λ readers are. search rules) (λ readers are. search rules)
 
 pub returns-clause-ok : goal.returns-clause-ok
 returns-clause-ok c =
     let p : Placed c.self.inside.server c.self.inside.connections.items c.in-Some.at =
     placed c.args.self.now c.self.inside.client c.self.inside.server c.self.inside.connections.items c.self.inside.written.items
-        c.in-Some.at (sym c.self.view_is) (search rules) (search rules) (search rules) in
+    c.in-Some.at (sym c.self.view_is) (search rules) (search rules) (search rules) in
     answers_is c.args.self.now (serving_machined c.args.outcome) c.self.inside.client c.self.inside.server c.end_job.new.server
-        c.self.inside.connections.items c.self.inside.written.items
+    c.self.inside.connections.items c.self.inside.written.items
     c.in-Some.at c.in-Some-get_mut.connection.now c.end_job.new.connection (sym c.self.view_is) p.place p.short (search rules)
-        (search rules) (search rules) (search rules)
+    (search rules) (search rules) (search rules)

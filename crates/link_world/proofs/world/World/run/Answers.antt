@@ -25,27 +25,27 @@ loop-event-preserved c = (
   λ readers are. elim c.match-step.branch [
     | in-Ok w ↦
         subst (λ (n : RunCount). HasRun readers c.args.self.now.world (take (c.loop-event.event-index + 1) c.args.events.now)
-            c.step.new.self.world n.done n.not_now n.memory) (sym w.count-is)
+        c.step.new.self.world n.done n.not_now n.memory) (sym w.count-is)
         (ran_ok readers c.args.self.now.world c.loop-event.self.world c.step.new.self.world c.args.events.now c.loop-event.event-index
-            c.event-item.result
+        c.event-item.result
         c.loop-event.count.done c.loop-event.count.not_now c.loop-event.count.memory c.loop-event-test.true c.event-item.is
-            (c.loop-event.invariant.0 readers are)
+        (c.loop-event.invariant.0 readers are)
         w.in-Ok.ensures.can (ap (λ (k : Linked). k.world) (w.in-Ok.ensures.ok readers are)))
     | in-Err-NotNow w ↦
         subst (λ (n : RunCount). HasRun readers c.args.self.now.world (take (c.loop-event.event-index + 1) c.args.events.now)
-            c.step.new.self.world n.done n.not_now n.memory) (sym w.count-is)
+        c.step.new.self.world n.done n.not_now n.memory) (sym w.count-is)
         (ran_refused readers c.args.self.now.world c.loop-event.self.world c.step.new.self.world c.args.events.now c.loop-event.event-index
-            c.event-item.result
+        c.event-item.result
         c.loop-event.count.done c.loop-event.count.not_now c.loop-event.count.memory c.loop-event-test.true c.event-item.is
-            (c.loop-event.invariant.0 readers are)
+        (c.loop-event.invariant.0 readers are)
         (search rules) (ap (λ (k : Linked). k.world) w.in-Err-NotNow.ensures.err))
     | in-Err-Memory w ↦
         subst (λ (n : RunCount). HasRun readers c.args.self.now.world (take (c.loop-event.event-index + 1) c.args.events.now)
-            c.step.new.self.world n.done n.not_now n.memory) (sym w.count-is)
+        c.step.new.self.world n.done n.not_now n.memory) (sym w.count-is)
         (ran_wanting readers c.args.self.now.world c.loop-event.self.world c.step.new.self.world c.args.events.now c.loop-event.event-index
-            c.event-item.result
+        c.event-item.result
         c.loop-event.count.done c.loop-event.count.not_now c.loop-event.count.memory c.loop-event-test.true c.event-item.is
-            (c.loop-event.invariant.0 readers are)
+        (c.loop-event.invariant.0 readers are)
         (search rules) (search rules) (ap (λ (k : Linked). k.world) w.in-Err-Memory.ensures.err))
   ],
   record {
@@ -62,34 +62,34 @@ loop-event-preserved c = (
 pub returns-clause-runs : goal.returns-clause-runs
 returns-clause-runs c =
     λ none readers are. run_leads readers c.args.self.now.world c.loop-event.self.world c.args.events.now c.loop-event.count.done
-        c.loop-event.count.not_now c.loop-event.count.memory
+    c.loop-event.count.not_now c.loop-event.count.memory
     (ran_all readers c.args.self.now.world c.loop-event.self.world c.args.events.now c.loop-event.event-index c.loop-event.count.done
-        c.loop-event.count.not_now c.loop-event.count.memory c.loop-event-test.false (c.loop-event.invariant.0 readers are))
+    c.loop-event.count.not_now c.loop-event.count.memory c.loop-event-test.false (c.loop-event.invariant.0 readers are))
     none
 
 pub returns-clause-lines : goal.returns-clause-lines
 returns-clause-lines c =
     new_lines c.args.self.now c.loop-event.self.world c.args.events.now c.loop-event.count.done c.loop-event.count.not_now
-        c.loop-event.count.memory
+    c.loop-event.count.memory
     (subst IsReached c.self.view_is c.self.invariant)
     (λ readers are. ran_all readers c.args.self.now.world c.loop-event.self.world c.args.events.now c.loop-event.event-index
-        c.loop-event.count.done c.loop-event.count.not_now c.loop-event.count.memory c.loop-event-test.false
-        (c.loop-event.invariant.0 readers are))
+    c.loop-event.count.done c.loop-event.count.not_now c.loop-event.count.memory c.loop-event-test.false
+    (c.loop-event.invariant.0 readers are))
 
 pub returns-clause-acts : goal.returns-clause-acts
 returns-clause-acts c =
     new_acts c.args.self.now c.loop-event.self.world c.args.events.now c.loop-event.count.done c.loop-event.count.not_now
-        c.loop-event.count.memory
+    c.loop-event.count.memory
     (subst IsReached c.self.view_is c.self.invariant)
     (λ readers are. ran_all readers c.args.self.now.world c.loop-event.self.world c.args.events.now c.loop-event.event-index
-        c.loop-event.count.done c.loop-event.count.not_now c.loop-event.count.memory c.loop-event-test.false
-        (c.loop-event.invariant.0 readers are))
+    c.loop-event.count.done c.loop-event.count.not_now c.loop-event.count.memory c.loop-event-test.false
+    (c.loop-event.invariant.0 readers are))
 
 pub returns-clause-counted : goal.returns-clause-counted
 returns-clause-counted c =
     new_counts c.args.self.now c.loop-event.self.world c.args.events.now c.loop-event.count.done c.loop-event.count.not_now
-        c.loop-event.count.memory
+    c.loop-event.count.memory
     (subst IsReached c.self.view_is c.self.invariant)
     (λ readers are. ran_all readers c.args.self.now.world c.loop-event.self.world c.args.events.now c.loop-event.event-index
-        c.loop-event.count.done c.loop-event.count.not_now c.loop-event.count.memory c.loop-event-test.false
-        (c.loop-event.invariant.0 readers are))
+    c.loop-event.count.done c.loop-event.count.not_now c.loop-event.count.memory c.loop-event-test.false
+    (c.loop-event.invariant.0 readers are))

@@ -8,7 +8,7 @@ use Rattle.link_world.proofs.world.World.run.Given as goal
 abbrev pub invariant-loop-event : goal.invariant-loop-event
 invariant-loop-event l =
     ((readers : Readers) → AreReaders readers → HasRun readers l.fn.self.world (take l.event-index l.events) l.self.world l.count.done
-        l.count.not_now l.count.memory)
+    l.count.not_now l.count.memory)
     × IsSameKind l.fn.self l.self
     × (l.count.done + l.count.not_now + l.count.memory ≡ l.event-index)
     × IsSound l.self.world × IsTold l.self.world × DoNotDisagree l.self.world
