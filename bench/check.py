@@ -3,19 +3,19 @@
 
 For each size it prints the bytes of the program, the instructions executed
 (valgrind --tool=callgrind), the peak memory and the wall time. It needs the
-built program, crates/dme_program/out/dme_program (made by `rt run` or `rt ci`).
+built program (see counting.py).
 
 usage: bench/check.py [PROGRAM]
 """
 import os
-import re
 import subprocess
 import sys
 import tempfile
 import time
 
-PROGRAM = sys.argv[1] if len(sys.argv) > 1 else os.path.join(
-    os.path.dirname(os.path.abspath(__file__)), "..", "crates", "dme_program", "out", "dme_program")
+from counting import built, counted, peak
+
+PROGRAM = sys.argv[1] if len(sys.argv) > 1 else built("dme_program")
 
 
 def plain(statements):
@@ -59,19 +59,16 @@ def measure(name, lines):
         path = os.path.join(folder, "bench.dmis")
         with open(path, "wb") as file:
             file.write(text)
+        words = [PROGRAM, "check", path]
         begun = time.time()
-        run = subprocess.run(["/usr/bin/time", "-f", "%M", PROGRAM, "check", path],
-                             stdout=subprocess.PIPE, stderr=subprocess.PIPE)
+        run = subprocess.run(words, stdout=subprocess.PIPE, stderr=subprocess.PIPE)
         wall = time.time() - begun
         if run.returncode != 0:
             sys.exit(f"{name}: status {run.returncode}: {run.stderr.decode()}")
-        peak = int(run.stderr.split()[-1])
-        grind = subprocess.run(["valgrind", "--tool=callgrind", f"--callgrind-out-file={folder}/out",
-                                PROGRAM, "check", path], stdout=subprocess.DEVNULL, stderr=subprocess.PIPE)
-        found = re.search(rb"Collected : (\d+)", grind.stderr)
-        instructions = int(found.group(1)) if found else 0
+        memory, _ = peak(words)
+        instructions, _, _ = counted(words, "dme_program")
         print(f"{name:28} {len(text):10,} bytes {instructions:14,} instructions "
-              f"{instructions / len(text):8.1f} a byte {peak:8,} KiB {wall * 1000:7.1f} ms "
+              f"{instructions / len(text):8.1f} a byte {memory:8,} KiB {wall * 1000:7.1f} ms "
               f"{len(run.stdout.splitlines()):6,} lines out")
 
 

@@ -6,19 +6,15 @@ For the windows 1 and 16 it prints the instructions executed (valgrind
 touches, and what the second half costs beside the first, all of them and
 without the C library's: 1.00 where the cost of a command does not grow. The C
 library sorts its small free blocks at some large growth, and so not in each of
-two runs. It needs the built program, crates/client_bench/out/client_bench
-(made by `rt run` in crates/client_bench, or by `rt ci`).
+two runs. It needs the built program of dme_bench (see counting.py).
 
 usage: bench/client.py [PROGRAM]
 """
-import os
-import re
-import subprocess
 import sys
-import tempfile
 
-PROGRAM = sys.argv[1] if len(sys.argv) > 1 else os.path.join(
-    os.path.dirname(os.path.abspath(__file__)), "..", "crates", "client_bench", "out", "client_bench")
+from counting import built, counted, peak
+
+PROGRAM = sys.argv[1] if len(sys.argv) > 1 else built("dme_bench")
 HALF = 4_950
 
 
@@ -38,28 +34,16 @@ def wanted(touches):
     return f"{touches} points, sum {total}\n".encode()
 
 
-def counted(words):
-    """The instructions, and those of them that are not the C library's, with what is printed."""
-    with tempfile.TemporaryDirectory() as folder:
-        run = subprocess.run(["valgrind", "--tool=callgrind", f"--callgrind-out-file={folder}/out"] + words,
-                             stdout=subprocess.PIPE, stderr=subprocess.DEVNULL)
-        table = subprocess.run(["callgrind_annotate", "--threshold=100", f"{folder}/out"],
-                               stdout=subprocess.PIPE, stderr=subprocess.DEVNULL, text=True).stdout
-    rows = re.findall(r"^ *([\d,]+) \([ \d.]+%\)  (.*)$", table, re.MULTILINE)
-    costs = [(int(count.replace(",", "")), place) for count, place in rows if not place.startswith("PROGRAM")]
-    return sum(count for count, _ in costs), sum(count for count, place in costs if "client_bench]" in place), run.stdout
-
-
 def driven(touches, window):
     """Both counts without what reads the program, and the peak in KiB. A client with window 0 is refused, once its program was read."""
-    words = [PROGRAM, str(touches), str(window)]
-    everything, own, printed = counted(words)
-    read, own_read, _ = counted([PROGRAM, str(touches), "0"])
-    plain = subprocess.run(["/usr/bin/time", "-f", "%M"] + words, stdout=subprocess.PIPE, stderr=subprocess.PIPE)
-    for text in (printed, plain.stdout):
+    words = [PROGRAM, "client", str(touches), str(window)]
+    everything, own, printed = counted(words, "dme_bench")
+    read, own_read, _ = counted([PROGRAM, "client", str(touches), "0"], "dme_bench")
+    memory, plain = peak(words)
+    for text in (printed, plain):
         if text != wanted(touches):
             sys.exit(f"{touches}: printed {text!r}, not {wanted(touches)!r}")
-    return everything - read, own - own_read, int(plain.stderr.split()[-1])
+    return everything - read, own - own_read, memory
 
 
 for window in (1, 16):

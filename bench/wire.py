@@ -4,31 +4,23 @@
 For each side and each length of a piece it prints the instructions executed
 (valgrind --tool=callgrind) for 50,000 and for 100,000 lines, and what a line of
 the second half costs beside one of the first: 1.00 where the cost does not grow.
-It needs the built program, crates/wire_bench/out/wire_bench (made by `rt run`
-in crates/wire_bench, or by `rt ci`).
+It needs the built program of dme_bench (see counting.py).
 
 usage: bench/wire.py [PROGRAM]
 """
-import os
-import re
-import subprocess
 import sys
-import tempfile
 
-PROGRAM = sys.argv[1] if len(sys.argv) > 1 else os.path.join(
-    os.path.dirname(os.path.abspath(__file__)), "..", "crates", "wire_bench", "out", "wire_bench")
+from counting import built, counted
+
+PROGRAM = sys.argv[1] if len(sys.argv) > 1 else built("dme_bench")
 HALF = 50_000
 
 
 def instructions(side, lines, piece):
-    with tempfile.TemporaryDirectory() as folder:
-        run = subprocess.run(["valgrind", "--tool=callgrind", f"--callgrind-out-file={folder}/out",
-                              PROGRAM, side, str(lines), str(piece)],
-                             stdout=subprocess.PIPE, stderr=subprocess.PIPE)
-    wanted = f"{lines} {side}\n".encode()
-    if run.stdout != wanted:
-        sys.exit(f"{side} {lines} {piece}: printed {run.stdout!r}, status {run.returncode}")
-    return int(re.search(rb"Collected : (\d+)", run.stderr).group(1))
+    everything, _, printed = counted([PROGRAM, "wire", side, str(lines), str(piece)], "dme_bench")
+    if printed != f"{lines} {side}\n".encode():
+        sys.exit(f"{side} {lines} {piece}: printed {printed!r}")
+    return everything
 
 
 for side in ("commands", "responses"):

@@ -6,6 +6,7 @@ pub mod Server
 pub mod Claims
 pub mod Typed
 pub mod Lines
+pub mod Streams
 pub mod Ends
 pub mod World
 pub mod Language

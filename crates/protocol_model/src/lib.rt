@@ -11,6 +11,7 @@
 // - `plan_laws`: what a plan measures, and in which order
 // - `positions`: where a plan goes on in the steps of a program
 // - `tags`: the number of the tag that is drawn next
+// - `streams`: what a stream of written lines hands out
 // - `readers`: that lines can be read as the interface says
 // - `undisturbed`: what is written, done and counted in a run that nothing disturbs
 // - `rows`: worked rows, as examples that the definitions compute
@@ -30,6 +31,7 @@ pub mod readers;
 pub mod replies;
 pub mod rows;
 pub mod states;
+pub mod streams;
 pub mod tags;
 pub mod theorem;
 pub mod turn_rows;
@@ -46,6 +48,7 @@ pub use positions::plans_go_on_behind_the_last_touch;
 pub use readers::readers_exist;
 pub use replies::table_accepts_the_language;
 pub use states::{Cause, State};
+pub use streams::{commands_come_in_order, responses_come_in_order};
 pub use tags::numbers_that_are_held_are_passed_over;
 pub use theorem::every_run;
 pub use typed::every_typed_run;

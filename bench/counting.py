@@ -1,0 +1,31 @@
+"""What the scripts beside it share: where the built programs are, instructions and peak memory of one run.
+
+The programs are made by `tests/run`, or by `rt run` in their crates.
+"""
+import os
+import re
+import subprocess
+import tempfile
+
+
+def built(crate):
+    """The executable of a crate."""
+    return os.path.join(os.path.dirname(os.path.abspath(__file__)), "..", "crates", crate, "out", crate)
+
+
+def counted(words, own):
+    """The instructions of a run (valgrind --tool=callgrind), those of them in the program `own`, and what it prints."""
+    with tempfile.TemporaryDirectory() as folder:
+        run = subprocess.run(["valgrind", "--tool=callgrind", f"--callgrind-out-file={folder}/out"] + words,
+                             stdout=subprocess.PIPE, stderr=subprocess.PIPE)
+        table = subprocess.run(["callgrind_annotate", "--threshold=100", f"{folder}/out"],
+                               stdout=subprocess.PIPE, stderr=subprocess.DEVNULL, text=True).stdout
+    rows = re.findall(r"^ *([\d,]+) \([ \d.]+%\)  (.*)$", table, re.MULTILINE)
+    ours = sum(int(count.replace(",", "")) for count, place in rows if f"{own}]" in place)
+    return int(re.search(rb"Collected : (\d+)", run.stderr).group(1)), ours, run.stdout
+
+
+def peak(words):
+    """The peak of memory in KiB, and what is printed."""
+    run = subprocess.run(["/usr/bin/time", "-f", "%M"] + words, stdout=subprocess.PIPE, stderr=subprocess.PIPE)
+    return int(run.stderr.split()[-1]), run.stdout

@@ -1,0 +1,98 @@
+// Reads many command lines or response lines through a framing buffer, in pieces of a set length.
+
+use crate::values::{Stop, place};
+use dme_line::{
+    Command, Mark, Response, Tag, read_command, read_response, write_command, write_response,
+};
+use line_framing::{Line, Lines, LinesFault};
+use std::alloc::Global;
+
+/// What is read.
+#[derive(Clone, Copy)]
+pub(crate) enum Side {
+    Commands,
+    Responses,
+}
+
+impl Side {
+    pub(crate) fn named(word: &str) -> Result<Side, Stop> {
+        match word {
+            "commands" => Ok(Side::Commands),
+            "responses" => Ok(Side::Responses),
+            _ => Err(Stop::Words),
+        }
+    }
+
+    pub(crate) fn name(self) -> &'static str {
+        match self {
+            Side::Commands => "commands",
+            Side::Responses => "responses",
+        }
+    }
+}
+
+impl From<LinesFault> for Stop {
+    fn from(fault: LinesFault) -> Stop {
+        match fault {
+            LinesFault::Memory => Stop::Memory,
+            LinesFault::Framing(_) => Stop::Refused,
+        }
+    }
+}
+
+/// Appends line number `number`, with its end.
+fn push_line(out: &mut Vec<u8>, side: Side, number: u64) -> Result<(), Stop> {
+    let tag = Tag::Std((number % 9999 + 1) as u32);
+    match side {
+        Side::Commands => write_command(out, tag, &Command::GoTo(place(number)))?,
+        Side::Responses => {
+            let mark = if number % 2 == 0 {
+                Mark::Ack
+            } else {
+                Mark::Done
+            };
+            write_response(out, &Response { tag, mark })?;
+        }
+    }
+    out.extend_from_slice(b"\r\n")?;
+    Ok(())
+}
+
+fn read_line(alloc: Global, side: Side, line: &Line) -> Result<(), Stop> {
+    let is_read = match side {
+        Side::Commands => read_command(alloc, line.as_slice())?.is_ok(),
+        Side::Responses => read_response(alloc, line.as_slice())?.is_ok(),
+    };
+    if is_read { Ok(()) } else { Err(Stop::Refused) }
+}
+
+/// Reads each whole line that stands in the buffer, and answers how many they were.
+fn read_lines(alloc: Global, side: Side, lines: &mut Lines) -> Result<u64, Stop> {
+    for count in 0..u64::MAX {
+        match lines.next_line()? {
+            Some(line) => read_line(alloc, side, &line)?,
+            None => return Ok(count),
+        }
+    }
+    Err(Stop::Refused)
+}
+
+/// Writes so many lines, feeds them in pieces of so many bytes, and answers how many were read.
+pub(crate) fn count_lines(
+    alloc: Global,
+    side: Side,
+    wanted: u64,
+    piece: usize,
+) -> Result<u64, Stop> {
+    let mut bytes = Vec::new(alloc);
+    for number in 0..wanted {
+        push_line(&mut bytes, side, number)?;
+    }
+    let mut lines = Lines::new(alloc);
+    let mut count = 0u64;
+    for part in bytes.as_slice().chunks(piece.max(1)) {
+        lines.feed(part)?;
+        count = count.saturating_add(read_lines(alloc, side, &mut lines)?);
+    }
+    Ok(count)
+}
