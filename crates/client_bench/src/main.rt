@@ -1,8 +1,8 @@
-// Drives a client through a program of many touches, answered by a peer in memory, and prints a sum over all bytes that the client sends
-// and all points that it holds in the end. `bench/client.py` counts its instructions; run on a few touches it is a test from bytes to
-// bytes.
-//
-// Its words are the count of touches, at most 9,900, and the window.
+//! Drives a client through a program of many touches, answered by a peer in memory, and prints a sum over all bytes that the client sends
+//! and all points that it holds in the end. `bench/client.py` counts its instructions; run on a few touches it is a test from bytes to
+//! bytes.
+//!
+//! Its words are the count of touches, at most 9,900, and the window.
 #![tactic(auto)]
 
 ghost use Rattle.std.specs.Prelude.{◌<◌};

@@ -1,7 +1,7 @@
-// Makes many rounds of a move and a touch on a server by hand, and prints a sum over all bytes that it answers. `bench/core.py` counts its
-// instructions; run on a few rounds it is a test from bytes to bytes.
-//
-// Its word is the count of rounds.
+//! Makes many rounds of a move and a touch on a server by hand, and prints a sum over all bytes that it answers. `bench/core.py` counts its
+//! instructions; run on a few rounds it is a test from bytes to bytes.
+//!
+//! Its word is the count of rounds.
 #![tactic(auto)]
 
 use dme_line::{Command, Tag, write_command};

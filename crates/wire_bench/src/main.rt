@@ -1,7 +1,7 @@
-// Reads many command lines or response lines through a framing buffer, in pieces of a set length, and prints how many
-// were read. `bench/wire.py` counts its instructions; run on a few lines it is a test from bytes to values.
-//
-// Its words are `commands` or `responses`, the count of lines, and the bytes of a piece.
+//! Reads many command lines or response lines through a framing buffer, in pieces of a set length, and prints how many
+//! were read. `bench/wire.py` counts its instructions; run on a few lines it is a test from bytes to values.
+//!
+//! Its words are `commands` or `responses`, the count of lines, and the bytes of a piece.
 #![tactic(auto)]
 
 use dme_line::{
