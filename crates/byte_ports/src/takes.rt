@@ -108,10 +108,10 @@ impl Sink for Takes {
         self.fuse.call()?;
         let count = bytes.len().min(self.most);
         let (front, _) = bytes.split_at(count);
-        if self.taken.extend_from_slice(front).is_err() {
+        let Ok(()) = self.taken.extend_from_slice(front) else {
             self.fuse.blow();
             return Err(Failed);
-        }
+        };
         Ok(count)
     }
 }

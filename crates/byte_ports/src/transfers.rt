@@ -38,8 +38,30 @@ pub enum PullFault {
     Failed,
     /// As many pulls as were allowed have each given bytes.
     TooMany,
-    /// Want of memory.
+    /// A growth was refused.
     Memory,
+}
+
+impl From<Failed> for PullFault {
+    ghost use Rattle.std.specs.Prelude.{◌≡◌};
+    ghost use Rattle.byte_ports.specs.declared.transfers.PullFault.TheVariants as fault;
+
+    ghost from_gives = { λ _ e. e ≡ fault.Failed };
+
+    fn from(_failed: Failed) -> PullFault {
+        PullFault::Failed
+    }
+}
+
+impl From<AllocError> for PullFault {
+    ghost use Rattle.std.specs.Prelude.{◌≡◌};
+    ghost use Rattle.byte_ports.specs.declared.transfers.PullFault.TheVariants as fault;
+
+    ghost from_gives = { λ _ e. e ≡ fault.Memory };
+
+    fn from(_error: AllocError) -> PullFault {
+        PullFault::Memory
+    }
 }
 
 // Room for one pull. It stands on the heap, since a function pays for its locals.
@@ -75,19 +97,13 @@ pub fn pull_all<R: Source>(alloc: Global, source: &mut R, bound: u64) -> Result<
     ensures piece { PIECE ≡ 65536 }
 {
     let mut text = Vec::new(alloc);
-    let Ok(mut piece) = blank_piece(alloc) else {
-        return Err(PullFault::Memory);
-    };
+    let mut piece = blank_piece(alloc)?;
     for _ in 0..bound {
-        let Ok(count) = source.pull(&mut piece) else {
-            return Err(PullFault::Failed);
-        };
+        let count = source.pull(&mut piece)?;
         if count == 0 {
             return Ok(text);
         }
-        let Ok(()) = text.extend_from_slice(&piece[..count]) else {
-            return Err(PullFault::Memory);
-        };
+        text.extend_from_slice(&piece[..count])?;
     }
     Err(PullFault::TooMany)
 }

@@ -1,9 +1,9 @@
-// What a measuring machine did and what its client holds: acts, contacts and features, as both ends of a connection speak of them.
-//
-// - `acts`: `Act`, one thing that a server has done on a connection
-// - `features`: `Feature`, one measured feature, and its list of points
-// - `server_ledger`: `ServerLedger`, the acts of a server in order
-// - `feature_ledger`: `FeatureLedger`, the features that a client holds
+//! What a measuring machine did and what its client holds: acts, contacts and features, as both ends of a connection speak of them.
+//!
+//! - `acts`: `Act`, one thing that a server has done on a connection
+//! - `features`: `Feature`, one measured feature, and its list of points
+//! - `server_ledger`: `ServerLedger`, the acts of a server in order
+//! - `feature_ledger`: `FeatureLedger`, the features that a client holds
 #![tactic(auto)]
 
 pub mod acts;

@@ -1,12 +1,12 @@
-// Programs that are measured: many lines read through a framing buffer, many rounds of a move and a touch on a server, and a client that is
-// driven through a program of many touches. Each prints what it has counted, and both ends a sum over what they have seen; the scripts of
-// `bench/` count its instructions.
-//
-// Its words are `wire commands` or `wire responses` with the count of lines and the bytes of a piece, `server` with the count of rounds, or
-// `client` with the count of touches, at most 9,900, and the window. `samples` runs a few of each: a test from bytes to bytes.
-//
-// - `wire`, `server`, `client`: what is measured
-// - `values`: what all three speak of, and why nothing is printed
+//! Programs that are measured: many lines read through a framing buffer, many rounds of a move and a touch on a server, and a client that is
+//! driven through a program of many touches. Each prints what it has counted, and both ends a sum over what they have seen; the scripts of
+//! `bench/` count its instructions.
+//!
+//! Its words are `wire commands` or `wire responses` with the count of lines and the bytes of a piece, `server` with the count of rounds, or
+//! `client` with the count of touches, at most 9,900, and the window. `samples` runs a few of each: a test from bytes to bytes.
+//!
+//! - `wire`, `server`, `client`: what is measured
+//! - `values`: what all three speak of, and why nothing is printed
 #![tactic(auto)]
 
 mod client;

@@ -1,13 +1,13 @@
-// The wire of a measuring machine (I++ DME Interface version 1): commands, responses, point texts and
-// error texts, as values and as the bytes of one line without its end.
-//
-// - `tags`, `commands`: `Tag`; `Command`, its `Kind`, `Csy`
-// - `writing`, `reading`: `write_command`; `read_command` and `LineFault`
-// - `responses`, `text`: `Response`, `Mark`, `Text`, and their lines
-// - `points`: the text of a data line; `errors`: `ErrorNumber` and the line of an error
-// - `tokens`, `arguments`, `places`, `settings`, `lengths`: the steps by which arguments are read
-// - `appending`: texts where there is room for them
-// - `laws`: what holds of these texts: each is read in one way, and what is written reads back
+//! The wire of a measuring machine (I++ DME Interface version 1): commands, responses, point texts and
+//! error texts, as values and as the bytes of one line without its end.
+//!
+//! - `tags`, `commands`: `Tag`; `Command`, its `Kind`, `Csy`
+//! - `writing`, `reading`: `write_command`; `read_command` and `LineFault`
+//! - `responses`, `text`: `Response`, `Mark`, `Text`, and their lines
+//! - `points`: the text of a data line; `errors`: `ErrorNumber` and the line of an error
+//! - `tokens`, `arguments`, `places`, `settings`, `lengths`: the steps by which arguments are read
+//! - `appending`: texts where there is room for them
+//! - `laws`: what holds of these texts: each is read in one way, and what is written reads back
 #![tactic(auto)]
 
 mod appending;

@@ -2,14 +2,12 @@
 
 ghost use Rattle.std.specs.Prelude.{◌≡◌, true, is_some, string_bytes};
 ghost use Rattle.std.specs.Option.{option_map};
-ghost use Rattle.dmis_program.specs.Messages.{refusal_text};
-ghost use Rattle.dme_program.specs.Printed.{setup_code, status_of, IsShown};
+ghost use Rattle.dme_program.specs.Printed.{status_of, IsShown};
 
 use crate::check::CheckFault;
 use crate::orders::OrderFault;
 use clap::Error as WordsError;
-use dmis_program::{ProgramFault, Refusal};
-use fixed_um::NumeralFault;
+use dmis_program::ProgramFault;
 use thiserror::Error;
 use tool_rack::SetupFault;
 
@@ -19,12 +17,12 @@ pub enum Fault {
     /// A bad command line or a call for help: `clap`'s own text.
     #[error("{0}")]
     Words(WordsError),
-    /// A DMIS program that is refused, at a line.
-    #[error("dme: {refusal} at line {line}\n")]
-    Program { refusal: &'static str, line: u64 },
-    /// A setup that is refused, at a line.
-    #[error("dme: {refusal} at line {line} in setup\n")]
-    Setup { refusal: &'static str, line: u64 },
+    /// A DMIS program that is refused; never for want of memory.
+    #[error("dme: {0}\n")]
+    Program(ProgramFault),
+    /// A setup that is refused; never for want of memory.
+    #[error("dme: {0} in setup\n")]
+    Setup(SetupFault),
     /// A file that cannot be opened or read; `-` is standard input.
     #[error("dme: cannot read {0}\n")]
     CannotRead(String),
@@ -43,48 +41,10 @@ impl Fault {
     {
         match self {
             Fault::Words(_) => 2,
-            Fault::Program { .. } | Fault::Setup { .. } => 1,
+            Fault::Program(_) | Fault::Setup(_) => 1,
             Fault::CannotRead(_) | Fault::CannotWriteOutput => 1,
             Fault::Memory => 4,
         }
-    }
-}
-
-/// The code and the name of a refusal.
-pub fn refusal_text(refusal: Refusal) -> &'static str
-    ensures { result.now ≡ refusal_text refusal }
-{
-    match refusal {
-        Refusal::NotDmis => "P1 NotDmis",
-        Refusal::Truncated => "P2 Truncated",
-        Refusal::LineTooLong => "P3 LineTooLong",
-        Refusal::BadByte => "P4 BadByte",
-        Refusal::Unsupported => "P5 Unsupported",
-        Refusal::BadArguments => "P6 BadArguments",
-        Refusal::BadNumeral(NumeralFault::NotNumeral) => "P7 BadNumeral (N1 NotNumeral)",
-        Refusal::BadNumeral(NumeralFault::TooManyDigits) => "P7 BadNumeral (N2 TooManyDigits)",
-        Refusal::BadNumeral(NumeralFault::TooLarge) => "P7 BadNumeral (N3 TooLarge)",
-        Refusal::OutsideBlock => "P8 OutsideBlock",
-        Refusal::InsideBlock => "P9 InsideBlock",
-        Refusal::TooFewPoints => "P10 TooFewPoints",
-        Refusal::UnknownFrame => "P11 UnknownFrame",
-        Refusal::NotMillimetres => "P12 NotMillimetres",
-        Refusal::NoProgMode => "P13 NoProgMode",
-        Refusal::ZeroVector => "P14 ZeroVector",
-        Refusal::NoTool => "P15 NoTool",
-        Refusal::TooLarge => "P16 TooLarge",
-    }
-}
-
-/// The code and the name of a setup's refusal, and its line; none for want of memory, which is no refusal.
-pub fn setup_refusal(fault: SetupFault) -> Option<(&'static str, u64)>
-    ensures { option_map (λ shown. (shown.0.now, shown.1)) result ≡ setup_code fault }
-{
-    match fault {
-        SetupFault::BadLine(line) => Some(("S1 BadLine", line)),
-        SetupFault::Twice(line) => Some(("S2 Twice", line)),
-        SetupFault::BadNumeral(line) => Some(("S3 BadNumeral", line)),
-        SetupFault::Memory => None,
     }
 }
 
@@ -94,22 +54,17 @@ pub fn shown_fault(fault: OrderFault, setup: Option<String>, program: String) ->
     ensures { IsShown fault (option_map string_bytes setup) (string_bytes program) result }
 {
     match fault {
-        OrderFault::Setup(cause) => match setup_refusal(cause) {
-            Some((refusal, line)) => Fault::Setup { refusal, line },
-            None => Fault::Memory,
-        },
+        OrderFault::Setup(SetupFault::Memory) => Fault::Memory,
+        OrderFault::Setup(cause) => Fault::Setup(cause),
         OrderFault::SetupRead => match setup {
             Some(file) => Fault::CannotRead(file),
             None => unreachable!(),
         },
-        OrderFault::Check(CheckFault::Program(ProgramFault::Refused(refusal, line))) => {
-            let refusal = refusal_text(refusal);
-            Fault::Program { refusal, line }
-        }
-        OrderFault::Check(CheckFault::Read) => Fault::CannotRead(program),
-        OrderFault::Check(CheckFault::Write) => Fault::CannotWriteOutput,
         OrderFault::Check(CheckFault::Program(ProgramFault::Memory) | CheckFault::Memory) => {
             Fault::Memory
         }
+        OrderFault::Check(CheckFault::Program(cause)) => Fault::Program(cause),
+        OrderFault::Check(CheckFault::Read) => Fault::CannotRead(program),
+        OrderFault::Check(CheckFault::Write) => Fault::CannotWriteOutput,
     }
 }

@@ -1,11 +1,11 @@
-// The program `dme`: DMIS inspection programs (ISO 22093) over the I++ DME Interface version 1.
-//
-// - `words`: the command line
-// - `orders`: an order as a whole, over ports; `files`: the files of an order as ports
-// - `check`: the command lines of a program, from any reader to any writer
-// - `plan`: the commands of a program on a new connection, as text
-// - `running`: an order is carried out on files and the standard streams
-// - `faults`: what is printed on standard error, and the exit status
+//! The program `dme`: DMIS inspection programs (ISO 22093) over the I++ DME Interface version 1.
+//!
+//! - `words`: the command line
+//! - `orders`: an order as a whole, over ports; `files`: the files of an order as ports
+//! - `check`: the command lines of a program, from any reader to any writer
+//! - `plan`: the commands of a program on a new connection, as text
+//! - `running`: an order is carried out on files and the standard streams
+//! - `faults`: what is printed on standard error, and the exit status
 #![tactic(auto)]
 
 mod check;

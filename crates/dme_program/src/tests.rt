@@ -1,7 +1,7 @@
 // What no clause says: what is printed for programs as they are written, and that ports which fail are noticed.
 
 use crate::check::{CheckFault, check_plan};
-use crate::faults::{Fault, refusal_text, setup_refusal};
+use crate::faults::Fault;
 use crate::words::{Order, WordsFault, read_words};
 use byte_ports::{Pieces, Reading, Takes, Writing};
 use dmis_program::{Frames, ProgramFault, Refusal};
@@ -161,50 +161,38 @@ fn a_port_that_fails_is_noticed(rt: HostRuntime) -> Result<(), Fail> {
 #[test]
 fn faults_print_code_name_and_line(rt: HostRuntime) -> Result<(), Fail> {
     let alloc = rt.alloc();
+    let numeral = Refusal::BadNumeral(NumeralFault::NotNumeral);
     let cases = [
-        (Refusal::Truncated, 6, "dme: P2 Truncated at line 6\n"),
         (
-            Refusal::BadNumeral(NumeralFault::NotNumeral),
-            5,
+            Fault::Program(ProgramFault::Refused(Refusal::Truncated, 6)),
+            "dme: P2 Truncated at line 6\n",
+        ),
+        (
+            Fault::Program(ProgramFault::Refused(numeral, 5)),
             "dme: P7 BadNumeral (N1 NotNumeral) at line 5\n",
         ),
         (
-            Refusal::TooLarge,
-            10001,
+            Fault::Program(ProgramFault::Refused(Refusal::TooLarge, 10001)),
             "dme: P16 TooLarge at line 10001\n",
         ),
-    ];
-    for (refusal, line, text) in cases {
-        let fault = Fault::Program {
-            refusal: refusal_text(refusal),
-            line,
-        };
-        let printed = fault.to_string(alloc)?;
-        assert_eq!(rt; printed.as_str(), text);
-        assert_eq!(rt; fault.status(), 1);
-    }
-    let cases = [
         (
-            SetupFault::BadLine(1),
+            Fault::Setup(SetupFault::BadLine(1)),
             "dme: S1 BadLine at line 1 in setup\n",
         ),
-        (SetupFault::Twice(2), "dme: S2 Twice at line 2 in setup\n"),
         (
-            SetupFault::BadNumeral(10),
+            Fault::Setup(SetupFault::Twice(2)),
+            "dme: S2 Twice at line 2 in setup\n",
+        ),
+        (
+            Fault::Setup(SetupFault::BadNumeral(10)),
             "dme: S3 BadNumeral at line 10 in setup\n",
         ),
     ];
-    for (cause, text) in cases {
-        let Some((refusal, line)) = setup_refusal(cause) else {
-            assert!(rt; false, "{text}");
-            return Ok(());
-        };
-        let fault = Fault::Setup { refusal, line };
+    for (fault, text) in cases {
         let printed = fault.to_string(alloc)?;
         assert_eq!(rt; printed.as_str(), text);
         assert_eq!(rt; fault.status(), 1);
     }
-    assert!(rt; setup_refusal(SetupFault::Memory).is_none());
     let unread = Fault::CannotRead(String::from_str(alloc, "part.dmis")?);
     let printed = unread.to_string(alloc)?;
     assert_eq!(rt; printed.as_str(), "dme: cannot read part.dmis\n");

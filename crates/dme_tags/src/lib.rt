@@ -1,12 +1,12 @@
-// The commands that a client has sent and whose end it has not read, with their tags (this profile).
-//
-// - `open_commands`: `Open`, the open commands on standard tags and on event tags
-// - `marks`: what each mark does to the list of open commands of one sort of tags
-// - `drawing`: the tag that is drawn next
-// - `faults`, `endings`: what the calls answer
-// - `laws`: what they have to do with the client of `protocol_model`
-//
-// The definitions are those of `protocol_model`: the table of marks against stages, the next number, the first command of a tag.
+//! The commands that a client has sent and whose end it has not read, with their tags (this profile).
+//!
+//! - `open_commands`: `Open`, the open commands on standard tags and on event tags
+//! - `marks`: what each mark does to the list of open commands of one sort of tags
+//! - `drawing`: the tag that is drawn next
+//! - `faults`, `endings`: what the calls answer
+//! - `laws`: what they have to do with the client of `protocol_model`
+//!
+//! The definitions are those of `protocol_model`: the table of marks against stages, the next number, the first command of a tag.
 #![tactic(auto)]
 
 mod drawing;

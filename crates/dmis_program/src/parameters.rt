@@ -19,7 +19,7 @@ const MOST_TOUCHES: u64 = 10_000;
 pub(crate) fn has_word(params: &[Text], word: &str) -> bool
     ensures { result ≡ list_any (λ p. bytes_eq p word.now) params.now }
 {
-    params.iter().any(|p| is_text(p.as_slice(), word))
+    params.iter().any(|p| is_text(p, word))
 }
 
 /// Whether each byte is a letter.
@@ -100,7 +100,7 @@ pub(crate) fn without_cart(params: &[Text]) -> &[Text]
     ensures { result.now ≡ without_cart params.now }
 {
     match params.split_first() {
-        Some((first, rest)) if is_text(first.as_slice(), "CART") => rest,
+        Some((first, rest)) if is_text(first, "CART") => rest,
         _ => params,
     }
 }
@@ -120,8 +120,7 @@ pub(crate) fn is_other_coordinates(params: &[Text]) -> bool
     ensures { result ≡ is_other_coordinates params.now }
 {
     match params.split_first() {
-        Some((first, _)) => begins_with_letter(first.as_slice())
-            && !is_text(first.as_slice(), "CART"),
+        Some((first, _)) => begins_with_letter(first) && !is_text(first, "CART"),
         None => false,
     }
 }
@@ -132,7 +131,6 @@ pub(crate) fn is_other_recall(params: &[Text]) -> bool
 {
     match params.split_first() {
         Some((first, _)) => {
-            let first = first.as_slice();
             !begins(first, b"D(") && !begins(first, b"S(") && !begins(first, b"SA(")
         }
         None => false,

@@ -238,8 +238,8 @@ impl Reader {
         if self.count >= MOST_STATEMENTS {
             return Err(StatementFault::Refused(Refusal::TooLarge));
         }
-        let keyword = keyword_of_word(statement.word.as_slice());
-        let params = statement.params.as_slice();
+        let keyword = keyword_of_word(&statement.word);
+        let params = &statement.params;
         if let Some(refusal) = self.word_refusal(keyword, params) {
             return Err(StatementFault::Refused(refusal));
         }

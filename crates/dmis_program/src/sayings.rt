@@ -36,7 +36,7 @@ fn goes(params: &[Text]) -> Result<Said, Refusal>
     ensures { result ≡ goes params.now }
 {
     match params {
-        [x, y, z] => Ok(Said::Goes(position(x.as_slice(), y.as_slice(), z.as_slice())?)),
+        [x, y, z] => Ok(Said::Goes(position(x, y, z)?)),
         _ => Err(Refusal::BadArguments),
     }
 }
@@ -48,9 +48,9 @@ fn begins_block(alloc: Global, params: &[Text]) -> Result<Said, StatementFault>
     let [kind, feature, count] = params else {
         return Err(StatementFault::Refused(Refusal::BadArguments));
     };
-    let name = name_within(alloc, b"F(", feature.as_slice())?;
-    match (name, count_of(count.as_slice())) {
-        (Some(name), Some(count)) if is_letters(kind.as_slice()) => Ok(Said::Begins(name, count)),
+    let name = name_within(alloc, b"F(", feature)?;
+    match (name, count_of(count)) {
+        (Some(name), Some(count)) if is_letters(kind) => Ok(Said::Begins(name, count)),
         _ => Err(StatementFault::Refused(Refusal::BadArguments)),
     }
 }
@@ -61,12 +61,12 @@ fn touches_at(params: &[Text]) -> Result<Said, Refusal>
 {
     match params {
         [x, y, z] => {
-            let target = position(x.as_slice(), y.as_slice(), z.as_slice())?;
+            let target = position(x, y, z)?;
             Ok(Said::Touches(target, None))
         }
         [x, y, z, i, j, k] => {
-            let target = position(x.as_slice(), y.as_slice(), z.as_slice())?;
-            let direction = direction(i.as_slice(), j.as_slice(), k.as_slice())?;
+            let target = position(x, y, z)?;
+            let direction = direction(i, j, k)?;
             Ok(Said::Touches(target, Some(direction)))
         }
         _ => Err(Refusal::BadArguments),
@@ -78,7 +78,7 @@ fn touches(params: &[Text]) -> Result<Said, Refusal>
     ensures { result ≡ touches params.now }
 {
     match params.split_first() {
-        Some((first, rest)) if is_text(first.as_slice(), "CART") => touches_at(rest),
+        Some((first, rest)) if is_text(first, "CART") => touches_at(rest),
         _ => Err(Refusal::BadArguments),
     }
 }
@@ -101,10 +101,10 @@ fn selects(alloc: Global, params: &[Text]) -> Result<Said, StatementFault>
     let [first] = params else {
         return Err(StatementFault::Refused(Refusal::BadArguments));
     };
-    if let Some(name) = name_within(alloc, b"S(", first.as_slice())? {
+    if let Some(name) = name_within(alloc, b"S(", first)? {
         return Ok(Said::Selects(name));
     }
-    match name_within(alloc, b"SA(", first.as_slice())? {
+    match name_within(alloc, b"SA(", first)? {
         Some(name) => Ok(Said::Selects(name)),
         None => Err(StatementFault::Refused(Refusal::BadArguments)),
     }
@@ -117,7 +117,7 @@ fn recalls_frame(alloc: Global, params: &[Text]) -> Result<Said, StatementFault>
     let [first] = params else {
         return Err(StatementFault::Refused(Refusal::BadArguments));
     };
-    match name_within(alloc, b"D(", first.as_slice())? {
+    match name_within(alloc, b"D(", first)? {
         Some(name) => Ok(Said::Recalls(name)),
         None => Err(StatementFault::Refused(Refusal::BadArguments)),
     }
@@ -128,7 +128,7 @@ fn recalls(alloc: Global, params: &[Text]) -> Result<Said, StatementFault>
     ensures { Gives result (recalls params.now) }
 {
     match params.split_first() {
-        Some((first, _)) if begins(first.as_slice(), b"D(") => recalls_frame(alloc, params),
+        Some((first, _)) if begins(first, b"D(") => recalls_frame(alloc, params),
         Some(_) => Ok(Said::Passes),
         None => Err(StatementFault::Refused(Refusal::BadArguments)),
     }
@@ -139,7 +139,7 @@ fn units(params: &[Text]) -> Result<Said, Refusal>
     ensures { result ≡ units params.now }
 {
     match params.split_first() {
-        Some((first, _)) if is_text(first.as_slice(), "MM") => Ok(Said::Passes),
+        Some((first, _)) if is_text(first, "MM") => Ok(Said::Passes),
         Some(_) => Err(Refusal::NotMillimetres),
         None => Err(Refusal::BadArguments),
     }
@@ -198,5 +198,5 @@ pub(crate) fn said_of(
     if is_badly_formed(keyword, statement) {
         return Err(StatementFault::Refused(Refusal::BadArguments));
     }
-    said_by(alloc, keyword, statement.params.as_slice())
+    said_by(alloc, keyword, &statement.params)
 }

@@ -5,8 +5,10 @@ ghost use Rattle.dmis_text.specs.Elements.{element_of, pieces};
 use crate::bytes::{cut_at, ends_inside, split_end_blanks, turned, without_front_blanks};
 use std::alloc::{AllocError, Global};
 use std::marker::Model;
+use std::ops::DerefSlice;
 
-/// The bytes of a label, a word or a parameter, which contracts see as their list.
+/// The bytes of a label, a word or a parameter, which contracts see as their list: without blanks at both ends, capitals outside texts,
+/// and texts as written, with their apostrophes. It is read as a slice.
 #[derive(Debug, Drop)]
 pub struct Text {
     bytes: Vec<u8>,
@@ -18,14 +20,19 @@ impl Model for Text {
     ghost view = { λ t. t.bytes.items };
 }
 
-impl Text {
-    /// The bytes: without blanks at both ends, capitals outside texts, and texts as written, with their apostrophes.
-    pub fn as_slice(&self) -> &[u8]
-        ensures { result.now ≡ self.now }
-    {
+impl DerefSlice for Text {
+    ghost use Rattle.std.specs.Prelude.{◌≡◌};
+
+    type Elem = u8;
+
+    ghost deref_gives = { λ text bytes. bytes ≡ text };
+
+    fn deref(&self) -> &[u8] {
         self.bytes.as_slice()
     }
+}
 
+impl Text {
     /// The bytes without blanks at both ends, small letters as capitals outside texts.
     fn element(alloc: Global, bytes: &[u8]) -> Result<Text, AllocError>
         ensures { IfOk result (λ text. text ≡ element_of bytes.now) }
@@ -45,7 +52,7 @@ impl Text {
     }
 }
 
-/// The parameters of a statement, which contracts see as a list of lists of bytes.
+/// The parameters of a statement in order, which contracts see as a list of lists of bytes. They are read as a slice.
 ///
 /// There are none only where the statement has no `/`: behind a `/` stands at least one, which may be empty.
 #[derive(Debug, Drop)]
@@ -59,14 +66,19 @@ impl Model for Params {
     ghost view = { λ p. p.texts.items };
 }
 
-impl Params {
-    /// The parameters in order.
-    pub fn as_slice(&self) -> &[Text]
-        ensures { result.now ≡ self.now }
-    {
+impl DerefSlice for Params {
+    ghost use Rattle.std.specs.Prelude.{◌≡◌};
+
+    type Elem = Text;
+
+    ghost deref_gives = { λ params texts. texts ≡ params };
+
+    fn deref(&self) -> &[Text] {
         self.texts.as_slice()
     }
+}
 
+impl Params {
     /// What a statement without a `/` has.
     fn none(alloc: Global) -> Params
         ensures { result ≡ [] }
@@ -115,9 +127,9 @@ impl Statement {
     pub fn is_open(&self) -> bool
         ensures { result ≡ has_open_text self.now }
     {
-        match self.params.as_slice().split_last() {
-            Some((last, _)) => ends_inside(last.as_slice()),
-            None => ends_inside(self.word.as_slice()),
+        match self.params.split_last() {
+            Some((last, _)) => ends_inside(last),
+            None => ends_inside(&self.word),
         }
     }
 

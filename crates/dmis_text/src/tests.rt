@@ -9,13 +9,13 @@ fn show(out: &mut Vec<u8>, statement: &Statement) -> Result<(), Fail> {
     write!(out, "{}:", statement.line)?;
     if let Some(label) = &statement.label {
         out.extend_from_slice(b"[")?;
-        out.extend_from_slice(label.as_slice())?;
+        out.extend_from_slice(label)?;
         out.extend_from_slice(b"]")?;
     }
-    out.extend_from_slice(statement.word.as_slice())?;
-    for param in statement.params.as_slice() {
+    out.extend_from_slice(&statement.word)?;
+    for param in statement.params.iter() {
         out.extend_from_slice(b"|")?;
-        out.extend_from_slice(param.as_slice())?;
+        out.extend_from_slice(param)?;
     }
     out.extend_from_slice(if statement.is_open() { b"?;" } else { b";" })?;
     Ok(())

@@ -1,16 +1,16 @@
-// Exact decimal numerals and the values that every crate shares: lengths in whole micrometres,
-// directions in whole millionths, points, names and frames.
-//
-// - `lengths`: `Um`, `Point`, and the limits of the wire and of the machine's volume
-// - `directions`: `Dir`
-// - `naming`: `Name`
-// - `frames`: `Frame`
-// - `numerals`: `read_um`, `read_dir`, and why a text is refused
-// - `scanning`: the steps by which a numeral is taken apart
-// - `points`: sums and differences of points
-// - `rounding`: the whole number nearest to a fraction
-// - `display`: how lengths, points, directions and names are printed
-// - `writing`: `write_um`, `write_dir`, and the same for a caller who has made room
+//! Exact decimal numerals and the values that every crate shares: lengths in whole micrometres,
+//! directions in whole millionths, points, names and frames.
+//!
+//! - `lengths`: `Um`, `Point`, and the limits of the wire and of the machine's volume
+//! - `directions`: `Dir`
+//! - `naming`: `Name`
+//! - `frames`: `Frame`
+//! - `numerals`: `read_um`, `read_dir`, and why a text is refused
+//! - `scanning`: the steps by which a numeral is taken apart
+//! - `points`: sums and differences of points
+//! - `rounding`: the whole number nearest to a fraction
+//! - `display`: how lengths, points, directions and names are printed
+//! - `writing`: `write_um`, `write_dir`, and the same for a caller who has made room
 #![tactic(auto)]
 
 pub mod directions;

@@ -1,14 +1,14 @@
-// Bytes to lines, in whatever pieces the bytes come.
-//
-// The wire of the I++ DME Interface version 1 carries lines that end with CR LF. A `Lines` is fed pieces of
-// bytes as they are read, hands out one whole line a call, and keeps what is not yet a line. What callers see
-// of it is the list of bytes that were fed and not handed out, and the fault that was met in them.
-//
-// - `framing`: `Lines`, the buffer
-// - `owned`: `Line`, a line without its end
-// - `faults`: why bytes are refused, and what may stand at their front in place of a line
-// - `search`: where a line ends, and what stands there
-// - `laws`: what follows from the definitions alone, as the pieces do not matter
+//! Bytes to lines, in whatever pieces the bytes come.
+//!
+//! The wire of the I++ DME Interface version 1 carries lines that end with CR LF. A `Lines` is fed pieces of
+//! bytes as they are read, hands out one whole line a call, and keeps what is not yet a line. What callers see
+//! of it is the list of bytes that were fed and not handed out, and the fault that was met in them.
+//!
+//! - `framing`: `Lines`, the buffer
+//! - `owned`: `Line`, a line without its end
+//! - `faults`: why bytes are refused, and what may stand at their front in place of a line
+//! - `search`: where a line ends, and what stands there
+//! - `laws`: what follows from the definitions alone, as the pieces do not matter
 #![tactic(auto)]
 
 pub mod faults;

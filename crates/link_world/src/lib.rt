@@ -1,10 +1,10 @@
-// Both ends and the connections between them, as one value: a client with its program, a server with its setup, and the bytes that each
-// wrote and the other has not taken (this profile). One event after another happens to it.
-//
-// - `world`: `World`, its events one by one and in lists
-// - `client_events`, `server_events`: what each event does
-// - `connection`, `pipe`: the bytes of a connection, both ways
-// - `faults`: why an event is refused
+//! Both ends and the connections between them, as one value: a client with its program, a server with its setup, and the bytes that each
+//! wrote and the other has not taken (this profile). One event after another happens to it.
+//!
+//! - `world`: `World`, its events one by one and in lists
+//! - `client_events`, `server_events`: what each event does
+//! - `connection`, `pipe`: the bytes of a connection, both ways
+//! - `faults`: why an event is refused
 #![tactic(auto)]
 
 mod client_events;

@@ -1,22 +1,22 @@
-// The protocol between the client and the server of a measuring machine, as definitions, and what follows from them. No code but the plain
-// data of which both ends speak.
-//
-// - `specs/`: lines as values, plans, open commands, the client, the server, what is claimed, their lines as bytes, both ends with the
-//   bytes between them, the language of replies, and worked rows
-// - `lines`, `machine`, `plans`, `held`, `states`, `events`: lines as values, jobs and outcomes, planned commands, open commands, states of
-//   a client, what can happen between both ends
-// - `theorem`: the theorem over every list of events, with the bytes between both ends
-// - `typed`: the same where lines are carried as values
-// - `replies`: the language of replies and the table of marks
-// - `plan_laws`: what a plan measures, and in which order
-// - `positions`: where a plan goes on in the steps of a program
-// - `tags`: the number of the tag that is drawn next
-// - `streams`: what a stream of written lines hands out
-// - `readers`: that lines can be read as the interface says
-// - `undisturbed`: what is written, done and counted in a run that nothing disturbs
-// - `rows`: worked rows, as examples that the definitions compute
-// - `ledger_rows`: worked rows of what is claimed, beside ledgers that are written out
-// - `turn_rows`: worked rows of the order of checks, and of when a client is done
+//! The protocol between the client and the server of a measuring machine, as definitions, and what follows from them. No code but the plain
+//! data of which both ends speak.
+//!
+//! - `specs/`: lines as values, plans, open commands, the client, the server, what is claimed, their lines as bytes, both ends with the
+//!   bytes between them, the language of replies, and worked rows
+//! - `lines`, `machine`, `plans`, `held`, `states`, `events`: lines as values, jobs and outcomes, planned commands, open commands, states of
+//!   a client, what can happen between both ends
+//! - `theorem`: the theorem over every list of events, with the bytes between both ends
+//! - `typed`: the same where lines are carried as values
+//! - `replies`: the language of replies and the table of marks
+//! - `plan_laws`: what a plan measures, and in which order
+//! - `positions`: where a plan goes on in the steps of a program
+//! - `tags`: the number of the tag that is drawn next
+//! - `streams`: what a stream of written lines hands out
+//! - `readers`: that lines can be read as the interface says
+//! - `undisturbed`: what is written, done and counted in a run that nothing disturbs
+//! - `rows`: worked rows, as examples that the definitions compute
+//! - `ledger_rows`: worked rows of what is claimed, beside ledgers that are written out
+//! - `turn_rows`: worked rows of the order of checks, and of when a client is done
 #![tactic(auto)]
 
 pub mod events;

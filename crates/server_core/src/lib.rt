@@ -1,5 +1,5 @@
-// The server of a measuring machine: it reads command lines, lets commands wait, runs one at a time, and keeps a ledger of what was done
-// (I++ DME Interface version 1; cases and errors are this profile's).
+//! The server of a measuring machine: it reads command lines, lets commands wait, runs one at a time, and keeps a ledger of what was done
+//! (I++ DME Interface version 1; cases and errors are this profile's).
 #![tactic(auto)]
 
 mod answers;
