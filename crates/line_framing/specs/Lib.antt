@@ -1,5 +1,6 @@
 pub mod Content
 pub mod Next
+pub mod Queue
 pub mod Framing
 pub mod Buffer
 pub mod Stream
