@@ -1,6 +1,7 @@
 // Bytes that wait, taken from the front.
 
-ghost use Rattle.std.specs.Prelude.{◌≡◌, ◌≤◌, ◌++◌, [], length, drop, vec_len, OnOk};
+ghost use Rattle.std.specs.Prelude.{◌≡◌, ◌≤◌, ◌+◌, ◌++◌, [], length, drop, vec_len, vec_capacity, OnOk};
+ghost use Rattle.std.specs.Borrow.{Lends, sem};
 
 use std::alloc::{AllocError, Global};
 use std::marker::Model;
@@ -29,7 +30,8 @@ impl Model for ByteQueue {
 /// Takes the first `count` bytes away; the others move to the front.
 fn drop_front(bytes: &mut Vec<u8>, count: usize)
     requires { count ≤ vec_len bytes.old }
-    ensures { bytes.new.items ≡ drop count bytes.old.items }
+    ensures bytes { bytes.new.items ≡ drop count bytes.old.items }
+    ensures capacity { vec_capacity bytes.old ≤ vec_capacity bytes.new }
 {
     let length = bytes.len();
     bytes.copy_within(count..length, 0);
@@ -37,6 +39,9 @@ fn drop_front(bytes: &mut Vec<u8>, count: usize)
 }
 
 impl ByteQueue {
+    ghost use Rattle.line_framing.specs.Lending.{bytes_row, queued_of};
+    ghost use Rattle.line_framing.specs.contracts.queue.ByteQueue.{the_row};
+
     /// No bytes, which take no memory yet.
     pub fn new(alloc: Global) -> ByteQueue
         ensures { result.waiting ≡ [] }
@@ -74,6 +79,18 @@ impl ByteQueue {
         ensures { self.new.waiting ≡ self.old.waiting ++ piece.now }
     {
         self.bytes.extend_from_slice(piece).unwrap();
+    }
+
+    /// Lends the bytes that wait as a vector, with the room behind them: what is appended to it joins them. What was taken makes way first.
+    /// It takes no memory.
+    pub fn as_mut_vec(&mut self) -> &mut Vec<u8>
+        ensures* lends { sem 𝓛 (Lends the_row bytes_row self.entry result queued_of) }
+        ensures bytes { result.now.items ≡ self.old.waiting }
+        ensures room { vec_len result.now + self.old.room ≤ vec_capacity result.now }
+    {
+        drop_front(&mut self.bytes, self.start);
+        self.start = 0;
+        &mut self.bytes
     }
 
     /// Takes the first `count` bytes. The caller owes that so many wait. It takes no memory.
