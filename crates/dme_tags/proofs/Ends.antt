@@ -26,7 +26,7 @@ use Rattle.dme_tags.proofs.Refusals.{refused_standard, refused_event}
 use Rattle.dme_tags.proofs.Effects.{standard_effect, event_effect}
 use Rattle.dme_tags.proofs.Dues.{Standing, OfTouch, Agrees, IsSaid, and_assoc, and_true, compose, err_exactly, fault_for, fits_err}
 use Rattle.dme_tags.proofs.Dues.{named_by, next_all, next_iff, next_only, none_some, ok_exactly, refusal_of, refusal_under, touch_only}
-use Rattle.dme_tags.proofs.Dues.{agrees_standard, agrees_event, unknown_exactly}
+use Rattle.dme_tags.proofs.Dues.{ack_causes, agrees_event, agrees_standard, done_causes, error_causes, named_two, unknown_exactly}
 
 -- ---- the effect of a mark
 
@@ -204,22 +204,7 @@ pointless_due s b = (only s, all)
 done_named : (s : Standing) (b : Bool) (why : Cause) → refusal_under s b Mark.Done ≡ Some why
     → (fault_for (Some why) ≡ fault.UnknownTag) ⊎ (fault_for (Some why) ≡ fault.OutOfOrder) ⊎ (fault_for (Some why) ≡ fault.NoData)
 done_named None b why e = inl (ap fault_for (sym e))
-done_named (Some (k, s)) b why e = go b (asks_data k) s e
-  where
-    go : (b a : Bool) (s : Stage) → refusal_of (judged_done b a s) ≡ Some why
-        → (fault_for (Some why) ≡ fault.UnknownTag) ⊎ (fault_for (Some why) ≡ fault.OutOfOrder) ⊎ (fault_for (Some why) ≡ fault.NoData)
-    go true true Stage.Sent e = inr (inl (ap fault_for (sym e)))
-    go true true Stage.Received e = inr (inr (ap fault_for (sym e)))
-    go true true (Stage.Given q) e = absurd (cc)
-    go true true Stage.Failed e = absurd (cc)
-    go true false Stage.Sent e = inr (inl (ap fault_for (sym e)))
-    go true false Stage.Received e = absurd (cc)
-    go true false (Stage.Given q) e = absurd (cc)
-    go true false Stage.Failed e = absurd (cc)
-    go false a Stage.Sent e = inr (inl (ap fault_for (sym e)))
-    go false a Stage.Received e = inr (inl (ap fault_for (sym e)))
-    go false a (Stage.Given q) e = inr (inl (ap fault_for (sym e)))
-    go false a Stage.Failed e = absurd (cc)
+done_named (Some (k, s)) b why e = named_two why _ _ (done_causes b (asks_data k) s why e)
 
 -- ---- what a call knows of its answer
 
@@ -355,17 +340,11 @@ unread_due s b = (only s, λ h. ap (λ (x : Standing). refusal_under x b Mark.Ac
 ack_named : (s : Standing) (b : Bool) (why : Cause) → refusal_under s b Mark.Ack ≡ Some why → (fault_for (Some why) ≡ fault.UnknownTag)
     ⊎ (fault_for (Some why) ≡ fault.OutOfOrder)
 ack_named None b why e = inl (ap fault_for (sym e))
-ack_named (Some (k, Stage.Sent)) b why e = absurd (cc)
-ack_named (Some (k, Stage.Received)) b why e = inr (ap fault_for (sym e))
-ack_named (Some (k, Stage.Given q)) b why e = inr (ap fault_for (sym e))
-ack_named (Some (k, Stage.Failed)) b why e = inr (ap fault_for (sym e))
+ack_named (Some (k, s)) b why e = inr (ap (λ (w : Cause). fault_for (Some w)) (ack_causes s why e))
 
 error_named : (s : Standing) (b : Bool) (why : Cause) → refusal_under s b Mark.Error ≡ Some why → fault_for (Some why) ≡ fault.UnknownTag
 error_named None b why e = ap fault_for (sym e)
-error_named (Some (k, Stage.Sent)) b why e = absurd (cc)
-error_named (Some (k, Stage.Received)) b why e = absurd (cc)
-error_named (Some (k, Stage.Given q)) b why e = absurd (cc)
-error_named (Some (k, Stage.Failed)) b why e = absurd (cc)
+error_named (Some (k, s)) b why e = absurd (error_causes s why e)
 
 pub unread_exactly : {T : Type 0} (o : Opened) (t : Tag) (r : Result T TagFault) → Agrees o t Mark.Ack r → IsOk r ↔ IsUnread t o
 unread_exactly o t r h = compose (ok_exactly r _ h) (unread_due (standing t o) (is_next t o))
