@@ -1,6 +1,7 @@
 -- Lists of calls on one queue, in any order (this profile).
 use Rattle.std.specs.Prelude.{◌≡◌, ◌<◌, ◌≤◌, List, [], ◌∷◌, ◌++◌, length}
 use Rattle.protocol_model.specs.declared.lines.Waiting.{Waiting}
+use Rattle.command_queue.specs.Limits.{places}
 
 -- a call and how it ended: a command was put, or was handed back because the queue was full; one was taken, or there was none; all were
 -- taken at once; all were given up
@@ -13,8 +14,8 @@ pub data Call : Type 0 where
 
 -- what one call does to what waits: the clauses of the call
 abbrev pub Does : List Waiting → Call → List Waiting → Type 0
-Does before (Put w) after = (length before < 64) × (after ≡ before ++ w ∷ [])
-Does before (Full w) after = (64 ≤ length before) × (after ≡ before)
+Does before (Put w) after = (length before < places) × (after ≡ before ++ w ∷ [])
+Does before (Full w) after = (places ≤ length before) × (after ≡ before)
 Does before (Took w) after = before ≡ w ∷ after
 Does before TookNone after = (before ≡ []) × (after ≡ [])
 Does before (Drained ws) after = (ws ≡ before) × (after ≡ [])

@@ -2,6 +2,7 @@
 
 ghost use Rattle.std.specs.Prelude.{◌≡◌, ◌↔◌, ◌<◌, ◌≤◌, [], ◌∷◌, ◌++◌, length, drop, IsOk, IsTrue, IfOk, IfErr, OnOk, OnErr, MatchOption};
 ghost use Rattle.std.specs.List.{list_any};
+ghost use Rattle.command_queue.specs.Limits.{places};
 ghost use Rattle.protocol_model.specs.Replies.{tag_is};
 ghost use Rattle.protocol_model.specs.Server.{waits_under};
 
@@ -27,10 +28,12 @@ impl Model for Queue {
     ghost Value = { List Waiting };
 
     ghost use Rattle.std.specs.Prelude.{◌≤◌, length, vec_capacity};
+    ghost use Rattle.command_queue.specs.Limits.{places};
 
     ghost view = { λ q. q.commands.items };
 
-    ghost invariant = { λ q. (length q.commands.items ≤ 64) × (64 ≤ vec_capacity q.commands) };
+    ghost invariant = { λ q. (length q.commands.items ≤ places)
+        × (places ≤ vec_capacity q.commands) };
 }
 
 fn is_any_under(commands: &[Waiting], tag: Tag) -> bool
@@ -43,7 +46,7 @@ impl Queue {
     /// An empty queue, which takes the memory of all its places now. Only want of memory is an `Err`.
     pub fn new(alloc: Global) -> Result<Queue, AllocError>
         ensures none { IfOk result (λ queue. queue ≡ []) }
-        ensures places { PLACES ≡ 64 }
+        ensures places { PLACES ≡ places }
     {
         let commands = Vec::with_capacity(alloc, PLACES)?;
         Ok(Queue { commands })
@@ -52,7 +55,7 @@ impl Queue {
     /// Puts a command behind the others. Where 64 wait it hands the command back, and the queue is as before.
     /// Takes no memory.
     pub fn put(&mut self, command: Waiting) -> Result<(), Waiting>
-        ensures room { IsOk result ↔ (length self.old < 64) }
+        ensures room { IsOk result ↔ (length self.old < places) }
         ensures ok { OnOk result (self.new ≡ self.old ++ command ∷ []) }
         ensures err { IfErr result (λ given. (given ≡ command) × (self.new ≡ self.old)) }
     {
@@ -113,7 +116,7 @@ impl Queue {
     /// How many commands wait, at most 64.
     pub fn len(&self) -> usize
         ensures count { result ≡ length self.now }
-        ensures within { length self.now ≤ 64 }
+        ensures within { length self.now ≤ places }
     {
         self.commands.len()
     }

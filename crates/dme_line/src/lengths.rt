@@ -1,7 +1,7 @@
 // Lengths within the limits of this profile, and directions.
 
 ghost use Rattle.std.specs.Prelude.{◌≡◌, ◌≤◌, ◌+◌, ◌++◌, ◌≤ℤ◌, ℤ, pos, unsigned_abs, codes, vec_len, vec_capacity, MatchOption, Ok};
-ghost use Rattle.fixed_um.specs.Calls.{Grows, HasRoom};
+ghost use Rattle.fixed_um.specs.Calls.{Finds, Grows, HasRoom};
 ghost use Rattle.fixed_um.specs.Limits.{wire_limit, volume_limit};
 ghost use Rattle.fixed_um.specs.Numerals.{Reads};
 ghost use Rattle.fixed_um.specs.Shapes.{IsDirection};
@@ -34,9 +34,7 @@ pub(crate) fn write_direction_reserved(out: &mut Vec<u8>, direction: Dir)
 
 fn length_within(numeral: &[u8], limit: Um) -> Option<Um>
     requires { pos 0 ≤ℤ limit }
-    ensures { MatchOption result
-        ((value : ℤ) → Reads 3 (unsigned_abs limit) numeral.now (Ok value) → ⊥)
-        (λ value. Reads 3 (unsigned_abs limit) numeral.now (Ok value)) }
+    ensures { Finds result (λ value. Reads 3 (unsigned_abs limit) numeral.now (Ok value)) }
 {
     match read_um(numeral, limit) {
         Ok(value) => Some(value),
@@ -46,18 +44,14 @@ fn length_within(numeral: &[u8], limit: Um) -> Option<Um>
 
 /// The length of a numeral in millimetres, within the wire limit.
 pub(crate) fn wire_length(numeral: &[u8]) -> Option<Um>
-    ensures { MatchOption result
-        ((value : ℤ) → Reads 3 wire_limit numeral.now (Ok value) → ⊥)
-        (λ value. Reads 3 wire_limit numeral.now (Ok value)) }
+    ensures { Finds result (λ value. Reads 3 wire_limit numeral.now (Ok value)) }
 {
     length_within(numeral, Um::wire_limit())
 }
 
 /// The length of a numeral in millimetres, within the volume limit.
 pub(crate) fn volume_length(numeral: &[u8]) -> Option<Um>
-    ensures { MatchOption result
-        ((value : ℤ) → Reads 3 volume_limit numeral.now (Ok value) → ⊥)
-        (λ value. Reads 3 volume_limit numeral.now (Ok value)) }
+    ensures { Finds result (λ value. Reads 3 volume_limit numeral.now (Ok value)) }
 {
     length_within(numeral, Um::volume_limit())
 }

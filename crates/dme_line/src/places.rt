@@ -1,6 +1,7 @@
 // What the arguments of a move, a touch or a transformation say.
 
 ghost use Rattle.std.specs.Prelude.{◌≡◌, ◌∷◌, [], ℕ, ℤ, List, IsTrue, MatchOption, Option, Some, None};
+ghost use Rattle.fixed_um.specs.Calls.{Finds};
 ghost use Rattle.std.specs.Option.{option_copied, option_map};
 ghost use Rattle.fixed_um.specs.Shapes.{Direction};
 ghost use Rattle.dme_line.specs.Arguments.{single_of, triple_of, single_named, triple_named, IsAxis, IsAlong, IsTarget, IsPlace};
@@ -73,18 +74,14 @@ impl<'a> Place<'a> {
 
     /// The coordinate of the axis with this name.
     fn axis(&self, name: &[u8]) -> Option<Um>
-        ensures { MatchOption result
-            ((value : ℤ) → IsAxis name.now (the_list self.now) value → ⊥)
-            (λ value. IsAxis name.now (the_list self.now) value) }
+        ensures { Finds result (IsAxis name.now (the_list self.now)) }
     {
         wire_length(self.single(name)?)
     }
 
     /// The coordinates of the three axes.
     fn target(&self) -> Option<Point>
-        ensures { MatchOption result
-            ((p : Point) → IsTarget (the_list self.now) p → ⊥)
-            (λ p. IsTarget (the_list self.now) p) }
+        ensures { Finds result (IsTarget (the_list self.now)) }
     {
         let x = self.axis(b"X")?;
         let y = self.axis(b"Y")?;
@@ -94,9 +91,7 @@ impl<'a> Place<'a> {
 
     /// The direction.
     fn along(&self) -> Option<Dir>
-        ensures { MatchOption result
-            ((d : Direction) → IsAlong (the_list self.now) d → ⊥)
-            (λ d. IsAlong (the_list self.now) d) }
+        ensures { Finds result (IsAlong (the_list self.now)) }
     {
         let (i, j, k) = self.triple(b"IJK")?;
         match read_dir(i, j, k) {
@@ -125,9 +120,7 @@ pub(crate) fn read_touch(bytes: &[u8]) -> Option<(Point, Option<Dir>)>
 
 /// The target of a move, which is that of a touch without a direction.
 pub(crate) fn read_move(bytes: &[u8]) -> Option<Point>
-    ensures { MatchOption result
-        ((p : Point) → IsPlace (tokens bytes.now) p None → ⊥)
-        (λ p. IsPlace (tokens bytes.now) p None) }
+    ensures { Finds result (λ p. IsPlace (tokens bytes.now) p None) }
 {
     match read_touch(bytes) {
         Some((target, None)) => Some(target),

@@ -1,7 +1,7 @@
 // The text of a point: what a data line carries, and the front of the arguments of moves and touches.
 
 ghost use Rattle.std.specs.Prelude.{◌≡◌, ◌≤◌, ◌+◌, ◌++◌, ◌∷◌, [], ℕ, List, vec_len, vec_capacity, OnOk, OnErr, MatchOption};
-ghost use Rattle.fixed_um.specs.Calls.{Grows, HasRoom, Writes};
+ghost use Rattle.fixed_um.specs.Calls.{Finds, Grows, HasRoom, Writes};
 ghost use Rattle.dme_line.specs.Limits.{point_most};
 ghost use Rattle.dme_line.specs.Tokens.{Token, tokens};
 ghost use Rattle.dme_line.specs.Arguments.{Single, argument_tokens, list_tokens};
@@ -84,9 +84,7 @@ fn point_words(text: &[u8]) -> Option<(&[u8], &[u8], &[u8])>
 }
 
 fn point_within(x: &[u8], y: &[u8], z: &[u8]) -> Option<Point>
-    ensures { MatchOption result
-        ((p : Point) → HasCoordinates x.now y.now z.now p → ⊥)
-        (λ p. HasCoordinates x.now y.now z.now p) }
+    ensures { Finds result (HasCoordinates x.now y.now z.now) }
 {
     let x = wire_length(x)?;
     let y = wire_length(y)?;

@@ -1,6 +1,7 @@
 // Reading command lines.
 
 ghost use Rattle.std.specs.Prelude.{◌≡◌, ◌↔◌, ◌≤◌, ℕ, List, [], length, find, IsTrue, true, MatchOption, IfOk, OnErr};
+ghost use Rattle.fixed_um.specs.Calls.{Finds};
 ghost use Rattle.std.specs.List.{prefix_len};
 ghost use Rattle.dme_line.specs.Words.{is_word};
 ghost use Rattle.dme_line.specs.Kinds.{kind_name, is_event_kind, IsTagOf};
@@ -82,25 +83,19 @@ fn find_kind(name: &[u8]) -> Option<Kind>
 
 /// The kind of command by a name.
 fn kind_named(name: &[u8]) -> Option<Kind>
-    ensures { MatchOption result
-        ((kind : Kind) → is_word (kind_name kind) name.now ≡ true → ⊥)
-        (λ kind. is_word (kind_name kind) name.now ≡ true) }
+    ensures { Finds result (λ kind. is_word (kind_name kind) name.now ≡ true) }
 {
     find_kind(name)
 }
 
 fn read_go_to(bytes: &[u8]) -> Option<Command>
-    ensures { MatchOption result
-        ((c : Command) → Says Kind.GoTo (tokens bytes.now) c → ⊥)
-        (λ c. Says Kind.GoTo (tokens bytes.now) c) }
+    ensures { Finds result (Says Kind.GoTo (tokens bytes.now)) }
 {
     Some(Command::GoTo(read_move(bytes)?))
 }
 
 fn read_pt_meas(bytes: &[u8]) -> Option<Command>
-    ensures { MatchOption result
-        ((c : Command) → Says Kind.PtMeas (tokens bytes.now) c → ⊥)
-        (λ c. Says Kind.PtMeas (tokens bytes.now) c) }
+    ensures { Finds result (Says Kind.PtMeas (tokens bytes.now)) }
 {
     let Some((target, direction)) = read_touch(bytes) else {
         return None;
@@ -109,40 +104,31 @@ fn read_pt_meas(bytes: &[u8]) -> Option<Command>
 }
 
 fn read_set_csy_transformation(bytes: &[u8]) -> Option<Command>
-    ensures { MatchOption result
-        ((c : Command) → Says Kind.SetCsyTransformation (tokens bytes.now) c → ⊥)
-        (λ c. Says Kind.SetCsyTransformation (tokens bytes.now) c) }
+    ensures { Finds result (Says Kind.SetCsyTransformation (tokens bytes.now)) }
 {
     Some(Command::SetCsyTransformation(read_zero_point(bytes)?))
 }
 
 fn read_set_coord_system(bytes: &[u8]) -> Option<Command>
-    ensures { MatchOption result
-        ((c : Command) → Says Kind.SetCoordSystem (tokens bytes.now) c → ⊥)
-        (λ c. Says Kind.SetCoordSystem (tokens bytes.now) c) }
+    ensures { Finds result (Says Kind.SetCoordSystem (tokens bytes.now)) }
 {
     Some(Command::SetCoordSystem(read_system(bytes)?))
 }
 
 /// Only want of memory is an `Err`.
 fn read_change_tool(alloc: Global, bytes: &[u8]) -> Result<Option<Command>, AllocError>
-    ensures read { IfOk result (λ o. MatchOption o
-        ((c : Command) → Says Kind.ChangeTool (tokens bytes.now) c → ⊥)
-        (λ c. Says Kind.ChangeTool (tokens bytes.now) c)) }
+    ensures read { IfOk result (λ o. Finds o (Says Kind.ChangeTool (tokens bytes.now))) }
     ensures err { OnErr result ((word : List ℕ) × IsOneWord (tokens bytes.now) word) }
 {
-    match read_tool(alloc, bytes) {
-        Ok(Some(name)) => Ok(Some(Command::ChangeTool(name))),
-        Ok(None) => Ok(None),
-        Err(AllocError) => Err(AllocError),
+    match read_tool(alloc, bytes)? {
+        Some(name) => Ok(Some(Command::ChangeTool(name))),
+        None => Ok(None),
     }
 }
 
 /// The command of a kind that the bytes behind its name say. Only want of memory is an `Err`.
 fn read_arguments(alloc: Global, kind: Kind, bytes: &[u8]) -> Result<Option<Command>, AllocError>
-    ensures read { IfOk result (λ o. MatchOption o
-        ((c : Command) → Says kind (tokens bytes.now) c → ⊥)
-        (λ c. Says kind (tokens bytes.now) c)) }
+    ensures read { IfOk result (λ o. Finds o (Says kind (tokens bytes.now))) }
     ensures err { OnErr result ((kind ≡ Kind.ChangeTool)
         × ((word : List ℕ) × IsOneWord (tokens bytes.now) word)) }
 {

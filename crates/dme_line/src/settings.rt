@@ -1,6 +1,7 @@
 // What the arguments of the commands say that select something: a report list, a tool, a coordinate system, a transformation.
 
 ghost use Rattle.std.specs.Prelude.{◌≡◌, ◌↔◌, ◌∷◌, ℕ, List, true, IsTrue, MatchOption, IfOk, OnErr};
+ghost use Rattle.fixed_um.specs.Calls.{Finds};
 ghost use Rattle.dme_line.specs.Words.{is_word};
 ghost use Rattle.dme_line.specs.Tokens.{Token, Open, Close, Word, tokens};
 ghost use Rattle.dme_line.specs.Arguments.{IsReport, IsTool, IsSystem, IsOneWord, HasLengths, HasNoAngles, IsTransformation};
@@ -45,9 +46,7 @@ pub(crate) fn read_report(bytes: &[u8]) -> Option<()>
 
 /// A coordinate system by its name.
 pub(crate) fn read_system(bytes: &[u8]) -> Option<Csy>
-    ensures { MatchOption result
-        ((csy : Csy) → IsSystem (tokens bytes.now) csy → ⊥)
-        (λ csy. IsSystem (tokens bytes.now) csy) }
+    ensures { Finds result (IsSystem (tokens bytes.now)) }
 {
     let word = read_word(bytes)?;
     if is_word(b"MachineCsy", word) {
@@ -71,9 +70,7 @@ fn unquoted(word: &[u8]) -> &[u8]
 
 /// The name of a tool, in quotes or not. Only want of memory is an `Err`.
 pub(crate) fn read_tool(alloc: Global, bytes: &[u8]) -> Result<Option<Name>, AllocError>
-    ensures read { IfOk result (λ tool. MatchOption tool
-        ((name : List ℕ) → IsTool (tokens bytes.now) name → ⊥)
-        (λ name. IsTool (tokens bytes.now) name)) }
+    ensures read { IfOk result (λ tool. Finds tool (IsTool (tokens bytes.now))) }
     ensures err { OnErr result ((word : List ℕ) × IsOneWord (tokens bytes.now) word) }
 {
     let Some(word) = read_word(bytes) else {
@@ -85,9 +82,7 @@ pub(crate) fn read_tool(alloc: Global, bytes: &[u8]) -> Result<Option<Name>, All
 impl Transformation<'_> {
     /// The three lengths.
     fn lengths(&self) -> Option<Point>
-        ensures { MatchOption result
-            ((p : Point) → HasLengths (the_seven self.now) p → ⊥)
-            (λ p. HasLengths (the_seven self.now) p) }
+        ensures { Finds result (HasLengths (the_seven self.now)) }
     {
         let x = volume_length(self.x)?;
         let y = volume_length(self.y)?;
@@ -105,9 +100,7 @@ impl Transformation<'_> {
 
 /// The machine's zero point in part coordinates, with angles of zero.
 pub(crate) fn read_zero_point(bytes: &[u8]) -> Option<Point>
-    ensures { MatchOption result
-        ((p : Point) → IsTransformation (tokens bytes.now) p → ⊥)
-        (λ p. IsTransformation (tokens bytes.now) p) }
+    ensures { Finds result (IsTransformation (tokens bytes.now)) }
 {
     let words = read_transformation(bytes)?;
     let lengths = words.lengths()?;

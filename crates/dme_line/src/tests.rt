@@ -169,22 +169,6 @@ fn command_reading(alloc: Global, line: &str) -> Result<Vec<u8>, AllocError> {
     }
 }
 
-#[test]
-fn command_lines_are_read_or_refused(rt: HostRuntime) -> Result<(), Fail> {
-    let mut rows = 0u64;
-    for row in COMMAND_LINES.lines() {
-        let Some((line, wanted)) = row.split_once(" => ") else {
-            assert!(rt; false, "{row}");
-            return Ok(());
-        };
-        let found = command_reading(rt.alloc(), line)?;
-        assert_eq!(rt; found.as_slice(), wanted.as_bytes(), "{row}");
-        rows = rows.saturating_add(1);
-    }
-    assert_eq!(rt; rows, 97);
-    Ok(())
-}
-
 /// The tag, mark and text of the response of a line, or the fault.
 fn response_reading(alloc: Global, line: &str) -> Result<Vec<u8>, AllocError> {
     match read_response(alloc, line.as_bytes())? {
@@ -209,19 +193,35 @@ fn response_reading(alloc: Global, line: &str) -> Result<Vec<u8>, AllocError> {
     }
 }
 
+/// Which lines a table has.
+#[derive(Clone, Copy)]
+enum Lines {
+    Commands,
+    Responses,
+}
+
 #[test]
-fn response_lines_are_read_or_refused(rt: HostRuntime) -> Result<(), Fail> {
-    let mut rows = 0u64;
-    for row in RESPONSE_LINES.lines() {
-        let Some((line, wanted)) = row.split_once(" => ") else {
-            assert!(rt; false, "{row}");
-            return Ok(());
-        };
-        let found = response_reading(rt.alloc(), line)?;
-        assert_eq!(rt; found.as_slice(), wanted.as_bytes(), "{row}");
-        rows = rows.saturating_add(1);
+fn lines_are_read_or_refused(rt: HostRuntime) -> Result<(), Fail> {
+    let tables = [
+        (COMMAND_LINES, Lines::Commands, 97u64),
+        (RESPONSE_LINES, Lines::Responses, 44),
+    ];
+    for (table, lines, count) in tables {
+        let mut rows = 0u64;
+        for row in table.lines() {
+            let Some((line, wanted)) = row.split_once(" => ") else {
+                assert!(rt; false, "{row}");
+                return Ok(());
+            };
+            let found = match lines {
+                Lines::Commands => command_reading(rt.alloc(), line)?,
+                Lines::Responses => response_reading(rt.alloc(), line)?,
+            };
+            assert_eq!(rt; found.as_slice(), wanted.as_bytes(), "{row}");
+            rows = rows.saturating_add(1);
+        }
+        assert_eq!(rt; rows, count);
     }
-    assert_eq!(rt; rows, 44);
     Ok(())
 }
 

@@ -255,44 +255,66 @@ nothing_stands : (s : Standing) → kind_part s ≡ None → s ≡ None
 nothing_stands None e = refl
 nothing_stands (Some (k, s)) e = absurd (cc)
 
+-- why a mark is refused under whose tag a command is held: it is never that none is
+pub ack_causes : (s : Stage) (why : Cause) → refusal_of (judged_ack s) ≡ Some why → why ≡ cause.OutOfOrder
+ack_causes Stage.Sent why e = absurd (cc)
+ack_causes Stage.Received why e = cc
+ack_causes (Stage.Given q) why e = cc
+ack_causes Stage.Failed why e = cc
+
+data_causes : (d : Bool) (s : Stage) (p : Point) (why : Cause) → refusal_of (judged_given d s p) ≡ Some why
+    → (why ≡ cause.OutOfOrder) ⊎ (why ≡ cause.SecondData)
+data_causes true Stage.Sent p why e = inl (cc)
+data_causes true Stage.Received p why e = absurd (cc)
+data_causes true (Stage.Given q) p why e = inr (cc)
+data_causes true Stage.Failed p why e = inl (cc)
+data_causes false s p why e = inl (cc)
+
+pub error_causes : (s : Stage) (why : Cause) → refusal_of (judged_error s) ≡ Some why → ⊥
+error_causes Stage.Sent why e = cc
+error_causes Stage.Received why e = cc
+error_causes (Stage.Given q) why e = cc
+error_causes Stage.Failed why e = cc
+
+pub done_causes : (b a : Bool) (s : Stage) (why : Cause) → refusal_of (judged_done b a s) ≡ Some why
+    → (why ≡ cause.OutOfOrder) ⊎ (why ≡ cause.NoData)
+done_causes true true Stage.Sent why e = inl (cc)
+done_causes true true Stage.Received why e = inr (cc)
+done_causes true true (Stage.Given q) why e = absurd (cc)
+done_causes true true Stage.Failed why e = absurd (cc)
+done_causes true false Stage.Sent why e = inl (cc)
+done_causes true false Stage.Received why e = absurd (cc)
+done_causes true false (Stage.Given q) why e = absurd (cc)
+done_causes true false Stage.Failed why e = absurd (cc)
+done_causes false a Stage.Sent why e = inl (cc)
+done_causes false a Stage.Received why e = inl (cc)
+done_causes false a (Stage.Given q) why e = inl (cc)
+done_causes false a Stage.Failed why e = absurd (cc)
+
+-- the faults for one of two causes, beside that none is held
+pub named_two : (why a b : Cause) → (why ≡ a) ⊎ (why ≡ b) → (fault_for (Some why) ≡ fault.UnknownTag)
+    ⊎ (fault_for (Some why) ≡ fault_for (Some a)) ⊎ (fault_for (Some why) ≡ fault_for (Some b))
+named_two why a b (inl e) = inr (inl (ap (λ (w : Cause). fault_for (Some w)) e))
+named_two why a b (inr e) = inr (inr (ap (λ (w : Cause). fault_for (Some w)) e))
+
+unknown_two : (a : Cause) → (cause.UnknownTag ≡ a → ⊥) → (cause.UnknownTag ≡ cause.OutOfOrder) ⊎ (cause.UnknownTag ≡ a) → ⊥
+unknown_two a apart (inl e) = cc
+unknown_two a apart (inr e) = apart e
+
 unknown_judged : (front : Bool) (k : Kind) (s : Stage) (m : Mark) → refusal_of (judged front k s m) ≡ Some cause.UnknownTag → ⊥
-unknown_judged front k s Mark.Ack e = go s e
+unknown_judged front k s Mark.Ack e = go (ack_causes s cause.UnknownTag e)
   where
-    go : (s : Stage) → refusal_of (judged_ack s) ≡ Some cause.UnknownTag → ⊥
-    go Stage.Sent e = cc
-    go Stage.Received e = cc
-    go (Stage.Given q) e = cc
-    go Stage.Failed e = cc
-unknown_judged front k s (Mark.Given p) e = go (front && asks_data k) s e
+    go : cause.UnknownTag ≡ cause.OutOfOrder → ⊥
+    go e = cc
+unknown_judged front k s (Mark.Given p) e = unknown_two _ go (data_causes (front && asks_data k) s p cause.UnknownTag e)
   where
-    go : (b : Bool) (s : Stage) → refusal_of (judged_given b s p) ≡ Some cause.UnknownTag → ⊥
-    go true Stage.Sent e = cc
-    go true Stage.Received e = cc
-    go true (Stage.Given q) e = cc
-    go true Stage.Failed e = cc
-    go false s e = cc
-unknown_judged front k s Mark.Error e = go s e
+    go : cause.UnknownTag ≡ cause.SecondData → ⊥
+    go e = cc
+unknown_judged front k s Mark.Error e = error_causes s cause.UnknownTag e
+unknown_judged front k s Mark.Done e = unknown_two _ go (done_causes front (asks_data k) s cause.UnknownTag e)
   where
-    go : (s : Stage) → refusal_of (judged_error s) ≡ Some cause.UnknownTag → ⊥
-    go Stage.Sent e = cc
-    go Stage.Received e = cc
-    go (Stage.Given q) e = cc
-    go Stage.Failed e = cc
-unknown_judged front k s Mark.Done e = go front (asks_data k) s e
-  where
-    go : (b a : Bool) (s : Stage) → refusal_of (judged_done b a s) ≡ Some cause.UnknownTag → ⊥
-    go true true Stage.Sent e = cc
-    go true true Stage.Received e = cc
-    go true true (Stage.Given q) e = cc
-    go true true Stage.Failed e = cc
-    go true false Stage.Sent e = cc
-    go true false Stage.Received e = cc
-    go true false (Stage.Given q) e = cc
-    go true false Stage.Failed e = cc
-    go false a Stage.Sent e = cc
-    go false a Stage.Received e = cc
-    go false a (Stage.Given q) e = cc
-    go false a Stage.Failed e = cc
+    go : cause.UnknownTag ≡ cause.NoData → ⊥
+    go e = cc
 
 unknown_due : (s : Standing) (front : Bool) (m : Mark) → (refusal_under s front m ≡ Some cause.UnknownTag) ↔ (s ≡ None)
 unknown_due None front m = (λ _. refl, λ _. refl)
@@ -343,15 +365,7 @@ second_due (Some (k, s)) b p = (only, all)
 data_named : (s : Standing) (b : Bool) (p : Point) (why : Cause) → refusal_under s b (Mark.Given p) ≡ Some why
     → (fault_for (Some why) ≡ fault.UnknownTag) ⊎ (fault_for (Some why) ≡ fault.OutOfOrder) ⊎ (fault_for (Some why) ≡ fault.SecondData)
 data_named None b p why e = inl (ap fault_for (sym e))
-data_named (Some (k, s)) b p why e = go (b && asks_data k) s e
-  where
-    go : (d : Bool) (s : Stage) → refusal_of (judged_given d s p) ≡ Some why
-        → (fault_for (Some why) ≡ fault.UnknownTag) ⊎ (fault_for (Some why) ≡ fault.OutOfOrder) ⊎ (fault_for (Some why) ≡ fault.SecondData)
-    go true Stage.Sent e = inr (inl (ap fault_for (sym e)))
-    go true Stage.Received e = absurd (cc)
-    go true (Stage.Given q) e = inr (inr (ap fault_for (sym e)))
-    go true Stage.Failed e = inr (inl (ap fault_for (sym e)))
-    go false s e = inr (inl (ap fault_for (sym e)))
+data_named (Some (k, s)) b p why e = named_two why _ _ (data_causes (b && asks_data k) s p why e)
 
 -- ---- what a call knows of its answer
 

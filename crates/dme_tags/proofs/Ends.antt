@@ -14,6 +14,7 @@ use Rattle.protocol_model.specs.declared.held.Stage.{Stage}
 use Rattle.protocol_model.specs.declared.states.Cause.{Cause}
 use Rattle.protocol_model.specs.declared.states.Cause.TheVariants as cause
 use Rattle.dme_tags.specs.Answers.{cause_of, effect_of, effect_heard, IsRefused}
+use Rattle.dme_tags.specs.Endings.{IsEnding}
 use Rattle.dme_tags.specs.Opened.{Opened, heard, kind_under, is_next}
 use Rattle.dme_tags.specs.Places.{ahead_of, all_failed}
 use Rattle.dme_tags.specs.Standing.{standing_in, standing, IsUnread, HasFailed, AwaitsPoint, CountsAs}
@@ -25,7 +26,7 @@ use Rattle.dme_tags.proofs.Refusals.{refused_standard, refused_event}
 use Rattle.dme_tags.proofs.Effects.{standard_effect, event_effect}
 use Rattle.dme_tags.proofs.Dues.{Standing, OfTouch, Agrees, IsSaid, and_assoc, and_true, compose, err_exactly, fault_for, fits_err}
 use Rattle.dme_tags.proofs.Dues.{named_by, next_all, next_iff, next_only, none_some, ok_exactly, refusal_of, refusal_under, touch_only}
-use Rattle.dme_tags.proofs.Dues.{agrees_standard, agrees_event, unknown_exactly}
+use Rattle.dme_tags.proofs.Dues.{ack_causes, agrees_event, agrees_standard, done_causes, error_causes, named_two, unknown_exactly}
 
 -- ---- the effect of a mark
 
@@ -203,26 +204,11 @@ pointless_due s b = (only s, all)
 done_named : (s : Standing) (b : Bool) (why : Cause) → refusal_under s b Mark.Done ≡ Some why
     → (fault_for (Some why) ≡ fault.UnknownTag) ⊎ (fault_for (Some why) ≡ fault.OutOfOrder) ⊎ (fault_for (Some why) ≡ fault.NoData)
 done_named None b why e = inl (ap fault_for (sym e))
-done_named (Some (k, s)) b why e = go b (asks_data k) s e
-  where
-    go : (b a : Bool) (s : Stage) → refusal_of (judged_done b a s) ≡ Some why
-        → (fault_for (Some why) ≡ fault.UnknownTag) ⊎ (fault_for (Some why) ≡ fault.OutOfOrder) ⊎ (fault_for (Some why) ≡ fault.NoData)
-    go true true Stage.Sent e = inr (inl (ap fault_for (sym e)))
-    go true true Stage.Received e = inr (inr (ap fault_for (sym e)))
-    go true true (Stage.Given q) e = absurd (cc)
-    go true true Stage.Failed e = absurd (cc)
-    go true false Stage.Sent e = inr (inl (ap fault_for (sym e)))
-    go true false Stage.Received e = absurd (cc)
-    go true false (Stage.Given q) e = absurd (cc)
-    go true false Stage.Failed e = absurd (cc)
-    go false a Stage.Sent e = inr (inl (ap fault_for (sym e)))
-    go false a Stage.Received e = inr (inl (ap fault_for (sym e)))
-    go false a (Stage.Given q) e = inr (inl (ap fault_for (sym e)))
-    go false a Stage.Failed e = absurd (cc)
+done_named (Some (k, s)) b why e = named_two why _ _ (done_causes b (asks_data k) s why e)
 
 -- ---- what a call knows of its answer
 
-abbrev pub Ends : Opened → Tag → Result Ended TagFault → Type 0
+abbrev Ends : Opened → Tag → Result Ended TagFault → Type 0
 Ends o t (Ok x) = effect_under (standing t o) (is_next t o) Mark.Done ≡ Some (effect_of x)
 Ends o t (Err f) = IsSaid (refusal_under (standing t o) (is_next t o) Mark.Done) (cause_of f)
 
@@ -267,7 +253,7 @@ end_exactly o t (Err f) x only h = (
     apart : ◌≡◌ {A = Result Ended TagFault} (Err f) (Ok x) → ⊥
     apart e = cc
 
-pub counted_exactly : (o : Opened) (t : Tag) (r : Result Ended TagFault) → Ends o t r → (k : Kind) (given : Option Point)
+counted_exactly : (o : Opened) (t : Tag) (r : Result Ended TagFault) → Ends o t r → (k : Kind) (given : Option Point)
     → (r ≡ Ok (ended.Counted k given)) ↔ CountsAs t o k given
 counted_exactly o t r h k None = compose (end_exactly o t r (ended.Counted k None) (λ y. ended_is y k None) h) (
   λ e. let c = plain_only (standing t o) (is_next t o) k e in (c.0, c.1, next_only t o c.2),
@@ -278,24 +264,30 @@ counted_exactly o t r h k (Some p) = compose (end_exactly o t r (ended.Counted k
   λ c. given_all (standing t o) (is_next t o) k p (c.0, next_all t o c.1),
 )
 
-pub closed_exactly : (o : Opened) (t : Tag) (r : Result Ended TagFault) → Ends o t r → (r ≡ Ok ended.Closed) ↔ HasFailed t o
+closed_exactly : (o : Opened) (t : Tag) (r : Result Ended TagFault) → Ends o t r → (r ≡ Ok ended.Closed) ↔ HasFailed t o
 closed_exactly o t r h = compose (end_exactly o t r ended.Closed closed_is h)
     (λ e. closed_only (standing t o) (is_next t o) e, λ e. closed_all (standing t o) (is_next t o) e)
 
-pub no_data_exactly : (o : Opened) (t : Tag) (r : Result Ended TagFault) → Ends o t r → IsErrOf r fault.NoData ↔ AwaitsPoint t o
+no_data_exactly : (o : Opened) (t : Tag) (r : Result Ended TagFault) → Ends o t r → IsErrOf r fault.NoData ↔ AwaitsPoint t o
 no_data_exactly o t r h = compose (err_exactly r _ cause.NoData fault.NoData refl (ends_agrees o t r h))
     (compose (pointless_due (standing t o) (is_next t o)) (next_iff t o (standing t o ≡ OfTouch Stage.Received)))
 
-pub end_named : (o : Opened) (t : Tag) (r : Result Ended TagFault) → Ends o t r
+end_named : (o : Opened) (t : Tag) (r : Result Ended TagFault) → Ends o t r
     → IfErr r (λ f. (f ≡ fault.UnknownTag) ⊎ (f ≡ fault.OutOfOrder) ⊎ (f ≡ fault.NoData))
 end_named o t r h = named_by r _ (λ f. (f ≡ fault.UnknownTag) ⊎ (f ≡ fault.OutOfOrder)
     ⊎ (f ≡ fault.NoData)) (ends_agrees o t r h) (done_named (standing t o) (is_next t o))
 
-pub end_agrees : (o : Opened) (t : Tag) (r : Result Ended TagFault) → Ends o t r → Agrees o t Mark.Done r
-end_agrees o t r h = ends_agrees o t r h
+ending : (o : Opened) (t : Tag) (r : Result Ended TagFault) → Ends o t r → IsEnding t o r
+ending o t r h = record {
+  counted = counted_exactly o t r h;
+  closed = closed_exactly o t r h;
+  unknown = unknown_exactly o t Mark.Done r (ends_agrees o t r h);
+  no_data = no_data_exactly o t r h;
+  named = end_named o t r h;
+}
 
 -- from what is known of the list of one sort of tags
-pub ends_standard : (o : Opened) (failed : Bool) (hs : List Held) (t : Tag) (n : ℕ) (r : Result Ended TagFault) → t ≡ Std n
+ends_standard : (o : Opened) (failed : Bool) (hs : List Held) (t : Tag) (n : ℕ) (r : Result Ended TagFault) → t ≡ Std n
     → failed ≡ o.failed → hs ≡ o.standard
     → IfOk r (λ x. effect_heard (heard_in (not failed) hs t Mark.Done) ≡ Some (effect_of x))
     → IfErr r (λ f. IsRefused (heard_in (not failed) hs t Mark.Done) (cause_of f)) → Ends o t r
@@ -309,7 +301,7 @@ ends_standard o failed hs t n (Err f) is bad held ok refused =
     fits_err Ended o t Mark.Done f (refused_standard o hs t n Mark.Done (cause_of f) is held
     (subst (λ (b : Bool). IsRefused (heard_in (not b) hs t Mark.Done) (cause_of f)) bad refused))
 
-pub ends_event : (o : Opened) (hs : List Held) (t : Tag) (n : ℕ) (r : Result Ended TagFault) → t ≡ Event n → hs ≡ o.event
+ends_event : (o : Opened) (hs : List Held) (t : Tag) (n : ℕ) (r : Result Ended TagFault) → t ≡ Event n → hs ≡ o.event
     → IfOk r (λ x. effect_heard (heard_in true hs t Mark.Done) ≡ Some (effect_of x))
     → IfErr r (λ f. IsRefused (heard_in true hs t Mark.Done) (cause_of f)) → Ends o t r
 ends_event o hs t n (Ok x) is held ok refused =
@@ -320,24 +312,18 @@ ends_event o hs t n (Ok x) is held ok refused =
 ends_event o hs t n (Err f) is held ok refused = fits_err Ended o t Mark.Done f
     (refused_event o hs t n Mark.Done (cause_of f) is held refused)
 
--- the same where the list is known too
-effects_in : (front : Bool) (hs gs : List Held) (t : Tag) (r : Result Ended TagFault)
-    → IfOk r (λ x. heard_in front hs t Mark.Done ≡ Ok (gs, effect_of x))
-    → IfOk r (λ x. effect_heard (heard_in front hs t Mark.Done) ≡ Some (effect_of x))
-effects_in front hs gs t (Ok x) ok = ap effect_heard ok
-effects_in front hs gs t (Err f) ok = tt
+-- the same of the answer to an end, from the effect alone
+pub ending_standard : {o view : Opened} {t : Tag} {n : ℕ} {r : Result Ended TagFault} {hs : List Held} → t ≡ Std n → view ≡ o
+    → hs ≡ view.standard → IfOk r (λ x. effect_heard (heard_in (not view.failed) hs t Mark.Done) ≡ Some (effect_of x))
+    → IfErr r (λ f. IsRefused (heard_in (not view.failed) hs t Mark.Done) (cause_of f)) → IsEnding t o r
+ending_standard {o} {view} {t} {n} {r} {hs} is seen held ok refused = ending o t r
+    (ends_standard o view.failed hs t n r is (ap (λ (x : Opened). x.failed) seen) (held ∙ ap (λ (x : Opened). x.standard) seen) ok refused)
 
-pub finishes_standard : (o : Opened) (failed : Bool) (hs gs : List Held) (t : Tag) (n : ℕ) (r : Result Ended TagFault) → t ≡ Std n
-    → failed ≡ o.failed → hs ≡ o.standard
-    → IfOk r (λ x. heard_in (not failed) hs t Mark.Done ≡ Ok (gs, effect_of x))
-    → IfErr r (λ f. IsRefused (heard_in (not failed) hs t Mark.Done) (cause_of f)) → Ends o t r
-finishes_standard o failed hs gs t n r is bad held ok refused =
-    ends_standard o failed hs t n r is bad held (effects_in (not failed) hs gs t r ok) refused
-
-pub finishes_event : (o : Opened) (hs gs : List Held) (t : Tag) (n : ℕ) (r : Result Ended TagFault) → t ≡ Event n → hs ≡ o.event
-    → IfOk r (λ x. heard_in true hs t Mark.Done ≡ Ok (gs, effect_of x))
-    → IfErr r (λ f. IsRefused (heard_in true hs t Mark.Done) (cause_of f)) → Ends o t r
-finishes_event o hs gs t n r is held ok refused = ends_event o hs t n r is held (effects_in true hs gs t r ok) refused
+pub ending_event : {o view : Opened} {t : Tag} {n : ℕ} {r : Result Ended TagFault} {hs : List Held} → t ≡ Event n → view ≡ o
+    → hs ≡ view.event → IfOk r (λ x. effect_heard (heard_in true hs t Mark.Done) ≡ Some (effect_of x))
+    → IfErr r (λ f. IsRefused (heard_in true hs t Mark.Done) (cause_of f)) → IsEnding t o r
+ending_event {o} {view} {t} {n} {r} {hs} is seen held ok refused = ending o t r
+    (ends_event o hs t n r is (held ∙ ap (λ (x : Opened). x.event) seen) ok refused)
 
 -- ---- receipts and errors
 
@@ -354,17 +340,11 @@ unread_due s b = (only s, λ h. ap (λ (x : Standing). refusal_under x b Mark.Ac
 ack_named : (s : Standing) (b : Bool) (why : Cause) → refusal_under s b Mark.Ack ≡ Some why → (fault_for (Some why) ≡ fault.UnknownTag)
     ⊎ (fault_for (Some why) ≡ fault.OutOfOrder)
 ack_named None b why e = inl (ap fault_for (sym e))
-ack_named (Some (k, Stage.Sent)) b why e = absurd (cc)
-ack_named (Some (k, Stage.Received)) b why e = inr (ap fault_for (sym e))
-ack_named (Some (k, Stage.Given q)) b why e = inr (ap fault_for (sym e))
-ack_named (Some (k, Stage.Failed)) b why e = inr (ap fault_for (sym e))
+ack_named (Some (k, s)) b why e = inr (ap (λ (w : Cause). fault_for (Some w)) (ack_causes s why e))
 
 error_named : (s : Standing) (b : Bool) (why : Cause) → refusal_under s b Mark.Error ≡ Some why → fault_for (Some why) ≡ fault.UnknownTag
 error_named None b why e = ap fault_for (sym e)
-error_named (Some (k, Stage.Sent)) b why e = absurd (cc)
-error_named (Some (k, Stage.Received)) b why e = absurd (cc)
-error_named (Some (k, Stage.Given q)) b why e = absurd (cc)
-error_named (Some (k, Stage.Failed)) b why e = absurd (cc)
+error_named (Some (k, s)) b why e = absurd (error_causes s why e)
 
 pub unread_exactly : {T : Type 0} (o : Opened) (t : Tag) (r : Result T TagFault) → Agrees o t Mark.Ack r → IsOk r ↔ IsUnread t o
 unread_exactly o t r h = compose (ok_exactly r _ h) (unread_due (standing t o) (is_next t o))

@@ -11,29 +11,10 @@ use Rattle.protocol_model.specs.Open.{is_held}
 use Rattle.protocol_model.specs.Client.{first_free, next_number, or_else}
 use Rattle.protocol_model.specs.declared.held.Held.{Held}
 use Rattle.protocol_model.proofs.table.Drawing.{IsFound, found, none_free}
+use Rattle.protocol_model.proofs.table.NextNumber.{before_first}
 use Rattle.dme_tags.specs.Opened.{Opened, tagged, next_tag, IsBetween, ArePassedOver, IsSpentFor}
 use Rattle.dme_tags.specs.declared.faults.TagFault.{TagFault}
 use Rattle.dme_tags.specs.declared.faults.TagFault.TheVariants as fault
-
-passed_by : (sort : ℕ → Tag) (hs : List Held) (n left m i : ℕ) (b : Bool) → is_held (sort n) hs ≡ b
-    → (elim b as (λ x. Option ℕ) [ true ↦ first_free sort hs (suc n) left | false ↦ Some n ]) ≡ Some m
-    → (first_free sort hs (suc n) left ≡ Some m → suc n ≤ i → i < m → is_held (sort i) hs ≡ true) → n ≤ i → i < m
-    → is_held (sort i) hs ≡ true
-passed_by sort hs n left m i true e is deeper from below = go (eqb n i) refl
-  where
-    go : (b : Bool) → eqb n i ≡ b → is_held (sort i) hs ≡ true
-    go true same = let equal : n ≡ i = eqb-true n i same in subst (λ (k : ℕ). is_held (sort k) hs ≡ true) equal e
-    go false other = let apart : n ≡ i → ⊥ = eqb-false n i other in deeper is (omega arith) below
-passed_by sort hs n left m i false e is deeper from below = let same : n ≡ m = cc in absurd (go same)
-  where
-    go : n ≡ m → ⊥
-    go same = omega arith
-
-first_passed : (sort : ℕ → Tag) (hs : List Held) (n left m i : ℕ) → first_free sort hs n left ≡ Some m → n ≤ i → i < m
-    → is_held (sort i) hs ≡ true
-first_passed sort hs n zero m i is from below = absurd (cc)
-first_passed sort hs n (suc left) m i is from below = passed_by sort hs n left m i (is_held (sort n) hs) refl is
-    (first_passed sort hs (suc n) left m i) from below
 
 next_passed_of : (sort : ℕ → Tag) (hs : List Held) (d left all m i : ℕ) → all ≤ d + left
     → or_else (first_free sort hs (suc d) left) (first_free sort hs 1 all) ≡ Some m
@@ -42,14 +23,14 @@ next_passed_of sort hs d left all m i enough is between = go (first_free sort hs
   where
     go : (a : Option ℕ) → first_free sort hs (suc d) left ≡ a → or_else a (first_free sort hs 1 all) ≡ Some m
         → ((d < i) × (i < m)) ⊎ ((m ≤ d) × (((d < i) × (i ≤ all)) ⊎ ((1 ≤ i) × (i < m)))) → is_held (sort i) hs ≡ true
-    go (Some k) e is (inl b) = first_passed sort hs (suc d) left m i (e ∙ is) (omega (arith, b.0)) b.1
+    go (Some k) e is (inl b) = before_first sort hs (suc d) left m i (e ∙ is) (omega (arith, b.0)) b.1
     go (Some k) e is (inr b) = let f : IsFound sort hs (suc d) left m = found sort hs (suc d) left m (e ∙ is) in absurd (no_way b.0 f.from)
       where
         no_way : m ≤ d → suc d ≤ m → ⊥
         no_way low high = omega arith
-    go None e is (inl b) = first_passed sort hs 1 all m i is (omega (arith, b.0)) b.1
+    go None e is (inl b) = before_first sort hs 1 all m i is (omega (arith, b.0)) b.1
     go None e is (inr (low, inl b)) = none_free sort hs (suc d) left i e (omega (arith, b.0)) (omega (arith, b.1, enough))
-    go None e is (inr (low, inr b)) = first_passed sort hs 1 all m i is b.0 b.1
+    go None e is (inr (low, inr b)) = before_first sort hs 1 all m i is b.0 b.1
 
 enough_left : (d : ℕ) → 9999 ≤ d + (9999 - d)
 enough_left d = omega arith

@@ -1,6 +1,8 @@
+pub mod Limits
 pub mod Opened
 pub mod Answers
 pub mod Standing
+pub mod Endings
 pub mod Calls
 pub mod Sorts
 pub mod Places

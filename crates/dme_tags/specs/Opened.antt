@@ -11,6 +11,7 @@ use Rattle.protocol_model.specs.Client.{next_number, held_now}
 use Rattle.protocol_model.specs.Ends.{held_kind}
 use Rattle.protocol_model.specs.declared.states.Cause.{Cause}
 use Rattle.protocol_model.specs.declared.held.Held.{Held}
+use Rattle.dme_tags.specs.Limits.{last_number}
 use Rattle.dme_tags.specs.Places.{ahead_of, all_failed}
 
 -- the commands that are held under standard tags and under event tags, each in sending order; whether a standard command has failed
@@ -60,13 +61,13 @@ abbrev pub number_of : Tag → ℕ
 number_of (Std n) = n
 number_of (Event n) = n
 
--- each tag that a command of this kind may have is held, whatever its number up to 9999
+-- each tag that a command of this kind may have is held, whatever its number up to the last
 abbrev pub IsSpentFor : Kind → Opened → Type 0
-IsSpentFor kind o = (tag : Tag) → IsTagOf kind tag → number_of tag ≤ 9999 → is_held tag (held_beside tag o) ≡ true
+IsSpentFor kind o = (tag : Tag) → IsTagOf kind tag → number_of tag ≤ last_number → is_held tag (held_beside tag o) ≡ true
 
--- a number lies behind the one that was drawn last and before the next one, where 1 comes again behind 9999
+-- a number lies behind the one that was drawn last and before the next one, where 1 comes again behind the last
 abbrev pub IsBetween : ℕ → ℕ → ℕ → Type 0
-IsBetween last n next = ((last < n) × (n < next)) ⊎ ((next ≤ last) × (((last < n) × (n ≤ 9999)) ⊎ ((1 ≤ n) × (n < next))))
+IsBetween last n next = ((last < n) × (n < next)) ⊎ ((next ≤ last) × (((last < n) × (n ≤ last_number)) ⊎ ((1 ≤ n) × (n < next))))
 
 -- each number between the one that was drawn last and a tag's is held, so that none is passed over though it is free
 abbrev pub ArePassedOver : Tag → Opened → Type 0

@@ -4,6 +4,7 @@ use Rattle.dme_line.specs.declared.tags.Tag.{Tag}
 use Rattle.dme_line.specs.declared.tags.Tag.TheVariants.{Std, Event}
 use Rattle.protocol_model.specs.Open.{is_held}
 use Rattle.protocol_model.specs.declared.held.Held.{Held}
+use Rattle.dme_tags.specs.Limits.{last_number}
 use Rattle.dme_tags.specs.declared.drawing.Sort.{Sort}
 use Rattle.dme_tags.specs.declared.drawing.Sort.TheVariants as sort
 
@@ -17,6 +18,6 @@ abbrev pub is_event_sort : Sort → Bool
 is_event_sort sort.Standard = false
 is_event_sort sort.Event = true
 
--- each tag of a sort is held, whatever its number from 1 to 9999
+-- each tag of a sort is held, whatever its number from 1 to the last
 abbrev pub AreSpent : Sort → List Held → Type 0
-AreSpent s hs = (n : ℕ) → 1 ≤ n → n ≤ 9999 → is_held (numbered s n) hs ≡ true
+AreSpent s hs = (n : ℕ) → 1 ≤ n → n ≤ last_number → is_held (numbered s n) hs ≡ true

@@ -5,6 +5,7 @@ ghost use Rattle.dme_line.specs.Kinds.{is_event_kind};
 ghost use Rattle.dme_line.specs.Tags.{IsNumbered, is_event_tag};
 ghost use Rattle.protocol_model.specs.Open.{is_held};
 ghost use Rattle.protocol_model.specs.Client.{first_free, next_number};
+ghost use Rattle.dme_tags.specs.Limits.{last_number};
 ghost use Rattle.dme_tags.specs.Opened.{tagged, number_of};
 ghost use Rattle.dme_tags.specs.Sorts.{numbered, is_event_sort, AreSpent};
 
@@ -13,8 +14,8 @@ use crate::marks::is_held;
 use dme_line::{Kind, Tag};
 use protocol_model::Held;
 
-/// How many tags of each sort a client draws (this profile).
-const TAGS: u32 = 9999;
+/// The number of the last tag of each sort that a client draws (this profile).
+const LAST_NUMBER: u32 = 9999;
 
 /// The two sorts of tags.
 #[derive(Clone, Copy, Debug, PartialEq, Eq)]
@@ -45,7 +46,7 @@ impl Sort {
 
     /// The tag of this sort with a number.
     fn tag(self, number: u32) -> Tag
-        requires { number ≤ 9999 }
+        requires { number ≤ last_number }
         ensures { result ≡ numbered self number }
     {
         match self {
@@ -57,14 +58,14 @@ impl Sort {
 
 /// The first number from here on whose tag is not held.
 fn first_free(commands: &[Held], sort: Sort, from: u32) -> Option<u32>
-    requires { from ≤ 10000 }
-    ensures free { result ≡ first_free (numbered sort) commands.now from (10000 - from) }
-    ensures within { IfSome result (λ n. (from ≤ n) × (n ≤ 9999)) }
+    requires { from ≤ last_number + 1 }
+    ensures free { result ≡ first_free (numbered sort) commands.now from (last_number + 1 - from) }
+    ensures within { IfSome result (λ n. (from ≤ n) × (n ≤ last_number)) }
     ensures fresh { IfSome result (λ n. is_held (numbered sort n) commands.now ≡ false) }
-    ensures spent { IfNone result ((n : ℕ) → from ≤ n → n ≤ 9999
+    ensures spent { IfNone result ((n : ℕ) → from ≤ n → n ≤ last_number
         → is_held (numbered sort n) commands.now ≡ true) }
 {
-    for number in from..TAGS + 1 {
+    for number in from..LAST_NUMBER + 1 {
         if !is_held(commands, sort.tag(number)) {
             return Some(number);
         }
@@ -75,9 +76,9 @@ fn first_free(commands: &[Held], sort: Sort, from: u32) -> Option<u32>
 /// The number that is drawn next behind this one: the numbers come one after another, and again from 1 on.
 #[tactic(auto, using(crate::proofs::Numbers::next_again))]
 fn next_number(commands: &[Held], sort: Sort, drawn: u32) -> Option<u32>
-    requires { drawn ≤ 9999 }
+    requires { drawn ≤ last_number }
     ensures next { result ≡ next_number (numbered sort) commands.now drawn }
-    ensures within { IfSome result (λ n. (1 ≤ n) × (n ≤ 9999)) }
+    ensures within { IfSome result (λ n. (1 ≤ n) × (n ≤ last_number)) }
     ensures fresh { IfSome result (λ n. is_held (numbered sort n) commands.now ≡ false) }
     ensures spent { IfNone result (AreSpent sort commands.now) }
 {
@@ -89,10 +90,10 @@ fn next_number(commands: &[Held], sort: Sort, drawn: u32) -> Option<u32>
 
 /// The tag that is drawn next behind the one with this number.
 pub(crate) fn next_tag(commands: &[Held], sort: Sort, drawn: u32) -> Result<Tag, TagFault>
-    requires { drawn ≤ 9999 }
+    requires { drawn ≤ last_number }
     ensures next { IfOk result (λ tag. tagged (numbered sort)
         (next_number (numbered sort) commands.now drawn) ≡ Some tag) }
-    ensures within { IfOk result (λ tag. IsNumbered tag × (number_of tag ≤ 9999)) }
+    ensures within { IfOk result (λ tag. IsNumbered tag × (number_of tag ≤ last_number)) }
     ensures sort { IfOk result (λ tag. is_event_tag tag ≡ is_event_sort sort) }
     ensures spent { OnErr result (tagged (numbered sort)
         (next_number (numbered sort) commands.now drawn) ≡ None) }

@@ -5,6 +5,8 @@ ghost use Rattle.dme_line.specs.Kinds.{IsTagOf};
 ghost use Rattle.protocol_model.specs.Replies.{Mark};
 ghost use Rattle.protocol_model.specs.Open.{Effect, count_open, is_held};
 ghost use Rattle.dme_tags.specs.Answers.{cause_of, effect_of, effect_heard, is_counted, IsRefused};
+ghost use Rattle.dme_tags.specs.Endings.{IsEnding};
+ghost use Rattle.dme_tags.specs.Limits.{last_number};
 ghost use Rattle.dme_tags.specs.Opened.{heard, held_beside, kind_under, next_tag, none_open, number_of, with_drawn, ArePassedOver, IsNext, IsSpentFor};
 ghost use Rattle.dme_tags.specs.Standing.{AwaitsPoint, CountsAs, HasFailed, HasPoint, IsUnread};
 
@@ -35,6 +37,7 @@ pub struct Open {
 
 impl Model for Open {
     ghost use Rattle.std.specs.Prelude.{◌≤◌};
+    ghost use Rattle.dme_tags.specs.Limits.{last_number};
     ghost use Rattle.dme_tags.specs.Opened.{Opened};
 
     ghost Value = { Opened };
@@ -47,7 +50,7 @@ impl Model for Open {
       event_drawn = o.event_drawn;
     } };
 
-    ghost invariant = { λ o. (o.drawn ≤ 9999) × (o.event_drawn ≤ 9999) };
+    ghost invariant = { λ o. (o.drawn ≤ last_number) × (o.event_drawn ≤ last_number) };
 }
 
 impl Open {
@@ -82,7 +85,7 @@ impl Open {
         ensures next { IfOk result (λ tag. next_tag self.now kind ≡ Some tag) }
         ensures spent { OnErr result (next_tag self.now kind ≡ None) }
         ensures named { IfErr result (λ fault. fault ≡ TagFault.TagsSpent) }
-        ensures tag { IfOk result (λ tag. IsTagOf kind tag × (number_of tag ≤ 9999)) }
+        ensures tag { IfOk result (λ tag. IsTagOf kind tag × (number_of tag ≤ last_number)) }
         ensures fresh { IfOk result (λ tag. is_held tag (held_beside tag self.now) ≡ false) }
         ensures all_held { IsErrOf result TagFault.TagsSpent ↔ IsSpentFor kind self.now }
         ensures passed { IfOk result (λ tag. ArePassedOver tag self.now) }
@@ -106,7 +109,7 @@ impl Open {
         ensures named { IfErr result (λ fault. (fault ≡ TagFault.TagsSpent)
             ⊎ (fault ≡ TagFault.Memory)) }
         ensures unchanged { OnErr result (self.new ≡ self.old) }
-        ensures tag { IfOk result (λ tag. IsTagOf kind tag × (number_of tag ≤ 9999)) }
+        ensures tag { IfOk result (λ tag. IsTagOf kind tag × (number_of tag ≤ last_number)) }
         ensures fresh { IfOk result (λ tag. is_held tag (held_beside tag self.old) ≡ false) }
         ensures all_held { IsErrOf result TagFault.TagsSpent ↔ IsSpentFor kind self.old }
         ensures passed { IfOk result (λ tag. ArePassedOver tag self.old) }
@@ -210,14 +213,7 @@ impl Open {
     /// How `complete` would answer. Nothing changes, and no memory is taken.
     #[tactic(auto, using(crate::proofs::Effects::standard_effect, crate::proofs::Effects::event_effect))]
     pub fn end_of(&self, tag: Tag) -> Result<Ended, TagFault>
-        ensures counted { (kind : Kind) (given : Option Point)
-            → (result ≡ Ok (Ended.Counted kind given)) ↔ CountsAs tag self.now kind given }
-        ensures closed { (result ≡ Ok Ended.Closed) ↔ HasFailed tag self.now }
-        ensures unknown { IsErrOf result TagFault.UnknownTag ↔ (kind_under tag self.now ≡ None) }
-        ensures no_data { IsErrOf result TagFault.NoData ↔ AwaitsPoint tag self.now }
-        ensures named { IfErr result (λ fault. (fault ≡ TagFault.UnknownTag)
-            ⊎ (fault ≡ TagFault.OutOfOrder)
-            ⊎ (fault ≡ TagFault.NoData)) }
+        ensures ending { IsEnding tag self.now result }
         ensures ok { IfOk result (λ ended. effect_heard (heard self.now tag Mark.Done)
             ≡ Some (effect_of ended)) }
         ensures refused { IfErr result (λ fault. IsRefused (heard self.now tag Mark.Done)
@@ -236,14 +232,7 @@ impl Open {
     /// `OutOfOrder` (G2) where the command has not failed and is not at the front, or was not received. So commands count in sending
     /// order, standard ones and event ones each.
     pub fn complete(&mut self, tag: Tag) -> Result<Ended, TagFault>
-        ensures counted { (kind : Kind) (given : Option Point)
-            → (result ≡ Ok (Ended.Counted kind given)) ↔ CountsAs tag self.old kind given }
-        ensures closed { (result ≡ Ok Ended.Closed) ↔ HasFailed tag self.old }
-        ensures unknown { IsErrOf result TagFault.UnknownTag ↔ (kind_under tag self.old ≡ None) }
-        ensures no_data { IsErrOf result TagFault.NoData ↔ AwaitsPoint tag self.old }
-        ensures named { IfErr result (λ fault. (fault ≡ TagFault.UnknownTag)
-            ⊎ (fault ≡ TagFault.OutOfOrder)
-            ⊎ (fault ≡ TagFault.NoData)) }
+        ensures ending { IsEnding tag self.old result }
         ensures ok { IfOk result (λ ended. heard self.old tag Mark.Done
             ≡ Ok (self.new, effect_of ended)) }
         ensures refused { IfErr result (λ fault. IsRefused (heard self.old tag Mark.Done)

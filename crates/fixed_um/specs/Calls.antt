@@ -1,5 +1,5 @@
 -- What calls do, in the words that contracts share.
-use Rattle.std.specs.Prelude.{◌≡◌, ◌≤◌, ◌+◌, ◌++◌, ℕ, List, Result, OnOk, OnErr, vec_len, vec_capacity, Vec}
+use Rattle.std.specs.Prelude.{◌≡◌, ◌≤◌, ◌+◌, ◌++◌, ℕ, List, Option, MatchOption, Result, OnOk, OnErr, vec_len, vec_capacity, Vec}
 
 -- a call does all that is said, or answers an error and changes nothing
 abbrev pub Leads : {A E S : Type 0} → Result A E → S → S → S → Type 0
@@ -16,3 +16,7 @@ Grows old new most = (vec_len new ≤ vec_len old + most) × (vec_capacity old �
 -- a text joined the end, or an error is answered and nothing did
 abbrev pub Writes : {A E X Z : Type 0} → Result A E → Vec X Z → Vec X Z → List X → Type 0
 Writes result old new text = OnOk result (new.items ≡ old.items ++ text) × OnErr result (new.items ≡ old.items)
+
+-- what is found is such a thing; where nothing is found there is none
+abbrev pub Finds : {A : Type 0} → Option A → (A → Type 0) → Type 0
+Finds {A} found Is = MatchOption found ((a : A) → Is a → ⊥) Is

@@ -44,16 +44,6 @@ const TWO_BEHIND_A: &str = "\
 00008 EndSession()
 ";
 
-const TWO_RESUMED_BEHIND_A: &str = "\
-00002 ClearAllErrors()
-00003 Home() homes
-00004 OnPtMeasReport(X(), Y(), Z())
-00005 ChangeTool(\"P1\") changes P1
-00006 SetCoordSystem(MachineCsy) frames machine
-00007 PtMeas(X(4.000), Y(5.000), Z(6.000), IJK(0.000000, 0.000000, 1.000000)) touches P1 machine X(4.000), Y(5.000), Z(6.000) last
-00008 EndSession()
-";
-
 const FRAMES_RESUMED_BEHIND_A: &str = "\
 00012 ClearAllErrors()
 00013 Home() homes
@@ -155,6 +145,8 @@ fn program(alloc: Global, text: &str) -> Result<Program, Fail> {
 
 #[test]
 fn plans_begin_behind_what_is_completed(rt: HostRuntime) -> Result<(), Fail> {
+    // On the same connection the session is begun already, and all else is as on a new one.
+    let (_, two_resumed) = TWO_BEHIND_A.split_once("\n").ok_or("lines")?;
     let cases = [
         (
             ONE,
@@ -164,7 +156,7 @@ fn plans_begin_behind_what_is_completed(rt: HostRuntime) -> Result<(), Fail> {
             ONE_FROM_ITS_START,
         ),
         (TWO, 1, Start::NewConnection, 0, TWO_BEHIND_A),
-        (TWO, 1, Start::SameConnection, 1, TWO_RESUMED_BEHIND_A),
+        (TWO, 1, Start::SameConnection, 1, two_resumed),
         (
             FRAMES,
             1,

@@ -1,4 +1,4 @@
 use Rattle.dme_line.proofs.reading.read_change_tool.Goals as goal
 
-pub returns-in-Ok-None-clause-read : goal.returns-in-Ok-None-clause-read
-returns-in-Ok-None-clause-read c = let none = rw c.in-Ok-None.field-0-is at c.in-Ok-None.ensures.read in λ command h. none h.0 h.1
+pub returns-in-None-clause-read : goal.returns-in-None-clause-read
+returns-in-None-clause-read c = let none = rw c.in-None.is at c.in_ok-name.ensures.read in λ command h. none h.0 h.1
