@@ -1,5 +1,6 @@
 // The features that a client holds.
-ghost use Rattle.std.specs.Prelude.{◌≡◌, ◌≤◌, [], ◌∷◌, ◌++◌, length, take, OnOk, OnErr, IfErr};
+ghost use Rattle.std.specs.Prelude.{◌≡◌, ◌≤◌, [], ◌∷◌, ◌++◌, length, take, IfErr};
+ghost use Rattle.fixed_um.specs.Calls.{Leads};
 
 use crate::features::Feature;
 use std::alloc::{AllocFailed, Global};
@@ -33,8 +34,7 @@ impl FeatureLedger {
     /// Appends a feature. Only want of memory is an `Err`: it hands the feature back, and the list is as before. The room doubles
     /// when it is full.
     pub fn push(&mut self, feature: Feature) -> Result<(), AllocFailed<Feature>>
-        ensures appended { OnOk result (self.new ≡ self.old ++ feature ∷ []) }
-        ensures unchanged { OnErr result (self.new ≡ self.old) }
+        ensures appended { Leads result self.old self.new (self.old ++ feature ∷ []) }
         ensures given_back { IfErr result (λ failed. failed.value ≡ feature) }
     {
         self.features.push(feature)

@@ -1,6 +1,7 @@
 // Measured features.
 
-ghost use Rattle.std.specs.Prelude.{◌≡◌, ◌≤◌, List, [], ◌∷◌, ◌++◌, length, take, IfOk, OnOk, OnErr};
+ghost use Rattle.std.specs.Prelude.{◌≡◌, ◌≤◌, List, [], ◌∷◌, ◌++◌, length, take, IfOk};
+ghost use Rattle.fixed_um.specs.Calls.{Leads};
 
 use fixed_um::{Name, Point};
 use std::alloc::{AllocError, Global};
@@ -34,8 +35,7 @@ impl Points {
     /// Appends a point. Only want of memory is an `Err`; the points are then as before. The room doubles when
     /// it is full.
     pub fn push(&mut self, point: Point) -> Result<(), AllocError>
-        ensures appended { OnOk result (self.new ≡ self.old ++ point ∷ []) }
-        ensures unchanged { OnErr result (self.new ≡ self.old) }
+        ensures { Leads result self.old self.new (self.old ++ point ∷ []) }
     {
         self.items.push(point)?;
         Ok(())

@@ -1,5 +1,6 @@
 // The acts of a server.
-ghost use Rattle.std.specs.Prelude.{◌≡◌, [], ◌∷◌, ◌++◌, OnOk, OnErr, IfErr};
+ghost use Rattle.std.specs.Prelude.{◌≡◌, [], ◌∷◌, ◌++◌, IfErr};
+ghost use Rattle.fixed_um.specs.Calls.{Leads};
 ghost use Rattle.contact_ledger.specs.Ledgers.{is_contact, contact_count, IsConnection, AreOnConnections};
 
 use crate::acts::Act;
@@ -53,8 +54,7 @@ impl ServerLedger {
     /// when it is full, so that all pushes together copy no more than twice what they append.
     pub fn push(&mut self, connection: u64, act: Act) -> Result<(), AllocFailed<Act>>
         requires { IsConnection connection }
-        ensures appended { OnOk result (self.new ≡ self.old ++ (connection, act) ∷ []) }
-        ensures unchanged { OnErr result (self.new ≡ self.old) }
+        ensures appended { Leads result self.old self.new (self.old ++ (connection, act) ∷ []) }
         ensures given_back { IfErr result (λ failed. failed.value ≡ act) }
     {
         let _in_memory = self.acts.as_slice();

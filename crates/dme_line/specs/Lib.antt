@@ -1,4 +1,5 @@
 pub mod Words
+pub mod Limits
 pub mod Tags
 pub mod Kinds
 pub mod Tokens

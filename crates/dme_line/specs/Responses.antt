@@ -2,6 +2,7 @@
 use Rattle.std.specs.Prelude.{◌≡◌, ℕ, ◌⊎◌, Bool, true, ◌==◌, List, [], ◌∷◌, ◌++◌, codes, Result, Ok, Err}
 use Rattle.std.specs.List.{list_all}
 use Rattle.dme_line.specs.Words.{IsWireText}
+use Rattle.dme_line.specs.Limits.{text_most}
 use Rattle.fixed_um.specs.declared.lengths.Point.{Point}
 use Rattle.dme_line.specs.Points.{written_point}
 use Rattle.dme_line.specs.Tags.{written_tag, IsTag}
@@ -22,12 +23,12 @@ written_mark (Error text) = codes "! " ++ text
 abbrev pub written_response : Response → List ℕ
 written_response r = written_tag r.tag ++ (32 ∷ written_mark r.mark)
 
--- a text that a response can hold: at most 192 bytes, none of them CR or LF
+-- a text that a response can hold, none of its bytes CR or LF
 abbrev pub HasText : Mark → Type 0
 HasText Ack = Unit {0}
-HasText (Given text) = IsWireText 192 text
+HasText (Given text) = IsWireText text_most text
 HasText Done = Unit {0}
-HasText (Error text) = IsWireText 192 text
+HasText (Error text) = IsWireText text_most text
 
 -- a response that can be written
 pub record IsWritableResponse (r : Response) : Type 0 where

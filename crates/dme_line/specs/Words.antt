@@ -12,6 +12,10 @@ is_word name word = bytes_eq (map to_ascii_lowercase word) (map to_ascii_lowerca
 abbrev pub is_content : ℕ → Bool
 is_content c = not (c == 13) && not (c == 10)
 
+-- the end of a line: CR LF
+abbrev pub line_end : List ℕ
+line_end = 13 ∷ 10 ∷ []
+
 -- a text in quotes
 abbrev pub quoted : List ℕ → List ℕ
 quoted text = 34 ∷ (text ++ 34 ∷ [])

@@ -1,6 +1,8 @@
 // Error lines.
 
 ghost use Rattle.std.specs.Prelude.{◌≡◌, ◌≤◌, ◌<◌, ◌⊎◌, ◌+◌, ◌++◌, length, codes, vec_len, vec_capacity, OnOk, OnErr, MatchOption};
+ghost use Rattle.fixed_um.specs.Calls.{Grows, HasRoom, Writes};
+ghost use Rattle.dme_line.specs.Limits.{error_most};
 ghost use Rattle.dme_line.specs.Tags.{IsTag};
 ghost use Rattle.dme_line.specs.Words.{quoted};
 ghost use Rattle.dme_line.specs.Errors.{number_of, text_of, numbered, error_name, error_report, written_error};
@@ -10,7 +12,7 @@ use crate::commands::Kind;
 use crate::tags::{Tag, write_four_digits_reserved, write_tag_reserved};
 use std::alloc::AllocError;
 
-/// The most bytes that a written error line has.
+/// The most bytes that a written error line has, without its end.
 pub const ERROR_MAX: usize = 68;
 
 /// An error that a server answers, by its number and its text (this profile).
@@ -138,20 +140,18 @@ fn error_name(kind: Option<Kind>) -> &'static [u8]
 }
 
 fn write_quoted_next_reserved(out: &mut Vec<u8>, text: &[u8])
-    requires { vec_len out.old + 4 + length text.now ≤ vec_capacity out.old }
+    requires { HasRoom out.old (4 + length text.now) }
     ensures text { out.new.items ≡ out.old.items ++ (codes ", " ++ quoted text.now) }
-    ensures len { vec_len out.new ≡ vec_len out.old + 4 + length text.now }
-    ensures capacity { vec_capacity out.old ≤ vec_capacity out.new }
+    ensures grows { Grows out.old out.new (4 + length text.now) }
 {
     append_reserved(out, b", ");
     append_quoted_reserved(out, text);
 }
 
 fn write_report_reserved(out: &mut Vec<u8>, error: ErrorNumber, kind: Option<Kind>)
-    requires { vec_len out.old + 60 ≤ vec_capacity out.old }
+    requires { HasRoom out.old 60 }
     ensures text { out.new.items ≡ out.old.items ++ error_report (number_of error) kind }
-    ensures len { vec_len out.new ≤ vec_len out.old + 60 }
-    ensures capacity { vec_capacity out.old ≤ vec_capacity out.new }
+    ensures grows { Grows out.old out.new 60 }
 {
     append_reserved(out, b"Error(3, ");
     write_four_digits_reserved(out, u32::from(error.number()));
@@ -167,10 +167,9 @@ fn write_report_reserved(out: &mut Vec<u8>, error: ErrorNumber, kind: Option<Kin
 #[tactic(auto, unfolding(crate::specs::Errors::written_error))]
 pub fn write_error_reserved(out: &mut Vec<u8>, tag: Tag, error: ErrorNumber, kind: Option<Kind>)
     requires tag { IsTag tag }
-    requires room { vec_len out.old + 68 ≤ vec_capacity out.old }
+    requires room { HasRoom out.old error_most }
     ensures text { out.new.items ≡ out.old.items ++ written_error tag (number_of error) kind }
-    ensures len { vec_len out.new ≤ vec_len out.old + 68 }
-    ensures capacity { vec_capacity out.old ≤ vec_capacity out.new }
+    ensures grows { Grows out.old out.new error_most }
 {
     write_tag_reserved(out, tag);
     append_reserved(out, b" ! ");
@@ -190,8 +189,7 @@ pub fn write_error(
     requires tag { IsTag tag }
     requires low { 9001 ≤ code }
     requires high { code ≤ 9015 }
-    ensures ok { OnOk result (out.new.items ≡ out.old.items ++ written_error tag code kind) }
-    ensures err { OnErr result (out.new.items ≡ out.old.items) }
+    ensures writes { Writes result out.old out.new (written_error tag code kind) }
 {
     let Some(error) = ErrorNumber::numbered(code) else {
         unreachable!();

@@ -1,7 +1,8 @@
 // What holds of the texts of this crate, whoever writes and reads them. These functions do nothing: their contracts are the laws.
 
-ghost use Rattle.std.specs.Prelude.{◌≡◌, ◌≤◌, ℕ, List, Option, Result, Ok};
-ghost use Rattle.dme_line.specs.Words.{IsWireText};
+ghost use Rattle.std.specs.Prelude.{◌≡◌, ◌≤◌, ℕ, List, length, Option, Result, Ok};
+ghost use Rattle.dme_line.specs.Limits.{command_most, data_most, error_most, line_end_length, point_most, response_most};
+ghost use Rattle.dme_line.specs.Words.{IsWireText, line_end};
 ghost use Rattle.dme_line.specs.Tags.{IsTag};
 ghost use Rattle.dme_line.specs.Points.{written_point, IsOnWire, ReadsPoint};
 ghost use Rattle.dme_line.specs.Written.{written_command, IsWritable};
@@ -12,9 +13,23 @@ ghost use Rattle.fixed_um.specs.declared.lengths.Point.{Point};
 ghost use Rattle.dme_line.specs.declared.points.NotPoint.{NotPoint};
 
 use crate::commands::{Command, Kind};
+use crate::errors::ERROR_MAX;
+use crate::points::POINT_MAX;
 use crate::reading::LineFault;
-use crate::responses::{NotResponse, Response};
+use crate::responses::{DATA_MAX, NotResponse, RESPONSE_MAX, Response};
 use crate::tags::Tag;
+use crate::writing::{COMMAND_MAX, LINE_END_LENGTH};
+
+/// The constants for those who make room are the limits that clauses name.
+pub fn rooms_are_the_limits()
+    ensures command { COMMAND_MAX ≡ command_most }
+    ensures response { RESPONSE_MAX ≡ response_most }
+    ensures data { DATA_MAX ≡ data_most }
+    ensures error { ERROR_MAX ≡ error_most }
+    ensures point { POINT_MAX ≡ point_most }
+    ensures end { LINE_END_LENGTH ≡ line_end_length }
+    ensures line_end { length line_end ≡ line_end_length }
+{}
 
 /// A line stands for at most one command under one tag, and is read in one way.
 pub fn one_command_reading()
@@ -27,7 +42,7 @@ pub fn one_command_reading()
 /// What is written of a command has at most 200 bytes, none of them CR or LF, and reads back as this command with its tag.
 pub fn command_reads_back()
     ensures text { (tag : Tag) (command : Command)
-        → IsWritable tag command → IsWireText 200 (written_command tag command) }
+        → IsWritable tag command → IsWireText command_most (written_command tag command) }
     ensures back { (tag : Tag) (command : Command)
         → IsWritable tag command → ReadsCommand (written_command tag command) (Ok (tag, command)) }
 {}
@@ -48,7 +63,8 @@ pub fn one_response_reading()
 
 /// What is written of a response has at most 200 bytes, none of them CR or LF, and reads back as this response.
 pub fn response_reads_back()
-    ensures text { (r : Response) → IsWritableResponse r → IsWireText 200 (written_response r) }
+    ensures text { (r : Response)
+        → IsWritableResponse r → IsWireText response_most (written_response r) }
     ensures back { (r : Response) → IsTag r.tag → ReadsResponse (written_response r) (Ok r) }
 {}
 
@@ -61,7 +77,7 @@ pub fn one_point_reading()
 /// What is written of a point has at most 49 bytes, none of them CR or LF, reads back as this point,
 /// and can be the text of a response.
 pub fn point_reads_back()
-    ensures text { (p : Point) → IsOnWire p → IsWireText 49 (written_point p) }
+    ensures text { (p : Point) → IsOnWire p → IsWireText point_most (written_point p) }
     ensures back { (p : Point) → IsOnWire p → ReadsPoint (written_point p) (Ok p) }
     ensures response { (tag : Tag) (p : Point) → IsTag tag → IsOnWire p
         → IsWritableResponse (data_response tag p) }

@@ -1,6 +1,7 @@
 // Lengths within the limits of this profile, and directions.
 
 ghost use Rattle.std.specs.Prelude.{◌≡◌, ◌≤◌, ◌+◌, ◌++◌, ◌≤ℤ◌, ℤ, pos, unsigned_abs, codes, vec_len, vec_capacity, MatchOption, Ok};
+ghost use Rattle.fixed_um.specs.Calls.{Grows, HasRoom};
 ghost use Rattle.fixed_um.specs.Limits.{wire_limit, volume_limit};
 ghost use Rattle.fixed_um.specs.Numerals.{Reads};
 ghost use Rattle.fixed_um.specs.Shapes.{IsDirection};
@@ -10,10 +11,9 @@ use fixed_um::{Dir, Um, read_um, write_dir_reserved, write_um_reserved};
 
 /// Appends a length, where the caller has made room for it. As every length it is within the wire limit.
 pub(crate) fn write_length_reserved(out: &mut Vec<u8>, length: Um)
-    requires { vec_len out.old + 12 ≤ vec_capacity out.old }
+    requires { HasRoom out.old 12 }
     ensures text { out.new.items ≡ out.old.items ++ written length }
-    ensures len { vec_len out.new ≤ vec_len out.old + 12 }
-    ensures capacity { vec_capacity out.old ≤ vec_capacity out.new }
+    ensures grows { Grows out.old out.new 12 }
     ensures on_wire { unsigned_abs length ≤ wire_limit }
 {
     prove!(length.get().unsigned_abs() <= 4_000_000_000);
@@ -23,10 +23,9 @@ pub(crate) fn write_length_reserved(out: &mut Vec<u8>, length: Um)
 /// Appends the components of a direction with a comma and a space between each two, where the caller has made room for them.
 /// As every direction it is not all zero.
 pub(crate) fn write_direction_reserved(out: &mut Vec<u8>, direction: Dir)
-    requires { vec_len out.old + 49 ≤ vec_capacity out.old }
+    requires { HasRoom out.old 49 }
     ensures text { out.new.items ≡ out.old.items ++ written_direction direction (codes ", ") }
-    ensures len { vec_len out.new ≤ vec_len out.old + 49 }
-    ensures capacity { vec_capacity out.old ≤ vec_capacity out.new }
+    ensures grows { Grows out.old out.new 49 }
     ensures direction { IsDirection direction }
 {
     prove!(direction.i != 0 || direction.j != 0 || direction.k != 0);

@@ -2,7 +2,7 @@
 // error texts, as values and as the bytes of one line without its end.
 //
 // - `tags`, `commands`: `Tag`; `Command`, its `Kind`, `Csy`
-// - `writing`, `reading`: `write_command`; `read_command` and `LineFault`
+// - `writing`, `reading`: `write_command` and the end of a line; `read_command` and `LineFault`
 // - `responses`, `text`: `Response`, `Mark`, `Text`, and their lines
 // - `points`: the text of a data line; `errors`: `ErrorNumber` and the line of an error
 // - `tokens`, `arguments`, `places`, `settings`, `lengths`: the steps by which arguments are read
@@ -27,16 +27,19 @@ mod tokens;
 pub mod writing;
 
 pub use commands::{Command, Csy, Kind};
-pub use errors::{ErrorNumber, write_error, write_error_reserved};
-pub use points::{NotPoint, read_point, write_point, write_point_reserved};
+pub use errors::{ERROR_MAX, ErrorNumber, write_error, write_error_reserved};
+pub use points::{NotPoint, POINT_MAX, read_point, write_point, write_point_reserved};
 pub use reading::{LineFault, read_command};
 pub use responses::{
-    Mark, NotResponse, Response, read_response, write_complete_reserved, write_data,
-    write_data_reserved, write_received_reserved, write_response, write_response_reserved,
+    DATA_MAX, Mark, NotResponse, RESPONSE_MAX, Response, read_response, write_complete_reserved,
+    write_data, write_data_reserved, write_received_reserved, write_response,
+    write_response_reserved,
 };
 pub use tags::Tag;
 pub use text::Text;
-pub use writing::{write_command, write_command_reserved};
+pub use writing::{
+    COMMAND_MAX, LINE_END_LENGTH, write_command, write_command_reserved, write_line_end_reserved,
+};
 
 #[cfg(test)]
 mod tests;

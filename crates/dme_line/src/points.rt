@@ -1,6 +1,8 @@
 // The text of a point: what a data line carries, and the front of the arguments of moves and touches.
 
 ghost use Rattle.std.specs.Prelude.{◌≡◌, ◌≤◌, ◌+◌, ◌++◌, ◌∷◌, [], ℕ, List, vec_len, vec_capacity, OnOk, OnErr, MatchOption};
+ghost use Rattle.fixed_um.specs.Calls.{Grows, HasRoom, Writes};
+ghost use Rattle.dme_line.specs.Limits.{point_most};
 ghost use Rattle.dme_line.specs.Tokens.{Token, tokens};
 ghost use Rattle.dme_line.specs.Arguments.{Single, argument_tokens, list_tokens};
 ghost use Rattle.dme_line.specs.Points.{written_point, IsOnWire, IsPointText, HasCoordinates, ReadsPoint, point_tokens};
@@ -12,6 +14,9 @@ use crate::tokens::{is_end, take_mark};
 use fixed_um::Point;
 use std::alloc::AllocError;
 
+/// The most bytes that the text of a point has.
+pub const POINT_MAX: usize = 49;
+
 /// A text that is no point text.
 #[derive(Clone, Copy, Debug, PartialEq, Eq)]
 pub struct NotPoint;
@@ -19,10 +24,9 @@ pub struct NotPoint;
 /// Appends the text of a point in millimetres, as `X(10.000), Y(20.000), Z(-0.001)`, at most 49 bytes,
 /// where the caller has made room for them.
 pub fn write_point_reserved(out: &mut Vec<u8>, point: Point)
-    requires { vec_len out.old + 49 ≤ vec_capacity out.old }
+    requires { HasRoom out.old point_most }
     ensures text { out.new.items ≡ out.old.items ++ written_point point }
-    ensures len { vec_len out.new ≤ vec_len out.old + 49 }
-    ensures capacity { vec_capacity out.old ≤ vec_capacity out.new }
+    ensures grows { Grows out.old out.new point_most }
     ensures on_wire { IsOnWire point }
 {
     append_reserved(out, b"X(");
@@ -37,11 +41,10 @@ pub fn write_point_reserved(out: &mut Vec<u8>, point: Point)
 /// Appends the text of a point in millimetres, as `X(10.000), Y(20.000), Z(-0.001)`.
 /// Only want of memory is an `Err`, and then nothing is appended.
 pub fn write_point(out: &mut Vec<u8>, point: Point) -> Result<(), AllocError>
-    ensures ok { OnOk result (out.new.items ≡ out.old.items ++ written_point point) }
+    ensures writes { Writes result out.old out.new (written_point point) }
     ensures on_wire { OnOk result (IsOnWire point) }
-    ensures err { OnErr result (out.new.items ≡ out.old.items) }
 {
-    out.reserve(49)?;
+    out.reserve(POINT_MAX)?;
     write_point_reserved(out, point);
     Ok(())
 }

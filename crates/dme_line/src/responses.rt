@@ -1,6 +1,8 @@
 // Responses, and the lines that carry them.
 
 ghost use Rattle.std.specs.Prelude.{◌≡◌, ◌↔◌, ◌≤◌, ◌+◌, ◌++◌, ◌∷◌, [], ℕ, List, length, IsTrue, true, vec_len, vec_capacity, OnOk, OnErr, IfOk, MatchOption, MatchResult, Option};
+ghost use Rattle.fixed_um.specs.Calls.{Grows, HasRoom, Writes};
+ghost use Rattle.dme_line.specs.Limits.{bare_most, data_most, response_most, text_most};
 ghost use Rattle.dme_line.specs.Tags.{IsTag};
 ghost use Rattle.dme_line.specs.declared.responses.Mark.TheVariants as mark;
 ghost use Rattle.dme_line.specs.Taken.{the_mark};
@@ -14,8 +16,11 @@ use crate::text::Text;
 use fixed_um::Point;
 use std::alloc::{AllocError, Global};
 
-/// The most bytes that a written response line has.
+/// The most bytes that a written response line has, without its end.
 pub const RESPONSE_MAX: usize = 200;
+
+/// The most bytes that the line of a data response has, without its end.
+pub const DATA_MAX: usize = 57;
 
 /// What a response says of its command (I++ DME Interface version 1).
 #[derive(Debug, Drop)]
@@ -43,10 +48,9 @@ pub struct NotResponse;
 
 fn write_mark_reserved(out: &mut Vec<u8>, mark: &Mark)
     requires text { HasText mark.now }
-    requires room { vec_len out.old + 194 ≤ vec_capacity out.old }
+    requires room { HasRoom out.old (2 + text_most) }
     ensures text { out.new.items ≡ out.old.items ++ written_mark mark.now }
-    ensures len { vec_len out.new ≤ vec_len out.old + 194 }
-    ensures capacity { vec_capacity out.old ≤ vec_capacity out.new }
+    ensures grows { Grows out.old out.new (2 + text_most) }
 {
     match mark {
         Mark::Ack => out.push_reserved(b'&'),
@@ -67,10 +71,9 @@ fn write_mark_reserved(out: &mut Vec<u8>, mark: &Mark)
 /// The caller owes a tag whose number has room in its digits, and a text of at most 192 bytes without CR and LF.
 pub fn write_response_reserved(out: &mut Vec<u8>, response: &Response)
     requires response { IsWritableResponse response.now }
-    requires room { vec_len out.old + 200 ≤ vec_capacity out.old }
+    requires room { HasRoom out.old response_most }
     ensures text { out.new.items ≡ out.old.items ++ written_response response.now }
-    ensures len { vec_len out.new ≤ vec_len out.old + 200 }
-    ensures capacity { vec_capacity out.old ≤ vec_capacity out.new }
+    ensures grows { Grows out.old out.new response_most }
 {
     write_tag_reserved(out, response.tag);
     out.push_reserved(b' ');
@@ -82,8 +85,7 @@ pub fn write_response_reserved(out: &mut Vec<u8>, response: &Response)
 /// The caller owes what `write_response_reserved` says, but for the room.
 pub fn write_response(out: &mut Vec<u8>, response: &Response) -> Result<(), AllocError>
     requires { IsWritableResponse response.now }
-    ensures ok { OnOk result (out.new.items ≡ out.old.items ++ written_response response.now) }
-    ensures err { OnErr result (out.new.items ≡ out.old.items) }
+    ensures writes { Writes result out.old out.new (written_response response.now) }
 {
     out.reserve(RESPONSE_MAX)?;
     write_response_reserved(out, response);
@@ -96,11 +98,10 @@ pub fn write_response(out: &mut Vec<u8>, response: &Response) -> Result<(), Allo
 /// The caller owes a tag whose number has room in its digits.
 pub fn write_received_reserved(out: &mut Vec<u8>, tag: Tag)
     requires tag { IsTag tag }
-    requires room { vec_len out.old + 7 ≤ vec_capacity out.old }
+    requires room { HasRoom out.old bare_most }
     ensures text { out.new.items ≡ out.old.items
         ++ written_response (record { tag = tag; mark = mark.Ack }) }
-    ensures len { vec_len out.new ≤ vec_len out.old + 7 }
-    ensures capacity { vec_capacity out.old ≤ vec_capacity out.new }
+    ensures grows { Grows out.old out.new bare_most }
 {
     write_tag_reserved(out, tag);
     append_reserved(out, b" &");
@@ -112,11 +113,10 @@ pub fn write_received_reserved(out: &mut Vec<u8>, tag: Tag)
 /// The caller owes a tag whose number has room in its digits.
 pub fn write_complete_reserved(out: &mut Vec<u8>, tag: Tag)
     requires tag { IsTag tag }
-    requires room { vec_len out.old + 7 ≤ vec_capacity out.old }
+    requires room { HasRoom out.old bare_most }
     ensures text { out.new.items ≡ out.old.items
         ++ written_response (record { tag = tag; mark = mark.Done }) }
-    ensures len { vec_len out.new ≤ vec_len out.old + 7 }
-    ensures capacity { vec_capacity out.old ≤ vec_capacity out.new }
+    ensures grows { Grows out.old out.new bare_most }
 {
     write_tag_reserved(out, tag);
     append_reserved(out, b" %");
@@ -128,10 +128,9 @@ pub fn write_complete_reserved(out: &mut Vec<u8>, tag: Tag)
 /// The caller owes a tag whose number has room in its digits.
 pub fn write_data_reserved(out: &mut Vec<u8>, tag: Tag, point: Point)
     requires tag { IsTag tag }
-    requires room { vec_len out.old + 57 ≤ vec_capacity out.old }
+    requires room { HasRoom out.old data_most }
     ensures text { out.new.items ≡ out.old.items ++ written_response (data_response tag point) }
-    ensures len { vec_len out.new ≤ vec_len out.old + 57 }
-    ensures capacity { vec_capacity out.old ≤ vec_capacity out.new }
+    ensures grows { Grows out.old out.new data_most }
     ensures on_wire { IsOnWire point }
 {
     write_tag_reserved(out, tag);
@@ -145,12 +144,10 @@ pub fn write_data_reserved(out: &mut Vec<u8>, tag: Tag, point: Point)
 /// The caller owes what `write_data_reserved` says, but for the room.
 pub fn write_data(out: &mut Vec<u8>, tag: Tag, point: Point) -> Result<(), AllocError>
     requires { IsTag tag }
-    ensures ok { OnOk result (out.new.items ≡ out.old.items
-        ++ written_response (data_response tag point)) }
+    ensures writes { Writes result out.old out.new (written_response (data_response tag point)) }
     ensures on_wire { OnOk result (IsOnWire point) }
-    ensures err { OnErr result (out.new.items ≡ out.old.items) }
 {
-    out.reserve(57)?;
+    out.reserve(DATA_MAX)?;
     write_data_reserved(out, tag, point);
     Ok(())
 }

@@ -1,6 +1,7 @@
 // Tags: which command a line belongs to.
 
 ghost use Rattle.std.specs.Prelude.{◌≡◌, ◌≤◌, ◌+◌, ◌++◌, ◌∷◌, [], ℕ, List, IsTrue, ◌↔◌, vec_len, vec_capacity, MatchOption};
+ghost use Rattle.fixed_um.specs.Calls.{Grows, HasRoom};
 ghost use Rattle.dme_line.specs.Tags.{four_digits, five_digits, written_tag, IsTag, IsNumbered, is_event_tag};
 ghost use Rattle.fixed_um.specs.Written.{last_digit};
 
@@ -21,10 +22,9 @@ fn last_digit(value: u32) -> u8
 }
 
 pub(crate) fn write_four_digits_reserved(out: &mut Vec<u8>, value: u32)
-    requires { vec_len out.old + 4 ≤ vec_capacity out.old }
+    requires { HasRoom out.old 4 }
     ensures text { out.new.items ≡ out.old.items ++ four_digits value }
-    ensures len { vec_len out.new ≡ vec_len out.old + 4 }
-    ensures capacity { vec_capacity out.old ≤ vec_capacity out.new }
+    ensures grows { Grows out.old out.new 4 }
 {
     out.push_reserved(last_digit(value / 1000));
     out.push_reserved(last_digit(value / 100));
@@ -34,10 +34,9 @@ pub(crate) fn write_four_digits_reserved(out: &mut Vec<u8>, value: u32)
 
 /// Appends the five bytes of a tag, where the caller has made room for them.
 pub(crate) fn write_tag_reserved(out: &mut Vec<u8>, tag: Tag)
-    requires { vec_len out.old + 5 ≤ vec_capacity out.old }
+    requires { HasRoom out.old 5 }
     ensures text { out.new.items ≡ out.old.items ++ written_tag tag }
-    ensures len { vec_len out.new ≡ vec_len out.old + 5 }
-    ensures capacity { vec_capacity out.old ≤ vec_capacity out.new }
+    ensures grows { Grows out.old out.new 5 }
 {
     match tag {
         Tag::Std(number) => {

@@ -1,6 +1,9 @@
 // Writing command lines.
 
 ghost use Rattle.std.specs.Prelude.{◌≡◌, ◌≤◌, ◌+◌, ◌++◌, ◌∷◌, [], length, vec_len, vec_capacity, OnOk, OnErr};
+ghost use Rattle.fixed_um.specs.Calls.{Grows, HasRoom, Writes};
+ghost use Rattle.dme_line.specs.Limits.{command_most, line_end_length};
+ghost use Rattle.dme_line.specs.Words.{line_end};
 ghost use Rattle.dme_line.specs.Kinds.{kind_of, IsTagOf};
 ghost use Rattle.dme_line.specs.Written.{written_ijk, written_transformation, written_arguments, written_command, HasVolumeLengths, HasArguments, IsIjk, IsWritable};
 
@@ -12,14 +15,26 @@ use crate::tags::{Tag, write_tag_reserved};
 use fixed_um::{Dir, Point};
 use std::alloc::AllocError;
 
-/// The most bytes that a written command line has.
+/// The most bytes that a written command line has, without its end.
 pub const COMMAND_MAX: usize = 200;
 
+/// The bytes of the end of a line.
+pub const LINE_END_LENGTH: usize = 2;
+
+/// Appends the end of a line, CR LF (I++ DME Interface version 1), where the caller has made room for its two bytes.
+pub fn write_line_end_reserved(out: &mut Vec<u8>)
+    requires { HasRoom out.old line_end_length }
+    ensures text { out.new.items ≡ out.old.items ++ line_end }
+    ensures grows { Grows out.old out.new line_end_length }
+{
+    out.push_reserved(b'\r');
+    out.push_reserved(b'\n');
+}
+
 fn write_ijk_reserved(out: &mut Vec<u8>, direction: Option<Dir>)
-    requires { vec_len out.old + 56 ≤ vec_capacity out.old }
+    requires { HasRoom out.old 56 }
     ensures text { out.new.items ≡ out.old.items ++ written_ijk direction }
-    ensures len { vec_len out.new ≤ vec_len out.old + 56 }
-    ensures capacity { vec_capacity out.old ≤ vec_capacity out.new }
+    ensures grows { Grows out.old out.new 56 }
     ensures ijk { IsIjk direction }
 {
     if let Some(direction) = direction {
@@ -30,10 +45,9 @@ fn write_ijk_reserved(out: &mut Vec<u8>, direction: Option<Dir>)
 }
 
 fn write_transformation_reserved(out: &mut Vec<u8>, lengths: Point)
-    requires { vec_len out.old + 58 ≤ vec_capacity out.old }
+    requires { HasRoom out.old 58 }
     ensures text { out.new.items ≡ out.old.items ++ written_transformation lengths }
-    ensures len { vec_len out.new ≤ vec_len out.old + 58 }
-    ensures capacity { vec_capacity out.old ≤ vec_capacity out.new }
+    ensures grows { Grows out.old out.new 58 }
 {
     append_reserved(out, b"PartCsy, ");
     write_length_reserved(out, lengths.x);
@@ -46,10 +60,9 @@ fn write_transformation_reserved(out: &mut Vec<u8>, lengths: Point)
 
 fn write_arguments_reserved(out: &mut Vec<u8>, command: &Command)
     requires lengths { HasVolumeLengths command.now }
-    requires room { vec_len out.old + 105 ≤ vec_capacity out.old }
+    requires room { HasRoom out.old 105 }
     ensures text { out.new.items ≡ out.old.items ++ written_arguments command.now }
-    ensures len { vec_len out.new ≤ vec_len out.old + 105 }
-    ensures capacity { vec_capacity out.old ≤ vec_capacity out.new }
+    ensures grows { Grows out.old out.new 105 }
     ensures arguments { HasArguments command.now }
 {
     match command {
@@ -78,10 +91,9 @@ fn write_arguments_reserved(out: &mut Vec<u8>, command: &Command)
 pub fn write_command_reserved(out: &mut Vec<u8>, tag: Tag, command: &Command)
     requires tag { IsTagOf (kind_of command.now) tag }
     requires lengths { HasVolumeLengths command.now }
-    requires room { vec_len out.old + 200 ≤ vec_capacity out.old }
+    requires room { HasRoom out.old command_most }
     ensures text { out.new.items ≡ out.old.items ++ written_command tag command.now }
-    ensures len { vec_len out.new ≤ vec_len out.old + 200 }
-    ensures capacity { vec_capacity out.old ≤ vec_capacity out.new }
+    ensures grows { Grows out.old out.new command_most }
     ensures writable { IsWritable tag command.now }
 {
     write_tag_reserved(out, tag);
@@ -98,9 +110,8 @@ pub fn write_command_reserved(out: &mut Vec<u8>, tag: Tag, command: &Command)
 pub fn write_command(out: &mut Vec<u8>, tag: Tag, command: &Command) -> Result<(), AllocError>
     requires tag { IsTagOf (kind_of command.now) tag }
     requires lengths { HasVolumeLengths command.now }
-    ensures ok { OnOk result (out.new.items ≡ out.old.items ++ written_command tag command.now) }
+    ensures writes { Writes result out.old out.new (written_command tag command.now) }
     ensures writable { OnOk result (IsWritable tag command.now) }
-    ensures err { OnErr result (out.new.items ≡ out.old.items) }
 {
     out.reserve(COMMAND_MAX)?;
     write_command_reserved(out, tag, command);

@@ -1,5 +1,7 @@
 pub mod Content
 pub mod Next
+pub mod Queue
+pub mod Lending
 pub mod Framing
 pub mod Buffer
 pub mod Stream

@@ -6,6 +6,7 @@
 //
 // - `framing`: `Lines`, the buffer
 // - `owned`: `Line`, a line without its end
+// - `queue`: `ByteQueue`, bytes that wait
 // - `faults`: why bytes are refused, and what may stand at their front in place of a line
 // - `search`: where a line ends, and what stands there
 // - `laws`: what follows from the definitions alone, as the pieces do not matter
@@ -15,11 +16,13 @@ pub mod faults;
 pub mod framing;
 pub mod laws;
 pub mod owned;
+pub mod queue;
 mod search;
 
 pub use faults::{FramingFault, LinesFault};
 pub use framing::Lines;
 pub use owned::Line;
+pub use queue::ByteQueue;
 
 #[cfg(test)]
 mod tests;

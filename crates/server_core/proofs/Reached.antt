@@ -1,5 +1,5 @@
 -- What holds of a server behind every list of calls from a new one.
-use Rattle.std.proofs.Common.{◌≡◌, ℕ, ◌≤◌, nat_le, Bool, true, false, cond, not, ◌&&◌, ◌||◌, is_some, List, [], ◌∷◌, ◌++◌, length, refl}
+use Rattle.std.proofs.Common.{◌≡◌, ℕ, ◌≤◌, nat_le, true, false, not, ◌&&◌, ◌||◌, is_some, List, [], ◌∷◌, ◌++◌, length, refl}
 use Rattle.std.proofs.Common.{sym, ◌∙◌, ap, subst, arith, append_assoc, append-nil, ◌⊎◌, inl, inr, Option, Some, None, Result, Ok, Err}
 use Rattle.std.proofs.lemmas.Bool.{false≢true, and_parts, leb-true}
 use Rattle.fixed_um.specs.declared.lengths.Point.{Point}
@@ -15,17 +15,16 @@ use Rattle.line_framing.specs.Framing.{fed_behind}
 use Rattle.line_framing.specs.declared.faults.FramingFault.{FramingFault}
 use Rattle.protocol_model.specs.Replies.{Reading}
 use Rattle.protocol_model.specs.Lines.{Readers, AreReaders, reading_of}
-use Rattle.protocol_model.specs.Server.{Server, Answer, in_error, queued, runs_under, waits_under, is_abort, is_clear, stands, fresh}
+use Rattle.protocol_model.specs.Server.{Server, Answer, runs_under, waits_under, is_abort, is_clear, stands, fresh}
 use Rattle.protocol_model.specs.Server.{tagged, server_read, refusal, carried_out, carried, taken, turned_to, server_turned, finished}
-use Rattle.protocol_model.specs.Server.{touched, machined, server_machined, may_end}
+use Rattle.protocol_model.specs.Server.{touched, machined, may_end}
 use Rattle.protocol_model.specs.Ends.{ServerEnd, new_server_end, front_served, serving_accepted, serving_fed, serving_read, serving_turned}
-use Rattle.protocol_model.specs.Ends.{serving_machined, serving_left, serving_restarted, serving_taken}
+use Rattle.protocol_model.specs.Ends.{serving_machined, serving_taken}
 use Rattle.protocol_model.specs.declared.lines.Line.{Line}
 use Rattle.protocol_model.specs.declared.lines.Waiting.{Waiting}
 use Rattle.protocol_model.specs.declared.machine.Outcome.{Outcome}
-use Rattle.server_core.specs.Serving.{may_turn}
 use Rattle.server_core.specs.Steady.{IsSteady, IsServing, AreStandard}
-use Rattle.server_core.specs.Calls.{Call, Accept, Feed, ReadOne, Turn, Machine, Leave, Restart, Sent, possible, done_by, behind_call}
+use Rattle.server_core.specs.Calls.{Call, Accept, Feed, ReadOne, Turn, Machine, Leave, Restart, Sent, possible, behind_call}
 use Rattle.server_core.specs.Calls.{behind_calls, reached, gives_up, completes_act, deed_of, IsDone, IsContactOf, RunsInError, StaysInError}
 use Rattle.server_core.specs.Calls.{IsFull, RanBefore, IsEndOfEarlier}
 use Rattle.server_core.proofs.Steadies.{branch, none_some, not_empty, nothing_runs, empty_waits, accepted_steady, fed_steady, read_steady}
@@ -33,7 +32,6 @@ use Rattle.server_core.proofs.Steadies.{turned_steady, machined_steady, left_ste
 use Rattle.server_core.proofs.Standards.{read_standard, turned_standard, machined_standard}
 use Rattle.server_core.proofs.Deeds.{chosen, call_done, act_due, contact_of_call}
 use Rattle.protocol_model.specs.Claims.{Made, contacts}
-use Rattle.protocol_model.specs.Plan.{is_empty}
 
 -- ---- what holds at any time
 

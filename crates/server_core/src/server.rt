@@ -19,7 +19,7 @@ use crate::controller::Controller;
 use crate::faults::ServerFault;
 use crate::view::View;
 use contact_ledger::ServerLedger;
-use line_framing::{Lines, LinesFault};
+use line_framing::{ByteQueue, Lines, LinesFault};
 use protocol_model::{Job, Outcome};
 use std::alloc::{AllocError, Global};
 use std::marker::Model;
@@ -36,7 +36,7 @@ use tool_rack::Setup;
 pub struct Server {
     controller: Controller,
     input: Lines,
-    out: Vec<u8>,
+    out: ByteQueue,
 }
 
 impl Model for Server {
@@ -46,13 +46,13 @@ impl Model for Server {
 
     ghost view = { λ s. record {
       setup = s.controller.setup;
-      end = record { server = s.controller.server; input = s.input; out = s.out.items };
+      end = record { server = s.controller.server; input = s.input; out = s.out.waiting };
     } };
 
     ghost use Rattle.server_core.specs.Steady.{IsServing};
 
     ghost invariant = { λ s.
-        IsServing (record { server = s.controller.server; input = s.input; out = s.out.items }) };
+        IsServing (record { server = s.controller.server; input = s.input; out = s.out.waiting }) };
 }
 
 impl Server {
@@ -65,7 +65,7 @@ impl Server {
         Ok(Server {
             controller,
             input: Lines::new(alloc),
-            out: Vec::new(alloc),
+            out: ByteQueue::new(alloc),
         })
     }
 
@@ -139,7 +139,11 @@ impl Server {
             return Err(ServerFault::Memory);
         }
         let line = &self.input.rest()[..length];
-        if self.controller.read_line(&mut self.out, line).is_err() {
+        if self
+            .controller
+            .read_line(self.out.as_mut_vec(), line)
+            .is_err()
+        {
             return Err(ServerFault::Memory);
         }
         self.input.drop_line(length);
@@ -170,7 +174,7 @@ impl Server {
         if self.out.reserve(ANSWER_MAX).is_err() {
             return Err(ServerFault::Memory);
         }
-        match self.controller.turn(&mut self.out) {
+        match self.controller.turn(self.out.as_mut_vec()) {
             Ok(()) => Ok(()),
             Err(AllocError) => Err(ServerFault::Memory),
         }
@@ -214,7 +218,7 @@ impl Server {
         if self.out.reserve(ANSWER_MAX).is_err() {
             return Err(ServerFault::Memory);
         }
-        match self.controller.end(&mut self.out, outcome) {
+        match self.controller.end(self.out.as_mut_vec(), outcome) {
             Ok(()) => Ok(()),
             Err(AllocError) => Err(ServerFault::Memory),
         }
@@ -253,7 +257,7 @@ impl Server {
     pub fn out(&self) -> &[u8]
         ensures { result.now ≡ self.now.end.out }
     {
-        self.out.as_slice()
+        self.out.waiting()
     }
 
     /// The first bytes of `out` were sent. The caller owes that there are so many. It takes no memory.
@@ -262,9 +266,7 @@ impl Server {
         requires { count ≤ length self.old.end.out }
         ensures { self.new ≡ with_end self.old (serving_taken count self.old.end) }
     {
-        let length = self.out.len();
-        self.out.copy_within(count..length, 0);
-        self.out.truncate(length - count);
+        self.out.take(count);
     }
 
     /// The setup.
