@@ -2,6 +2,7 @@
 
 ghost use Rattle.std.specs.Prelude.{◌≡◌, ◌≢◌, ◌↔◌, ◌⊎◌, ◌≤◌, ◌+◌, ◌&&◌, not, nat_le, true, false, None, Some, Ok, Err, length, IsTrue, IsOk, IfOk, IfErr, OnOk, OnErr, IfSome, IsSome, is_some, MatchOption};
 ghost use Rattle.std.specs.Result.{IsErrOf};
+ghost use Rattle.fixed_um.specs.Calls.{Leads};
 ghost use Rattle.line_framing.specs.Next.{next_of};
 ghost use Rattle.line_framing.specs.Framing.{IsLineDue};
 ghost use Rattle.protocol_model.specs.Open.{count_open};
@@ -20,9 +21,9 @@ use crate::sending::LINE_MAX;
 use contact_ledger::{Act, Feature, FeatureLedger};
 use dme_line::Command;
 use dmis_program::Program;
-use line_framing::{FramingFault, Lines, LinesFault};
+use line_framing::{ByteQueue, FramingFault, Lines, LinesFault};
 use protocol_model::{Cause, State};
-use std::alloc::{AllocError, Global};
+use std::alloc::Global;
 use std::marker::Model;
 
 /// The client of a measuring machine: it measures the features of a program through a server (I++ DME Interface version 1; its plan and
@@ -37,7 +38,7 @@ use std::marker::Model;
 pub struct Client {
     executor: Executor,
     input: Lines,
-    out: Vec<u8>,
+    out: ByteQueue,
 }
 
 impl Model for Client {
@@ -46,9 +47,9 @@ impl Model for Client {
 
     ghost Value = { ClientEnd };
 
-    ghost view = { λ c. record { client = c.executor; input = c.input; out = c.out.items } };
+    ghost view = { λ c. record { client = c.executor; input = c.input; out = c.out.waiting } };
 
-    ghost invariant = { λ c. IsReached (record { client = c.executor; input = c.input; out = c.out.items }) };
+    ghost invariant = { λ c. IsReached (record { client = c.executor; input = c.input; out = c.out.waiting }) };
 }
 
 /// The cause that a framing fault is for a client.
@@ -96,7 +97,7 @@ impl Client {
         Ok(Client {
             executor: Executor::new(alloc, program, features, window),
             input: Lines::new(alloc),
-            out: Vec::new(alloc),
+            out: ByteQueue::new(alloc),
         })
     }
 
@@ -104,18 +105,15 @@ impl Client {
     /// where the number is not above each earlier one or is above 4,000,000,000; `Faulted`, `Memory`.
     #[tactic(auto, using(crate::proofs::Reached::connected_reached, crate::proofs::Reached::same_reached))]
     pub fn connected(&mut self, number: u64) -> Result<(), ClientFault>
-        ensures ok { OnOk result (self.new ≡ end_connected number self.old) }
+        ensures leads { Leads result self.old self.new (end_connected number self.old) }
         ensures can { OnOk result (may_connect number self.old.client ≡ true) }
         ensures refused { IfErr result (λ fault.
             IsRefused (may_connect number self.old.client) self.old fault) }
-        ensures err { OnErr result (self.new ≡ self.old) }
     {
         if !self.executor.may_connect(number) {
             return Err(self.executor.refusal());
         }
-        if self.executor.connect(number).is_err() {
-            return Err(ClientFault::Memory);
-        }
+        self.executor.connect(number)?;
         self.input.clear();
         self.out.clear();
         Ok(())
@@ -141,17 +139,13 @@ impl Client {
             IsSendRefused (is_some (due self.old.client)) self.old self.new
             (end_sent self.old) fault) }
         ensures memory { IsErrOf result ClientFault.Memory → is_some (due self.old.client) ≡ true }
-        ensures bounded { length self.new.out ≤ length self.old.out + 202 }
+        ensures bounded { length self.new.out ≤ length self.old.out + LINE_MAX }
     {
         if !self.executor.may_send() {
             return Err(self.executor.refusal());
         }
-        if self.out.reserve(LINE_MAX).is_err() {
-            return Err(ClientFault::Memory);
-        }
-        if self.executor.send(&mut self.out).is_err() {
-            return Err(ClientFault::Memory);
-        }
+        self.out.reserve(LINE_MAX)?;
+        self.executor.send(self.out.as_mut_vec())?;
         if let Some(cause) = self.executor.fault_met() {
             return Err(ClientFault::Faulted(cause));
         }
@@ -161,11 +155,10 @@ impl Client {
     /// Takes bytes of the connection, however they were cut. `NotNow` on no connection, `Faulted`, `Memory`.
     #[tactic(auto, using(crate::proofs::Reached::fed_reached, crate::proofs::Reached::same_reached))]
     pub fn feed(&mut self, piece: &[u8]) -> Result<(), ClientFault>
-        ensures ok { OnOk result (self.new ≡ end_fed piece.now self.old) }
+        ensures leads { Leads result self.old self.new (end_fed piece.now self.old) }
         ensures can { OnOk result (may_read self.old.client ≡ true) }
         ensures refused { IfErr result (λ fault.
             IsRefused (may_read self.old.client) self.old fault) }
-        ensures err { OnErr result (self.new ≡ self.old) }
     {
         if !self.executor.may_read() {
             return Err(self.executor.refusal());
@@ -205,13 +198,7 @@ impl Client {
                 return Err(ClientFault::Faulted(cause_of(fault)));
             }
         };
-        if self
-            .executor
-            .hear_line(&self.input.rest()[..length])
-            .is_err()
-        {
-            return Err(ClientFault::Memory);
-        }
+        self.executor.hear_line(&self.input.rest()[..length])?;
         self.input.drop_line(length);
         match self.executor.fault_met() {
             Some(cause) => Err(ClientFault::Faulted(cause)),
@@ -238,17 +225,13 @@ impl Client {
             (end_aborted self.old) fault) }
         ensures memory { IsErrOf result ClientFault.Memory
             → may_abort self.old.client.state ≡ true }
-        ensures bounded { length self.new.out ≤ length self.old.out + 202 }
+        ensures bounded { length self.new.out ≤ length self.old.out + LINE_MAX }
     {
         if !self.executor.may_abort() {
             return Err(self.executor.refusal());
         }
-        if self.out.reserve(LINE_MAX).is_err() {
-            return Err(ClientFault::Memory);
-        }
-        if self.executor.send_abort(&mut self.out).is_err() {
-            return Err(ClientFault::Memory);
-        }
+        self.out.reserve(LINE_MAX)?;
+        self.executor.send_abort(self.out.as_mut_vec())?;
         if let Some(cause) = self.executor.fault_met() {
             return Err(ClientFault::Faulted(cause));
         }
@@ -259,19 +242,16 @@ impl Client {
     /// begun on this connection, `Faulted`, `Memory`.
     #[tactic(auto, using(crate::proofs::Reached::resumed_reached, crate::proofs::Reached::same_reached))]
     pub fn resume(&mut self) -> Result<(), ClientFault>
-        ensures ok { OnOk result (self.new ≡ end_resumed self.old) }
+        ensures leads { Leads result self.old self.new (end_resumed self.old) }
         ensures can { OnOk result (may_resume self.old.client self.old.client.state ≡ true) }
         ensures refused { IfErr result (λ fault.
             IsRefused (may_resume self.old.client self.old.client.state) self.old fault) }
-        ensures err { OnErr result (self.new ≡ self.old) }
     {
         if !self.executor.may_resume() {
             return Err(self.executor.refusal());
         }
-        match self.executor.resume() {
-            Ok(()) => Ok(()),
-            Err(AllocError) => Err(ClientFault::Memory),
-        }
+        self.executor.resume()?;
+        Ok(())
     }
 
     /// Gives the connection up: Done stays Done, all else is Apart; what was to be sent and the points of the unfinished feature are given
@@ -289,10 +269,9 @@ impl Client {
     /// count. `NotNow` where fewer features are held. Takes no memory.
     #[tactic(auto, using(crate::proofs::Reached::restarted_reached))]
     pub fn restart(&mut self, count: usize) -> Result<(), ClientFault>
-        ensures ok { OnOk result (self.new ≡ end_restarted count self.old) }
+        ensures leads { Leads result self.old self.new (end_restarted count self.old) }
         ensures can { IsOk result ↔ (count ≤ length self.old.client.table.tally.features) }
         ensures not_now { IfErr result (λ fault. fault ≡ ClientFault.NotNow) }
-        ensures err { OnErr result (self.new ≡ self.old) }
     {
         if count > self.features().len() {
             return Err(ClientFault::NotNow);
@@ -307,7 +286,7 @@ impl Client {
     pub fn out(&self) -> &[u8]
         ensures { result.now ≡ self.now.out }
     {
-        self.out.as_slice()
+        self.out.waiting()
     }
 
     /// The first bytes of `out` were sent. The caller owes that there are so many. Takes no memory.
@@ -316,9 +295,7 @@ impl Client {
         requires { count ≤ length self.old.out }
         ensures { self.new ≡ end_taken count self.old }
     {
-        let length = self.out.len();
-        self.out.copy_within(count..length, 0);
-        self.out.truncate(length - count);
+        self.out.take(count);
     }
 
     /// Whether it stands on a connection.

@@ -1,6 +1,6 @@
 // A client comes to a connection, and begins its plan again on it (this profile).
 
-ghost use Rattle.std.specs.Prelude.{◌≡◌, OnOk, OnErr};
+ghost use Rattle.fixed_um.specs.Calls.{Leads};
 ghost use Rattle.protocol_model.specs.Client.{client_connected, client_resumed};
 
 use crate::executor::Executor;
@@ -11,8 +11,7 @@ use std::alloc::AllocError;
 impl Executor {
     /// The client comes to a connection, with the plan for what is left of its program. Only want of memory is an `Err`.
     pub(crate) fn connect(&mut self, number: u64) -> Result<(), AllocError>
-        ensures ok { OnOk result (self.new ≡ client_connected number self.old) }
-        ensures err { OnErr result (self.new ≡ self.old) }
+        ensures { Leads result self.old self.new (client_connected number self.old) }
     {
         let completed = self.progress.features.list().len();
         let plan = plan(self.alloc, &self.program, completed, Start::NewConnection)?;
@@ -30,8 +29,7 @@ impl Executor {
 
     /// Measuring goes on behind the last completed feature, on the same connection. Only want of memory is an `Err`.
     pub(crate) fn resume(&mut self) -> Result<(), AllocError>
-        ensures ok { OnOk result (self.new ≡ client_resumed self.old) }
-        ensures err { OnErr result (self.new ≡ self.old) }
+        ensures { Leads result self.old self.new (client_resumed self.old) }
     {
         let completed = self.progress.features.list().len();
         let plan = plan(self.alloc, &self.program, completed, Start::SameConnection)?;

@@ -1,6 +1,10 @@
 // Why a call of a client is refused.
 
+ghost use Rattle.std.specs.Prelude.{◌≡◌};
+ghost use Rattle.client_core.specs.declared.faults.ClientFault.TheVariants.{Memory};
+
 use protocol_model::Cause;
+use std::alloc::AllocError;
 
 /// Why a call of a client is refused (this profile). The client is then as before, but for a call that meets its cause: that one takes
 /// effect, and features and counted acts stay.
@@ -12,6 +16,14 @@ pub enum ClientFault {
     Faulted(Cause),
     /// Want of memory.
     Memory,
+}
+
+impl From<AllocError> for ClientFault {
+    ghost from_gives = { λ _ given. given ≡ Memory };
+
+    fn from(_: AllocError) -> ClientFault {
+        ClientFault::Memory
+    }
 }
 
 /// Why no client is made (this profile).

@@ -1,6 +1,7 @@
 // What a client makes of a reply (this profile).
 
-ghost use Rattle.std.specs.Prelude.{◌≡◌, Some, false, OnOk, OnErr};
+ghost use Rattle.std.specs.Prelude.{◌≡◌, Some, false};
+ghost use Rattle.fixed_um.specs.Calls.{Leads};
 ghost use Rattle.dme_tags.specs.Answers.{cause_of, effect_heard};
 ghost use Rattle.dme_tags.specs.Opened.{heard};
 ghost use Rattle.protocol_model.specs.Replies.{Mark, tag_is};
@@ -116,8 +117,7 @@ impl Executor {
         requires ends { ends ≡ ends_abort self.old.abort tag Mark.Done }
         requires counts { effect_heard (heard (opened_of self.old) tag Mark.Done)
             ≡ Some (Effect.Count kind given.now) }
-        ensures ok { OnOk result (self.new ≡ client_read self.old tag Mark.Done) }
-        ensures err { OnErr result (self.new ≡ self.old) }
+        ensures { Leads result self.old self.new (client_read self.old tag Mark.Done) }
     {
         self.progress
             .count(self.alloc, self.program.features(), kind, given)?;
@@ -130,8 +130,7 @@ impl Executor {
 
     /// `%` is read under a tag. Only want of memory is an `Err`.
     pub(crate) fn hear_done(&mut self, tag: Tag) -> Result<(), AllocError>
-        ensures ok { OnOk result (self.new ≡ client_read self.old tag Mark.Done) }
-        ensures err { OnErr result (self.new ≡ self.old) }
+        ensures { Leads result self.old self.new (client_read self.old tag Mark.Done) }
     {
         if is_unasked(tag) {
             return Ok(());

@@ -3,6 +3,7 @@
 ghost use Rattle.std.specs.Prelude.{◌≡◌, OnOk, OnErr};
 ghost use Rattle.protocol_model.specs.Lines.{Readers, AreReaders};
 ghost use Rattle.protocol_model.specs.Ends.{given, response_read, line_read};
+ghost use Rattle.client_core.specs.Reads.{LeadsRead};
 
 use crate::executor::Executor;
 use crate::hearing::is_unasked;
@@ -32,9 +33,8 @@ impl Executor {
 
     /// A response is read. Only want of memory is an `Err`.
     fn hear(&mut self, response: &Response) -> Result<(), AllocError>
-        ensures ok { OnOk result ((readers : Readers) → AreReaders readers
-            → self.new ≡ response_read readers self.old response.now.tag response.now.mark) }
-        ensures err { OnErr result (self.new ≡ self.old) }
+        ensures { LeadsRead result self.old self.new
+            (λ readers. response_read readers self.old response.now.tag response.now.mark) }
     {
         let tag = response.tag;
         match &response.mark {

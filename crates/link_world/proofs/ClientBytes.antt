@@ -9,8 +9,8 @@ use Rattle.protocol_model.specs.declared.events.Event.TheVariants as event
 use Rattle.client_core.specs.Clients.{may_read}
 use Rattle.server_core.specs.Serving.{Serving}
 use Rattle.link_world.specs.declared.connection.Connection.{Connection}
-use Rattle.link_world.specs.Links.{Linked, link_of_connection, links_of, seen, with_world, IsReached}
-use Rattle.link_world.proofs.Linking.{links_get, link_down}
+use Rattle.link_world.specs.Links.{Linked, link_of_connection, links_of, fewer_down, seen, with_world, IsReached}
+use Rattle.link_world.proofs.Linking.{links_get, link_put}
 use Rattle.link_world.proofs.Reached.{reached_more, made}
 use Rattle.link_world.proofs.ClientWriting.{awake}
 use Rattle.link_world.proofs.ClientReading.{faulted_same}
@@ -33,42 +33,32 @@ here client server cs written at c h place some is =
     let number : at ≡ client.client.last - 1 = place ∙ ap (λ (n : ℕ). n - 1) same in
     ap (λ (n : ℕ). slice_index_or (links_of cs) n no_link) (sym number) ∙ links_get cs at c (omega (arith, place, some)) is
 
-down_may : (count : ℕ) (client : ClientEnd) (server : Serving) (cs : List Connection) (written : List ℕ) (at : ℕ) (c : Connection)
+pub down_may : (count : ℕ) (client : ClientEnd) (server : Serving) (cs : List Connection) (written : List ℕ) (at : ℕ) (c : Connection)
     → IsReached (seen client server cs written) → client.client.on ≡ true
-    → at ≡ length cs - 1 → 0 < length cs → c ≡ slice_index_or cs at c → (b : Bool) → has_some count c.down.waiting ≡ b
-    → can (event.Down count) (seen client server cs written).world ≡ b
-down_may count client server cs written at c h on place some is b some_is =
+    → at ≡ length cs - 1 → 0 < length cs → c ≡ slice_index_or cs at c
+    → can (event.Down count) (seen client server cs written).world ≡ has_some count c.down.waiting
+down_may count client server cs written at c h on place some is =
     let link = here client server cs written at c h place some is in
     let stays : not (world.is_faulted client.client.state) ≡ true =
     ap not (sym (faulted_same client.client.state) ∙ awake client server cs written h) in
     ap (λ (x : Bool). x && (not (world.is_faulted client.client.state) && has_some count (link_of (links_of cs) client.client.last).down))
     on
     ∙ (ap (λ (x : Bool). x && has_some count (link_of (links_of cs) client.client.last).down) stays
-    ∙ (ap (λ (l : Link). has_some count l.down) link ∙ some_is))
+    ∙ ap (λ (l : Link). has_some count l.down) link)
 
-pub down_can : (l : Linked) (count : ℕ) (client : ClientEnd) (server : Serving) (cs : List Connection) (written : List ℕ) (at : ℕ)
-    (c : Connection) (b : Bool) → l ≡ seen client server cs written → IsReached (seen client server cs written)
-    → client.client.on ≡ true → at ≡ length cs - 1 → 0 < length cs → c ≡ slice_index_or cs at c → has_some count c.down.waiting ≡ b
-    → can (event.Down count) l.world ≡ b
-down_can l count client server cs written at c b view h on place some is some_is =
-    subst (λ (k : Linked). can (event.Down count) k.world ≡ b) (sym view)
-    (down_may count client server cs written at c h on place some is b some_is)
-
-down_seen : (count : ℕ) (client after : ClientEnd) (server : Serving) (cs : List Connection) (written : List ℕ) (at : ℕ) (c d : Connection)
+pub down_seen : (count : ℕ) (client after : ClientEnd) (server : Serving) (cs : List Connection) (written : List ℕ) (at : ℕ) (c d : Connection)
     → IsReached (seen client server cs written) → at ≡ length cs - 1 → 0 < length cs → c ≡ slice_index_or cs at c
-    → after ≡ end_fed (take count c.down.waiting) client → d.up.waiting ≡ c.up.waiting → d.down.waiting ≡ drop count c.down.waiting
+    → after ≡ end_fed (take count c.down.waiting) client → link_of_connection d ≡ fewer_down count c
     → seen after server (slice_set cs at d) written ≡ with_world (seen client server cs written)
     (moved_down count (seen client server cs written).world)
-down_seen count client after server cs written at c d h place some is fed up down =
+down_seen count client after server cs written at c d h place some is fed down =
     let same : length cs ≡ client.client.last = made client server cs written h in
     let number : at ≡ client.client.last - 1 = place ∙ ap (λ (n : ℕ). n - 1) same in
     let link : link_of (links_of cs) client.client.last ≡ link_of_connection c = here client server cs written at c h place some is in
-    let bytes : d.down.waiting ≡ drop count (link_of (links_of cs) client.client.last).down = down
-    ∙ ap (λ (l : Link). drop count l.down) (sym link) in
     let links : links_of (slice_set cs at d) ≡ with_link (links_of cs) client.client.last
     (record (link_of (links_of cs) client.client.last) { down = drop count (link_of (links_of cs) client.client.last).down }) =
-    link_down cs at client.client.last c d (drop count (link_of (links_of cs) client.client.last).down) (omega (arith, place, some)) is
-    number up bytes in
+    link_put (λ (l : Link). record l { down = drop count l.down }) cs at client.client.last c d (omega (arith, place, some)) is number down
+    in
     let read : after ≡ end_fed (take count (link_of (links_of cs) client.client.last).down) client = fed
     ∙ ap (λ (l : Link). end_fed (take count l.down) client) (sym link) in
     ap (λ (x : ClientEnd). seen x server (slice_set cs at d) written) read
@@ -81,24 +71,3 @@ down_seen count client after server cs written at c d h place some is fed up dow
         written = written;
       };
     }) links
-
-pub down_is : (l : Linked) (count : ℕ) (client after : ClientEnd) (server : Serving) (cs : List Connection) (written : List ℕ) (at : ℕ)
-    (c d : Connection)
-    → l ≡ seen client server cs written → IsReached (seen client server cs written) → at ≡ length cs - 1 → 0 < length cs
-    → c ≡ slice_index_or cs at c
-    → after ≡ end_fed (take count c.down.waiting) client → d.up.waiting ≡ c.up.waiting → d.down.waiting ≡ drop count c.down.waiting
-    → seen after server (slice_set cs at d) written ≡ with_world l (moved_down count l.world)
-down_is l count client after server cs written at c d view h place some is fed up down =
-    down_seen count client after server cs written at c d h place some is fed up down
-    ∙ ap (λ (k : Linked). with_world k (moved_down count k.world)) (sym view)
-
-pub down_reached : (count : ℕ) (client after : ClientEnd) (server : Serving) (cs : List Connection) (written : List ℕ) (at : ℕ)
-    (c d : Connection)
-    → IsReached (seen client server cs written) → client.client.on ≡ true → at ≡ length cs - 1 → 0 < length cs → c ≡ slice_index_or cs at c
-    → has_some count c.down.waiting ≡ true
-    → after ≡ end_fed (take count c.down.waiting) client → d.up.waiting ≡ c.up.waiting → d.down.waiting ≡ drop count c.down.waiting
-    → IsReached (seen after server (slice_set cs at d) written)
-down_reached count client after server cs written at c d h on place some is some_is fed up down =
-    reached_more (seen client server cs written) (seen after server (slice_set cs at d) written) (event.Down count) h
-    (down_may count client server cs written at c h on place some is true some_is)
-    (λ readers are. down_seen count client after server cs written at c d h place some is fed up down)

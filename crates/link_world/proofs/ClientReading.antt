@@ -154,3 +154,9 @@ pub line_can : (client : ClientEnd) (server : Serving) (cs : List Connection) (w
 line_can client server cs written h on due =
     and_from _ _ on (and_from _ _ (subst (λ (b : Bool). not b ≡ true) (faulted_same client.client.state)
     (ap not (awake client server cs written h))) (any_line (next_of client.input.rest) due))
+
+-- memory is wanting only for a line that is there
+pub wanted_for : (fault : ClientFault) → refused_by fault ≡ world_fault.Memory → fault ≡ client_fault.Memory
+wanted_for client_fault.NotNow e = absurd (cc)
+wanted_for (client_fault.Faulted cause) e = absurd (cc)
+wanted_for client_fault.Memory e = refl

@@ -14,8 +14,8 @@ use Rattle.protocol_model.proofs.whole_run.Carrying.{lined, IsCarried}
 use Rattle.client_core.specs.Clients.{is_faulted}
 use Rattle.server_core.specs.Serving.{Serving}
 use Rattle.link_world.specs.declared.connection.Connection.{Connection}
-use Rattle.link_world.specs.Links.{Linked, link_of_connection, links_of, quiet_client, seen, with_world, IsReached}
-use Rattle.link_world.proofs.Linking.{links_same, link_up}
+use Rattle.link_world.specs.Links.{Linked, link_of_connection, links_of, quiet_client, with_up, seen, with_world, IsReached}
+use Rattle.link_world.proofs.Linking.{links_same, link_put}
 use Rattle.link_world.proofs.Reached.{carried, reached_more, made, agree, never_faulted_behind}
 
 -- ---- where it may write it is on a connection
@@ -89,23 +89,18 @@ abort_fine client server cs written h may = awake_state (end_aborted client).cli
 
 -- ---- what is written
 
-writes_seen : (client after : ClientEnd) (server : Serving) (cs : List Connection) (written now : List ℕ) (at : ℕ) (c d : Connection)
+pub writes_seen : (client after : ClientEnd) (server : Serving) (cs : List Connection) (written now : List ℕ) (at : ℕ) (c d : Connection)
     (e : ClientEnd)
     → IsReached (seen client server cs written) → at ≡ length cs - 1 → 0 < length cs → c ≡ slice_index_or cs at c
-    → after ≡ quiet_client e → d.up.waiting ≡ c.up.waiting ++ e.out → d.down.waiting ≡ c.down.waiting → now ≡ written ++ e.out
+    → after ≡ quiet_client e → link_of_connection d ≡ with_up c e.out → now ≡ written ++ e.out
     → seen after server (slice_set cs at d) now ≡ with_world (seen client server cs written)
     (client_writes (seen client server cs written).world e)
-writes_seen client after server cs written now at c d e h place some is quiet up down text =
+writes_seen client after server cs written now at c d e h place some is quiet up text =
     let same : length cs ≡ client.client.last = made client server cs written h in
     let number : at ≡ client.client.last - 1 = place ∙ ap (λ (n : ℕ). n - 1) same in
-    let short : at < length cs = omega (arith, place, some) in
-    let here : link_of (links_of cs) client.client.last ≡ link_of_connection c =
-    ap (λ (n : ℕ). slice_index_or (links_of cs) n Rattle.protocol_model.specs.World.no_link) (sym number)
-    ∙ Rattle.link_world.proofs.Linking.links_get cs at c short is in
-    let bytes : d.up.waiting ≡ (link_of (links_of cs) client.client.last).up ++ e.out = up ∙ ap (λ (l : Link). l.up ++ e.out) (sym here) in
     let links : links_of (slice_set cs at d) ≡ with_link (links_of cs) client.client.last
     (record (link_of (links_of cs) client.client.last) { up = (link_of (links_of cs) client.client.last).up ++ e.out }) =
-    link_up cs at client.client.last c d ((link_of (links_of cs) client.client.last).up ++ e.out) short is number bytes down in
+    link_put (λ (l : Link). record l { up = l.up ++ e.out }) cs at client.client.last c d (omega (arith, place, some)) is number up in
     ap (λ (x : ClientEnd). seen x server (slice_set cs at d) now) quiet
     ∙ (ap (λ (l : List Link). record {
       setup = server.setup;
@@ -127,49 +122,6 @@ writes_seen client after server cs written now at c d e h place some is quiet up
       };
     }) text)
 
-pub sends_is : (l : Linked) (client after : ClientEnd) (server : Serving) (cs : List Connection) (written now : List ℕ) (at : ℕ)
-    (c d : Connection)
-    → l ≡ seen client server cs written → IsReached (seen client server cs written) → at ≡ length cs - 1 → 0 < length cs
-    → c ≡ slice_index_or cs at c
-    → after ≡ quiet_client (end_sent client) → d.up.waiting ≡ c.up.waiting ++ (end_sent client).out → d.down.waiting ≡ c.down.waiting
-    → now ≡ written ++ (end_sent client).out
-    → seen after server (slice_set cs at d) now ≡ with_world l (client_writes l.world (end_sent l.world.client))
-sends_is l client after server cs written now at c d view h place some is quiet up down text =
-    writes_seen client after server cs written now at c d (end_sent client) h place some is quiet up down text
-    ∙ ap (λ (k : Linked). with_world k (client_writes k.world (end_sent k.world.client))) (sym view)
-
-pub aborts_is : (l : Linked) (client after : ClientEnd) (server : Serving) (cs : List Connection) (written now : List ℕ) (at : ℕ)
-    (c d : Connection)
-    → l ≡ seen client server cs written → IsReached (seen client server cs written) → at ≡ length cs - 1 → 0 < length cs
-    → c ≡ slice_index_or cs at c
-    → after ≡ quiet_client (end_aborted client) → d.up.waiting ≡ c.up.waiting ++ (end_aborted client).out → d.down.waiting ≡ c.down.waiting
-    → now ≡ written ++ (end_aborted client).out
-    → seen after server (slice_set cs at d) now ≡ with_world l (client_writes l.world (end_aborted l.world.client))
-aborts_is l client after server cs written now at c d view h place some is quiet up down text =
-    writes_seen client after server cs written now at c d (end_aborted client) h place some is quiet up down text
-    ∙ ap (λ (k : Linked). with_world k (client_writes k.world (end_aborted k.world.client))) (sym view)
-
-pub sent_reached : (client after : ClientEnd) (server : Serving) (cs : List Connection) (written now : List ℕ) (at : ℕ) (c d : Connection)
-    → IsReached (seen client server cs written) → at ≡ length cs - 1 → 0 < length cs → c ≡ slice_index_or cs at c
-    → is_some (due client.client) ≡ true
-    → after ≡ quiet_client (end_sent client) → d.up.waiting ≡ c.up.waiting ++ (end_sent client).out → d.down.waiting ≡ c.down.waiting
-    → now ≡ written ++ (end_sent client).out
-    → IsReached (seen after server (slice_set cs at d) now)
-sent_reached client after server cs written now at c d h place some is may quiet up down text =
-    reached_more (seen client server cs written) (seen after server (slice_set cs at d) now) event.ClientSends h may
-    (λ readers are. writes_seen client after server cs written now at c d (end_sent client) h place some is quiet up down text)
-
-pub aborted_reached : (client after : ClientEnd) (server : Serving) (cs : List Connection) (written now : List ℕ) (at : ℕ)
-    (c d : Connection)
-    → IsReached (seen client server cs written) → at ≡ length cs - 1 → 0 < length cs → c ≡ slice_index_or cs at c
-    → may_abort client.client.state ≡ true
-    → after ≡ quiet_client (end_aborted client) → d.up.waiting ≡ c.up.waiting ++ (end_aborted client).out → d.down.waiting ≡ c.down.waiting
-    → now ≡ written ++ (end_aborted client).out
-    → IsReached (seen after server (slice_set cs at d) now)
-aborted_reached client after server cs written now at c d h place some is may quiet up down text =
-    reached_more (seen client server cs written) (seen after server (slice_set cs at d) now) event.Abort h may
-    (λ readers are. writes_seen client after server cs written now at c d (end_aborted client) h place some is quiet up down text)
-
 -- nothing is written
 pub same_seen : (l : Linked) (client after : ClientEnd) (server : Serving) (cs : List Connection) (written now : List ℕ) (at : ℕ)
     (c d : Connection)
@@ -181,10 +133,3 @@ same_seen l client after server cs written now at c d view place some is same li
       world = record { client = client; server = server.end; links = x; written = written };
     })
     (links_same cs at c d (omega (arith, place, some)) is link) ∙ sym view)
-
-pub same_reached : (client after : ClientEnd) (server : Serving) (cs : List Connection) (written now : List ℕ) (at : ℕ) (c d : Connection)
-    → IsReached (seen client server cs written) → at ≡ length cs - 1 → 0 < length cs → c ≡ slice_index_or cs at c
-    → after ≡ client → link_of_connection d ≡ link_of_connection c → now ≡ written → IsReached (seen after server (slice_set cs at d) now)
-same_reached client after server cs written now at c d h place some is same link text =
-    subst IsReached (sym (same_seen (seen client server cs written) client after server cs written now at c d refl place some is same link
-    text)) h

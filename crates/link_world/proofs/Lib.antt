@@ -9,3 +9,4 @@ pub mod ServerAnswers
 pub mod Running
 pub mod Undisturbed
 pub mod SameKind
+pub mod Events

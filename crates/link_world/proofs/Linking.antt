@@ -29,28 +29,12 @@ links_same (b ∷ cs) zero c d short is same = ap (λ (l : Link). l ∷ links_of
 links_same (b ∷ cs) (suc at) c d short is same = ap (λ (l : List Link). link_of_connection b ∷ l)
     (links_same cs at c d (omega (arith, short)) is same)
 
--- other bytes up, on the connection of this number
-pub link_up : (cs : List Connection) (at number : ℕ) (c d : Connection) (bytes : List ℕ) → at < length cs → c ≡ slice_index_or cs at c
-    → at ≡ number - 1 → d.up.waiting ≡ bytes → d.down.waiting ≡ c.down.waiting
-    → links_of (slice_set cs at d) ≡ with_link (links_of cs) number (record (link_of (links_of cs) number) { up = bytes })
-link_up cs at number c d bytes short is same up down =
+-- other bytes, on the connection of this number
+pub link_put : (f : Link → Link) (cs : List Connection) (at number : ℕ) (c d : Connection) → at < length cs → c ≡ slice_index_or cs at c
+    → at ≡ number - 1 → link_of_connection d ≡ f (link_of_connection c)
+    → links_of (slice_set cs at d) ≡ with_link (links_of cs) number (f (link_of (links_of cs) number))
+link_put f cs at number c d short is same put =
     let here : link_of (links_of cs) number ≡ link_of_connection c = ap (λ (n : ℕ). slice_index_or (links_of cs) n no_link) (sym same)
     ∙ links_get cs at c short is in
-    let put : link_of_connection d ≡ record (link_of (links_of cs) number) { up = bytes } =
-    ap (λ (l : List ℕ). record { up = l; down = d.down.waiting }) up
-    ∙ (ap (λ (l : List ℕ). record { up = bytes; down = l }) down ∙ ap (λ (l : Link). record { up = bytes; down = l.down }) (sym here)) in
-    links_set cs at d ∙ (ap (λ (l : Link). slice_set (links_of cs) at l) put
-    ∙ ap (λ (n : ℕ). slice_set (links_of cs) n (record (link_of (links_of cs) number) { up = bytes })) same)
-
--- other bytes down
-pub link_down : (cs : List Connection) (at number : ℕ) (c d : Connection) (bytes : List ℕ) → at < length cs → c ≡ slice_index_or cs at c
-    → at ≡ number - 1 → d.up.waiting ≡ c.up.waiting → d.down.waiting ≡ bytes
-    → links_of (slice_set cs at d) ≡ with_link (links_of cs) number (record (link_of (links_of cs) number) { down = bytes })
-link_down cs at number c d bytes short is same up down =
-    let here : link_of (links_of cs) number ≡ link_of_connection c = ap (λ (n : ℕ). slice_index_or (links_of cs) n no_link) (sym same)
-    ∙ links_get cs at c short is in
-    let put : link_of_connection d ≡ record (link_of (links_of cs) number) { down = bytes } =
-    ap (λ (l : List ℕ). record { up = d.up.waiting; down = l }) down
-    ∙ (ap (λ (l : List ℕ). record { up = l; down = bytes }) up ∙ ap (λ (l : Link). record { up = l.up; down = bytes }) (sym here)) in
-    links_set cs at d ∙ (ap (λ (l : Link). slice_set (links_of cs) at l) put
-    ∙ ap (λ (n : ℕ). slice_set (links_of cs) n (record (link_of (links_of cs) number) { down = bytes })) same)
+    links_set cs at d ∙ (ap (λ (l : Link). slice_set (links_of cs) at l) (put ∙ ap f (sym here))
+    ∙ ap (λ (n : ℕ). slice_set (links_of cs) n (f (link_of (links_of cs) number))) same)

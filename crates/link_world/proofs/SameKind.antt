@@ -1,11 +1,11 @@
 -- No event changes the setup, the program or the window.
 use Rattle.std.proofs.Common.{◌≡◌, true, [], ◌∷◌, refl, sym, ◌∙◌, ap, Result, Ok, Err}
-use Rattle.std.specs.Prelude.{OnOk, OnErr}
 use Rattle.protocol_model.specs.Lines.{Readers, AreReaders}
 use Rattle.protocol_model.specs.World.{World, can, happens}
 use Rattle.protocol_model.specs.declared.events.Event.{Event}
 use Rattle.protocol_model.proofs.written_lines.ReadersExist.{some_are_readers}
 use Rattle.protocol_model.proofs.whole_run.SameProgram.{run_same, run_window}
+use Rattle.link_world.specs.Events.{HappensIf, LeadsRead}
 use Rattle.link_world.specs.Links.{Linked, with_world}
 use Rattle.link_world.specs.declared.faults.WorldFault.{WorldFault}
 use Rattle.link_world.proofs.Undisturbed.{after_can}
@@ -31,11 +31,11 @@ same_kind l m e may is =
           ∙ run_window some_are_readers.0 (e ∷ []) l.world);
     }
 
-pub same_behind : (l m : Linked) (e : Event) (r : Result (Unit {0}) WorldFault) → OnOk r (can e l.world ≡ true)
-    → OnOk r ((readers : Readers) → AreReaders readers → m ≡ with_world l (happens readers e l.world)) → OnErr r (m ≡ l) → IsSameKind l m
-same_behind l m e (Ok u) may is stays = same_kind l m e may is
-same_behind l m e (Err fault) may is stays = record {
-  setup = ap (λ (k : Linked). k.setup) stays;
-  program = ap (λ (k : Linked). k.world.client.client.program) stays;
-  window = ap (λ (k : Linked). k.world.client.client.window) stays;
+pub same_behind : (l m : Linked) (e : Event) (r : Result (Unit {0}) WorldFault) → HappensIf r (can e l.world)
+    → LeadsRead r l m (λ readers. with_world l (happens readers e l.world)) → IsSameKind l m
+same_behind l m e (Ok u) may leads = same_kind l m e may.0 leads.0
+same_behind l m e (Err fault) may leads = record {
+  setup = ap (λ (k : Linked). k.setup) leads.1;
+  program = ap (λ (k : Linked). k.world.client.client.program) leads.1;
+  window = ap (λ (k : Linked). k.world.client.client.window) leads.1;
 }

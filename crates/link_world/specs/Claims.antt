@@ -11,6 +11,8 @@ use Rattle.protocol_model.specs.declared.plans.Start.{Start}
 use Rattle.protocol_model.specs.declared.states.State.{State}
 use Rattle.client_core.specs.declared.faults.ClientFault.{ClientFault}
 use Rattle.client_core.specs.declared.faults.ClientFault.TheVariants as client_fault
+use Rattle.server_core.specs.declared.faults.ServerFault.{ServerFault}
+use Rattle.server_core.specs.declared.faults.ServerFault.TheVariants as server_fault
 use Rattle.link_world.specs.declared.faults.WorldFault.{WorldFault}
 use Rattle.link_world.specs.declared.faults.WorldFault.TheVariants as world_fault
 use Rattle.link_world.specs.declared.faults.NewFault.{NewFault}
@@ -71,3 +73,8 @@ abbrev pub refused_by : ClientFault → WorldFault
 refused_by client_fault.NotNow = world_fault.NotNow
 refused_by (client_fault.Faulted cause) = world_fault.NotNow
 refused_by client_fault.Memory = world_fault.Memory
+
+-- the same of the server
+abbrev pub refused_by_server : ServerFault → WorldFault
+refused_by_server server_fault.Memory = world_fault.Memory
+refused_by_server _ = world_fault.NotNow

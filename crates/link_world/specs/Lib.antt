@@ -1,4 +1,5 @@
 pub mod Wires
 pub mod Links
+pub mod Events
 pub mod Claims
 pub mod Runs

@@ -1,5 +1,5 @@
 -- Both ends and their connections, as the definitions see them (this profile).
-use Rattle.std.specs.Prelude.{◌≡◌, ℕ, ◌≤◌, List, [], ◌∷◌}
+use Rattle.std.specs.Prelude.{◌≡◌, ℕ, ◌≤◌, List, [], ◌∷◌, ◌++◌, true, length, drop}
 use Rattle.dmis_program.specs.Meaning.{Meaning}
 use Rattle.dmis_program.specs.Programs.{IsProgram}
 use Rattle.tool_rack.specs.Setups.{SetupValue}
@@ -13,6 +13,24 @@ use Rattle.link_world.specs.declared.connection.Connection.{Connection}
 -- the bytes of a connection, without the room for more
 abbrev pub link_of_connection : Connection → Link
 link_of_connection c = record { up = c.up.waiting; down = c.down.waiting }
+
+-- a server that stands on a connection stands on one of these
+abbrev pub StandsOn : ServerEnd → List Connection → Type 0
+StandsOn e cs = (e.server.on ≡ true → 1 ≤ e.server.last) × (e.server.last ≤ length cs)
+
+-- the bytes of a connection, and what a side wrote behind them
+abbrev pub with_up : Connection → List ℕ → Link
+with_up c text = record { up = c.up.waiting ++ text; down = c.down.waiting }
+
+abbrev pub with_down : Connection → List ℕ → Link
+with_down c text = record { up = c.up.waiting; down = c.down.waiting ++ text }
+
+-- the same without the first bytes of one way
+abbrev pub fewer_up : ℕ → Connection → Link
+fewer_up count c = record { up = drop count c.up.waiting; down = c.down.waiting }
+
+abbrev pub fewer_down : ℕ → Connection → Link
+fewer_down count c = record { up = c.up.waiting; down = drop count c.down.waiting }
 
 -- the same of all connections, in order
 abbrev pub links_of : List Connection → List Link

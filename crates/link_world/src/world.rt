@@ -6,6 +6,7 @@ ghost use Rattle.protocol_model.specs.Lines.{Readers, AreReaders};
 ghost use Rattle.protocol_model.specs.Server.{running_job};
 ghost use Rattle.protocol_model.specs.World.{start, can, happens, run_of};
 ghost use Rattle.protocol_model.specs.Undisturbed.{AreUndisturbed, AreFirstLines, acts_planned, AreFirstActs, acts_in, AreFirstOf};
+ghost use Rattle.link_world.specs.Events.{HappensIf, LeadsRead};
 ghost use Rattle.link_world.specs.Links.{with_world};
 ghost use Rattle.link_world.specs.Runs.{HasRun};
 ghost use Rattle.link_world.specs.Claims.{IsSound, IsTold, DoNotDisagree, IsNew, first_plan, is_window, HandsBack, IsWant, takes_memory, reads};
@@ -91,15 +92,12 @@ impl World {
 
     /// An event happens, if it can; which, the functions of each say.
     fn happen(&mut self, event: Event) -> Result<(), WorldFault>
-        ensures can { OnOk result (can event self.old.world ≡ true) }
-        ensures not_now { IsErrOf result WorldFault.NotNow → can event self.old.world ≡ false }
+        ensures can { HappensIf result (can event self.old.world) }
         ensures takes { IsErrOf result WorldFault.Memory → takes_memory event ≡ true }
-        ensures memory { IsErrOf result WorldFault.Memory → can event self.old.world ≡ true }
-        ensures ok { OnOk result ((readers : Readers) → AreReaders readers
-            → self.new ≡ with_world self.old (happens readers event self.old.world)) }
+        ensures world { LeadsRead result self.old self.new
+            (λ readers. with_world self.old (happens readers event self.old.world)) }
         ensures unread { reads event ≡ false → OnOk result ((readers : Readers)
             → self.new ≡ with_world self.old (happens readers event self.old.world)) }
-        ensures err { OnErr result (self.new ≡ self.old) }
     {
         match event {
             Event::Connect => self.connect(),
