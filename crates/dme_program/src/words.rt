@@ -32,6 +32,17 @@ pub enum WordsFault {
     Memory,
 }
 
+impl From<AllocError> for WordsFault {
+    ghost use Rattle.std.specs.Prelude.{◌≡◌};
+    ghost use Rattle.dme_program.specs.declared.words.WordsFault.TheVariants as fault;
+
+    ghost from_gives = { λ _ e. e ≡ fault.Memory };
+
+    fn from(_error: AllocError) -> WordsFault {
+        WordsFault::Memory
+    }
+}
+
 /// `--setup FILE`.
 fn setup_option<'a>(alloc: Global) -> Arg<'a>
     ensures rule { rule_of result ≡ setup_rule }
@@ -127,7 +138,7 @@ fn answered(alloc: Global, answer: Result<ArgMatches, Error>) -> Result<Order, W
     ensures refused { IfErr answer.entry (λ error. IsErrAnd result (IsCalled error)) }
 {
     match answer {
-        Ok(matches) => order_of(alloc, &matches).map_err(|_| WordsFault::Memory),
+        Ok(matches) => Ok(order_of(alloc, &matches)?),
         Err(error) => Err(refusal_of(error)),
     }
 }
