@@ -151,8 +151,6 @@ pub fn read_words<'a>(alloc: Global, words: &'a [&'a str]) -> Result<Order, Word
     ensures order { IfOk result (Asks (map (λ word. word.now) words.now)) }
     ensures refused { IfErr result (IsRefusal (map (λ word. word.now) words.now)) }
 {
-    let Ok(command) = whole_command(alloc) else {
-        return Err(WordsFault::Memory);
-    };
+    let command = whole_command(alloc)?;
     answered(alloc, command.try_get_matches_from(words))
 }
