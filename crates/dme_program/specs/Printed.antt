@@ -5,8 +5,15 @@ use Rattle.dmis_program.specs.declared.faults.ProgramFault.TheVariants as progra
 use Rattle.dme_program.specs.declared.check.CheckFault.TheVariants as check
 use Rattle.dme_program.specs.declared.orders.OrderFault.{OrderFault}
 use Rattle.dme_program.specs.declared.orders.OrderFault.TheVariants as order
+use Rattle.dme_program.specs.declared.words.WordsFault.{WordsFault}
+use Rattle.dme_program.specs.declared.words.WordsFault.TheVariants as words
 use Rattle.dme_program.specs.declared.faults.Fault.{Fault}
 use Rattle.dme_program.specs.declared.faults.Fault.TheVariants as fault
+
+-- what is shown for words that ask for nothing
+abbrev pub words_shown : WordsFault → Fault
+words_shown (words.Line error) = fault.Words error
+words_shown words.Memory = fault.Memory
 
 -- 1 for input that is refused and for files, 2 for the command line, 4 for want of memory
 abbrev pub status_of : Fault → ℕ

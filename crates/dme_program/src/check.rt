@@ -2,7 +2,7 @@
 
 ghost use Rattle.std.specs.Prelude.{◌≡◌, ◌⊎◌, ◌<◌, ◌≤◌, ◌*◌, length, Some, [], true, false, OnOk, IfOk, IfErr, IfSome, IsErrOf};
 ghost use Rattle.dmis_program.specs.Meaning.{program_of};
-ghost use Rattle.dme_program.specs.Checked.{IsUnread, told_as, Prints, PrintsFront, BlamesProgram, UnlessWrite, IsNotWrite, HasText};
+ghost use Rattle.dme_program.specs.Checked.{IsUnread, Prints, PrintsFront, BlamesProgram, UnlessWrite, IsNotWrite, HasText};
 
 use crate::plan::plan_text;
 use byte_ports::{Failed, PullFault, Sink, Source, pull_all, push_all};
@@ -22,13 +22,28 @@ pub enum CheckFault {
     Memory,
 }
 
-/// What a source is called whose end was not reached.
-pub(crate) fn input_fault(fault: PullFault) -> CheckFault
-    ensures { result ≡ told_as fault }
-{
-    match fault {
-        PullFault::Failed | PullFault::TooMany => CheckFault::Read,
-        PullFault::Memory => CheckFault::Memory,
+impl From<PullFault> for CheckFault {
+    ghost use Rattle.std.specs.Prelude.{◌≡◌};
+    ghost use Rattle.dme_program.specs.Checked.{told_as};
+
+    ghost from_gives = { λ fault e. e ≡ told_as fault };
+
+    fn from(fault: PullFault) -> CheckFault {
+        match fault {
+            PullFault::Failed | PullFault::TooMany => CheckFault::Read,
+            PullFault::Memory => CheckFault::Memory,
+        }
+    }
+}
+
+impl From<AllocError> for CheckFault {
+    ghost use Rattle.std.specs.Prelude.{◌≡◌};
+    ghost use Rattle.dme_program.specs.declared.check.CheckFault.TheVariants as fault;
+
+    ghost from_gives = { λ _ e. e ≡ fault.Memory };
+
+    fn from(_error: AllocError) -> CheckFault {
+        CheckFault::Memory
     }
 }
 
@@ -45,7 +60,7 @@ pub(crate) fn read_input<R: Source>(alloc: Global, source: &mut R) -> Result<Vec
         → IsErrOf result CheckFault.Read }
     ensures told { IfErr result (λ fault. (fault ≡ CheckFault.Read) ⊎ (fault ≡ CheckFault.Memory)) }
 {
-    pull_all(alloc, source, 1_000_000).map_err(input_fault)
+    Ok(pull_all(alloc, source, 1_000_000)?)
 }
 
 /// The program that the input is.
@@ -87,10 +102,7 @@ fn checked_text<R: Source>(
 {
     let input = read_input(alloc, source)?;
     let program = read_program(alloc, input.as_slice(), frames)?;
-    match plan_text(alloc, &program) {
-        Ok(text) => Ok(text),
-        Err(AllocError) => Err(CheckFault::Memory),
-    }
+    Ok(plan_text(alloc, &program)?)
 }
 
 /// Reads a DMIS program to the end of its input, in at most a million pulls of at most 65,536 bytes, and writes the command lines

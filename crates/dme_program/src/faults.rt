@@ -6,8 +6,10 @@ ghost use Rattle.dme_program.specs.Printed.{status_of, IsShown};
 
 use crate::check::CheckFault;
 use crate::orders::OrderFault;
+use crate::words::WordsFault;
 use clap::Error as WordsError;
 use dmis_program::ProgramFault;
+use std::alloc::{AllocError, AllocFailed};
 use thiserror::Error;
 use tool_rack::SetupFault;
 
@@ -32,6 +34,42 @@ pub enum Fault {
     /// Want of memory.
     #[error("dme: out of memory\n")]
     Memory,
+}
+
+impl From<WordsFault> for Fault {
+    ghost use Rattle.std.specs.Prelude.{◌≡◌};
+    ghost use Rattle.dme_program.specs.Printed.{words_shown};
+
+    ghost from_gives = { λ fault e. e ≡ words_shown fault };
+
+    fn from(fault: WordsFault) -> Fault {
+        match fault {
+            WordsFault::Line(error) => Fault::Words(error),
+            WordsFault::Memory => Fault::Memory,
+        }
+    }
+}
+
+impl From<AllocError> for Fault {
+    ghost use Rattle.std.specs.Prelude.{◌≡◌};
+    ghost use Rattle.dme_program.specs.declared.faults.Fault.TheVariants as fault;
+
+    ghost from_gives = { λ _ e. e ≡ fault.Memory };
+
+    fn from(_error: AllocError) -> Fault {
+        Fault::Memory
+    }
+}
+
+impl<T: Drop> From<AllocFailed<T>> for Fault {
+    ghost use Rattle.std.specs.Prelude.{◌≡◌};
+    ghost use Rattle.dme_program.specs.declared.faults.Fault.TheVariants as fault;
+
+    ghost from_gives = { λ _ e. e ≡ fault.Memory };
+
+    fn from(_error: AllocFailed<T>) -> Fault {
+        Fault::Memory
+    }
 }
 
 impl Fault {

@@ -39,8 +39,9 @@ fn read_setup<S: Source>(alloc: Global, source: &mut S) -> Result<Setup, OrderFa
 {
     let text = match read_input(alloc, source) {
         Ok(text) => text,
+        Err(CheckFault::Read) => return Err(OrderFault::SetupRead),
         Err(CheckFault::Memory) => return Err(OrderFault::Check(CheckFault::Memory)),
-        Err(_) => return Err(OrderFault::SetupRead),
+        Err(CheckFault::Program(_) | CheckFault::Write) => unreachable!(),
     };
     match Setup::read(alloc, text.as_slice()) {
         Ok(setup) => Ok(setup),

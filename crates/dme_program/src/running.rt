@@ -5,7 +5,7 @@ ghost use Rattle.std.specs.Prelude.{◌≡◌, true, is_some, IsErrOf};
 use crate::faults::{Fault, shown_fault};
 use crate::files::NamedSource;
 use crate::orders::{OrderFault, check_under_setup};
-use crate::words::{Order, WordsFault, read_words};
+use crate::words::{Order, read_words};
 use byte_ports::Writing;
 use std::env::{self, Env};
 use std::io;
@@ -17,23 +17,13 @@ fn read_order<R: Env + AllocGlobal>(rt: &R) -> Result<Order, Fault> {
     let Ok(given) = env::args(rt) else {
         return Err(Fault::Memory);
     };
-    let Ok(given) = given.collect::<Vec<String>>(alloc) else {
-        return Err(Fault::Memory);
-    };
+    let given = given.collect::<Vec<String>>(alloc)?;
     let mut words = Vec::new(alloc);
-    let Ok(()) = words.push("dme") else {
-        return Err(Fault::Memory);
-    };
+    words.push("dme")?;
     for word in given.iter().skip(1) {
-        let Ok(()) = words.push(word.as_str()) else {
-            return Err(Fault::Memory);
-        };
+        words.push(word.as_str())?;
     }
-    match read_words(alloc, words.as_slice()) {
-        Ok(order) => Ok(order),
-        Err(WordsFault::Line(error)) => Err(Fault::Words(error)),
-        Err(WordsFault::Memory) => Err(Fault::Memory),
-    }
+    Ok(read_words(alloc, words.as_slice())?)
 }
 
 /// The setup of a file is read, where one is named, and then the program of a file; `-` is standard input, which is empty for the

@@ -32,6 +32,17 @@ pub enum WordsFault {
     Memory,
 }
 
+impl From<AllocError> for WordsFault {
+    ghost use Rattle.std.specs.Prelude.{◌≡◌};
+    ghost use Rattle.dme_program.specs.declared.words.WordsFault.TheVariants as fault;
+
+    ghost from_gives = { λ _ e. e ≡ fault.Memory };
+
+    fn from(_error: AllocError) -> WordsFault {
+        WordsFault::Memory
+    }
+}
+
 /// `--setup FILE`.
 fn setup_option<'a>(alloc: Global) -> Arg<'a>
     ensures rule { rule_of result ≡ setup_rule }
@@ -127,7 +138,7 @@ fn answered(alloc: Global, answer: Result<ArgMatches, Error>) -> Result<Order, W
     ensures refused { IfErr answer.entry (λ error. IsErrAnd result (IsCalled error)) }
 {
     match answer {
-        Ok(matches) => order_of(alloc, &matches).map_err(|_| WordsFault::Memory),
+        Ok(matches) => Ok(order_of(alloc, &matches)?),
         Err(error) => Err(refusal_of(error)),
     }
 }
@@ -140,8 +151,6 @@ pub fn read_words<'a>(alloc: Global, words: &'a [&'a str]) -> Result<Order, Word
     ensures order { IfOk result (Asks (map (λ word. word.now) words.now)) }
     ensures refused { IfErr result (IsRefusal (map (λ word. word.now) words.now)) }
 {
-    let Ok(command) = whole_command(alloc) else {
-        return Err(WordsFault::Memory);
-    };
+    let command = whole_command(alloc)?;
     answered(alloc, command.try_get_matches_from(words))
 }

@@ -1,4 +1,4 @@
-ghost use Rattle.std.specs.Prelude.{◌≡◌, ◌∷◌, [], Option, Some, None, codes};
+ghost use Rattle.std.specs.Prelude.{◌≡◌, ◌≢◌, ◌∷◌, [], Option, Some, None, codes};
 ghost use Rattle.dmis_program.specs.Outcomes.{Gives};
 ghost use Rattle.dmis_program.specs.Sayings.{goes, begins_block, touches_at, touches, without_parameters, selects, recalls_frame, recalls, units, mode, said_by, said_of, is_badly_formed};
 
@@ -159,9 +159,10 @@ fn mode(params: &[Text]) -> Result<Said, Refusal>
     }
 }
 
-/// By keyword. An unknown word never comes so far.
+/// By keyword. The caller owes a word that this profile reads.
 #[tactic(auto, unfolding(crate::specs::Sayings::said_by))]
 fn said_by(alloc: Global, keyword: Keyword, params: &[Text]) -> Result<Said, StatementFault>
+    requires { keyword ≢ Keyword.Unknown }
     ensures { Gives result (said_by keyword params.now) }
 {
     match keyword {
@@ -174,8 +175,8 @@ fn said_by(alloc: Global, keyword: Keyword, params: &[Text]) -> Result<Said, Sta
         Keyword::Endfil => Ok(without_parameters(Said::Closes, params)?),
         Keyword::Units => Ok(units(params)?),
         Keyword::Mode => Ok(mode(params)?),
-        Keyword::Dmismn | Keyword::Definition => Ok(Said::Passes),
-        Keyword::Passed | Keyword::Unknown => Ok(Said::Passes),
+        Keyword::Dmismn | Keyword::Definition | Keyword::Passed => Ok(Said::Passes),
+        Keyword::Unknown => unreachable!(),
     }
 }
 
@@ -186,13 +187,14 @@ fn is_badly_formed(keyword: Keyword, statement: &Statement) -> bool
     (statement.label.is_some() && keyword != Keyword::Definition) || statement.is_open()
 }
 
-/// What a statement with this keyword says.
+/// What a statement with this keyword says. The caller owes a word that this profile reads.
 #[tactic(auto, unfolding(crate::specs::Sayings::said_of))]
 pub(crate) fn said_of(
     alloc: Global,
     keyword: Keyword,
     statement: &Statement,
 ) -> Result<Said, StatementFault>
+    requires { keyword ≢ Keyword.Unknown }
     ensures { Gives result (said_of keyword statement.now) }
 {
     if is_badly_formed(keyword, statement) {

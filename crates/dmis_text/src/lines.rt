@@ -93,8 +93,7 @@ pub(crate) fn examine(line: &[u8], inside: bool) -> Look<'_>
 
 /// How many lines the bytes have.
 pub(crate) fn count_lines(bytes: &[u8]) -> u64
-    ensures count { result ≡ length (lines bytes.now) }
-    ensures within { result ≤ length bytes.now }
+    ensures { (result ≡ length (lines bytes.now)) × (result ≤ length bytes.now) }
 {
     let mut count = 0;
     let mut rest = bytes;

@@ -48,8 +48,7 @@ fn skip_spaces(bytes: &[u8]) -> &[u8]
 
 /// How many bytes stand before the first space.
 fn field_len(bytes: &[u8]) -> usize
-    ensures count { result ≡ prefix_len (λ b. not (b == 32)) bytes.now }
-    ensures within { result ≤ length bytes.now }
+    ensures { (result ≡ prefix_len (λ b. not (b == 32)) bytes.now) × (result ≤ length bytes.now) }
 {
     bytes.iter().take_while(|byte| **byte != b' ').count()
 }

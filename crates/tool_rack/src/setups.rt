@@ -1,4 +1,5 @@
-ghost use Rattle.std.specs.Prelude.{◌≡◌, ◌↔◌, ◌+◌, ◌%◌, ◌<◌, ◌≤◌, ◌^◌, ◌∷◌, [], ◌++◌, not, IsTrue, Any, true, false, Ok, length, IfOk, IfErr, OnOk, OnErr, OnSome};
+ghost use Rattle.std.specs.Prelude.{◌≡◌, ◌↔◌, ◌+◌, ◌%◌, ◌<◌, ◌≤◌, ◌^◌, ◌∷◌, [], ◌++◌, not, IsTrue, Any, true, false, Ok, length, IfOk, IfErr, OnOk, if◌then◌else◌};
+ghost use Rattle.fixed_um.specs.Calls.{Leads};
 ghost use Rattle.fixed_um.specs.Points.{IsInVolume};
 ghost use Rattle.dmis_program.specs.Offsets.{AreFrames};
 ghost use Rattle.tool_rack.specs.Entries.{IsEntryInVolume};
@@ -40,8 +41,7 @@ impl Rack {
 
     /// Adds a tool behind the others. Only want of memory is an `Err`, and then nothing has changed.
     fn push(&mut self, name: Name) -> Result<(), AllocError>
-        ensures ok { OnOk result (self.new ≡ self.old ++ name ∷ []) }
-        ensures err { OnErr result (self.new ≡ self.old) }
+        ensures { Leads result self.old self.new (self.old ++ name ∷ []) }
     {
         self.tools.push(name)?;
         Ok(())
@@ -90,9 +90,8 @@ impl Setup {
     fn add(&mut self, entry: Entry) -> Result<bool, AllocError>
         requires { IsEntryInVolume entry }
         ensures is_new { IfOk result (λ added. added ≡ not (is_twice self.old entry)) }
-        ensures added { IfOk result (λ added. added ≡ true → self.new ≡ setup_more self.old entry) }
-        ensures twice { IfOk result (λ added. added ≡ false → self.new ≡ self.old) }
-        ensures err { OnErr result (self.new ≡ self.old) }
+        ensures leads { Leads result self.old self.new
+            (if is_twice self.old entry then self.old else setup_more self.old entry) }
     {
         match entry {
             Entry::Nothing => Ok(true),

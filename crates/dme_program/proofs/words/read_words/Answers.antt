@@ -6,14 +6,14 @@ use Rattle.dme_program.proofs.words.read_words.Goals as goal
 
 pub answered-requires : goal.answered-requires
 answered-requires c =
-    let shape : app_of c.in-Ok.command ≡ whole_line = c.in-Ok.ensures.shape in
-    names_check (app_of c.in-Ok.command) (map (λ word. word.now) c.args.words.now) c.try_get_matches_from.result shape
+    let shape : app_of c.in_ok-command.command ≡ whole_line = c.in_ok-command.ensures.shape in
+    names_check (app_of c.in_ok-command.command) (map (λ word. word.now) c.args.words.now) c.try_get_matches_from.result shape
     (c.try_get_matches_from.ensures.kinds (ap is_simple_and_free shape ∙ refl)) c.try_get_matches_from.ensures.matches
 
 pub returns : goal.returns
 returns c =
-    let shape : app_of c.in-Ok.command ≡ whole_line = c.in-Ok.ensures.shape in
-    let both = asked_or_refused (app_of c.in-Ok.command) (map (λ word. word.now) c.args.words.now) c.try_get_matches_from.result
+    let shape : app_of c.in_ok-command.command ≡ whole_line = c.in_ok-command.ensures.shape in
+    let both = asked_or_refused (app_of c.in_ok-command.command) (map (λ word. word.now) c.args.words.now) c.try_get_matches_from.result
     c.answered.result shape
     (c.try_get_matches_from.ensures.kinds (ap is_simple_and_free shape ∙ refl)) c.try_get_matches_from.ensures.matches
     c.answered.ensures.order c.answered.ensures.taken c.answered.ensures.refused in

@@ -6,7 +6,7 @@ use Rattle.tool_rack.proofs.setups.Setup.add.Goals as goal
 pub invariant_of-self-in-Tool : goal.invariant_of-self-in-Tool
 invariant_of-self-in-Tool c =
     let new : has_name c.self.inside.rack c.in-Tool.name ≡ false = sym c.has.ensures.value ∙ c.if-has.false in
-    let more : c.push.new.self ≡ c.self.inside.rack ++ (c.in-Tool.name ∷ []) = c.in_ok-push-in-Tool.ensures.ok in
+    let more : c.push.new.self ≡ c.self.inside.rack ++ (c.in-Tool.name ∷ []) = c.in_ok-push-in-Tool.ensures.0 in
     rw more (record {
       tools_once = distinct_more c.self.inside.rack c.in-Tool.name c.self.invariant.tools_once new;
       frames = c.self.invariant.frames;
