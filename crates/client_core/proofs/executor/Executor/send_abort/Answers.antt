@@ -13,14 +13,14 @@ use Rattle.client_core.proofs.executor.Executor.send_abort.Goals as goal
 
 pub returns-in-Ok-clause-ok : goal.returns-in-Ok-clause-ok
 returns-in-Ok-clause-ok c =
-    aborted_client c.self.inside.program c.self.inside.window c.self.inside.on c.self.inside.last c.self.inside.state c.self.inside.cause
+    aborted_client c.self.inside.program c.self.inside.window c.self.inside.on c.self.inside.state c.self.inside.cause
     c.self.inside.commands c.draw.new.self c.self.inside.progress
     c.self.inside.sent c.self.inside.abort c.in-Ok.tag (search rules) (search rules)
     ∙ ap (λ x. (client_aborted x).client) c.self.view_is
 
 pub returns-in-Ok-clause-text : goal.returns-in-Ok-clause-text
 returns-in-Ok-clause-text c =
-    let lines_are = aborted_lines c.self.inside.program c.self.inside.window c.self.inside.on c.self.inside.last c.self.inside.state
+    let lines_are = aborted_lines c.self.inside.program c.self.inside.window c.self.inside.on c.self.inside.state
     c.self.inside.cause c.self.inside.commands c.self.inside.progress
     c.self.inside.sent c.self.inside.abort c.in-Ok.tag (search rules) in
     rw (c.write_end.ensures.text, c.write_command_reserved.ensures.text)
@@ -31,14 +31,14 @@ returns-in-Ok-clause-text c =
 pub returns-in-Err : goal.returns-in-Err
 returns-in-Err c =
     let none : next_tag c.self.inside.commands kind.AbortE ≡ None = search rules in
-    let whole = aborted_none c.self.inside.program c.self.inside.window c.self.inside.on c.self.inside.last c.self.inside.state
+    let whole = aborted_none c.self.inside.program c.self.inside.window c.self.inside.on c.self.inside.state
     c.self.inside.cause c.self.inside.commands c.self.inside.progress c.self.inside.sent c.self.inside.abort none in
     let same : c.draw.new.self ≡ c.self.inside.commands = search rules in
     let lines_are : (client_aborted c.args.self.now).lines ≡ [] = sym (ap (λ x. (client_aborted x).lines) c.self.view_is)
     ∙ ap (λ (s : Sends). s.lines) whole in
     record {
       ok = c.fault.ensures ∙ (ap (λ o. faulted Cause.TagsSpent (seen c.self.inside.program c.self.inside.window c.self.inside.on
-          c.self.inside.last c.self.inside.state c.self.inside.cause o c.self.inside.progress c.self.inside.sent c.self.inside.abort)) same
+          c.self.inside.state c.self.inside.cause o c.self.inside.progress c.self.inside.sent c.self.inside.abort)) same
           ∙ (sym (ap (λ (s : Sends). s.client) whole) ∙ ap (λ x. (client_aborted x).client) c.self.view_is));
       text = rw lines_are (search rules);
       err = tt;
