@@ -49,6 +49,7 @@ pub record IsSteady (c : Client) : Type 0 where
   pub some : 1 ≤ c.window
   pub few : c.window ≤ 16
   pub last : c.last ≤ 4000000000
+  pub numbered : c.on ≡ true → 1 ≤ c.last
   pub opened : count_open c.table.standard ≤ c.window
 
 -- ---- what is read
@@ -66,7 +67,15 @@ pub reads_by : (c : Client) → may_read c ≡ true → Reads c
 reads_by c e = let two = both c.on _ e in record { on = two.0; awake = not_true (is_faulted c.state) two.1 }
 
 faulted_steady : (c : Client) (cause : Cause) → c.on ≡ true → IsSteady c → IsSteady (faulted cause c)
-faulted_steady c cause on h = record { connected = on; cause = refl; some = h.some; few = h.few; last = h.last; opened = h.opened }
+faulted_steady c cause on h = record {
+  connected = on;
+  cause = refl;
+  some = h.some;
+  few = h.few;
+  last = h.last;
+  numbered = h.numbered;
+  opened = h.opened;
+}
 
 -- and it is on a connection
 record IsLive (c : Client) : Type 0 where
@@ -130,6 +139,7 @@ hears_live c t m reads h (Ok b) is =
         some = before.some;
         few = before.few;
         last = before.last;
+        numbered = before.numbered;
         opened = omega (arith, fewer, opened);
       };
     }
@@ -217,7 +227,15 @@ sends_steady c [] number running fewer h = h
 sends_steady c (q ∷ qs) None running fewer h = faulted_steady c Cause.TagsSpent (running_on c running h) h
 sends_steady c (q ∷ qs) (Some n) running fewer h =
     let more = open_more c.table.standard (held_now (tag.Std n) (kind_of q.command)) in
-    record { connected = h.connected; cause = h.cause; some = h.some; few = h.few; last = h.last; opened = omega (arith, fewer, more) }
+    record {
+      connected = h.connected;
+      cause = h.cause;
+      some = h.some;
+      few = h.few;
+      last = h.last;
+      numbered = h.numbered;
+      opened = omega (arith, fewer, more);
+    }
 
 -- in the states in which it may abort
 record Aborts (c : Client) : Type 0 where
@@ -242,6 +260,7 @@ aborts_steady c (Some n) a h = record {
   some = h.some;
   few = h.few;
   last = h.last;
+  numbered = h.numbered;
   opened = h.opened;
 }
 
@@ -250,12 +269,15 @@ aborts_steady c (Some n) a h = record {
 connected_steady : (n : ℕ) (c : Client) → may_connect n c ≡ true → IsSteady c → IsSteady (client_connected n c)
 connected_steady n c may h =
     let some = h.some in
+    let numbers = both (nat_lt c.last n) _ (both (clients.is_apart c.state) _ may).1 in
+    let above : c.last < n = ltb-true c.last n numbers.0 in
     record {
       connected = refl;
       cause = refl;
       some = some;
       few = h.few;
-      last = leb-true n 4000000000 (both (nat_lt c.last n) _ (both (clients.is_apart c.state) _ may).1).1;
+      last = leb-true n 4000000000 numbers.1;
+      numbered = λ on. omega (arith, above);
       opened = omega (arith);
     }
 
@@ -268,6 +290,7 @@ resumed_steady c halted h =
       some = h.some;
       few = h.few;
       last = h.last;
+      numbered = h.numbered;
       opened = h.opened;
     }
 
@@ -296,6 +319,7 @@ left_steady c h = record {
   some = h.some;
   few = h.few;
   last = h.last;
+  numbered = λ on. absurd (false≢true on);
   opened = h.opened;
 }
 
@@ -306,11 +330,20 @@ new_steady p fs window some few = record {
   some = some;
   few = few;
   last = omega (arith);
+  numbered = λ on. absurd (false≢true on);
   opened = omega (arith);
 }
 
 restarted_steady : (k : ℕ) (c : Client) → IsSteady c → IsSteady (client_restarted k c)
-restarted_steady k c h = record { connected = refl; cause = refl; some = h.some; few = h.few; last = h.last; opened = omega (arith) }
+restarted_steady k c h = record {
+  connected = refl;
+  cause = refl;
+  some = h.some;
+  few = h.few;
+  last = h.last;
+  numbered = λ on. absurd (false≢true on);
+  opened = omega (arith);
+}
 
 -- ---- with its bytes
 

@@ -1,10 +1,11 @@
 -- The features that a client holds, and the points of the unfinished one, fit the touches that are left of its plan.
 use Rattle.std.proofs.Common.{◌≡◌, ℕ, zero, suc, ◌+◌, ◌≤◌, ◌==◌, Bool, true, false, ◌&&◌, List, [], ◌∷◌, ◌++◌, length, take, drop, refl}
-use Rattle.std.proofs.Common.{sym, ◌∙◌, ap, subst, arith, length-append}
+use Rattle.std.proofs.Common.{sym, ◌∙◌, ap, subst, arith, length-append, Option}
 use Rattle.std.proofs.lemmas.Bool.{false≢true, eq-eqb}
 use Rattle.std.specs.Prelude.{bytes_eq}
 use Rattle.std.specs.List.{AllByRecursion}
 use Rattle.fixed_um.specs.declared.lengths.Point.{Point}
+use Rattle.contact_ledger.specs.declared.features.Origin.{Origin}
 use Rattle.contact_ledger.specs.declared.features.Feature.{Feature}
 use Rattle.dmis_program.specs.Programs.{IsFeature}
 use Rattle.dmis_program.specs.declared.features.Touch.{Touch}
@@ -93,24 +94,24 @@ point_fits [] (f ∷ fs) points rest h = absurd h
 point_fits (w ∷ ws) (f ∷ fs) points rest h = (h.0, point_fits ws fs points rest h.1)
 
 -- it ends a feature, which joins the others
-pub joined_more : (ws : List Wanted) (fs : List Feature) (points : ℕ) (all : List Point) (rest : List Bool)
-    → Fits ws fs points (true ∷ rest) → length (joined ws fs all) ≡ suc (length fs)
-joined_more [] [] points all rest h = absurd (no h)
+pub joined_more : (ws : List Wanted) (fs : List Feature) (points : ℕ) (all : List Point) (origin : Option Origin) (rest : List Bool)
+    → Fits ws fs points (true ∷ rest) → length (joined ws fs all origin) ≡ suc (length fs)
+joined_more [] [] points all origin rest h = absurd (no h)
   where
     no : true ∷ rest ≡ [] → ⊥
     no e = cc
-joined_more (w ∷ ws) [] points all rest h = refl
-joined_more [] (f ∷ fs) points all rest h = absurd h
-joined_more (w ∷ ws) (f ∷ fs) points all rest h = ap suc (joined_more ws fs points all rest h.1)
+joined_more (w ∷ ws) [] points all origin rest h = refl
+joined_more [] (f ∷ fs) points all origin rest h = absurd h
+joined_more (w ∷ ws) (f ∷ fs) points all origin rest h = ap suc (joined_more ws fs points all origin rest h.1)
 
 -- the last point of a feature
 same_bytes : (xs : List ℕ) → bytes_eq xs xs ≡ true
 same_bytes [] = refl
 same_bytes (x ∷ xs) = ap (λ (b : Bool). b && bytes_eq xs xs) (eq-eqb x x refl) ∙ same_bytes xs
 
-whole_is_ours : (w : Wanted) (points : List Point) → length points ≡ length w.touches
-    → is_ours w (record { label = w.label; points = points }) ≡ true
-whole_is_ours w points long = ap (λ (b : Bool). b && (length points == length w.touches)) (same_bytes w.label)
+whole_is_ours : (w : Wanted) (points : List Point) (origin : Option Origin) → length points ≡ length w.touches
+    → is_ours w (record { label = w.label; points = points; origin = origin }) ≡ true
+whole_is_ours w points origin long = ap (λ (b : Bool). b && (length points == length w.touches)) (same_bytes w.label)
     ∙ (ap (λ (n : ℕ). n == length w.touches) long ∙ eq-eqb (length w.touches) (length w.touches) refl)
 
 last_left : (ws : List Wanted) (left : ℕ) (rest : List Bool) → true ∷ rest ≡ ends_left left ++ feature_ends ws → (left ≡ 0)
@@ -118,22 +119,22 @@ last_left : (ws : List Wanted) (left : ℕ) (rest : List Bool) → true ∷ rest
 last_left ws zero rest e = (refl, ap later_ends e)
 last_left ws (suc n) rest e = absurd (false≢true (sym (ap first_end e)))
 
-pub last_fits : (ws : List Wanted) (fs : List Feature) (points : List Point) (p : Point) (rest : List Bool) → AllByRecursion IsFeature ws
-    → Fits ws fs (length points) (true ∷ rest)
-    → Fits ws (joined ws fs (points ++ p ∷ [])) 0 rest
-last_fits [] [] points p rest all h = absurd (no h)
+pub last_fits : (ws : List Wanted) (fs : List Feature) (points : List Point) (p : Point) (origin : Option Origin) (rest : List Bool)
+    → AllByRecursion IsFeature ws → Fits ws fs (length points) (true ∷ rest)
+    → Fits ws (joined ws fs (points ++ p ∷ []) origin) 0 rest
+last_fits [] [] points p origin rest all h = absurd (no h)
   where
     no : true ∷ rest ≡ [] → ⊥
     no e = cc
-last_fits (w ∷ ws) [] points p rest all h =
+last_fits (w ∷ ws) [] points p origin rest all h =
     let n : NextFits w ws (length points) (true ∷ rest) = h in
     let l = last_left ws n.left rest n.ends_are in
     let zero_left : n.left ≡ 0 = l.0 in
     let many : length points + suc n.left ≡ length w.touches = n.many in
     let long : length (points ++ p ∷ []) ≡ length w.touches = length-append points (p ∷ []) ∙ omega (arith, many, zero_left) in
-    (whole_is_ours w (points ++ p ∷ []) long, subst (λ (l : List Bool). Fits ws [] 0 l) (sym l.1) (begins_fits ws all.1))
-last_fits [] (f ∷ fs) points p rest all h = absurd h
-last_fits (w ∷ ws) (f ∷ fs) points p rest all h = (h.0, last_fits ws fs points p rest all.1 h.1)
+    (whole_is_ours w (points ++ p ∷ []) origin long, subst (λ (l : List Bool). Fits ws [] 0 l) (sym l.1) (begins_fits ws all.1))
+last_fits [] (f ∷ fs) points p origin rest all h = absurd h
+last_fits (w ∷ ws) (f ∷ fs) points p origin rest all h = (h.0, last_fits ws fs points p origin rest all.1 h.1)
 
 -- the first features are the first of the program, too
 pub fewer_are_ours : (ws : List Wanted) (fs : List Feature) (k : ℕ) → are_ours ws fs ≡ true → are_ours ws (take k fs) ≡ true

@@ -6,6 +6,7 @@ use Rattle.std.proofs.Math.Dec.{leb-suc-zero, leb-suc-suc}
 use Rattle.std.proofs.lemmas.Bool.{le-leb}
 use Rattle.std.proofs.lemmas.List.{length-append}
 use Rattle.fixed_um.specs.declared.lengths.Point.{Point}
+use Rattle.contact_ledger.specs.declared.features.Origin.{Origin}
 use Rattle.contact_ledger.specs.declared.features.Feature.{Feature}
 use Rattle.dmis_program.specs.declared.features.Wanted.{Wanted}
 use Rattle.protocol_model.specs.Client.{joined}
@@ -16,17 +17,21 @@ use Rattle.std.specs.Option.{is_some}
 use Rattle.dme_line.specs.declared.commands.Command.{Command}
 use Rattle.protocol_model.specs.declared.plans.Planned.{Planned}
 
-pub joins : (ws : List Wanted) (fs : List Feature) (w : Wanted) (points : List Point) → length fs < length ws
+pub joins : (ws : List Wanted) (fs : List Feature) (w : Wanted) (points : List Point) (origin : Option Origin) → length fs < length ws
     → w ≡ slice_index_or ws (length fs) w
-    → joined ws fs points ≡ fs ++ record { label = w.label; points = points } ∷ []
-joins [] fs w points short is = absurd (omega (arith, short))
-joins (v ∷ ws) [] w points short is = ap (λ (x : Wanted). record { label = x.label; points = points } ∷ []) (sym is)
-joins (v ∷ ws) (f ∷ fs) w points short is = ap (λ (xs : List Feature). f ∷ xs) (joins ws fs w points (omega (arith, short)) is)
+    → joined ws fs points origin ≡ fs ++ record { label = w.label; points = points; origin = origin } ∷ []
+joins [] fs w points origin short is = absurd (omega (arith, short))
+joins (v ∷ ws) [] w points origin short is =
+    ap (λ (x : Wanted). record { label = x.label; points = points; origin = origin } ∷ []) (sym is)
+joins (v ∷ ws) (f ∷ fs) w points origin short is =
+    ap (λ (xs : List Feature). f ∷ xs) (joins ws fs w points origin (omega (arith, short)) is)
 
-pub joins_none : (ws : List Wanted) (fs : List Feature) (points : List Point) → length ws ≤ length fs → joined ws fs points ≡ fs
-joins_none [] fs points long = refl
-joins_none (v ∷ ws) [] points long = absurd (omega (arith, long))
-joins_none (v ∷ ws) (f ∷ fs) points long = ap (λ (xs : List Feature). f ∷ xs) (joins_none ws fs points (omega (arith, long)))
+pub joins_none : (ws : List Wanted) (fs : List Feature) (points : List Point) (origin : Option Origin) → length ws ≤ length fs
+    → joined ws fs points origin ≡ fs
+joins_none [] fs points origin long = refl
+joins_none (v ∷ ws) [] points origin long = absurd (omega (arith, long))
+joins_none (v ∷ ws) (f ∷ fs) points origin long =
+    ap (λ (xs : List Feature). f ∷ xs) (joins_none ws fs points origin (omega (arith, long)))
 
 -- a feature that is given back still has the points of the unfinished one in front
 pub front_within : (points whole : List Point) (p : Point) (given made : Feature) → given ≡ made → made.points ≡ whole
@@ -42,12 +47,12 @@ front_kept points whole p given made same is more =
     rw (ap (λ (f : Feature). f.points) same, is, more) (take-append_seam points (p ∷ []))
 
 -- no more features than the program wants
-pub joined_within : (ws : List Wanted) (fs : List Feature) (points : List Point) → length fs ≤ length ws
-    → length (joined ws fs points) ≤ length ws
-joined_within [] fs points short = short
-joined_within (v ∷ ws) [] points short = omega arith
-joined_within (v ∷ ws) (f ∷ fs) points short = let less : length (joined ws fs points) ≤ length ws =
-    joined_within ws fs points (omega (arith, short)) in omega (arith, less)
+pub joined_within : (ws : List Wanted) (fs : List Feature) (points : List Point) (origin : Option Origin) → length fs ≤ length ws
+    → length (joined ws fs points origin) ≤ length ws
+joined_within [] fs points origin short = short
+joined_within (v ∷ ws) [] points origin short = omega arith
+joined_within (v ∷ ws) (f ∷ fs) points origin short = let less : length (joined ws fs points origin) ≤ length ws =
+    joined_within ws fs points origin (omega (arith, short)) in omega (arith, less)
 
 -- behind the first n nothing is left where there are no more
 pub nothing_behind : {A : Type 0} (n : ℕ) (xs : List A) → nat_le (length xs) n ≡ is_empty (drop n xs)

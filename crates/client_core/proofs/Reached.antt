@@ -3,6 +3,7 @@ use Rattle.std.proofs.Common.{◌≡◌, ℕ, ◌≤◌, Bool, true, false, cond
 use Rattle.std.proofs.Common.{◌∙◌, ap, subst}
 use Rattle.std.proofs.lemmas.Bool.{false≢true, le-leb}
 use Rattle.contact_ledger.specs.declared.features.Feature.{Feature}
+use Rattle.contact_ledger.specs.Ledgers.{IsConnection}
 use Rattle.dmis_program.specs.Meaning.{Meaning}
 use Rattle.dmis_program.specs.Programs.{IsProgram}
 use Rattle.line_framing.specs.Framing.{Framing, no_bytes, fed, after_next}
@@ -178,6 +179,14 @@ window_few e h = IsSteady.few (IsSound.steady (sound e h))
 
 pub last_within : (e : ClientEnd) → IsReached e → e.client.last ≤ 4000000000
 last_within e h = IsSteady.last (IsSound.steady (sound e h))
+
+-- where it reads, its connection has a number
+pub reads_numbered : (client : Client) (input : Framing) (out : List ℕ) → IsReached (end_of client input out) → may_read client ≡ true
+    → IsConnection client.last
+reads_numbered client input out h may = (
+  IsSteady.numbered (IsSound.steady (sound (end_of client input out) h)) (Reads.on (reads_by client may)),
+  last_within (end_of client input out) h,
+)
 
 pub open_within : (e : ClientEnd) → IsReached e → count_open e.client.table.standard ≤ e.client.window
 open_within e h = IsSteady.opened (IsSound.steady (sound e h))

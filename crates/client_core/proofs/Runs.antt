@@ -24,7 +24,8 @@ use Rattle.dmis_program.specs.declared.features.Wanted.{Wanted}
 use Rattle.protocol_model.specs.Replies.{Mark, tag_is}
 use Rattle.protocol_model.specs.Lines.{Readers}
 use Rattle.protocol_model.specs.Open.{Effect, Heard as Heardings, heard_in, asks_data, count_open}
-use Rattle.protocol_model.specs.Client.{Client, Table, Tally, act_of, measured, counted_next, begins_session, tallied, heard, heard_on}
+use Rattle.protocol_model.specs.Client.{Client, Table, Tally, act_of, origin_of, measured, counted_next, begins_session, tallied, heard}
+use Rattle.protocol_model.specs.Client.{heard_on}
 use Rattle.protocol_model.specs.Client.{faulted, new_client, client_connected, is_running, first_due, due, held_now, sends_next}
 use Rattle.protocol_model.specs.Client.{next_number, sends_abort, may_abort, first_state, last_state, state_behind, is_whole, ends_abort}
 use Rattle.protocol_model.specs.Client.{client_hears, client_read, may_resume, client_resumed, client_left, left_state, client_restarted}
@@ -100,7 +101,7 @@ measured_fits p program (Does.Touches t false) (Some q) y rest has h =
     subst (λ (n : ℕ). Fits p.features y.features n (ends_of rest)) (omega (arith, length-append y.points (q ∷ [])))
     (point_fits p.features y.features (length y.points) (ends_of rest) h)
 measured_fits p program (Does.Touches t true) (Some q) y rest has h =
-    last_fits p.features y.features y.points q (ends_of rest) (IsProgram.features program) h
+    last_fits p.features y.features y.points q (origin_of y.connection t.frame) (ends_of rest) (IsProgram.features program) h
 measured_fits p program (Does.Touches t last) None y rest has h = absurd (has refl refl)
 measured_fits p program Does.Nothing given y rest has h = h
 measured_fits p program Does.Homes given y rest has h = h
@@ -124,7 +125,7 @@ measured_joins : (p : Meaning) (does : Does) (given : Option Point) (y : Tally) 
     → length (measured p.features does given y).features ≡ length y.features + cond (is_last does) 1 0
 measured_joins p (Does.Touches t false) (Some q) y rest has h = omega (arith)
 measured_joins p (Does.Touches t true) (Some q) y rest has h = let more =
-    joined_more p.features y.features (length y.points) (y.points ++ q ∷ []) (ends_of rest) h in omega (arith, more)
+    joined_more p.features y.features (length y.points) (y.points ++ q ∷ []) (origin_of y.connection t.frame) (ends_of rest) h in omega (arith, more)
 measured_joins p (Does.Touches t last) None y rest has h = absurd (has refl refl)
 measured_joins p Does.Nothing given y rest has h = omega (arith)
 measured_joins p Does.Homes given y rest has h = omega (arith)

@@ -155,21 +155,22 @@ refused ws o p t m (Some d) cause is same =
     (off_table ws o (tally_of o.failed p) t m d is refl)
 
 -- the end of a command is read that counts the next one of the plan
-pub counted_read : (program : Meaning) (window : ℕ) (on : Bool) (last : ℕ) (state : State) (cause : Option Cause) (o after : Opened)
+pub counted_read : (program : Meaning) (window : ℕ) (on : Bool) (state : State) (cause : Option Cause) (o after : Opened)
     (p q : Progress)
     (sent : ℕ) (abort : Option Tag) (t : Tag) (effect : Effect) (k : Kind) (given : Option Point) (ends : Bool)
     → is_event_tag t ≡ false
     → heard o t Mark.Done ≡ Ok (after, effect)
     → effect_heard (heard o t Mark.Done) ≡ Some (Effect.Count k given)
     → ((failed : Bool) → tally_of failed q ≡ client.counted_next program.features k given (tally_of failed p).todo (tally_of failed p))
-    → q.plan ≡ p.plan → ends ≡ client.ends_abort abort t Mark.Done
-    → seen program window on last (client.state_behind state ends (table_of after (tally_of after.failed q))) cause after q sent abort
-    ≡ client.client_read (seen program window on last state cause o p sent abort) t Mark.Done
-counted_read program window on last state cause o after p q sent abort (Event n) effect k given ends standard is counts told plan_is
-    ends_is = absurd (cc standard)
-counted_read program window on last state cause o after p q sent abort (Std n) effect k given ends standard is counts told plan_is ends_is =
+    → q.plan ≡ p.plan → q.connection ≡ p.connection → ends ≡ client.ends_abort abort t Mark.Done
+    → seen program window on (client.state_behind state ends (table_of after (tally_of after.failed q))) cause after q sent abort
+    ≡ client.client_read (seen program window on state cause o p sent abort) t Mark.Done
+counted_read program window on state cause o after p q sent abort (Event n) effect k given ends standard is counts told plan_is
+    number_is ends_is = absurd (cc standard)
+counted_read program window on state cause o after p q sent abort (Std n) effect k given ends standard is counts told plan_is
+    number_is ends_is =
     let one : Some effect ≡ Some (Effect.Count k given) = sym (ap effect_heard is) ∙ counts in
     let same : effect ≡ Effect.Count k given = cc one in
     let heard_is : heard o (Std n) Mark.Done ≡ Ok (after, Effect.Count k given) = is ∙ ap (λ (e : Effect). Ok (after, e)) same in
     let d : StaysDrawn o after = stays_drawn o after (Std n) Mark.Done (Effect.Count k given) heard_is in
-    rw (counted program.features o after p q n Mark.Done k given heard_is told, d.drawn, d.event_drawn, plan_is, ends_is) refl
+    rw (counted program.features o after p q n Mark.Done k given heard_is told, d.drawn, d.event_drawn, plan_is, number_is, ends_is) refl

@@ -13,6 +13,7 @@ use Rattle.client_core.specs.declared.progress.Progress.{Progress}
 -- what `protocol_model` says of it, with whether a standard command has failed
 abbrev pub tally_of : Bool → Progress → Tally
 tally_of failed p = record {
+  connection = p.connection;
   failed = failed;
   session = p.session;
   todo = drop p.completed p.plan.items;
@@ -28,12 +29,12 @@ listed None = []
 listed (Some act) = act ∷ []
 
 -- what `protocol_model` says of a client whose code keeps these
-abbrev pub seen : Meaning → ℕ → Bool → ℕ → State → Option Cause → Opened → Progress → ℕ → Option Tag → Client
-seen program window on last state cause commands progress sent abort = record {
+abbrev pub seen : Meaning → ℕ → Bool → State → Option Cause → Opened → Progress → ℕ → Option Tag → Client
+seen program window on state cause commands progress sent abort = record {
   program = program;
   window = window;
   on = on;
-  last = last;
+  last = progress.connection;
   state = state;
   cause = cause;
   table = table_of commands (tally_of commands.failed progress);

@@ -16,11 +16,11 @@ impl Executor {
         let completed = self.progress.features.list().len();
         let plan = plan(self.alloc, &self.program, completed, Start::NewConnection)?;
         self.on = true;
-        self.last = number;
         self.state = State::Running;
         self.cause = None;
         self.commands.clear();
         self.progress.restart(completed);
+        self.progress.connection = number;
         self.progress.begin_plan(plan);
         self.sent = 0;
         self.abort = None;

@@ -26,7 +26,6 @@ pub(crate) struct Executor {
     pub(crate) program: Program,
     pub(crate) window: u8,
     pub(crate) on: bool,
-    pub(crate) last: u64,
     pub(crate) state: State,
     pub(crate) cause: Option<Cause>,
     pub(crate) commands: Open,
@@ -43,7 +42,7 @@ impl Model for Executor {
     ghost use Rattle.client_core.specs.Progress.{seen};
     ghost use Rattle.client_core.specs.Kept.{IsKept};
 
-    ghost view = { λ c. seen c.program c.window c.on c.last c.state c.cause c.commands c.progress c.sent c.abort };
+    ghost view = { λ c. seen c.program c.window c.on c.state c.cause c.commands c.progress c.sent c.abort };
 
     ghost invariant = { λ c. IsKept c.progress.plan.items c.sent c.progress.completed c.program.features c.progress.features c.state c.cause };
 }
@@ -86,11 +85,11 @@ impl Executor {
             program,
             window,
             on: false,
-            last: 0,
             state: State::Apart,
             cause: None,
             commands: Open::new(alloc),
             progress: Progress {
+                connection: 0,
                 session: false,
                 plan: Vec::new(alloc),
                 completed: 0,
@@ -190,7 +189,9 @@ impl Executor {
     pub(crate) fn may_connect(&self, number: u64) -> bool
         ensures { result ≡ may_connect number self.now }
     {
-        matches!(self.state, State::Apart) && self.last < number && number <= 4_000_000_000
+        matches!(self.state, State::Apart)
+            && self.progress.connection < number
+            && number <= 4_000_000_000
     }
 
     /// Whether the client reads.

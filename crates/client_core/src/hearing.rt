@@ -10,6 +10,7 @@ ghost use Rattle.dme_line.specs.Tags.{is_event_tag};
 ghost use Rattle.protocol_model.specs.Client.{client_read, ends_abort, faulted};
 ghost use Rattle.protocol_model.specs.declared.states.Cause.{Cause as Why};
 ghost use Rattle.client_core.specs.Tables.{opened_of, counts_standard};
+ghost use Rattle.contact_ledger.specs.Ledgers.{IsConnection};
 ghost use Rattle.dme_line.specs.declared.tags.Tag.TheVariants as tags;
 
 use crate::executor::Executor;
@@ -114,6 +115,7 @@ impl Executor {
         given: &Option<Point>,
     ) -> Result<(), AllocError>
         requires standard { is_event_tag tag ≡ false }
+        requires connection { IsConnection self.old.last }
         requires ends { ends ≡ ends_abort self.old.abort tag Mark.Done }
         requires counts { effect_heard (heard (opened_of self.old) tag Mark.Done)
             ≡ Some (Effect.Count kind given.now) }
@@ -130,6 +132,7 @@ impl Executor {
 
     /// `%` is read under a tag. Only want of memory is an `Err`.
     pub(crate) fn hear_done(&mut self, tag: Tag) -> Result<(), AllocError>
+        requires connection { IsConnection self.old.last }
         ensures { Leads result self.old self.new (client_read self.old tag Mark.Done) }
     {
         if is_unasked(tag) {

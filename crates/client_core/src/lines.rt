@@ -1,6 +1,7 @@
 // What a client makes of a line (this profile).
 
 ghost use Rattle.std.specs.Prelude.{◌≡◌, OnOk, OnErr};
+ghost use Rattle.contact_ledger.specs.Ledgers.{IsConnection};
 ghost use Rattle.protocol_model.specs.Lines.{Readers, AreReaders};
 ghost use Rattle.protocol_model.specs.Ends.{given, response_read, line_read};
 ghost use Rattle.client_core.specs.Reads.{LeadsRead};
@@ -33,6 +34,7 @@ impl Executor {
 
     /// A response is read. Only want of memory is an `Err`.
     fn hear(&mut self, response: &Response) -> Result<(), AllocError>
+        requires connection { IsConnection self.old.last }
         ensures { LeadsRead result self.old self.new
             (λ readers. response_read readers self.old response.now.tag response.now.mark) }
     {
@@ -49,6 +51,7 @@ impl Executor {
     /// A line is read. Only want of memory is an `Err`.
     #[tactic(auto, using(crate::proofs::Readings::one_response))]
     pub(crate) fn hear_line(&mut self, line: &[u8]) -> Result<(), AllocError>
+        requires connection { IsConnection self.old.last }
         ensures ok { OnOk result ((readers : Readers) → AreReaders readers
             → self.new ≡ line_read readers self.old (readers.response line.now)) }
         ensures err { OnErr result (self.new ≡ self.old) }

@@ -1,10 +1,11 @@
 // What a client counts.
 
-ghost use Rattle.std.specs.Prelude.{◌≡◌, ◌≤◌, [], ◌∷◌, ◌++◌, Bool, false, length, take, OnOk, OnErr, IfOk};
+ghost use Rattle.std.specs.Prelude.{◌≡◌, ◌≤◌, [], ◌∷◌, ◌++◌, Bool, false, Some, length, take, OnOk, OnErr, IfOk};
 ghost use Rattle.protocol_model.specs.Client.{act_of, joined, counted_next};
 ghost use Rattle.client_core.specs.Progress.{tally_of, listed};
+ghost use Rattle.contact_ledger.specs.Ledgers.{IsConnection};
 
-use contact_ledger::{Act, Feature, FeatureLedger, Points};
+use contact_ledger::{Act, Feature, FeatureLedger, Origin, Points};
 use dme_line::Kind;
 use dmis_program::Wanted;
 use fixed_um::Point;
@@ -12,10 +13,11 @@ use protocol_model::{Does, Planned};
 use std::alloc::{AllocError, Global};
 use std::mem;
 
-/// What a client has counted on its connection: its plan, of which the first `completed` commands are counted, the acts that they stand
-/// for, the points of the unfinished feature, and the features.
+/// What a client has counted on its connection, which has this number, 0 before the first: its plan, of which the first `completed`
+/// commands are counted, the acts that they stand for, the points of the unfinished feature, and the features.
 #[derive(Drop)]
 pub(crate) struct Progress {
+    pub connection: u64,
     pub session: bool,
     pub plan: Vec<Planned>,
     pub completed: usize,
@@ -45,7 +47,7 @@ fn act_of(alloc: Global, does: &Does, given: &Option<Point>) -> Result<Option<Ac
     }
 }
 
-/// The unfinished feature joins the others with one more point. Only want of memory is an `Err`.
+/// The unfinished feature joins the others with one more point, its last, and its origin. Only want of memory is an `Err`.
 #[tactic(auto, using(crate::proofs::Joining::joins, crate::proofs::Joining::joins_none, crate::proofs::Joining::front_within, crate::proofs::Joining::front_kept))]
 fn join(
     alloc: Global,
@@ -53,9 +55,11 @@ fn join(
     points: &mut Points,
     features: &mut FeatureLedger,
     point: Point,
+    origin: Origin,
 ) -> Result<(), AllocError>
+    requires { IsConnection origin.connection }
     ensures features { OnOk result (features.new
-        ≡ joined wanted.now features.old (points.old ++ point ∷ [])) }
+        ≡ joined wanted.now features.old (points.old ++ point ∷ []) (Some origin)) }
     ensures points { OnOk result (points.new ≡ []) }
     ensures features_err { OnErr result (features.new ≡ features.old) }
     ensures points_err { OnErr result (points.new ≡ points.old) }
@@ -71,6 +75,7 @@ fn join(
     match features.push(Feature {
         label,
         points: whole,
+        origin: Some(origin),
     }) {
         Ok(()) => Ok(()),
         Err(failed) => {
@@ -91,11 +96,13 @@ impl Progress {
         kind: Kind,
         given: &Option<Point>,
     ) -> Result<(), AllocError>
-        requires { self.old.completed ≤ length self.old.plan.items }
+        requires completed { self.old.completed ≤ length self.old.plan.items }
+        requires connection { IsConnection self.old.connection }
         ensures ok { OnOk result ((failed : Bool) → tally_of failed self.new
             ≡ counted_next wanted.now kind given.now (tally_of failed self.old).todo
             (tally_of failed self.old)) }
         ensures plan { self.new.plan ≡ self.old.plan }
+        ensures connection { self.new.connection ≡ self.old.connection }
         ensures within { self.new.completed ≤ length self.old.plan.items }
         ensures features { length self.old.features ≤ length wanted.now
             → length self.new.features ≤ length wanted.now }
@@ -111,8 +118,19 @@ impl Progress {
         let act = act_of(alloc, &planned.does, given)?;
         self.counted.reserve(1)?;
         match (&planned.does, given) {
-            (Does::Touches { last: true, .. }, Some(point)) => {
-                join(alloc, wanted, &mut self.points, &mut self.features, *point)?;
+            (Does::Touches { touch, last: true }, Some(point)) => {
+                let origin = Origin {
+                    connection: self.connection,
+                    frame: touch.frame,
+                };
+                join(
+                    alloc,
+                    wanted,
+                    &mut self.points,
+                    &mut self.features,
+                    *point,
+                    origin,
+                )?;
             }
             (Does::Touches { last: false, .. }, Some(point)) => self.points.push(*point)?,
             _ => {}
@@ -127,9 +145,10 @@ impl Progress {
         Ok(())
     }
 
-    /// Nothing is counted and nothing planned; the first features stay.
+    /// Nothing is counted and nothing planned; the first features stay, with their origins, and the number of the connection.
     pub(crate) fn restart(&mut self, count: usize)
         requires { count ≤ length self.old.features }
+        ensures connection { self.new.connection ≡ self.old.connection }
         ensures session { self.new.session ≡ false }
         ensures counted { self.new.counted.items ≡ [] }
         ensures points { self.new.points ≡ [] }
@@ -147,6 +166,7 @@ impl Progress {
 
     /// A plan begins anew; what is counted on the connection stays, and the points of the unfinished feature are given up.
     pub(crate) fn begin_plan(&mut self, plan: Vec<Planned>)
+        ensures connection { self.new.connection ≡ self.old.connection }
         ensures plan { self.new.plan ≡ plan }
         ensures completed { self.new.completed ≡ 0 }
         ensures session { self.new.session ≡ self.old.session }

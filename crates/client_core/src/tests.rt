@@ -7,7 +7,7 @@
 // alone.
 
 use crate::{Cause, Client, ClientFault, NewFault, State};
-use contact_ledger::{Act, Feature, FeatureLedger, Points};
+use contact_ledger::{Act, Feature, FeatureLedger, Origin, Points};
 use dmis_program::{Frames, Program};
 use fixed_um::{Dir, Frame, Name, Point, Um, write_dir, write_um};
 use std::alloc::{AllocError, Global};
@@ -81,7 +81,7 @@ send => 00008 PtMeas(X(10.000), Y(20.000), Z(25.000), IJK(0.000000, 0.000000, 1.
 completed => 7
 features => nothing
 00008 % => Running
-features => A 10.002 20.000 25.000;
+features => A 1 M 10.002 20.000 25.000;
 counted => HOMED;FRAMED M;CHANGED P1;MOVED 10.000 20.000 30.000 M;\
 CONTACT 10.000 20.000 25.000 D 0.000000 0.000000 1.000000 P1 M 10.002 20.000 25.000;
 send => 00009 EndSession();Running
@@ -98,7 +98,7 @@ connected 2 => NotNow
 read => no line
 E0000 ! Error(3, 9001, \"\", \"No tag\") => Done
 00009 % => Faulted(UnknownTag)
-features => A 10.002 20.000 25.000;
+features => A 1 M 10.002 20.000 25.000;
 leave => Apart
 connected 2 => Running
 completed => 0
@@ -220,7 +220,7 @@ touched X(1.000), Y(0.000), Z(0.004) => 00007 PtMeas(X(1.000), Y(0.000), Z(0.000
 touched X(-0.001), Y(1.001), Z(0.000) => 00008 PtMeas(X(0.000), Y(1.000), Z(0.000), IJK(0.000000, -1.000000, 0.000000));Running
 features => nothing
 touched X(-0.998), Y(0.000), Z(0.000) => 00009 PtMeas(X(-1.000), Y(0.000), Z(0.000), IJK(1.000000, 0.000000, 0.000000));Running
-features => C 1.000 0.000 0.004 -0.001 1.001 0.000 -0.998 0.000 0.000;
+features => C 2 M 1.000 0.000 0.004 -0.001 1.001 0.000 -0.998 0.000 0.000;
 ended => 00010 EndSession();Done
 completed => 10
 counted => HOMED;FRAMED M;CHANGED P1;\
@@ -228,7 +228,7 @@ CONTACT 1.000 0.000 0.000 D -1.000000 0.000000 0.000000 P1 M 1.000 0.000 0.004;\
 CONTACT 0.000 1.000 0.000 D 0.000000 -1.000000 0.000000 P1 M -0.001 1.001 0.000;\
 CONTACT -1.000 0.000 0.000 D 1.000000 0.000000 0.000000 P1 M -0.998 0.000 0.000;
 leave => Done
-features => C 1.000 0.000 0.004 -0.001 1.001 0.000 -0.998 0.000 0.000;
+features => C 2 M 1.000 0.000 0.004 -0.001 1.001 0.000 -0.998 0.000 0.000;
 connected 3 => NotNow
 read => NotNow
 leave => Done
@@ -242,14 +242,14 @@ const KEPT: &str = "\
 connected 1 => Running
 ended 6 => Running
 touched X(1.002), Y(2.000), Z(3.000) => 00007 PtMeas(X(1.000), Y(2.000), Z(3.000), IJK(0.000000, 0.000000, 1.000000));Running
-features => A 1.002 2.000 3.000;
+features => A 1 M 1.002 2.000 3.000;
 send => 00008 PtMeas(X(4.000), Y(5.000), Z(6.000), IJK(0.000000, 0.000000, 1.000000));Running
 00008 & => Running
 00008 # X(4.000), Y(5.000), Z(6.004) => Running
 00008 $ => Faulted(NotResponse)
-features => A 1.002 2.000 3.000;
+features => A 1 M 1.002 2.000 3.000;
 leave => Apart
-features => A 1.002 2.000 3.000;
+features => A 1 M 1.002 2.000 3.000;
 connected 2 => Running
 ended => 00001 StartSession();Running
 ended => 00002 ClearAllErrors();Running
@@ -258,14 +258,14 @@ ended => 00004 OnPtMeasReport(X(), Y(), Z());Running
 ended => 00005 ChangeTool(\"P1\");Running
 ended => 00006 SetCoordSystem(MachineCsy);Running
 touched X(3.999), Y(5.001), Z(6.000) => 00007 PtMeas(X(4.000), Y(5.000), Z(6.000), IJK(0.000000, 0.000000, 1.000000));Running
-features => A 1.002 2.000 3.000;B 3.999 5.001 6.000;
+features => A 1 M 1.002 2.000 3.000;B 2 M 3.999 5.001 6.000;
 ended => 00008 EndSession();Done
 completed => 8
 counted => HOMED;CHANGED P1;FRAMED M;CONTACT 4.000 5.000 6.000 D 0.000000 0.000000 1.000000 P1 M 3.999 5.001 6.000;
 restart 3 => NotNow
 state => Done
 restart 1 => Apart
-features => A 1.002 2.000 3.000;
+features => A 1 M 1.002 2.000 3.000;
 counted => nothing
 completed => 0
 connected 2 => NotNow
@@ -273,13 +273,13 @@ connected 3 => Running
 ended 6 => Running
 touched X(4.001), Y(5.000), Z(6.000) => 00007 PtMeas(X(4.000), Y(5.000), Z(6.000), IJK(0.000000, 0.000000, 1.000000));Running
 ended => 00008 EndSession();Done
-features => A 1.002 2.000 3.000;B 4.001 5.000 6.000;
+features => A 1 M 1.002 2.000 3.000;B 3 M 4.001 5.000 6.000;
 restart 2 => Apart
 connected 4 => Running
 ended 6 => Running
 ended => 00007 EndSession();Done
 counted => HOMED;CHANGED P1;FRAMED M;
-features => A 1.002 2.000 3.000;B 4.001 5.000 6.000;
+features => A 1 M 1.002 2.000 3.000;B 3 M 4.001 5.000 6.000;
 ";
 
 /// An abort while a touch runs: measuring goes on behind the first feature, and the touch that served nobody stays counted.
@@ -298,12 +298,12 @@ E0001 & => Aborting
 00011 % => Aborting
 E0001 % => Halted
 completed => 10
-features => A 10.002 0.000 0.000;
+features => A 1 M 10.002 0.000 0.000;
 due => nothing
 send => NotNow
 resume => Running
 completed => 0
-features => A 10.002 0.000 0.000;
+features => A 1 M 10.002 0.000 0.000;
 counted => HOMED;FRAMED M;CHANGED P1;\
 CONTACT 10.000 0.000 0.000 D 0.000000 0.000000 1.000000 P1 M 10.002 0.000 0.000;\
 CONTACT 20.000 0.000 0.000 D 0.000000 0.000000 1.000000 P1 M 20.000 0.000 0.004;FRAMED P 100.000 0.000 0.000;
@@ -318,7 +318,7 @@ ended => 00019 SetCoordSystem(PartCsy);Running
 touched X(30.002), Y(0.000), Z(0.000) => 00020 PtMeas(X(30.000), Y(0.000), Z(0.000), IJK(0.000000, 0.000000, 1.000000));Running
 ended => 00021 EndSession();Done
 completed => 10
-features => A 10.002 0.000 0.000;B 19.999 0.001 0.000 30.002 0.000 0.000;
+features => A 1 M 10.002 0.000 0.000;B 1 P 100.000 0.000 0.000 19.999 0.001 0.000 30.002 0.000 0.000;
 counted => HOMED;FRAMED M;CHANGED P1;\
 CONTACT 10.000 0.000 0.000 D 0.000000 0.000000 1.000000 P1 M 10.002 0.000 0.000;\
 CONTACT 20.000 0.000 0.000 D 0.000000 0.000000 1.000000 P1 M 20.000 0.000 0.004;FRAMED P 100.000 0.000 0.000;\
@@ -410,7 +410,7 @@ touched X(1.000), Y(0.000), Z(0.004) => 00016 PtMeas(X(1.000), Y(0.000), Z(0.000
 touched X(-0.001), Y(1.001), Z(0.000) => 00017 PtMeas(X(0.000), Y(1.000), Z(0.000), IJK(0.000000, -1.000000, 0.000000));Running
 touched X(-0.998), Y(0.000), Z(0.000) => 00018 PtMeas(X(-1.000), Y(0.000), Z(0.000), IJK(1.000000, 0.000000, 0.000000));Running
 ended => 00019 EndSession();Done
-features => C 1.000 0.000 0.004 -0.001 1.001 0.000 -0.998 0.000 0.000;
+features => C 1 M 1.000 0.000 0.004 -0.001 1.001 0.000 -0.998 0.000 0.000;
 counted => HOMED;FRAMED M;CHANGED P1;\
 CONTACT 1.000 0.000 0.000 D -1.000000 0.000000 0.000000 P1 M 1.002 0.000 0.000;\
 HOMED;FRAMED M;CHANGED P1;\
@@ -777,8 +777,19 @@ fn push_acts(out: &mut Vec<u8>, acts: &[Act]) -> Result<(), AllocError> {
     Ok(())
 }
 
-fn push_feature(out: &mut Vec<u8>, feature: &Feature) -> Result<(), AllocError> {
+/// The connection and the frame that a feature comes from.
+fn push_origin(alloc: Global, out: &mut Vec<u8>, origin: Option<Origin>) -> Result<(), AllocError> {
+    let Some(origin) = origin else {
+        return push_text(out, " -");
+    };
+    let connection = origin.connection;
+    push_text(out, format!(in alloc; " {connection}")?.as_str())?;
+    push_frame(out, origin.frame)
+}
+
+fn push_feature(alloc: Global, out: &mut Vec<u8>, feature: &Feature) -> Result<(), AllocError> {
     out.extend_from_slice(feature.label.as_bytes())?;
+    push_origin(alloc, out, feature.origin)?;
     for point in feature.points.as_slice() {
         push_point(out, *point)?;
     }
@@ -786,9 +797,9 @@ fn push_feature(out: &mut Vec<u8>, feature: &Feature) -> Result<(), AllocError> 
     Ok(())
 }
 
-fn push_features(out: &mut Vec<u8>, features: &[Feature]) -> Result<(), AllocError> {
+fn push_features(alloc: Global, out: &mut Vec<u8>, features: &[Feature]) -> Result<(), AllocError> {
     for feature in features {
-        push_feature(out, feature)?;
+        push_feature(alloc, out, feature)?;
     }
     Ok(())
 }
@@ -841,7 +852,7 @@ fn answer(alloc: Global, client: &mut Client, action: &str) -> Result<Vec<u8>, A
         "open" => push_number(alloc, &mut text, client.open())?,
         "completed" => push_number(alloc, &mut text, client.completed())?,
         "counted" => push_acts(&mut text, client.counted())?,
-        "features" => push_features(&mut text, client.features())?,
+        "features" => push_features(alloc, &mut text, client.features())?,
         _ => push_called(alloc, &mut text, client, action)?,
     }
     if text.is_empty() {
@@ -978,7 +989,11 @@ fn kept(alloc: Global, label: &[u8], points: u32) -> Result<FeatureLedger, Fail>
         })?;
     }
     let mut features = FeatureLedger::new(alloc);
-    features.push(Feature { label, points: all })?;
+    features.push(Feature {
+        label,
+        points: all,
+        origin: None,
+    })?;
     Ok(features)
 }
 

@@ -1,7 +1,9 @@
 -- What a server's ledger holds.
-use Rattle.std.specs.Prelude.{ℕ, ◌≤◌, Bool, true, false, List, All, count_by}
+use Rattle.std.specs.Prelude.{ℕ, ◌≤◌, Bool, true, false, List, All, count_by, Option, Some, None}
 use Rattle.contact_ledger.specs.declared.acts.Act.{Act}
 use Rattle.contact_ledger.specs.declared.acts.Act.TheVariants as act
+use Rattle.contact_ledger.specs.declared.features.Origin.{Origin}
+use Rattle.contact_ledger.specs.declared.features.Feature.{Feature}
 
 -- an act is a contact (this profile)
 abbrev pub is_contact : Act → Bool
@@ -26,3 +28,12 @@ IsConnection n = (1 ≤ n) × (n ≤ connection_most)
 -- each act of a ledger stands beside such a number
 abbrev pub AreOnConnections : List (ℕ × Act) → Type 0
 AreOnConnections acts = All (λ entry. IsConnection entry.0) acts
+
+-- an origin is unknown, or on a connection with such a number
+abbrev pub IsOrigin : Option Origin → Type 0
+IsOrigin None = Unit {0}
+IsOrigin (Some origin) = IsConnection origin.connection
+
+-- each feature of a list has such an origin
+abbrev pub HaveOrigins : List Feature → Type 0
+HaveOrigins features = All (λ feature. IsOrigin feature.origin) features

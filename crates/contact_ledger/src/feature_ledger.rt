@@ -1,6 +1,7 @@
 // The features that a client holds.
 ghost use Rattle.std.specs.Prelude.{◌≡◌, ◌≤◌, [], ◌∷◌, ◌++◌, length, take, IfErr};
 ghost use Rattle.fixed_um.specs.Calls.{Leads};
+ghost use Rattle.contact_ledger.specs.Ledgers.{IsOrigin, HaveOrigins};
 
 use crate::features::Feature;
 use std::alloc::{AllocFailed, Global};
@@ -18,7 +19,11 @@ impl Model for FeatureLedger {
 
     ghost Value = { List Feature };
 
+    ghost use Rattle.contact_ledger.specs.Ledgers.{HaveOrigins};
+
     ghost view = { λ l. l.features.items };
+
+    ghost invariant = { λ l. HaveOrigins l.features.items };
 }
 
 impl FeatureLedger {
@@ -31,9 +36,10 @@ impl FeatureLedger {
         }
     }
 
-    /// Appends a feature. Only want of memory is an `Err`: it hands the feature back, and the list is as before. The room doubles
-    /// when it is full.
+    /// Appends a feature. Where its origin is known, the caller owes a connection from 1 to 4,000,000,000. Only want of memory is an
+    /// `Err`: it hands the feature back, and the list is as before. The room doubles when it is full.
     pub fn push(&mut self, feature: Feature) -> Result<(), AllocFailed<Feature>>
+        requires { IsOrigin feature.origin }
         ensures appended { Leads result self.old self.new (self.old ++ feature ∷ []) }
         ensures given_back { IfErr result (λ failed. failed.value ≡ feature) }
     {
@@ -42,7 +48,8 @@ impl FeatureLedger {
 
     /// The features in order.
     pub fn list(&self) -> &[Feature]
-        ensures { result.now ≡ self.now }
+        ensures features { result.now ≡ self.now }
+        ensures origins { HaveOrigins self.now }
     {
         self.features.as_slice()
     }

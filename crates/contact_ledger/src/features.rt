@@ -3,7 +3,7 @@
 ghost use Rattle.std.specs.Prelude.{◌≡◌, ◌≤◌, List, [], ◌∷◌, ◌++◌, length, take, IfOk};
 ghost use Rattle.fixed_um.specs.Calls.{Leads};
 
-use fixed_um::{Name, Point};
+use fixed_um::{Frame, Name, Point};
 use std::alloc::{AllocError, Global};
 use std::marker::Model;
 
@@ -79,11 +79,22 @@ impl Points {
     }
 }
 
-/// A measured feature: its label in the program (ISO 22093 `MEAS`), and its points in the frames of its touches.
+/// Where a feature comes from (this profile): the connection on which its last point was counted, by its client's own number, from 1 to
+/// 4,000,000,000, and the frame of its last touch in the program. A client that drives a foreign server, or begins anew, counts its own
+/// connections alone, so that the number need not be the server's.
+#[derive(Clone, Copy, Debug, PartialEq, Eq)]
+pub struct Origin {
+    pub connection: u64,
+    pub frame: Frame,
+}
+
+/// A measured feature: its label in the program (ISO 22093 `MEAS`), its points in the frames of its touches, and its origin, which is
+/// unknown where it was never written down.
 #[derive(Debug, Drop)]
 pub struct Feature {
     pub label: Name,
     pub points: Points,
+    pub origin: Option<Origin>,
 }
 
 impl Feature {
@@ -93,6 +104,10 @@ impl Feature {
     {
         let label = self.label.copy(alloc)?;
         let points = self.points.copy(alloc)?;
-        Ok(Feature { label, points })
+        Ok(Feature {
+            label,
+            points,
+            origin: self.origin,
+        })
     }
 }

@@ -1,7 +1,7 @@
 //! What a measuring machine did and what its client holds: acts, contacts and features, as both ends of a connection speak of them.
 //!
 //! - `acts`: `Act`, one thing that a server has done on a connection
-//! - `features`: `Feature`, one measured feature, and its list of points
+//! - `features`: `Feature`, one measured feature, its list of points, and its `Origin`
 //! - `server_ledger`: `ServerLedger`, the acts of a server in order
 //! - `feature_ledger`: `FeatureLedger`, the features that a client holds
 #![tactic(auto)]
@@ -13,7 +13,7 @@ pub mod server_ledger;
 
 pub use acts::Act;
 pub use feature_ledger::FeatureLedger;
-pub use features::{Feature, Points};
+pub use features::{Feature, Origin, Points};
 pub use server_ledger::ServerLedger;
 
 #[cfg(test)]

@@ -1,6 +1,6 @@
 // What no clause says: that the calls which want memory succeed with it.
 
-use crate::{Act, Feature, FeatureLedger, Points, ServerLedger};
+use crate::{Act, Feature, FeatureLedger, Origin, Points, ServerLedger};
 use fixed_um::{Frame, Name, Point, Um};
 use std::alloc::{AllocError, Global};
 use std::test::Fail;
@@ -26,23 +26,6 @@ fn contact(alloc: Global, target: Point, point: Point) -> Result<Option<Act>, Al
     }))
 }
 
-/// A feature of two points, copied once.
-fn feature(
-    alloc: Global,
-    label: &[u8],
-    first: Point,
-    last: Point,
-) -> Result<Option<Feature>, AllocError> {
-    let Some(label) = Name::new(alloc, label)? else {
-        return Ok(None);
-    };
-    let mut points = Points::new(alloc);
-    points.push(first)?;
-    points.push(last)?;
-    let feature = Feature { label, points };
-    Ok(Some(feature.copy(alloc)?))
-}
-
 /// How many of the features have these two points.
 fn with_points(features: &[Feature], first: Point, last: Point) -> usize {
     features
@@ -63,10 +46,24 @@ fn push_two(alloc: Global, ledger: &mut ServerLedger) -> Result<(), AllocError> 
     Ok(())
 }
 
+/// Appends a feature of two points, copied once.
 fn push_feature(alloc: Global, features: &mut FeatureLedger) -> Result<(), AllocError> {
-    if let Some(feature) = feature(alloc, b"A", point(Um::zero()), point(Um::volume_limit()))? {
-        features.push(feature)?;
-    }
+    let Some(label) = Name::new(alloc, b"A")? else {
+        return Ok(());
+    };
+    let mut points = Points::new(alloc);
+    points.push(point(Um::zero()))?;
+    points.push(point(Um::volume_limit()))?;
+    let origin = Some(Origin {
+        connection: 4_000_000_000,
+        frame: Frame::Part(point(Um::volume_limit())),
+    });
+    let feature = Feature {
+        label,
+        points,
+        origin,
+    };
+    features.push(feature.copy(alloc)?)?;
     Ok(())
 }
 

@@ -2,6 +2,7 @@
 use Rattle.std.specs.Prelude.{ℕ, zero, suc, ◌-◌, ◌==◌, nat_lt, Bool, true, false, ◌&&◌, ◌||◌, not, if◌then◌else◌, Option, Some, None, List}
 use Rattle.std.specs.Prelude.{[], ◌∷◌, ◌++◌, length, take, Result, Ok, Err}
 use Rattle.fixed_um.specs.declared.lengths.Point.{Point}
+use Rattle.fixed_um.specs.declared.frames.Frame.{Frame}
 use Rattle.dme_line.specs.Kinds.{kind_of}
 use Rattle.dme_line.specs.declared.tags.Tag.{Tag}
 use Rattle.dme_line.specs.declared.tags.Tag.TheVariants.{Std, Event}
@@ -11,6 +12,7 @@ use Rattle.dme_line.specs.declared.commands.Command.{Command}
 use Rattle.dme_line.specs.declared.commands.Command.TheVariants as command
 use Rattle.contact_ledger.specs.declared.acts.Act.{Act}
 use Rattle.contact_ledger.specs.declared.acts.Act.TheVariants as act
+use Rattle.contact_ledger.specs.declared.features.Origin.{Origin}
 use Rattle.contact_ledger.specs.declared.features.Feature.{Feature}
 use Rattle.dmis_program.specs.declared.features.Wanted.{Wanted}
 use Rattle.dmis_program.specs.Meaning.{Meaning as Program}
@@ -26,10 +28,11 @@ use Rattle.protocol_model.specs.declared.plans.Planned.{Planned}
 use Rattle.protocol_model.specs.declared.plans.Does.{Does}
 use Rattle.protocol_model.specs.declared.plans.Start.{Start}
 
--- what a client has counted: whether a standard command has failed since the plan began, whether a session was begun on the connection,
--- the plan from its first uncounted command on, the acts of the connection, the points of the unfinished feature, the features, and how
--- many commands of the plan are counted
+-- what a client has counted: the client's own number of the connection (0 before the first), whether a standard command has failed since
+-- the plan began, whether a session was begun on the connection, the plan from its first uncounted command on, the acts of the connection,
+-- the points of the unfinished feature, the features, and how many commands of the plan are counted
 pub record Tally : Type 0 where
+  pub connection : ℕ
   pub failed : Bool
   pub session : Bool
   pub todo : List Planned
@@ -54,16 +57,21 @@ act_of (Does.Frames f) given = act.Framed f ∷ []
 act_of (Does.Touches t last) None = []
 act_of (Does.Touches t last) (Some p) = act.Contact t.target t.dir t.tool t.frame p ∷ []
 
--- features with one more: the next one that the program wants, with these points
-abbrev pub joined : List Wanted → List Feature → List Point → List Feature
-joined [] fs points = fs
-joined (w ∷ ws) [] points = record { label = w.label; points = points } ∷ []
-joined (w ∷ ws) (f ∷ fs) points = f ∷ joined ws fs points
+-- where a feature comes from whose last touch is counted: the number of that connection, and the frame of that touch
+abbrev pub origin_of : ℕ → Frame → Option Origin
+origin_of connection frame = Some (record { connection = connection; frame = frame })
+
+-- features with one more: the next one that the program wants, with these points and this origin
+abbrev pub joined : List Wanted → List Feature → List Point → Option Origin → List Feature
+joined [] fs points origin = fs
+joined (w ∷ ws) [] points origin = record { label = w.label; points = points; origin = origin } ∷ []
+joined (w ∷ ws) (f ∷ fs) points origin = f ∷ joined ws fs points origin
 
 -- a counted touch adds its point to the unfinished feature, and the last of a feature ends it
 abbrev pub measured : List Wanted → Does → Option Point → Tally → Tally
 measured ws (Does.Touches t false) (Some p) y = record y { points = y.points ++ p ∷ [] }
-measured ws (Does.Touches t true) (Some p) y = record y { points = []; features = joined ws y.features (y.points ++ p ∷ []) }
+measured ws (Does.Touches t true) (Some p) y =
+    record y { points = []; features = joined ws y.features (y.points ++ p ∷ []) (origin_of y.connection t.frame) }
 measured ws (Does.Touches t last) None y = y
 measured ws Does.Nothing given y = y
 measured ws Does.Homes given y = y
@@ -129,9 +137,10 @@ pub record Client : Type 0 where
   pub event_drawn : ℕ
   pub abort : Option Tag
 
--- nothing counted but these features
-abbrev pub no_tally : List Feature → Tally
-no_tally fs = record { failed = false; session = false; todo = []; counted = []; points = []; features = fs; completed = 0 }
+-- nothing counted on the connection of this number; these features are held
+abbrev pub no_tally : ℕ → List Feature → Tally
+no_tally n fs =
+    record { connection = n; failed = false; session = false; todo = []; counted = []; points = []; features = fs; completed = 0 }
 
 -- a client that was never on a connection
 abbrev pub new_client : Program → List Feature → ℕ → Client
@@ -142,7 +151,7 @@ new_client p fs window = record {
   last = 0;
   state = State.Apart;
   cause = None;
-  table = record { standard = []; event = []; tally = no_tally fs };
+  table = record { standard = []; event = []; tally = no_tally 0 fs };
   unsent = [];
   drawn = 0;
   event_drawn = 0;
@@ -169,7 +178,7 @@ client_connected n c =
       last = n;
       state = State.Running;
       cause = None;
-      table = record { standard = []; event = []; tally = record (no_tally c.table.tally.features) { todo = steps } };
+      table = record { standard = []; event = []; tally = record (no_tally n c.table.tally.features) { todo = steps } };
       unsent = steps;
       drawn = 0;
       event_drawn = 0;
@@ -340,4 +349,9 @@ client_left c = record c {
 
 -- a new client with the first k features, for which the earlier connection numbers still count
 abbrev pub client_restarted : ℕ → Client → Client
-client_restarted k c = record (new_client c.program (take k c.table.tally.features) c.window) { last = c.last }
+client_restarted k c =
+    let fs : List Feature = take k c.table.tally.features in
+    record (new_client c.program fs c.window) {
+      last = c.last;
+      table = record { standard = []; event = []; tally = no_tally c.last fs };
+    }

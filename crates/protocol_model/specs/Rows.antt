@@ -320,9 +320,14 @@ reported p window script = report_of (play p window script).world
 abbrev pub report : State → ℕ → List Feature → List Reported → Report
 report state counted features contacts = record { state = state; counted = counted; features = features; contacts = contacts }
 
--- a feature: its label and its points
+-- a feature: its label and its points, of unknown origin
 abbrev pub feature : List ℕ → List Point → Feature
-feature label points = record { label = label; points = points }
+feature label points = record { label = label; points = points; origin = None }
+
+-- a feature whose last point was counted on the connection of this number, in the frame of its last touch
+abbrev pub feature_on : ℕ → Frame → List ℕ → List Point → Feature
+feature_on connection f label points =
+    record { label = label; points = points; origin = Some (record { connection = connection; frame = f }) }
 
 -- a contact: its number, its connection and its point
 abbrev pub contact : ℕ → ℕ → Point → Reported

@@ -16,7 +16,6 @@ use Rattle.protocol_model.specs.declared.events.Event.TheVariants.{Connect, Acce
 use Rattle.protocol_model.specs.declared.events.Event.TheVariants.{ClientReads, ClientLeaves, ServerLeaves, Abort, Resume, ClientRestart}
 use Rattle.protocol_model.specs.declared.events.Event.TheVariants.{ServerRestart}
 use Rattle.protocol_model.specs.declared.states.State.{State}
-use Rattle.protocol_model.specs.declared.machine.Outcome.{Outcome}
 
 -- the unread bytes of a connection: those of the client, and those of the server
 pub record Link : Type 0 where

@@ -5,7 +5,7 @@ ghost use Rattle.std.specs.Prelude.{ℕ, pos, [], ◌∷◌, codes, None};
 ghost use Rattle.fixed_um.specs.declared.frames.Frame.TheVariants as frame;
 ghost use Rattle.contact_ledger.specs.declared.acts.Act.TheVariants as act;
 ghost use Rattle.protocol_model.specs.Claims.{Sound, Told};
-ghost use Rattle.protocol_model.specs.Rows.{at, along, from_above, tool, part, feature};
+ghost use Rattle.protocol_model.specs.Rows.{at, along, from_above, tool, part, feature, feature_on};
 ghost use Rattle.protocol_model.specs.LedgerRows.{
   contact_of,
   one_wanted,
@@ -24,6 +24,10 @@ ghost use Rattle.protocol_model.specs.LedgerRows.{
 /// thing is not as it was wanted.
 pub fn feature_rows()
     ensures right { Sound one_wanted (measured_as (codes "A") ∷ []) right_ledger }
+    // Nothing is claimed of where a feature comes from.
+    ensures any_origin { Sound one_wanted
+        (feature_on 7 (frame.Part part) (codes "A") (first_point ∷ second_point ∷ []) ∷ [])
+        right_ledger }
     ensures nothing_measured { Sound one_wanted [] [] }
     ensures other_tool { Sound one_wanted (measured_as (codes "A") ∷ []) (ledger_with
         (contact_of 1 (at (pos 20000) (pos 0) (pos 0)) from_above (codes "P2") frame.Machine

@@ -15,6 +15,7 @@
 //! - `readers`: that lines can be read as the interface says
 //! - `undisturbed`: what is written, done and counted in a run that nothing disturbs
 //! - `rows`: worked rows, as examples that the definitions compute
+//! - `origins`: worked rows of where features come from
 //! - `ledger_rows`: worked rows of what is claimed, beside ledgers that are written out
 //! - `turn_rows`: worked rows of the order of checks, and of when a client is done
 #![tactic(auto)]
@@ -24,6 +25,7 @@ pub mod held;
 pub mod ledger_rows;
 pub mod lines;
 pub mod machine;
+pub mod origins;
 pub mod plan_laws;
 pub mod plans;
 pub mod positions;

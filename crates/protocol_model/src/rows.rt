@@ -1,6 +1,7 @@
 // Worked rows: what short scripts give, computed by the definitions. Lengths are in micrometres.
 
 ghost use Rattle.std.specs.Prelude.{◌≡◌, ℕ, List, pos, true, false, [], ◌∷◌, ◌++◌, take, codes, Some, None, Ok, Err};
+ghost use Rattle.fixed_um.specs.declared.frames.Frame.TheVariants.{Machine, Part};
 ghost use Rattle.dme_line.specs.declared.tags.Tag.TheVariants.{Std, Event as OnEvent};
 ghost use Rattle.dme_line.specs.declared.commands.Csy.TheVariants.{MachineCsy, PartCsy};
 ghost use Rattle.dme_line.specs.declared.commands.Kind.TheVariants as kind;
@@ -54,7 +55,7 @@ ghost use Rattle.protocol_model.specs.Rows.{
   said_behind,
   reported,
   report,
-  feature,
+  feature_on,
   contact,
   line,
   failed,
@@ -108,19 +109,20 @@ pub fn undisturbed_rows()
         (along (pos 0) (pos 0) (pos 1000000)))
         ∷ line 9 command.EndSession ∷ [] }
     ensures one_point_report { reported one_point 1 (opened ++ quiet_to_the_end ∷ [])
-        ≡ report State.Done 5 (feature (codes "A") (at (pos 10002) (pos 20000) (pos 25000) ∷ [])
-        ∷ [])
+        ≡ report State.Done 5
+        (feature_on 1 Machine (codes "A") (at (pos 10002) (pos 20000) (pos 25000) ∷ []) ∷ [])
         (contact 0 1 (at (pos 10002) (pos 20000) (pos 25000)) ∷ []) }
     ensures nine_rounds { (play one_point 1 (opened ++ quiet 8 ∷ [])).world.client.state
         ≡ State.Running }
     ensures widest_window { reported one_point 16 (opened ++ quiet 2 ∷ [])
-        ≡ report State.Done 5 (feature (codes "A") (at (pos 10002) (pos 20000) (pos 25000) ∷ [])
-        ∷ [])
+        ≡ report State.Done 5
+        (feature_on 1 Machine (codes "A") (at (pos 10002) (pos 20000) (pos 25000) ∷ []) ∷ [])
         (contact 0 1 (at (pos 10002) (pos 20000) (pos 25000)) ∷ []) }
     ensures two_frames_report { reported two_frames 1 (opened ++ quiet_to_the_end ∷ [])
         ≡ report State.Done 7
-        (feature (codes "A") (at (pos 10002) (pos 0) (pos 0) ∷ [])
-        ∷ feature (codes "B") (at (pos 20000) (pos 0) (pos 4) ∷ at (pos 29999) (pos 1) (pos 0) ∷ [])
+        (feature_on 1 Machine (codes "A") (at (pos 10002) (pos 0) (pos 0) ∷ [])
+        ∷ feature_on 1 (Part part) (codes "B")
+        (at (pos 20000) (pos 0) (pos 4) ∷ at (pos 29999) (pos 1) (pos 0) ∷ [])
         ∷ [])
         (contact 0 1 (at (pos 10002) (pos 0) (pos 0)) ∷ contact 1 1 (at (pos 20000) (pos 0) (pos 4))
         ∷ contact 2 1 (at (pos 29999) (pos 1) (pos 0)) ∷ []) }
@@ -129,7 +131,7 @@ pub fn undisturbed_rows()
         (at_its_turn 6 ++ machine (Touched (at (pos 10002) (pos 0) (pos 0))) ∷ client_reads_all
         ∷ client_sends ∷ server_reads ∷ server_turn
         ∷ machine (Touched (at (pos 10004) (pos 0) (pos 0))) ∷ quiet_to_the_end ∷ [])
-        ≡ report State.Done 5 (feature (codes "A")
+        ≡ report State.Done 5 (feature_on 1 Machine (codes "A")
         (at (pos 10002) (pos 0) (pos 0) ∷ at (pos 10004) (pos 0) (pos 0) ∷ []) ∷ [])
         (contact 0 1 (at (pos 10002) (pos 0) (pos 0)) ∷ contact 1 1 (at (pos 10004) (pos 0) (pos 0))
         ∷ []) }
@@ -141,15 +143,15 @@ pub fn broken_rows()
     ensures left_at_once { reported one_point 1
         (opened ++ client_sends ∷ client_leaves ∷ connect ∷ server_reads ∷ server_leaves ∷ accept 2
         ∷ quiet_to_the_end ∷ [])
-        ≡ report State.Done 5 (feature (codes "A") (at (pos 10002) (pos 20000) (pos 25000) ∷ [])
-        ∷ [])
+        ≡ report State.Done 5
+        (feature_on 2 Machine (codes "A") (at (pos 10002) (pos 20000) (pos 25000) ∷ []) ∷ [])
         (contact 0 2 (at (pos 10002) (pos 20000) (pos 25000)) ∷ []) }
     // A point was counted before the break: the feature is measured again from its first touch on.
     ensures left_inside_a_feature { reported circle 1 (opened
         ++ quiet 7 ∷ client_leaves ∷ server_leaves ∷ connect ∷ accept 2 ∷ quiet_to_the_end ∷ [])
         ≡ report State.Done 6
-        (feature (codes "C") (at (pos 1000) (pos 0) (pos 4) ∷ at (neg 1) (pos 1001) (pos 0)
-        ∷ at (neg 998) (pos 0) (pos 0) ∷ []) ∷ [])
+        (feature_on 2 Machine (codes "C") (at (pos 1000) (pos 0) (pos 4)
+        ∷ at (neg 1) (pos 1001) (pos 0) ∷ at (neg 998) (pos 0) (pos 0) ∷ []) ∷ [])
         (contact 0 1 (at (pos 1002) (pos 0) (pos 0)) ∷ contact 1 2 (at (pos 1000) (pos 0) (pos 4))
         ∷ contact 2 2 (at (neg 1) (pos 1001) (pos 0)) ∷ contact 3 2 (at (neg 998) (pos 0) (pos 0))
         ∷ []) }
@@ -158,8 +160,8 @@ pub fn broken_rows()
         (at_its_turn 6 ++ auto ∷ client_reads ∷ client_reads ∷ client_leaves ∷ server_leaves
         ∷ connect ∷ accept 2 ∷ quiet_to_the_end ∷ [])
         ≡ report State.Done 6
-        (feature (codes "C") (at (pos 1000) (pos 0) (pos 4) ∷ at (neg 1) (pos 1001) (pos 0)
-        ∷ at (neg 998) (pos 0) (pos 0) ∷ []) ∷ [])
+        (feature_on 2 Machine (codes "C") (at (pos 1000) (pos 0) (pos 4)
+        ∷ at (neg 1) (pos 1001) (pos 0) ∷ at (neg 998) (pos 0) (pos 0) ∷ []) ∷ [])
         (contact 0 1 (at (pos 1002) (pos 0) (pos 0)) ∷ contact 1 2 (at (pos 1000) (pos 0) (pos 4))
         ∷ contact 2 2 (at (neg 1) (pos 1001) (pos 0)) ∷ contact 3 2 (at (neg 998) (pos 0) (pos 0))
         ∷ []) }
@@ -175,8 +177,8 @@ pub fn broken_rows()
         (at_its_turn 6 ++ client_leaves ∷ connect ∷ client_sends ∷ auto ∷ server_leaves ∷ accept 2
         ∷ quiet_to_the_end ∷ [])
         ≡ report State.Done 6
-        (feature (codes "C") (at (pos 1000) (pos 0) (pos 4) ∷ at (neg 1) (pos 1001) (pos 0)
-        ∷ at (neg 998) (pos 0) (pos 0) ∷ []) ∷ [])
+        (feature_on 2 Machine (codes "C") (at (pos 1000) (pos 0) (pos 4)
+        ∷ at (neg 1) (pos 1001) (pos 0) ∷ at (neg 998) (pos 0) (pos 0) ∷ []) ∷ [])
         (contact 0 1 (at (pos 1002) (pos 0) (pos 0)) ∷ contact 1 2 (at (pos 1000) (pos 0) (pos 4))
         ∷ contact 2 2 (at (neg 1) (pos 1001) (pos 0)) ∷ contact 3 2 (at (neg 998) (pos 0) (pos 0))
         ∷ []) }
@@ -185,8 +187,8 @@ pub fn broken_rows()
         (opened ++ quiet_to_the_end ∷ client_restart 1 ∷ server_restart ∷ connect ∷ accept 2
         ∷ quiet_to_the_end ∷ [])
         ≡ report State.Done 4
-        (feature (codes "A") (at (pos 1002) (pos 2000) (pos 3000) ∷ [])
-        ∷ feature (codes "B") (at (pos 3999) (pos 5001) (pos 6000) ∷ []) ∷ [])
+        (feature_on 1 Machine (codes "A") (at (pos 1002) (pos 2000) (pos 3000) ∷ [])
+        ∷ feature_on 2 Machine (codes "B") (at (pos 3999) (pos 5001) (pos 6000) ∷ []) ∷ [])
         (contact 0 1 (at (pos 1002) (pos 2000) (pos 3000))
         ∷ contact 1 1 (at (pos 4000) (pos 5000) (pos 6004))
         ∷ contact 2 2 (at (pos 3999) (pos 5001) (pos 6000)) ∷ []) }
@@ -203,8 +205,8 @@ pub fn aborted_rows()
     ensures change_resumed { reported circle 1 (at_its_turn 5
         ++ abort ∷ server_reads ∷ client_reads_all ∷ resume ∷ quiet_to_the_end ∷ [])
         ≡ report State.Done 8
-        (feature (codes "C") (at (pos 1002) (pos 0) (pos 0) ∷ at (pos 0) (pos 1000) (pos 4)
-        ∷ at (neg 1001) (pos 1) (pos 0) ∷ []) ∷ [])
+        (feature_on 1 Machine (codes "C") (at (pos 1002) (pos 0) (pos 0)
+        ∷ at (pos 0) (pos 1000) (pos 4) ∷ at (neg 1001) (pos 1) (pos 0) ∷ []) ∷ [])
         (contact 0 1 (at (pos 1002) (pos 0) (pos 0)) ∷ contact 1 1 (at (pos 0) (pos 1000) (pos 4))
         ∷ contact 2 1 (at (neg 1001) (pos 1) (pos 0)) ∷ []) }
     // A tool change is running, and two touches wait.
@@ -238,8 +240,9 @@ pub fn aborted_rows()
     ensures frame_report { reported two_frames 1
         (at_its_turn 10 ++ abort ∷ server_reads ∷ client_reads_all ∷ resume ∷ quiet_to_the_end ∷ [])
         ≡ report State.Done 12
-        (feature (codes "A") (at (pos 10002) (pos 0) (pos 0) ∷ [])
-        ∷ feature (codes "B") (at (pos 19999) (pos 1) (pos 0) ∷ at (pos 30002) (pos 0) (pos 0) ∷ [])
+        (feature_on 1 Machine (codes "A") (at (pos 10002) (pos 0) (pos 0) ∷ [])
+        ∷ feature_on 1 (Part part) (codes "B")
+        (at (pos 19999) (pos 1) (pos 0) ∷ at (pos 30002) (pos 0) (pos 0) ∷ [])
         ∷ [])
         (contact 0 1 (at (pos 10002) (pos 0) (pos 0)) ∷ contact 1 1 (at (pos 20000) (pos 0) (pos 4))
         ∷ contact 2 1 (at (pos 19999) (pos 1) (pos 0))
@@ -262,8 +265,8 @@ pub fn failed_rows()
     ensures missed { reported circle 1 (at_its_turn 7
         ++ machine Missed ∷ client_reads_all ∷ resume ∷ quiet_to_the_end ∷ [])
         ≡ report State.Done 10
-        (feature (codes "C") (at (pos 1000) (pos 0) (pos 4) ∷ at (neg 1) (pos 1001) (pos 0)
-        ∷ at (neg 998) (pos 0) (pos 0) ∷ []) ∷ [])
+        (feature_on 1 Machine (codes "C") (at (pos 1000) (pos 0) (pos 4)
+        ∷ at (neg 1) (pos 1001) (pos 0) ∷ at (neg 998) (pos 0) (pos 0) ∷ []) ∷ [])
         (contact 0 1 (at (pos 1002) (pos 0) (pos 0)) ∷ contact 1 1 (at (pos 1000) (pos 0) (pos 4))
         ∷ contact 2 1 (at (neg 1) (pos 1001) (pos 0)) ∷ contact 3 1 (at (neg 998) (pos 0) (pos 0))
         ∷ []) }
@@ -278,8 +281,8 @@ pub fn failed_rows()
         (touch_while_one_waits ++ machine Missed ∷ server_reads ∷ client_reads_all ∷ resume
         ∷ quiet_to_the_end ∷ [])
         ≡ report State.Done 10
-        (feature (codes "C") (at (pos 1000) (pos 0) (pos 4) ∷ at (neg 1) (pos 1001) (pos 0)
-        ∷ at (neg 998) (pos 0) (pos 0) ∷ []) ∷ [])
+        (feature_on 1 Machine (codes "C") (at (pos 1000) (pos 0) (pos 4)
+        ∷ at (neg 1) (pos 1001) (pos 0) ∷ at (neg 998) (pos 0) (pos 0) ∷ []) ∷ [])
         (contact 0 1 (at (pos 1002) (pos 0) (pos 0)) ∷ contact 1 1 (at (pos 1000) (pos 0) (pos 4))
         ∷ contact 2 1 (at (neg 1) (pos 1001) (pos 0)) ∷ contact 3 1 (at (neg 998) (pos 0) (pos 0))
         ∷ []) }

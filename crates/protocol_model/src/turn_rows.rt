@@ -29,7 +29,7 @@ ghost use Rattle.protocol_model.specs.Rows.{
   play,
   reported,
   report,
-  feature,
+  feature_on,
   contact,
 };
 ghost use Rattle.protocol_model.specs.TurnRows.{
@@ -100,7 +100,7 @@ pub fn done_rows()
     ensures abort_ended { reported one_point 1 (at_its_turn 8 ++ abort ∷ server_reads
         ∷ client_reads ∷ client_reads ∷ client_reads ∷ client_reads ∷ [])
         ≡ report State.Done 5
-        (feature (codes "A") (at (pos 10002) (pos 20000) (pos 25000) ∷ []) ∷ [])
+        (feature_on 1 frame.Machine (codes "A") (at (pos 10002) (pos 20000) (pos 25000) ∷ []) ∷ [])
         (contact 0 1 (at (pos 10002) (pos 20000) (pos 25000)) ∷ []) }
     // The last command ends: the client is not done while an event command is open.
     ensures last_command_ends { (client_read
@@ -120,7 +120,7 @@ pub fn done_rows()
     // What has been measured whole stays so when the connection is left.
     ensures done_and_left { reported one_point 1 (opened ++ quiet_to_the_end ∷ client_leaves ∷ [])
         ≡ report State.Done 5
-        (feature (codes "A") (at (pos 10002) (pos 20000) (pos 25000) ∷ []) ∷ [])
+        (feature_on 1 frame.Machine (codes "A") (at (pos 10002) (pos 20000) (pos 25000) ∷ []) ∷ [])
         (contact 0 1 (at (pos 10002) (pos 20000) (pos 25000)) ∷ []) }
     ensures not_connected_again { can Event.Connect
         (play one_point 1 (opened ++ quiet_to_the_end ∷ client_leaves ∷ [])).world ≡ false }

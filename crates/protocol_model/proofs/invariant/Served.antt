@@ -1,10 +1,11 @@
 -- Features that contacts serve, with the contacts left out between them; and the contacts of an unfinished feature.
 use Rattle.std.proofs.Common.{◌≡◌, ℕ, zero, suc, ◌+◌, ◌<◌, ◌≤◌, Bool, true, false, cond, List, [], ◌∷◌, ◌++◌, length, take, drop, refl, sym}
-use Rattle.std.proofs.Common.{◌∙◌, ap, subst, arith, append_assoc, append-nil, length-append}
+use Rattle.std.proofs.Common.{◌∙◌, ap, subst, arith, append_assoc, append-nil, length-append, Option}
 use Rattle.std.proofs.Common.{eq-eqb, ne_eqb}
 use Rattle.fixed_um.specs.declared.lengths.Point.{Point}
 use Rattle.contact_ledger.specs.declared.acts.Act.{Act}
 use Rattle.contact_ledger.specs.declared.acts.Act.TheVariants as act
+use Rattle.contact_ledger.specs.declared.features.Origin.{Origin}
 use Rattle.contact_ledger.specs.declared.features.Feature.{Feature}
 use Rattle.dmis_program.specs.declared.features.Touch.{Touch}
 use Rattle.dmis_program.specs.declared.features.Wanted.{Wanted}
@@ -144,12 +145,13 @@ served_push (v ∷ front) w later [] f made run n e h label serves = absurd (cc)
 served_push (v ∷ front) w later (g ∷ gs) f made run n e h label serves =
     (h.0 ++ run, run_more v g made h.0 run h.1, served_push front w later gs f h.0 run n (omega arith) h.2 label serves)
 
-pub joined_is : (front : List Wanted) (w : Wanted) (later : List Wanted) (fs : List Feature) (ps : List Point) → length front ≡ length fs
-    → joined (front ++ w ∷ later) fs ps ≡ fs ++ record { label = w.label; points = ps } ∷ []
-joined_is [] w later [] ps e = refl
-joined_is [] w later (g ∷ gs) ps e = absurd (cc)
-joined_is (v ∷ front) w later [] ps e = absurd (cc)
-joined_is (v ∷ front) w later (g ∷ gs) ps e = ap (λ (l : List Feature). g ∷ l) (joined_is front w later gs ps (omega arith))
+pub joined_is : (front : List Wanted) (w : Wanted) (later : List Wanted) (fs : List Feature) (ps : List Point) (origin : Option Origin)
+    → length front ≡ length fs
+    → joined (front ++ w ∷ later) fs ps origin ≡ fs ++ record { label = w.label; points = ps; origin = origin } ∷ []
+joined_is [] w later [] ps origin e = refl
+joined_is [] w later (g ∷ gs) ps origin e = absurd (cc)
+joined_is (v ∷ front) w later [] ps origin e = absurd (cc)
+joined_is (v ∷ front) w later (g ∷ gs) ps origin e = ap (λ (l : List Feature). g ∷ l) (joined_is front w later gs ps origin (omega arith))
 
 pub serves_more : (n : ℕ) (ts : List Touch) (ps : List Point) (ms : List Made) (t : Touch) (p : Point) (m : Made) → Serves n ts ps ms
     → IsServed n t p m → Serves n (ts ++ t ∷ []) (ps ++ p ∷ []) (ms ++ m ∷ [])

@@ -3,12 +3,13 @@ use Rattle.std.proofs.Common.{◌≡◌, ℕ, ◌+◌, true, false, List, [], �
 use Rattle.std.proofs.Common.{length-append, Option, Some, None}
 use Rattle.std.proofs.lemmas.Bool.{false≢true}
 use Rattle.fixed_um.specs.declared.lengths.Point.{Point}
+use Rattle.contact_ledger.specs.declared.features.Origin.{Origin}
 use Rattle.contact_ledger.specs.declared.features.Feature.{Feature}
 use Rattle.dmis_program.specs.declared.features.Touch.{Touch}
 use Rattle.dmis_program.specs.declared.features.Wanted.{Wanted}
 use Rattle.protocol_model.specs.Claims.{Made, contacts, IsServed}
 use Rattle.protocol_model.specs.Plan.{is_empty}
-use Rattle.protocol_model.specs.Client.{Tally, act_of, joined, measured}
+use Rattle.protocol_model.specs.Client.{Tally, act_of, origin_of, joined, measured}
 use Rattle.protocol_model.proofs.plan.Marks.{Marked, marks, marks_of, touch_in}
 use Rattle.protocol_model.proofs.invariant.Served.{Served, served_push, joined_is, serves_more, HaveTouches, with_made, IsProgress, IsNext}
 use Rattle.protocol_model.proofs.invariant.Served.{next_touch}
@@ -100,12 +101,12 @@ with_none : (ws : List Wanted) → with_made [] ws ≡ ws
 with_none [] = refl
 with_none (w ∷ ws) = refl
 
--- and one that is
+-- and one that is, whatever its origin
 touch_ends : (ws : List Wanted) (n : ℕ) (fs : List Feature) (points : List Point) (ms : List Made) (left : List Wanted) (t : Touch)
-    (p : Point) (rest : List Marked) → IsProgress ws n fs points ms left → IsNext t true rest left
-    → (later : List Wanted) × (rest ≡ marks_of later) × IsProgress ws n (joined ws fs (points ++ p ∷ [])) [] (ms
+    (p : Point) (origin : Option Origin) (rest : List Marked) → IsProgress ws n fs points ms left → IsNext t true rest left
+    → (later : List Wanted) × (rest ≡ marks_of later) × IsProgress ws n (joined ws fs (points ++ p ∷ []) origin) [] (ms
     ++ record { connection = n; target = t.target; dir = t.dir; tool = t.tool; frame = t.frame; point = p } ∷ []) later
-touch_ends ws n fs points ms left t p rest h next =
+touch_ends ws n fs points ms left t p origin rest h next =
     let m : Made = record { connection = n; target = t.target; dir = t.dir; tool = t.tool; frame = t.frame; point = p } in
     let none : next.ts ≡ [] = empty_is next.ts (sym next.ends) in
     let whole_one : Wanted = record { label = next.wanted.label; touches = h.made ++ t ∷ [] } in
@@ -115,9 +116,10 @@ touch_ends ws n fs points ms left t p rest h next =
     (ap (λ (ts : List Touch). h.made ++ ts) (next.touches ∙ ap (λ (ts : List Touch). t ∷ ts) none)) in
     let whole : ws ≡ h.front ++ whole_one ∷ next.later = h.whole ∙ ap (λ (l : List Wanted). h.front ++ l) here in
     let run : List Made = h.run ++ m ∷ [] in
-    let feature : Feature = record { label = whole_one.label; points = points ++ p ∷ [] } in
-    let features : joined ws fs (points ++ p ∷ []) ≡ fs ++ feature ∷ [] =
-    ap (λ (l : List Wanted). joined l fs (points ++ p ∷ [])) whole ∙ joined_is h.front whole_one next.later fs (points ++ p ∷ []) h.long in
+    let feature : Feature = record { label = whole_one.label; points = points ++ p ∷ []; origin = origin } in
+    let features : joined ws fs (points ++ p ∷ []) origin ≡ fs ++ feature ∷ [] =
+    ap (λ (l : List Wanted). joined l fs (points ++ p ∷ []) origin) whole
+    ∙ joined_is h.front whole_one next.later fs (points ++ p ∷ []) origin h.long in
     let served : Served ws (fs ++ feature ∷ []) (h.before ++ run) =
     subst (λ (l : List Wanted). Served l (fs ++ feature ∷ []) (h.before ++ run)) (sym whole)
     (served_push h.front whole_one next.later fs feature h.before run n h.long
@@ -156,7 +158,7 @@ does_goes ws n y ms left (Does.Touches t false) (Some p) rest h has e =
     record { left = goes.0; touches = goes.1; progress = goes.2 }
 does_goes ws n y ms left (Does.Touches t true) (Some p) rest h has e =
     let next : IsNext t true rest left = next_touch t true rest left h.some e in
-    let goes = touch_ends ws n y.features y.points ms left t p rest h next in
+    let goes = touch_ends ws n y.features y.points ms left t p (origin_of y.connection t.frame) rest h next in
     record { left = goes.0; touches = goes.1; progress = goes.2 }
 does_goes ws n y ms left (Does.Touches t last) None rest h has e = absurd has
 does_goes ws n y ms left Does.Nothing given rest h has e = record { left = left; touches = e; progress = calm_goes ws n y ms left h }

@@ -5,11 +5,12 @@ use Rattle.fixed_um.specs.declared.lengths.Point.{Point}
 use Rattle.dme_line.specs.declared.tags.Tag.{Tag}
 use Rattle.dme_line.specs.declared.tags.Tag.TheVariants.{Std, Event}
 use Rattle.dme_line.specs.declared.commands.Kind.{Kind}
+use Rattle.contact_ledger.specs.declared.features.Origin.{Origin}
 use Rattle.contact_ledger.specs.declared.features.Feature.{Feature}
 use Rattle.dmis_program.specs.declared.features.Wanted.{Wanted}
 use Rattle.protocol_model.specs.Replies.{Mark, Reply, tag_of, mark_of, tag_is}
 use Rattle.protocol_model.specs.Open.{Effect, Heard, heard_in, count_open, is_held}
-use Rattle.protocol_model.specs.Client.{Tally, Table, act_of, joined, measured, begins_session, counted_next, tallied, heard_standard}
+use Rattle.protocol_model.specs.Client.{Tally, Table, act_of, origin_of, joined, measured, begins_session, counted_next, tallied, heard_standard}
 use Rattle.protocol_model.specs.Client.{heard_event, heard_on, heard}
 use Rattle.protocol_model.proofs.table.Basics.{if_cases, if_true, if_false}
 use Rattle.protocol_model.proofs.table.Walks.{two, heard_more, not_held_keeps, AreDistinct, distinct_keeps}
@@ -218,16 +219,16 @@ grows_trans x y z h g = record {
   features = front_trans x.features y.features z.features h.features g.features;
 }
 
-joined_front : (ws : List Wanted) (fs : List Feature) (ps : List Point) → IsFront fs (joined ws fs ps)
-joined_front [] fs ps = front_refl fs
-joined_front (w ∷ ws) [] ps = front_more [] _
-joined_front (w ∷ ws) (f ∷ fs) ps = let rest = joined_front ws fs ps in (rest.0, ap (λ (l : List Feature). f ∷ l) rest.1)
+joined_front : (ws : List Wanted) (fs : List Feature) (ps : List Point) (origin : Option Origin) → IsFront fs (joined ws fs ps origin)
+joined_front [] fs ps origin = front_refl fs
+joined_front (w ∷ ws) [] ps origin = front_more [] _
+joined_front (w ∷ ws) (f ∷ fs) ps origin = let rest = joined_front ws fs ps origin in (rest.0, ap (λ (l : List Feature). f ∷ l) rest.1)
 
 measured_grows : (ws : List Wanted) (does : Does) (given : Option Point) (y : Tally) → Grows y (measured ws does given y)
 measured_grows ws (Does.Touches t false) (Some p) y = record { counted = front_refl y.counted; features = front_refl y.features }
 measured_grows ws (Does.Touches t true) (Some p) y = record {
   counted = front_refl y.counted;
-  features = joined_front ws y.features (y.points ++ p ∷ []);
+  features = joined_front ws y.features (y.points ++ p ∷ []) (origin_of y.connection t.frame);
 }
 measured_grows ws (Does.Touches t last) None y = grows_refl y
 measured_grows ws Does.Nothing given y = grows_refl y

@@ -14,7 +14,7 @@ use Rattle.dmis_program.specs.declared.features.Wanted.{Wanted}
 use Rattle.protocol_model.specs.Replies.{Mark}
 use Rattle.protocol_model.specs.Open.{Effect, Becomes, Closes, Counts, judged, judged_given, judged_done, heard_in, is_failed, asks_data}
 use Rattle.protocol_model.specs.Client.{Tally, Table, act_of, begins_session, measured, counted_next, tallied, heard}
-use Rattle.protocol_model.specs.Undisturbed.{tag_at, act_in, acts_planned, StandsFor, AreActs, AreFirstActs}
+use Rattle.protocol_model.specs.Undisturbed.{tag_at, act_in, acts_planned, AreActs, AreFirstActs}
 use Rattle.protocol_model.proofs.table.Walks.{two, staged, heard_cases}
 use Rattle.protocol_model.proofs.table.Replying.{fine, step_cases}
 use Rattle.protocol_model.proofs.invariant.Touching.{Keeps, measured_keeps}

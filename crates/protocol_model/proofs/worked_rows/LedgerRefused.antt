@@ -7,6 +7,7 @@ use Rattle.fixed_um.specs.Shapes.{Direction}
 use Rattle.fixed_um.specs.declared.lengths.Point.{Point}
 use Rattle.fixed_um.specs.declared.frames.Frame.{Frame}
 use Rattle.fixed_um.specs.declared.frames.Frame.TheVariants as frame
+use Rattle.contact_ledger.specs.declared.features.Origin.{Origin}
 use Rattle.contact_ledger.specs.declared.acts.Act.{Act}
 use Rattle.contact_ledger.specs.declared.acts.Act.TheVariants as act
 use Rattle.dmis_program.specs.declared.features.Touch.{Touch}
@@ -21,8 +22,10 @@ served : (touch : Touch) (point : Point) → IsServed 1 touch point
     (record { connection = 1; target = touch.target; dir = touch.dir; tool = touch.tool; frame = touch.frame; point = point })
 served touch point = record { on = refl; target = refl; dir = refl; tool = refl; frame = refl; point_is = refl }
 
-pub right_is : Sound one_wanted (measured_as (codes "A") ∷ []) right_ledger
-right_is = record {
+-- what is claimed holds whatever the origin
+pub right_from : (origin : Option Origin)
+    → Sound one_wanted (record { label = codes "A"; points = first_point ∷ second_point ∷ []; origin = origin } ∷ []) right_ledger
+right_from origin = record {
   starts = 0 ∷ [];
   runs = (
     omega arith,
@@ -34,6 +37,9 @@ right_is = record {
     tt,
   );
 }
+
+pub right_is : Sound one_wanted (measured_as (codes "A") ∷ []) right_ledger
+right_is = right_from None
 
 pub nothing_is : Sound one_wanted [] []
 nothing_is = record { starts = []; runs = tt }

@@ -1,13 +1,19 @@
-use Rattle.protocol_model.proofs.worked_rows.LedgerRefused.{right_is, nothing_is, other_tool_is_none, other_frame_is_none}
+use Rattle.protocol_model.proofs.worked_rows.LedgerRefused.{right_is, right_from, nothing_is, other_tool_is_none, other_frame_is_none}
 use Rattle.protocol_model.proofs.worked_rows.LedgerRefused.{other_target_is_none, other_direction_is_none, no_direction_is_none}
 use Rattle.protocol_model.proofs.worked_rows.LedgerRefused.{other_point_is_none, two_connections_are_none, other_label_is_none}
 use Rattle.protocol_model.proofs.worked_rows.LedgerRefused.{fewer_points_are_none, no_points_are_none, more_points_are_none}
 use Rattle.protocol_model.proofs.worked_rows.LedgerRefused.{exchanged_points_are_none, no_contact_is_none, more_features_are_none, both_are}
 use Rattle.protocol_model.proofs.worked_rows.LedgerRefused.{first_left_out_is_none}
+use Rattle.fixed_um.specs.declared.frames.Frame.TheVariants.{Part}
+use Rattle.protocol_model.specs.Client.{origin_of}
+use Rattle.protocol_model.specs.Rows.{part}
 use Rattle.protocol_model.proofs.ledger_rows.feature_rows.Goals as goal
 
 pub returns-clause-right : goal.returns-clause-right
 returns-clause-right c = right_is
+
+pub returns-clause-any_origin : goal.returns-clause-any_origin
+returns-clause-any_origin c = right_from (origin_of 7 (Part part))
 
 pub returns-clause-nothing_measured : goal.returns-clause-nothing_measured
 returns-clause-nothing_measured c = nothing_is

@@ -17,7 +17,7 @@ returns-in-Ok-clause-client c =
     let is : c.in-Some.planned.now ≡ slice_index_or c.self.inside.progress.plan.items c.self.inside.sent c.in-Some.planned.now =
     search rules in
     let standard : is_event_kind (kind_of c.in-Some.planned.now.command) ≡ false = search rules in (
-      rw add-one (sent_client c.self.inside.program c.self.inside.window c.self.inside.on c.self.inside.last c.self.inside.state
+      rw add-one (sent_client c.self.inside.program c.self.inside.window c.self.inside.on c.self.inside.state
           c.self.inside.cause c.self.inside.commands c.draw.new.self c.self.inside.progress
           c.self.inside.sent c.self.inside.abort c.in-Some.planned.now c.in-Ok.tag within is standard (search rules) (search rules)
           ∙ ap (λ x. (client_sent x).client) c.self.view_is),
@@ -30,7 +30,7 @@ returns-in-Ok-clause-text c =
     let is : c.in-Some.planned.now ≡ slice_index_or c.self.inside.progress.plan.items c.self.inside.sent c.in-Some.planned.now =
     search rules in
     let standard : is_event_kind (kind_of c.in-Some.planned.now.command) ≡ false = search rules in
-    let lines_are = sent_lines c.self.inside.program c.self.inside.window c.self.inside.on c.self.inside.last c.self.inside.state
+    let lines_are = sent_lines c.self.inside.program c.self.inside.window c.self.inside.on c.self.inside.state
     c.self.inside.cause c.self.inside.commands c.self.inside.progress
     c.self.inside.sent c.self.inside.abort c.in-Some.planned.now c.in-Ok.tag within is standard (search rules) in (
       rw (c.write_line_end_reserved.ensures.text, c.write_command_reserved.ensures.text)
@@ -47,7 +47,7 @@ returns-in-Err c =
     search rules in
     let standard : is_event_kind (kind_of c.in-Some.planned.now.command) ≡ false = search rules in
     let none : next_tag c.self.inside.commands (kind_of c.in-Some.planned.now.command) ≡ None = search rules in
-    let whole = sent_none c.self.inside.program c.self.inside.window c.self.inside.on c.self.inside.last c.self.inside.state
+    let whole = sent_none c.self.inside.program c.self.inside.window c.self.inside.on c.self.inside.state
     c.self.inside.cause c.self.inside.commands c.self.inside.progress c.self.inside.sent c.self.inside.abort c.in-Some.planned.now
     within is standard none in
     let same : c.draw.new.self ≡ c.self.inside.commands = search rules in
@@ -55,8 +55,7 @@ returns-in-Err c =
     ∙ ap (λ (s : Sends). s.lines) whole in
     record {
       client = (
-        c.fault.ensures ∙ (ap (λ o. faulted Cause.TagsSpent (seen c.self.inside.program c.self.inside.window c.self.inside.on
-            c.self.inside.last c.self.inside.state c.self.inside.cause o c.self.inside.progress c.self.inside.sent c.self.inside.abort))
+        c.fault.ensures ∙ (ap (λ o. faulted Cause.TagsSpent (seen c.self.inside.program c.self.inside.window c.self.inside.on c.self.inside.state c.self.inside.cause o c.self.inside.progress c.self.inside.sent c.self.inside.abort))
             same
             ∙ (sym (ap (λ (s : Sends). s.client) whole) ∙ ap (λ x. (client_sent x).client) c.self.view_is)),
         tt,
