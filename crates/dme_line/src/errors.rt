@@ -1,6 +1,6 @@
 // Error lines.
 
-ghost use Rattle.std.specs.Prelude.{◌≡◌, ◌≤◌, ◌<◌, ◌⊎◌, ◌+◌, ◌++◌, length, codes, vec_len, vec_capacity, OnOk, OnErr, MatchOption};
+ghost use Rattle.std.specs.Prelude.{◌≡◌, ◌≤◌, ◌<◌, ◌⊎◌, ◌+◌, ◌++◌, length, codes, MatchOption};
 ghost use Rattle.fixed_um.specs.Calls.{Grows, HasRoom, Writes};
 ghost use Rattle.dme_line.specs.Limits.{error_most};
 ghost use Rattle.dme_line.specs.Tags.{HasRoomUnder, IsTag};

@@ -1,6 +1,6 @@
 // Responses, and the lines that carry them.
 
-ghost use Rattle.std.specs.Prelude.{◌≡◌, ◌↔◌, ◌≤◌, ◌+◌, ◌++◌, ◌∷◌, [], ℕ, List, length, IsTrue, true, vec_len, vec_capacity, OnOk, OnErr, IfOk, MatchOption, MatchResult, Option};
+ghost use Rattle.std.specs.Prelude.{◌≡◌, ◌+◌, ◌++◌, [], OnOk, OnErr, IfOk, MatchOption, Option};
 ghost use Rattle.fixed_um.specs.Calls.{Grows, HasRoom, Writes};
 ghost use Rattle.dme_line.specs.Limits.{bare_most, data_most, response_most, text_most};
 ghost use Rattle.dme_line.specs.Tags.{HasRoomUnder, IsTag};
