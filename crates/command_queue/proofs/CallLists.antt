@@ -1,5 +1,5 @@
 -- Lists of calls: first in, first out.
-use Rattle.std.proofs.Common.{◌≡◌, List, [], ◌∷◌, ◌++◌, refl, sym, ◌∙◌, ap, append_assoc}
+use Rattle.std.proofs.Common.{◌≡◌, List, [], ◌∷◌, ◌++◌, sym, ◌∙◌, ap, append_assoc}
 use Rattle.std.proofs.lemmas.List.{append-nil}
 use Rattle.protocol_model.specs.declared.lines.Waiting.{Waiting}
 use Rattle.command_queue.specs.Calls.{Call, Put, Full, Took, TookNone, Drained, Do, put_by, taken_by}

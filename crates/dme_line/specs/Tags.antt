@@ -1,5 +1,6 @@
 -- Tags and their five bytes (I++ DME Interface version 1).
-use Rattle.std.specs.Prelude.{ℕ, ◌≤◌, ◌/◌, Bool, true, false, List, [], ◌∷◌}
+use Rattle.std.specs.Prelude.{ℕ, ◌≤◌, ◌/◌, Bool, true, false, List, [], ◌∷◌, Vec}
+use Rattle.fixed_um.specs.Calls.{HasRoom}
 use Rattle.fixed_um.specs.Written.{last_digit}
 use Rattle.dme_line.specs.declared.tags.Tag.{Tag}
 use Rattle.dme_line.specs.declared.tags.Tag.TheVariants.{Std, Event}
@@ -20,6 +21,10 @@ written_tag (Event n) = 69 ∷ four_digits n
 abbrev pub IsTag : Tag → Type 0
 IsTag (Std n) = n ≤ 99999
 IsTag (Event n) = n ≤ 9999
+
+-- a line can be written under a tag: its number has room in its digits, and the line has room for so many bytes
+abbrev pub HasRoomUnder : {X Z : Type 0} → Tag → Vec X Z → ℕ → Type 0
+HasRoomUnder tag out count = IsTag tag × HasRoom out count
 
 -- a tag that a command can have: not number 0 (this profile)
 abbrev pub IsNumbered : Tag → Type 0

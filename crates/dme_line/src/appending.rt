@@ -1,6 +1,6 @@
 // Appending a text where there is room for it.
 
-ghost use Rattle.std.specs.Prelude.{◌≡◌, ◌≤◌, ◌+◌, ◌++◌, length, vec_len, vec_capacity};
+ghost use Rattle.std.specs.Prelude.{◌≡◌, ◌+◌, ◌++◌, length};
 ghost use Rattle.fixed_um.specs.Calls.{Grows, HasRoom};
 ghost use Rattle.dme_line.specs.Words.{quoted};
 

@@ -1,9 +1,9 @@
 // Error lines.
 
-ghost use Rattle.std.specs.Prelude.{◌≡◌, ◌≤◌, ◌<◌, ◌⊎◌, ◌+◌, ◌++◌, length, codes, vec_len, vec_capacity, OnOk, OnErr, MatchOption};
+ghost use Rattle.std.specs.Prelude.{◌≡◌, ◌≤◌, ◌<◌, ◌⊎◌, ◌+◌, ◌++◌, length, codes, MatchOption};
 ghost use Rattle.fixed_um.specs.Calls.{Grows, HasRoom, Writes};
 ghost use Rattle.dme_line.specs.Limits.{error_most};
-ghost use Rattle.dme_line.specs.Tags.{IsTag};
+ghost use Rattle.dme_line.specs.Tags.{HasRoomUnder, IsTag};
 ghost use Rattle.dme_line.specs.Words.{quoted};
 ghost use Rattle.dme_line.specs.Errors.{number_of, text_of, numbered, error_name, error_report, written_error};
 
@@ -166,8 +166,7 @@ fn write_report_reserved(out: &mut Vec<u8>, error: ErrorNumber, kind: Option<Kin
 /// The caller owes a tag whose number has room in its digits.
 #[tactic(auto, unfolding(crate::specs::Errors::written_error))]
 pub fn write_error_reserved(out: &mut Vec<u8>, tag: Tag, error: ErrorNumber, kind: Option<Kind>)
-    requires tag { IsTag tag }
-    requires room { HasRoom out.old error_most }
+    requires { HasRoomUnder tag out.old error_most }
     ensures text { out.new.items ≡ out.old.items ++ written_error tag (number_of error) kind }
     ensures grows { Grows out.old out.new error_most }
 {

@@ -1,6 +1,6 @@
 // What holds of the texts of this crate, whoever writes and reads them. These functions do nothing: their contracts are the laws.
 
-ghost use Rattle.std.specs.Prelude.{◌≡◌, ◌≤◌, ℕ, List, length, Option, Result, Ok};
+ghost use Rattle.std.specs.Prelude.{◌≡◌, ℕ, List, length, Option, Result, Ok};
 ghost use Rattle.dme_line.specs.Limits.{command_most, data_most, error_most, line_end_length, point_most, response_most};
 ghost use Rattle.dme_line.specs.Words.{IsWireText, line_end};
 ghost use Rattle.dme_line.specs.Tags.{IsTag};

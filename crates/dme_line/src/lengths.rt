@@ -1,6 +1,6 @@
 // Lengths within the limits of this profile, and directions.
 
-ghost use Rattle.std.specs.Prelude.{◌≡◌, ◌≤◌, ◌+◌, ◌++◌, ◌≤ℤ◌, ℤ, pos, unsigned_abs, codes, vec_len, vec_capacity, MatchOption, Ok};
+ghost use Rattle.std.specs.Prelude.{◌≡◌, ◌≤◌, ◌+◌, ◌++◌, ◌≤ℤ◌, ℤ, pos, unsigned_abs, codes, Ok};
 ghost use Rattle.fixed_um.specs.Calls.{Finds, Grows, HasRoom};
 ghost use Rattle.fixed_um.specs.Limits.{wire_limit, volume_limit};
 ghost use Rattle.fixed_um.specs.Numerals.{Reads};

@@ -1,6 +1,6 @@
 // What the arguments of a move, a touch or a transformation say.
 
-ghost use Rattle.std.specs.Prelude.{◌≡◌, ◌∷◌, [], ℕ, ℤ, List, IsTrue, MatchOption, Option, Some, None};
+ghost use Rattle.std.specs.Prelude.{◌≡◌, MatchOption, Option, Some, None};
 ghost use Rattle.fixed_um.specs.Calls.{Finds};
 ghost use Rattle.std.specs.Option.{option_copied, option_map};
 ghost use Rattle.fixed_um.specs.Shapes.{Direction};

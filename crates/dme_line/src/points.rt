@@ -1,11 +1,11 @@
 // The text of a point: what a data line carries, and the front of the arguments of moves and touches.
 
-ghost use Rattle.std.specs.Prelude.{◌≡◌, ◌≤◌, ◌+◌, ◌++◌, ◌∷◌, [], ℕ, List, vec_len, vec_capacity, OnOk, OnErr, MatchOption};
+ghost use Rattle.std.specs.Prelude.{◌≡◌, ◌+◌, ◌++◌, ◌∷◌, [], ℕ, List, OnOk, MatchOption};
 ghost use Rattle.fixed_um.specs.Calls.{Finds, Grows, HasRoom, Writes};
 ghost use Rattle.dme_line.specs.Limits.{point_most};
 ghost use Rattle.dme_line.specs.Tokens.{Token, tokens};
-ghost use Rattle.dme_line.specs.Arguments.{Single, argument_tokens, list_tokens};
-ghost use Rattle.dme_line.specs.Points.{written_point, IsOnWire, IsPointText, HasCoordinates, ReadsPoint, point_tokens};
+ghost use Rattle.dme_line.specs.Arguments.{Single, argument_tokens};
+ghost use Rattle.dme_line.specs.Points.{written_point, IsOnWire, HasCoordinates, ReadsPoint, point_tokens};
 
 use crate::appending::append_reserved;
 use crate::arguments::{Argument, take_argument};

@@ -1,13 +1,12 @@
 // Reading command lines.
 
-ghost use Rattle.std.specs.Prelude.{◌≡◌, ◌↔◌, ◌≤◌, ℕ, List, [], length, find, IsTrue, true, MatchOption, IfOk, OnErr};
+ghost use Rattle.std.specs.Prelude.{◌≡◌, ◌≤◌, ℕ, List, length, find, true, MatchOption, IfOk, OnErr};
 ghost use Rattle.fixed_um.specs.Calls.{Finds};
 ghost use Rattle.std.specs.List.{prefix_len};
 ghost use Rattle.dme_line.specs.Words.{is_word};
-ghost use Rattle.dme_line.specs.Kinds.{kind_name, is_event_kind, IsTagOf};
-ghost use Rattle.dme_line.specs.Tags.{IsNumbered};
+ghost use Rattle.dme_line.specs.Kinds.{kind_name};
 ghost use Rattle.dme_line.specs.Tokens.{tokens};
-ghost use Rattle.dme_line.specs.Arguments.{Says, IsOneWord, enclosed};
+ghost use Rattle.dme_line.specs.Arguments.{Says, IsOneWord};
 ghost use Rattle.dme_line.specs.CommandText.{is_name_part, IsNamed, IsTagged, HoldsTool, ReadsCommand};
 
 use crate::arguments::is_empty_list;

@@ -1,9 +1,9 @@
 // Responses, and the lines that carry them.
 
-ghost use Rattle.std.specs.Prelude.{◌≡◌, ◌↔◌, ◌≤◌, ◌+◌, ◌++◌, ◌∷◌, [], ℕ, List, length, IsTrue, true, vec_len, vec_capacity, OnOk, OnErr, IfOk, MatchOption, MatchResult, Option};
+ghost use Rattle.std.specs.Prelude.{◌≡◌, ◌+◌, ◌++◌, [], OnOk, OnErr, IfOk, MatchOption, Option};
 ghost use Rattle.fixed_um.specs.Calls.{Grows, HasRoom, Writes};
 ghost use Rattle.dme_line.specs.Limits.{bare_most, data_most, response_most, text_most};
-ghost use Rattle.dme_line.specs.Tags.{IsTag};
+ghost use Rattle.dme_line.specs.Tags.{HasRoomUnder, IsTag};
 ghost use Rattle.dme_line.specs.declared.responses.Mark.TheVariants as mark;
 ghost use Rattle.dme_line.specs.Taken.{the_mark};
 ghost use Rattle.dme_line.specs.Responses.{written_mark, written_response, IsWritableResponse, HasText, are_spaces, IsMarkText, HoldsText, HoldsResponseText, ReadsResponse, data_response};
@@ -97,8 +97,7 @@ pub fn write_response(out: &mut Vec<u8>, response: &Response) -> Result<(), Allo
 ///
 /// The caller owes a tag whose number has room in its digits.
 pub fn write_received_reserved(out: &mut Vec<u8>, tag: Tag)
-    requires tag { IsTag tag }
-    requires room { HasRoom out.old bare_most }
+    requires { HasRoomUnder tag out.old bare_most }
     ensures text { out.new.items ≡ out.old.items
         ++ written_response (record { tag = tag; mark = mark.Ack }) }
     ensures grows { Grows out.old out.new bare_most }
@@ -112,8 +111,7 @@ pub fn write_received_reserved(out: &mut Vec<u8>, tag: Tag)
 ///
 /// The caller owes a tag whose number has room in its digits.
 pub fn write_complete_reserved(out: &mut Vec<u8>, tag: Tag)
-    requires tag { IsTag tag }
-    requires room { HasRoom out.old bare_most }
+    requires { HasRoomUnder tag out.old bare_most }
     ensures text { out.new.items ≡ out.old.items
         ++ written_response (record { tag = tag; mark = mark.Done }) }
     ensures grows { Grows out.old out.new bare_most }
@@ -127,8 +125,7 @@ pub fn write_complete_reserved(out: &mut Vec<u8>, tag: Tag)
 ///
 /// The caller owes a tag whose number has room in its digits.
 pub fn write_data_reserved(out: &mut Vec<u8>, tag: Tag, point: Point)
-    requires tag { IsTag tag }
-    requires room { HasRoom out.old data_most }
+    requires { HasRoomUnder tag out.old data_most }
     ensures text { out.new.items ≡ out.old.items ++ written_response (data_response tag point) }
     ensures grows { Grows out.old out.new data_most }
     ensures on_wire { IsOnWire point }

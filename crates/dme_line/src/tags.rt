@@ -1,6 +1,6 @@
 // Tags: which command a line belongs to.
 
-ghost use Rattle.std.specs.Prelude.{◌≡◌, ◌≤◌, ◌+◌, ◌++◌, ◌∷◌, [], ℕ, List, IsTrue, ◌↔◌, vec_len, vec_capacity, MatchOption};
+ghost use Rattle.std.specs.Prelude.{◌≡◌, ◌≤◌, ◌+◌, ◌++◌, ◌∷◌, [], ℕ, List, IsTrue, ◌↔◌, MatchOption};
 ghost use Rattle.fixed_um.specs.Calls.{Grows, HasRoom};
 ghost use Rattle.dme_line.specs.Tags.{four_digits, five_digits, written_tag, IsTag, IsNumbered, is_event_tag};
 ghost use Rattle.fixed_um.specs.Written.{last_digit};

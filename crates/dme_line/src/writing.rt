@@ -1,6 +1,6 @@
 // Writing command lines.
 
-ghost use Rattle.std.specs.Prelude.{◌≡◌, ◌≤◌, ◌+◌, ◌++◌, ◌∷◌, [], length, vec_len, vec_capacity, OnOk, OnErr};
+ghost use Rattle.std.specs.Prelude.{◌≡◌, ◌+◌, ◌++◌, OnOk};
 ghost use Rattle.fixed_um.specs.Calls.{Grows, HasRoom, Writes};
 ghost use Rattle.dme_line.specs.Limits.{command_most, line_end_length};
 ghost use Rattle.dme_line.specs.Words.{line_end};

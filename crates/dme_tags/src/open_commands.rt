@@ -8,7 +8,7 @@ ghost use Rattle.dme_tags.specs.Answers.{cause_of, effect_of, effect_heard, is_c
 ghost use Rattle.dme_tags.specs.Endings.{IsEnding};
 ghost use Rattle.dme_tags.specs.Limits.{last_number};
 ghost use Rattle.dme_tags.specs.Opened.{heard, held_beside, kind_under, next_tag, none_open, number_of, with_drawn, ArePassedOver, IsNext, IsSpentFor};
-ghost use Rattle.dme_tags.specs.Standing.{AwaitsPoint, CountsAs, HasFailed, HasPoint, IsUnread};
+ghost use Rattle.dme_tags.specs.Standing.{AwaitsPoint, HasPoint, IsUnread};
 
 use crate::drawing::{Sort, next_tag};
 use crate::endings::Ended;

@@ -1,10 +1,9 @@
 // The commands of a plan.
 
 ghost use Rattle.std.specs.Prelude.{◌≡◌, ◌≤◌, ◌++◌, ◌∷◌, [], length, All, OnOk, IfOk, drop, option_copied};
-ghost use Rattle.dmis_program.specs.Meaning.{block_touches};
 ghost use Rattle.dmis_program.specs.Programs.{feature_touches};
 ghost use Rattle.protocol_model.specs.PlanReading.{touches_of};
-ghost use Rattle.protocol_model.specs.Plan.{planned, framing, tooling, stepping, measuring, clearing, starting, plan, is_empty};
+ghost use Rattle.protocol_model.specs.Plan.{planned, framing, tooling, stepping, measuring, clearing, starting, plan};
 ghost use Rattle.resume_plan.specs.Sendable.{IsSendable};
 
 use crate::position::{Position, ends_feature, position_behind};
