@@ -5,6 +5,7 @@ ghost use Rattle.line_framing.specs.Framing.{IsSound, IsLineDue, no_bytes, fed, 
 
 use crate::faults::{FramingFault, LinesFault};
 use crate::owned::Line;
+use crate::queue::ByteQueue;
 use crate::search::{content_end, has_line};
 use std::alloc::{AllocError, Global};
 use std::marker::Model;
@@ -16,37 +17,25 @@ use std::marker::Model;
 /// without its end (this profile). Lines before a fault are handed out first. From the fault on, `feed`,
 /// `first_line` and `next_line` answer it, and the rest stays.
 ///
-/// Inside, the bytes before `start` are handed out, and those up to `searched` are known to be free of CR and
-/// LF, so that none is searched twice. No caller sees either.
+/// Inside, the first `searched` bytes of the rest are known to be free of CR and LF, so that none is searched
+/// twice. No caller sees this.
 #[derive(Drop)]
 pub struct Lines {
     alloc: Global,
-    bytes: Vec<u8>,
-    start: usize,
+    queue: ByteQueue,
     searched: usize,
     fault: Option<FramingFault>,
 }
 
 impl Model for Lines {
-    ghost use Rattle.std.specs.Prelude.{drop};
     ghost use Rattle.line_framing.specs.Framing.{Framing};
     ghost use Rattle.line_framing.specs.Buffer.{IsKept};
 
     ghost Value = { Framing };
 
-    ghost view = { λ l. record { rest = drop l.start l.bytes.items; fault = l.fault } };
+    ghost view = { λ l. record { rest = l.queue.waiting; fault = l.fault } };
 
-    ghost invariant = { λ l. IsKept l.bytes.items l.start l.searched l.fault };
-}
-
-/// Takes the first `count` bytes away; the others move to the front.
-fn drop_front(bytes: &mut Vec<u8>, count: usize)
-    requires { count ≤ vec_len bytes.old }
-    ensures { bytes.new.items ≡ drop count bytes.old.items }
-{
-    let length = bytes.len();
-    bytes.copy_within(count..length, 0);
-    bytes.truncate(length - count);
+    ghost invariant = { λ l. IsKept l.queue.waiting l.searched l.fault };
 }
 
 impl Lines {
@@ -56,8 +45,7 @@ impl Lines {
     {
         Lines {
             alloc,
-            bytes: Vec::new(alloc),
-            start: 0,
+            queue: ByteQueue::new(alloc),
             searched: 0,
             fault: None,
         }
@@ -67,8 +55,7 @@ impl Lines {
     pub fn rest(&self) -> &[u8]
         ensures { result.now ≡ self.now.rest }
     {
-        let (_, rest) = self.bytes.as_slice().split_at(self.start);
-        rest
+        self.queue.waiting()
     }
 
     /// The fault that `first_line` or `next_line` has met, if any. It is what stands at the front of the rest.
@@ -83,22 +70,9 @@ impl Lines {
     pub fn clear(&mut self)
         ensures { self.new ≡ no_bytes }
     {
-        self.bytes.clear();
-        self.start = 0;
+        self.queue.clear();
         self.searched = 0;
         self.fault = None;
-    }
-
-    /// Moves the rest to the front. It is no longer than what was handed out since the last move, so all moves
-    /// together cost no more than the bytes that were fed.
-    fn compact(&mut self)
-        ensures { self.new ≡ self.old }
-    {
-        if self.start >= self.bytes.len() - self.start {
-            drop_front(&mut self.bytes, self.start);
-            self.searched -= self.start;
-            self.start = 0;
-        }
     }
 
     /// Appends to the rest. Only want of memory is an `Err`.
@@ -108,7 +82,9 @@ impl Lines {
         ensures ok { OnOk result (self.new ≡ fed self.old piece.now) }
         ensures err { OnErr result (self.new ≡ self.old) }
     {
-        self.bytes.extend_from_slice(piece)
+        self.queue.reserve(piece.len())?;
+        self.queue.append(piece);
+        Ok(())
     }
 
     /// Appends a piece, however the stream is cut, to the rest. A bad byte in it is met by `next_line`.
@@ -125,13 +101,10 @@ impl Lines {
     {
         match self.fault {
             Some(fault) => Err(LinesFault::Framing(fault)),
-            None => {
-                self.compact();
-                match self.append(piece) {
-                    Ok(()) => Ok(()),
-                    Err(AllocError) => Err(LinesFault::Memory),
-                }
-            }
+            None => match self.append(piece) {
+                Ok(()) => Ok(()),
+                Err(AllocError) => Err(LinesFault::Memory),
+            },
         }
     }
 
@@ -160,10 +133,10 @@ impl Lines {
         if let Some(fault) = self.fault {
             return Err(fault);
         }
-        self.searched = content_end(self.bytes.as_slice(), self.searched);
-        match has_line(self.bytes.as_slice(), self.start, self.searched) {
+        self.searched = content_end(self.queue.waiting(), self.searched);
+        match has_line(self.queue.waiting(), self.searched) {
             Ok(false) => Ok(None),
-            Ok(true) => Ok(Some(self.searched - self.start)),
+            Ok(true) => Ok(Some(self.searched)),
             Err(fault) => {
                 self.fault = Some(fault);
                 Err(fault)
@@ -176,13 +149,14 @@ impl Lines {
     pub fn has_line(&self) -> bool
         ensures { IsTrue result ↔ IsLineDue (next_of self.now.rest) }
     {
-        let bytes = self.bytes.as_slice();
-        let end = content_end(bytes, self.searched);
-        matches!(has_line(bytes, self.start, end), Ok(true))
+        let rest = self.queue.waiting();
+        let end = content_end(rest, self.searched);
+        matches!(has_line(rest, end), Ok(true))
     }
 
     /// Takes the first line, of `length` bytes, and its CR LF off the front of the rest. The caller owes that
     /// such a line stands there, as `first_line` answers. It takes no memory.
+    #[tactic(auto, using(crate::proofs::Buffers::line_fits))]
     pub fn drop_line(&mut self, length: usize)
         requires { next_of self.old.rest ≡ Ok (Some (
           take length self.old.rest,
@@ -192,9 +166,8 @@ impl Lines {
         ensures taken { self.new ≡ after_next self.old }
         ensures sound { IsSound self.new }
     {
-        let _in_memory = self.bytes.as_slice();
-        self.start += length + 2;
-        self.searched = self.start;
+        self.queue.take(length + 2);
+        self.searched = 0;
     }
 
     /// Takes the first line and its CR LF off the front of the rest; `None` where no whole line is there yet.

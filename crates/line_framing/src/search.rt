@@ -23,14 +23,10 @@ fn count_content(bytes: &[u8]) -> usize
 }
 
 /// Where the content ends that goes on at `searched`. The bytes before are not looked at again.
-#[tactic(auto, using(crate::proofs::Buffers::search_goes_on))]
+#[tactic(auto, using(crate::proofs::Buffers::search_goes_on, crate::proofs::Buffers::content_fits))]
 pub(crate) fn content_end(bytes: &[u8], searched: usize) -> usize
-    requires { searched ≤ length bytes.now }
-    ensures end { (start : ℕ) → start ≤ searched
-        → searched ≤ start + content_len (drop start bytes.now)
-        → result ≡ start + content_len (drop start bytes.now) }
-    ensures begun { searched ≤ result }
-    ensures within { result ≤ length bytes.now }
+    requires { searched ≤ content_len bytes.now }
+    ensures { result ≡ content_len bytes.now }
 {
     let (_, unsearched) = bytes.split_at(searched);
     searched + count_content(unsearched)
@@ -50,14 +46,12 @@ fn ends_line(count: usize, behind: &[u8]) -> Result<bool, FramingFault>
     }
 }
 
-/// Whether a line begins at `start`, where the content there ends at `end`.
+/// Whether a line stands at the front, where the content there ends at `end`.
 #[tactic(auto, using(crate::proofs::Buffers::content_fits, crate::proofs::Buffers::has_front))]
-pub(crate) fn has_line(bytes: &[u8], start: usize, end: usize) -> Result<bool, FramingFault>
-    requires within { start ≤ length bytes.now }
-    requires content { end ≡ start + content_len (drop start bytes.now) }
-    ensures { HasFront bytes.now start end result }
+pub(crate) fn has_line(bytes: &[u8], end: usize) -> Result<bool, FramingFault>
+    requires { end ≡ content_len bytes.now }
+    ensures { HasFront bytes.now end result }
 {
-    let (_, rest) = bytes.split_at(start);
-    let (content, behind) = rest.split_at(end - start);
+    let (content, behind) = bytes.split_at(end);
     ends_line(content.len(), behind)
 }

@@ -1,4 +1,5 @@
 pub mod Serving
+pub mod Answering
 pub mod Kept
 pub mod Acting
 pub mod Steady

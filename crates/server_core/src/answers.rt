@@ -2,18 +2,19 @@
 
 ghost use Rattle.std.specs.Prelude.{◌≡◌, ◌≤◌, ◌+◌, ◌*◌, ◌++◌, ◌∷◌, [], Err, length, vec_len, vec_capacity};
 ghost use Rattle.std.specs.List.{AllByRecursion};
-ghost use Rattle.dme_line.specs.Tags.{IsTag};
+ghost use Rattle.fixed_um.specs.Calls.{HasRoom};
 ghost use Rattle.dme_line.specs.Points.{IsOnWire};
 ghost use Rattle.dme_line.specs.Errors.{number_of};
 ghost use Rattle.protocol_model.specs.Replies.{Reply};
 ghost use Rattle.protocol_model.specs.Lines.{reply_bytes};
 ghost use Rattle.protocol_model.specs.Server.{fails, all_fail, kind_in};
+ghost use Rattle.server_core.specs.Answering.{answer_line_most, failure_most, HasRoomFor, Says};
 ghost use Rattle.server_core.specs.Kept.{IsFit};
 
 use command_queue::Queue;
 use dme_line::{
     Command, ErrorNumber, Kind, Tag, write_complete_reserved, write_data_reserved,
-    write_error_reserved, write_received_reserved,
+    write_error_reserved, write_line_end_reserved, write_received_reserved,
 };
 use fixed_um::Point;
 use protocol_model::Misread;
@@ -22,73 +23,46 @@ use protocol_model::Misread;
 /// command runs and 64 wait (this profile).
 pub const ANSWER_MAX: usize = 10_560;
 
-/// The end of a line.
-fn write_end(out: &mut Vec<u8>)
-    requires { vec_len out.old + 2 ≤ vec_capacity out.old }
-    ensures text { out.new.items ≡ out.old.items ++ 13 ∷ 10 ∷ [] }
-    ensures len { vec_len out.new ≤ vec_len out.old + 2 }
-    ensures capacity { vec_capacity out.old ≤ vec_capacity out.new }
-{
-    out.push_reserved(b'\r');
-    out.push_reserved(b'\n');
-}
-
 /// A command was received.
 pub(crate) fn write_received(out: &mut Vec<u8>, tag: Tag)
-    requires tag { IsTag tag }
-    requires room { vec_len out.old + 80 ≤ vec_capacity out.old }
-    ensures text { out.new.items ≡ out.old.items ++ reply_bytes (Reply.Ack tag ∷ []) }
-    ensures len { vec_len out.new ≤ vec_len out.old + 80 }
-    ensures capacity { vec_capacity out.old ≤ vec_capacity out.new }
+    requires { HasRoomFor tag out.old answer_line_most }
+    ensures { Says out.old out.new (Reply.Ack tag ∷ []) answer_line_most }
 {
     write_received_reserved(out, tag);
-    write_end(out);
+    write_line_end_reserved(out);
 }
 
 /// A command is complete.
 pub(crate) fn write_complete(out: &mut Vec<u8>, tag: Tag)
-    requires tag { IsTag tag }
-    requires room { vec_len out.old + 80 ≤ vec_capacity out.old }
-    ensures text { out.new.items ≡ out.old.items ++ reply_bytes (Reply.Done tag ∷ []) }
-    ensures len { vec_len out.new ≤ vec_len out.old + 80 }
-    ensures capacity { vec_capacity out.old ≤ vec_capacity out.new }
+    requires { HasRoomFor tag out.old answer_line_most }
+    ensures { Says out.old out.new (Reply.Done tag ∷ []) answer_line_most }
 {
     write_complete_reserved(out, tag);
-    write_end(out);
+    write_line_end_reserved(out);
 }
 
 /// The point of a touch.
 pub(crate) fn write_point(out: &mut Vec<u8>, tag: Tag, point: Point)
-    requires tag { IsTag tag }
-    requires room { vec_len out.old + 80 ≤ vec_capacity out.old }
-    ensures text { out.new.items ≡ out.old.items ++ reply_bytes (Reply.Given tag point ∷ []) }
-    ensures len { vec_len out.new ≤ vec_len out.old + 80 }
-    ensures capacity { vec_capacity out.old ≤ vec_capacity out.new }
+    requires { HasRoomFor tag out.old answer_line_most }
+    ensures { Says out.old out.new (Reply.Given tag point ∷ []) answer_line_most }
 {
     write_data_reserved(out, tag, point);
-    write_end(out);
+    write_line_end_reserved(out);
 }
 
 /// An error, with the command's name where it is known.
 pub(crate) fn write_error(out: &mut Vec<u8>, tag: Tag, error: ErrorNumber, kind: Option<Kind>)
-    requires tag { IsTag tag }
-    requires room { vec_len out.old + 80 ≤ vec_capacity out.old }
-    ensures text { out.new.items ≡ out.old.items
-        ++ reply_bytes (Reply.Error tag (number_of error) kind ∷ []) }
-    ensures len { vec_len out.new ≤ vec_len out.old + 80 }
-    ensures capacity { vec_capacity out.old ≤ vec_capacity out.new }
+    requires { HasRoomFor tag out.old answer_line_most }
+    ensures { Says out.old out.new (Reply.Error tag (number_of error) kind ∷ []) answer_line_most }
 {
     write_error_reserved(out, tag, error, kind);
-    write_end(out);
+    write_line_end_reserved(out);
 }
 
 /// A command fails: an error, and its end.
 pub(crate) fn write_failure(out: &mut Vec<u8>, tag: Tag, error: ErrorNumber, kind: Option<Kind>)
-    requires tag { IsTag tag }
-    requires room { vec_len out.old + 160 ≤ vec_capacity out.old }
-    ensures text { out.new.items ≡ out.old.items ++ reply_bytes (fails tag (number_of error) kind) }
-    ensures len { vec_len out.new ≤ vec_len out.old + 160 }
-    ensures capacity { vec_capacity out.old ≤ vec_capacity out.new }
+    requires { HasRoomFor tag out.old failure_most }
+    ensures { Says out.old out.new (fails tag (number_of error) kind) failure_most }
 {
     write_error(out, tag, error, kind);
     write_complete(out, tag);
@@ -118,11 +92,10 @@ pub(crate) fn kind_in(reading: &Result<Command, Misread>) -> Option<Kind>
 #[tactic(auto, using(crate::proofs::Aborting::aborted_more, crate::proofs::Aborting::one_less))]
 pub(crate) fn write_all_aborted(out: &mut Vec<u8>, waiting: &mut Queue)
     requires fit { AllByRecursion IsFit waiting.old }
-    requires room { vec_len out.old + 160 * length waiting.old ≤ vec_capacity out.old }
+    requires room { HasRoom out.old (failure_most * length waiting.old) }
     ensures none { waiting.new ≡ [] }
-    ensures text { out.new.items ≡ out.old.items ++ reply_bytes (all_fail 9007 waiting.old) }
-    ensures len { vec_len out.new ≤ vec_len out.old + 160 * length waiting.old }
-    ensures capacity { vec_capacity out.old ≤ vec_capacity out.new }
+    ensures says { Says out.old out.new (all_fail 9007 waiting.old)
+        (failure_most * length waiting.old) }
 {
     while let Some(command) = waiting.take() {
         write_failure(

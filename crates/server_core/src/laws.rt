@@ -1,10 +1,11 @@
 // What follows from the definitions for the ledger of a server. Each function has laws for its contract and does nothing.
 
-ghost use Rattle.std.specs.Prelude.{◌≡◌, ℕ, List, [], ◌∷◌, ◌++◌, None, Some, Err, is_some, true, false};
+ghost use Rattle.std.specs.Prelude.{◌≡◌, ℕ, List, [], ◌∷◌, ◌++◌, ◌*◌, None, Some, Err, is_some, true, false};
 ghost use Rattle.protocol_model.specs.Lines.{Readers, AreReaders};
 ghost use Rattle.protocol_model.specs.Claims.{Made, contacts};
 ghost use Rattle.protocol_model.specs.Ends.{ServerEnd, serving_accepted, serving_fed, serving_read, serving_turned, serving_machined, serving_left, serving_restarted, serving_taken};
 ghost use Rattle.protocol_model.specs.declared.machine.Outcome.{Outcome as OneOutcome};
+ghost use Rattle.server_core.specs.Answering.{answer_line_most, answer_most};
 ghost use Rattle.server_core.specs.Acting.{IsOneMore, IsCommanded};
 ghost use Rattle.line_framing.specs.Next.{next_of};
 ghost use Rattle.line_framing.specs.declared.faults.FramingFault.{FramingFault as OneFault};
@@ -49,7 +50,8 @@ pub fn contacts_are_as_commanded()
 
 /// What one call answers has at most 10,560 bytes: 132 lines of at most 80 bytes, ends included (this profile).
 pub fn one_call_answers_at_most()
-    ensures { ANSWER_MAX ≡ 10560 }
+    ensures code { ANSWER_MAX ≡ answer_most }
+    ensures lines { answer_most ≡ 132 * answer_line_most }
 {}
 
 /// One act, exactly at its completing call. For every list of calls from a new server, whatever bytes are fed and whatever functions read the

@@ -8,7 +8,9 @@ ghost use Rattle.protocol_model.specs.Lines.{reply_bytes};
 ghost use Rattle.protocol_model.specs.Server as server;
 ghost use Rattle.protocol_model.specs.declared.lines.Line.{Line as OneLine};
 ghost use Rattle.protocol_model.specs.declared.machine.Outcome.TheVariants as outcome;
-ghost use Rattle.server_core.specs.Serving.{with_answered, fits, IsInside, IsMachineFault};
+ghost use Rattle.fixed_um.specs.Calls.{Leads};
+ghost use Rattle.server_core.specs.Answering.{HasAnswerRoom, MayEnd, IsBounded, Answers, AnswersIfOk};
+ghost use Rattle.server_core.specs.Serving.{fits, IsInside, IsMachineFault};
 
 use crate::answers::{write_all_aborted, write_complete, write_failure, write_point};
 use crate::checks::offset;
@@ -23,8 +25,7 @@ use std::alloc::AllocError;
 /// Appends an act on a connection. Only want of memory is an `Err`.
 pub(crate) fn record(ledger: &mut ServerLedger, connection: u64, act: Act) -> Result<(), AllocError>
     requires { IsConnection connection }
-    ensures ok { OnOk result (ledger.new ≡ ledger.old ++ (connection, act) ∷ []) }
-    ensures err { OnErr result (ledger.new ≡ ledger.old) }
+    ensures { Leads result ledger.old ledger.new (ledger.old ++ (connection, act) ∷ []) }
 {
     match ledger.push(connection, act) {
         Ok(()) => Ok(()),
@@ -75,14 +76,11 @@ impl Controller {
 
     /// What runs has failed with an error: it and all that wait fail.
     fn stop(&mut self, out: &mut Vec<u8>, error: ErrorNumber)
-        requires room { vec_len out.old + 10560 ≤ vec_capacity out.old }
-        ensures controller { (line : OneLine) → self.old.server.running ≡ Some line
-            → self.new ≡ with_answered self.old (server.stopped self.old.server line
-            (number_of error)) }
-        ensures text { (line : OneLine) → self.old.server.running ≡ Some line
-            → out.new.items ≡ out.old.items ++ reply_bytes
-            (server.stopped self.old.server line (number_of error)).said }
-        ensures len { vec_len out.new ≤ vec_len out.old + 10560 }
+        requires room { HasAnswerRoom out.old }
+        ensures answers { (line : OneLine) → self.old.server.running ≡ Some line
+            → Answers self.old self.new out.old out.new
+            (server.stopped self.old.server line (number_of error)) }
+        ensures len { IsBounded out.old out.new }
     {
         let _at_most = self.waiting.len();
         let Some(running) = self.running.take() else {
@@ -100,15 +98,9 @@ impl Controller {
 
     /// What runs is done: the machine is homed, a tool is changed, or the probe stands at its target. Only want of memory is an `Err`.
     fn finish(&mut self, out: &mut Vec<u8>) -> Result<(), AllocError>
-        requires may { server.may_end self.old.server.running outcome.Done ≡ true }
-        requires room { vec_len out.old + 10560 ≤ vec_capacity out.old }
-        ensures controller { OnOk result (self.new
-            ≡ with_answered self.old (server.server_machined self.old.server outcome.Done)) }
-        ensures text { OnOk result (out.new.items ≡ out.old.items
-            ++ reply_bytes (server.server_machined self.old.server outcome.Done).said) }
-        ensures err { OnErr result (self.new ≡ self.old) }
-        ensures silent { OnErr result (out.new.items ≡ out.old.items) }
-        ensures len { vec_len out.new ≤ vec_len out.old + 10560 }
+        requires may { MayEnd self.old out.old outcome.Done }
+        ensures { AnswersIfOk result self.old self.new out.old out.new
+            (server.server_machined self.old.server outcome.Done) }
     {
         let Some(running) = &self.running else {
             return Ok(());
@@ -143,16 +135,9 @@ impl Controller {
     /// A touch met a surface: its contact is made, with the reported point as seen from the frame's zero point. Only want of memory is an `Err`.
     fn touch(&mut self, out: &mut Vec<u8>, at: Point) -> Result<(), AllocError>
         requires at { IsInVolume at }
-        requires may { server.may_end self.old.server.running (outcome.Touched at) ≡ true }
-        requires room { vec_len out.old + 10560 ≤ vec_capacity out.old }
-        ensures controller { OnOk result (self.new
-            ≡ with_answered self.old (server.server_machined self.old.server
-            (outcome.Touched at))) }
-        ensures text { OnOk result (out.new.items ≡ out.old.items
-            ++ reply_bytes (server.server_machined self.old.server (outcome.Touched at)).said) }
-        ensures err { OnErr result (self.new ≡ self.old) }
-        ensures silent { OnErr result (out.new.items ≡ out.old.items) }
-        ensures len { vec_len out.new ≤ vec_len out.old + 10560 }
+        requires may { MayEnd self.old out.old (outcome.Touched at) }
+        ensures { AnswersIfOk result self.old self.new out.old out.new
+            (server.server_machined self.old.server (outcome.Touched at)) }
     {
         let Some(running) = &self.running else {
             return Ok(());
@@ -181,15 +166,9 @@ impl Controller {
 
     /// The machine is done with what runs. Only want of memory is an `Err`.
     pub(crate) fn end(&mut self, out: &mut Vec<u8>, outcome: Outcome) -> Result<(), AllocError>
-        requires may { server.may_end self.old.server.running outcome ≡ true }
-        requires room { vec_len out.old + 10560 ≤ vec_capacity out.old }
-        ensures controller { OnOk result (self.new
-            ≡ with_answered self.old (server.server_machined self.old.server outcome)) }
-        ensures text { OnOk result (out.new.items ≡ out.old.items
-            ++ reply_bytes (server.server_machined self.old.server outcome).said) }
-        ensures err { OnErr result (self.new ≡ self.old) }
-        ensures silent { OnErr result (out.new.items ≡ out.old.items) }
-        ensures len { vec_len out.new ≤ vec_len out.old + 10560 }
+        requires may { MayEnd self.old out.old outcome }
+        ensures { AnswersIfOk result self.old self.new out.old out.new
+            (server.server_machined self.old.server outcome) }
     {
         match outcome {
             Outcome::Done => self.finish(out),

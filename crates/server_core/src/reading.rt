@@ -6,6 +6,8 @@ ghost use Rattle.dme_line.specs.Errors.{number_of};
 ghost use Rattle.protocol_model.specs.Lines.{Readers, AreReaders, reply_bytes, reading_of};
 ghost use Rattle.protocol_model.specs.Replies.{Reply};
 ghost use Rattle.protocol_model.specs.Server as server;
+ghost use Rattle.fixed_um.specs.Calls.{HasRoom};
+ghost use Rattle.server_core.specs.Answering.{answer_most, failure_most, HasRoomFor, MayHear, MayTake, IsBounded, Says, Answers};
 ghost use Rattle.server_core.specs.Serving.{with_answered};
 ghost use Rattle.server_core.specs.Kept.{IsReadingFit, IsRunningFit, IsLineFit};
 
@@ -37,11 +39,9 @@ pub(crate) fn error_of(why: Misread) -> ErrorNumber
 /// What runs, if anything does, fails with 9007.
 fn write_running_aborted(out: &mut Vec<u8>, running: &Option<Running>)
     requires tag { IsRunningFit (option_map (λ r. r.line) running.now) }
-    requires room { vec_len out.old + 160 ≤ vec_capacity out.old }
-    ensures text { out.new.items ≡ out.old.items
-        ++ reply_bytes (server.running_fails (option_map (λ r. r.line) running.now)) }
-    ensures len { vec_len out.new ≤ vec_len out.old + 160 }
-    ensures capacity { vec_capacity out.old ≤ vec_capacity out.new }
+    requires room { HasRoom out.old failure_most }
+    ensures { Says out.old out.new
+        (server.running_fails (option_map (λ r. r.line) running.now)) failure_most }
 {
     if let Some(running) = running {
         write_failure(
@@ -69,13 +69,9 @@ impl Controller {
     /// An abort: what runs and what waits fails, the error state is entered, and the abort ends.
     #[tactic(auto, using(crate::proofs::Aborting::abort_said))]
     fn abort(&mut self, out: &mut Vec<u8>, tag: Tag)
-        requires tag { IsTag tag }
-        requires room { vec_len out.old + 10560 ≤ vec_capacity out.old }
-        ensures controller { self.new ≡ with_answered self.old
+        requires { HasRoomFor tag out.old answer_most }
+        ensures { Answers self.old self.new out.old out.new
             (server.aborted self.old.server tag) }
-        ensures text { out.new.items ≡ out.old.items
-            ++ reply_bytes (server.aborted self.old.server tag).said }
-        ensures len { vec_len out.new ≤ vec_len out.old + 10560 }
     {
         let _at_most = self.waiting.len();
         write_received(out, tag);
@@ -89,15 +85,9 @@ impl Controller {
     /// A standard command, or a faulty line on a standard tag: refused in the error state, which `ClearAllErrors` ends; refused where 64
     /// wait; else it waits.
     fn stand(&mut self, out: &mut Vec<u8>, tag: Tag, reading: Result<Command, Misread>)
-        requires tag { IsTag tag }
-        requires reading { IsReadingFit reading }
-        requires on { self.old.server.on ≡ true }
-        requires room { vec_len out.old + 10560 ≤ vec_capacity out.old }
-        ensures controller { self.new ≡ with_answered self.old
+        requires { MayTake self.old out.old tag reading }
+        ensures { Answers self.old self.new out.old out.new
             (server.stands self.old.server tag reading) }
-        ensures text { out.new.items ≡ out.old.items
-            ++ reply_bytes (server.stands self.old.server tag reading).said }
-        ensures len { vec_len out.new ≤ vec_len out.old + 10560 }
     {
         let _at_most = self.waiting.len();
         write_received(out, tag);
@@ -115,12 +105,9 @@ impl Controller {
 
     /// A faulty line on an event tag: the error state is not entered.
     fn refuse_event(&self, out: &mut Vec<u8>, tag: Tag, why: Misread)
-        requires tag { IsTag tag }
-        requires room { vec_len out.old + 10560 ≤ vec_capacity out.old }
-        ensures text { out.new.items ≡ out.old.items
-            ++ reply_bytes (Reply.Ack tag ∷ server.fails tag (server.fault_number why)
-            (server.kind_in (Err why))) }
-        ensures len { vec_len out.new ≤ vec_len out.old + 10560 }
+        requires { HasRoomFor tag out.old answer_most }
+        ensures { Says out.old out.new (Reply.Ack tag ∷ server.fails tag (server.fault_number why)
+            (server.kind_in (Err why))) answer_most }
     {
         write_received(out, tag);
         write_failure(out, tag, error_of(why), kind_of_misread(why));
@@ -128,15 +115,9 @@ impl Controller {
 
     /// A line under a tag that is not in use.
     fn read_fresh(&mut self, out: &mut Vec<u8>, tag: Tag, reading: Result<Command, Misread>)
-        requires tag { IsTag tag }
-        requires reading { IsReadingFit reading }
-        requires on { self.old.server.on ≡ true }
-        requires room { vec_len out.old + 10560 ≤ vec_capacity out.old }
-        ensures controller { self.new ≡ with_answered self.old
+        requires { MayTake self.old out.old tag reading }
+        ensures { Answers self.old self.new out.old out.new
             (server.fresh self.old.server tag reading) }
-        ensures text { out.new.items ≡ out.old.items
-            ++ reply_bytes (server.fresh self.old.server tag reading).said }
-        ensures len { vec_len out.new ≤ vec_len out.old + 10560 }
     {
         match (tag, reading) {
             (_, Ok(Command::AbortE)) => self.abort(out, tag),
@@ -148,15 +129,9 @@ impl Controller {
 
     /// A line with a tag: refused where a command under it runs or waits.
     fn read_tagged(&mut self, out: &mut Vec<u8>, tag: Tag, reading: Result<Command, Misread>)
-        requires tag { IsTag tag }
-        requires reading { IsReadingFit reading }
-        requires on { self.old.server.on ≡ true }
-        requires room { vec_len out.old + 10560 ≤ vec_capacity out.old }
-        ensures controller { self.new ≡ with_answered self.old
+        requires { MayTake self.old out.old tag reading }
+        ensures { Answers self.old self.new out.old out.new
             (server.tagged self.old.server tag reading) }
-        ensures text { out.new.items ≡ out.old.items
-            ++ reply_bytes (server.tagged self.old.server tag reading).said }
-        ensures len { vec_len out.new ≤ vec_len out.old + 10560 }
     {
         if self.is_in_use(tag) {
             write_error(out, Tag::Event(0), ErrorNumber::TagInUse, None);
@@ -168,13 +143,9 @@ impl Controller {
     /// What was read of a line.
     fn read(&mut self, out: &mut Vec<u8>, reading: Result<(Tag, Command), LineFault>)
         requires reading { IsLineFit reading }
-        requires on { self.old.server.on ≡ true }
-        requires room { vec_len out.old + 10560 ≤ vec_capacity out.old }
-        ensures controller { self.new ≡ with_answered self.old
+        requires may { MayHear self.old out.old }
+        ensures { Answers self.old self.new out.old out.new
             (server.server_read self.old.server (reading_of reading)) }
-        ensures text { out.new.items ≡ out.old.items
-            ++ reply_bytes (server.server_read self.old.server (reading_of reading)).said }
-        ensures len { vec_len out.new ≤ vec_len out.old + 10560 }
     {
         match reading {
             Ok((tag, command)) => self.read_tagged(out, tag, Ok(command)),
@@ -191,8 +162,7 @@ impl Controller {
     /// Reads a line of the connection. Only want of memory is an `Err`.
     #[tactic(auto, using(crate::proofs::LinesRead::read_is_fit, crate::proofs::LinesRead::one_reading))]
     pub(crate) fn read_line(&mut self, out: &mut Vec<u8>, line: &[u8]) -> Result<(), AllocError>
-        requires on { self.old.server.on ≡ true }
-        requires room { vec_len out.old + 10560 ≤ vec_capacity out.old }
+        requires may { MayHear self.old out.old }
         ensures controller { OnOk result ((readers : Readers) → AreReaders readers
             → self.new ≡ with_answered self.old (server.server_read self.old.server
             (reading_of (readers.command line.now)))) }
@@ -201,7 +171,7 @@ impl Controller {
             (server.server_read self.old.server (reading_of (readers.command line.now))).said) }
         ensures err { OnErr result (self.new ≡ self.old) }
         ensures silent { OnErr result (out.new.items ≡ out.old.items) }
-        ensures len { vec_len out.new ≤ vec_len out.old + 10560 }
+        ensures len { IsBounded out.old out.new }
     {
         let reading = read_command(self.alloc, line)?;
         self.read(out, reading);

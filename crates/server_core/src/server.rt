@@ -2,6 +2,7 @@
 
 ghost use Rattle.std.specs.Prelude.{◌≡◌, ◌≢◌, ◌↔◌, ◌⊎◌, if◌then◌else◌, ◌≤◌, ◌+◌, ◌&&◌, not, true, false, None, [], Some, Ok, Err, drop, length, is_none, IsTrue, IsOk, IsErr, IfOk, IfErr, OnOk, OnErr, IfSome, MatchOption};
 ghost use Rattle.std.specs.Result.{IsErrOf};
+ghost use Rattle.fixed_um.specs.Calls.{Leads};
 ghost use Rattle.line_framing.specs.Next.{next_of};
 ghost use Rattle.line_framing.specs.Framing.{IsLineDue, IsSound};
 ghost use Rattle.protocol_model.specs.declared.lines.Line.{Line as OneLine};
@@ -74,10 +75,9 @@ impl Server {
     #[tactic(auto, using(crate::proofs::Servings::accepted_holds))]
     pub fn accept(&mut self, number: u64) -> Result<(), ServerFault>
         ensures can { IsOk result ↔ (may_accept number self.old.end.server ≡ true) }
-        ensures ok { OnOk result (self.new ≡ with_end self.old
-            (serving_accepted number self.old.end)) }
+        ensures leads { Leads result self.old self.new
+            (with_end self.old (serving_accepted number self.old.end)) }
         ensures not_now { IfErr result (λ fault. fault ≡ ServerFault.NotNow) }
-        ensures err { OnErr result (self.new ≡ self.old) }
     {
         if self.controller.may_accept(number) {
             self.controller.accept(number);
@@ -92,13 +92,12 @@ impl Server {
     #[tactic(auto, using(crate::proofs::Servings::fed_holds))]
     pub fn feed(&mut self, piece: &[u8]) -> Result<(), ServerFault>
         ensures can { OnOk result (may_feed self.old.end ≡ true) }
-        ensures ok { OnOk result (self.new ≡ with_end self.old
-            (serving_fed piece.now self.old.end)) }
+        ensures leads { Leads result self.old self.new
+            (with_end self.old (serving_fed piece.now self.old.end)) }
         ensures not_now { IsErrOf result ServerFault.NotNow ↔ (self.old.end.server.on ≡ false) }
         ensures framing { (why : OneFault) → (result ≡ Err (ServerFault.Framing why))
             ↔ ((self.old.end.server.on ≡ true) × (self.old.end.input.fault ≡ Some why)) }
         ensures others { IfErr result (λ fault. IsFeedFault self.old.end fault) }
-        ensures err { OnErr result (self.new ≡ self.old) }
     {
         if !self.controller.is_on() {
             return Err(ServerFault::NotNow);
@@ -160,12 +159,12 @@ impl Server {
     /// Lets the first waiting command have its turn: it is refused, complete at once, or runs from now on. `NotNow` while something runs and
     /// where nothing waits, `Memory`.
     pub fn turn(&mut self) -> Result<(), ServerFault>
-        ensures ok { OnOk result (self.new ≡ with_end self.old (serving_turned self.old.end)) }
+        ensures leads { Leads result self.old self.new
+            (with_end self.old (serving_turned self.old.end)) }
         ensures not_now { IsErrOf result ServerFault.NotNow
             ↔ (may_turn self.old.end.server ≡ false) }
         ensures others { IfErr result (λ fault. (fault ≡ ServerFault.NotNow)
             ⊎ (fault ≡ ServerFault.Memory)) }
-        ensures err { OnErr result (self.new ≡ self.old) }
         ensures bounded { length self.new.end.out ≤ length self.old.end.out + ANSWER_MAX }
     {
         if !self.controller.may_turn() {
@@ -199,8 +198,8 @@ impl Server {
     /// and `Missed` end a touch, `Fault` each; `OutOfVolume` where a touched point is past the volume limit; in this order. `Memory` only where
     /// none of them is due.
     pub fn machine(&mut self, outcome: Outcome) -> Result<(), ServerFault>
-        ensures ok { OnOk result (self.new ≡ with_end self.old
-            (serving_machined outcome self.old.end)) }
+        ensures leads { Leads result self.old self.new
+            (with_end self.old (serving_machined outcome self.old.end)) }
         ensures can { OnOk result (may_end self.old.end.server.running outcome ≡ true) }
         ensures nothing_runs { IsErrOf result ServerFault.NothingRuns
             ↔ (self.old.end.server.running ≡ None) }
@@ -211,7 +210,6 @@ impl Server {
             ↔ ((fits_running self.old.end.server.running outcome ≡ true)
             × (may_end self.old.end.server.running outcome ≡ false)) }
         ensures others { IfErr result (λ fault. IsMachineFault self.old.end.server outcome fault) }
-        ensures err { OnErr result (self.new ≡ self.old) }
         ensures bounded { length self.new.end.out ≤ length self.old.end.out + ANSWER_MAX }
     {
         self.controller.check(&outcome)?;

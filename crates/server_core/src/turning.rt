@@ -6,7 +6,9 @@ ghost use Rattle.dme_line.specs.Errors.{number_of};
 ghost use Rattle.protocol_model.specs.Lines.{reply_bytes};
 ghost use Rattle.dme_line.specs.declared.commands.Command.TheVariants as command;
 ghost use Rattle.protocol_model.specs.Server as server;
-ghost use Rattle.server_core.specs.Serving.{with_answered, may_turn, first_refusal, first_command, runs, IsAtOnce};
+ghost use Rattle.fixed_um.specs.Calls.{Leads};
+ghost use Rattle.server_core.specs.Answering.{HasAnswerRoom, MayTurn, Answers, AnswersIfOk};
+ghost use Rattle.server_core.specs.Serving.{with_answered, first_refusal, first_command, runs, IsAtOnce};
 
 use crate::answers::{kind_in, write_all_aborted, write_complete, write_failure};
 use crate::checks::offset;
@@ -52,12 +54,9 @@ impl Controller {
     /// The first waiting command is refused with an error, and all others that wait fail with 9007.
     fn refuse(&mut self, out: &mut Vec<u8>, error: ErrorNumber)
         requires refused { first_refusal self.old.server ≡ Some (number_of error) }
-        requires room { vec_len out.old + 10560 ≤ vec_capacity out.old }
-        ensures controller { self.new ≡ with_answered self.old
+        requires room { HasAnswerRoom out.old }
+        ensures { Answers self.old self.new out.old out.new
             (server.server_turned self.old.server) }
-        ensures text { out.new.items ≡ out.old.items
-            ++ reply_bytes (server.server_turned self.old.server).said }
-        ensures len { vec_len out.new ≤ vec_len out.old + 10560 }
     {
         let _at_most = self.waiting.len();
         let Some(command) = self.waiting.take() else {
@@ -73,10 +72,9 @@ impl Controller {
         requires passed { first_refusal self.old.server ≡ None }
         requires runs { runs (first_command self.old.server) ≡ true }
         requires idle { self.old.server.running ≡ None }
-        ensures controller { OnOk result (self.new
-            ≡ with_answered self.old (server.server_turned self.old.server)) }
+        ensures leads { Leads result self.old self.new
+            (with_answered self.old (server.server_turned self.old.server)) }
         ensures silent { (server.server_turned self.old.server).said ≡ [] }
-        ensures err { OnErr result (self.new ≡ self.old) }
     {
         let Some(
             Waiting {
@@ -116,14 +114,9 @@ impl Controller {
         requires passed { first_refusal self.old.server ≡ None }
         requires idle { self.old.server.running ≡ None }
         requires selects { first_command self.old.server ≡ Some (command.SetCoordSystem system) }
-        requires room { vec_len out.old + 10560 ≤ vec_capacity out.old }
-        ensures controller { OnOk result (self.new
-            ≡ with_answered self.old (server.server_turned self.old.server)) }
-        ensures text { OnOk result (out.new.items ≡ out.old.items
-            ++ reply_bytes (server.server_turned self.old.server).said) }
-        ensures err { OnErr result (self.new ≡ self.old) }
-        ensures silent { OnErr result (out.new.items ≡ out.old.items) }
-        ensures len { vec_len out.new ≤ vec_len out.old + 10560 }
+        requires room { HasAnswerRoom out.old }
+        ensures { AnswersIfOk result self.old self.new out.old out.new
+            (server.server_turned self.old.server) }
     {
         let frame = frame_of(system, self.stored);
         record(&mut self.ledger, self.last, Act::Framed(frame))?;
@@ -138,12 +131,9 @@ impl Controller {
     fn complete_first(&mut self, out: &mut Vec<u8>)
         requires passed { first_refusal self.old.server ≡ None }
         requires at_once { IsAtOnce (first_command self.old.server) }
-        requires room { vec_len out.old + 10560 ≤ vec_capacity out.old }
-        ensures controller { self.new ≡ with_answered self.old
+        requires room { HasAnswerRoom out.old }
+        ensures { Answers self.old self.new out.old out.new
             (server.server_turned self.old.server) }
-        ensures text { out.new.items ≡ out.old.items
-            ++ reply_bytes (server.server_turned self.old.server).said }
-        ensures len { vec_len out.new ≤ vec_len out.old + 10560 }
     {
         let Some(
             Waiting {
@@ -167,15 +157,9 @@ impl Controller {
     /// The first waiting command is carried out: some are complete at once, the others run. Only want of memory is an `Err`.
     fn carry_out(&mut self, out: &mut Vec<u8>) -> Result<(), AllocError>
         requires passed { first_refusal self.old.server ≡ None }
-        requires idle { may_turn self.old.server ≡ true }
-        requires room { vec_len out.old + 10560 ≤ vec_capacity out.old }
-        ensures controller { OnOk result (self.new
-            ≡ with_answered self.old (server.server_turned self.old.server)) }
-        ensures text { OnOk result (out.new.items ≡ out.old.items
-            ++ reply_bytes (server.server_turned self.old.server).said) }
-        ensures err { OnErr result (self.new ≡ self.old) }
-        ensures silent { OnErr result (out.new.items ≡ out.old.items) }
-        ensures len { vec_len out.new ≤ vec_len out.old + 10560 }
+        requires may { MayTurn self.old out.old }
+        ensures { AnswersIfOk result self.old self.new out.old out.new
+            (server.server_turned self.old.server) }
     {
         let Some(first) = self.waiting.first() else {
             return Ok(());
@@ -196,15 +180,9 @@ impl Controller {
 
     /// The first waiting command has its turn. Only want of memory is an `Err`.
     pub(crate) fn turn(&mut self, out: &mut Vec<u8>) -> Result<(), AllocError>
-        requires may { may_turn self.old.server ≡ true }
-        requires room { vec_len out.old + 10560 ≤ vec_capacity out.old }
-        ensures controller { OnOk result (self.new
-            ≡ with_answered self.old (server.server_turned self.old.server)) }
-        ensures text { OnOk result (out.new.items ≡ out.old.items
-            ++ reply_bytes (server.server_turned self.old.server).said) }
-        ensures err { OnErr result (self.new ≡ self.old) }
-        ensures silent { OnErr result (out.new.items ≡ out.old.items) }
-        ensures len { vec_len out.new ≤ vec_len out.old + 10560 }
+        requires { MayTurn self.old out.old }
+        ensures { AnswersIfOk result self.old self.new out.old out.new
+            (server.server_turned self.old.server) }
     {
         let Some(first) = self.waiting.first() else {
             return Ok(());

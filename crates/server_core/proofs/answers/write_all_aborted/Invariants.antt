@@ -2,6 +2,7 @@ use Rattle.std.proofs.Common.{◌≡◌, ◌≤◌, ◌+◌, ◌*◌, ◌++◌, 
 use Rattle.std.specs.List.{AllByRecursion}
 use Rattle.protocol_model.specs.Lines.{reply_bytes}
 use Rattle.protocol_model.specs.Server.{all_fail}
+use Rattle.server_core.specs.Answering.{failure_most}
 use Rattle.server_core.specs.Kept.{IsFit}
 use Rattle.server_core.proofs.answers.write_all_aborted.Given as goal
 
@@ -9,7 +10,7 @@ abbrev pub invariant-loop-command : goal.invariant-loop-command
 invariant-loop-command l =
     AllByRecursion IsFit l.waiting
     × (l.out.items ++ reply_bytes (all_fail 9007 l.waiting) ≡ l.fn.out.items ++ reply_bytes (all_fail 9007 l.fn.waiting))
-    × (vec_len l.out + 160 * length l.waiting ≤ vec_len l.fn.out + 160 * length l.fn.waiting)
+    × (vec_len l.out + failure_most * length l.waiting ≤ vec_len l.fn.out + failure_most * length l.fn.waiting)
     × (vec_capacity l.fn.out ≤ vec_capacity l.out)
 
 abbrev pub decreases-loop-command : goal.decreases-loop-command
