@@ -15,7 +15,8 @@ use Rattle.link_world.specs.declared.connection.Connection.{Connection}
 use Rattle.link_world.specs.declared.faults.WorldFault.{WorldFault}
 use Rattle.link_world.specs.declared.faults.WorldFault.TheVariants as fault
 use Rattle.link_world.specs.declared.world.World.TheInside.{Inside}
-use Rattle.link_world.specs.Events.{HappensIf, HappensIff, LeadsRead}
+use Rattle.client_core.specs.Reads.{LeadsRead}
+use Rattle.link_world.specs.Events.{HappensIf, HappensIff}
 use Rattle.link_world.specs.Links.{Linked, StandsOn, link_of_connection, with_up, with_down, fewer_up, fewer_down}
 use Rattle.link_world.specs.Links.{quiet_client, quiet_server, seen, with_world, IsReached}
 use Rattle.link_world.proofs.Reached.{reached_more, server_number, taken}

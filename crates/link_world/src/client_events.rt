@@ -7,7 +7,8 @@ ghost use Rattle.protocol_model.specs.Ends.{end_sent, end_aborted, end_fed, end_
 ghost use Rattle.protocol_model.specs.World.{can, has_some, connected, client_writes, moved_down};
 ghost use Rattle.protocol_model.specs.declared.events.Event.TheVariants as event;
 ghost use Rattle.client_core.specs.Clients.{is_faulted, may_read};
-ghost use Rattle.link_world.specs.Events.{HappensIf, HappensIff, LeadsRead};
+ghost use Rattle.client_core.specs.Reads.{LeadsRead};
+ghost use Rattle.link_world.specs.Events.{HappensIf, HappensIff};
 ghost use Rattle.link_world.specs.Links.{link_of_connection, with_up, fewer_down, quiet_client, with_world};
 
 use crate::connection::Connection;
