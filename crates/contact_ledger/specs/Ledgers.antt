@@ -15,9 +15,13 @@ is_contact (act.Contact target dir tool frame point) = true
 abbrev pub contact_count : List (ℕ × Act) → ℕ
 contact_count acts = count_by (λ entry. is_contact entry.1) acts
 
--- a number that a connection may have (this profile)
+-- the number of the last connection that there may be (this profile)
+abbrev pub connection_most : ℕ
+connection_most = 4000000000
+
+-- a number that a connection may have
 abbrev pub IsConnection : ℕ → Type 0
-IsConnection n = (1 ≤ n) × (n ≤ 4000000000)
+IsConnection n = (1 ≤ n) × (n ≤ connection_most)
 
 -- each act of a ledger stands beside such a number
 abbrev pub AreOnConnections : List (ℕ × Act) → Type 0

@@ -1,7 +1,11 @@
--- Sums and differences of points, axis by axis.
-use Rattle.std.specs.Prelude.{◌≤◌, ℤ, unsigned_abs, ◌+ℤ◌, ◌-ℤ◌, neg_ℤ}
+-- The zero point, and sums and differences of points, axis by axis.
+use Rattle.std.specs.Prelude.{◌≤◌, ℤ, pos, unsigned_abs, ◌+ℤ◌, ◌-ℤ◌, neg_ℤ}
 use Rattle.fixed_um.specs.Limits.{volume_limit}
 use Rattle.fixed_um.specs.declared.lengths.Point.{Point}
+
+-- the zero point of the axes, and no displacement
+abbrev pub zero_point : Point
+zero_point = record { x = pos 0; y = pos 0; z = pos 0 }
 
 -- the point moved by another
 abbrev pub point_sum : Point → Point → Point

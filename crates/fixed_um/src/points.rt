@@ -2,7 +2,7 @@
 
 ghost use Rattle.std.specs.Prelude.{◌≡◌, ◌≤◌, ◌+ℤ◌, ◌-ℤ◌, neg_ℤ, unsigned_abs, SomeIff, ◌↔◌, IsTrue};
 ghost use Rattle.fixed_um.specs.Limits.{volume_limit};
-ghost use Rattle.fixed_um.specs.Points.{point_sum, point_difference, point_opposite, IsInVolume};
+ghost use Rattle.fixed_um.specs.Points.{zero_point, point_sum, point_difference, point_opposite, IsInVolume};
 
 use crate::lengths::{Point, Um};
 
@@ -37,6 +37,17 @@ fn length_opposite(one: Um) -> Um
 }
 
 impl Point {
+    /// The zero point of the axes; as a displacement, none.
+    pub fn zero() -> Point
+        ensures { result ≡ zero_point }
+    {
+        Point {
+            x: Um::zero(),
+            y: Um::zero(),
+            z: Um::zero(),
+        }
+    }
+
     /// Whether each axis is within the machine's volume, 1,000,000,000 micrometres.
     pub fn is_in_volume(self) -> bool
         ensures { IsTrue result ↔ IsInVolume self }

@@ -1,9 +1,9 @@
 -- The server: its state, and the lines and the act with which it answers each call, case by case (this profile).
 use Rattle.std.specs.Prelude.{ℕ, nat_le, Bool, true, false, ◌&&◌, ◌||◌, not, if◌then◌else◌, Option, Some, None, is_none, List, [], ◌∷◌}
-use Rattle.std.specs.Prelude.{◌++◌, length, pos, unsigned_abs, bytes_eq, Result, Ok, Err}
+use Rattle.std.specs.Prelude.{◌++◌, length, unsigned_abs, bytes_eq, Result, Ok, Err}
 use Rattle.std.specs.List.{list_any}
 use Rattle.fixed_um.specs.Limits.{volume_limit}
-use Rattle.fixed_um.specs.Points.{point_sum, point_difference}
+use Rattle.fixed_um.specs.Points.{zero_point, point_sum, point_difference, point_opposite}
 use Rattle.fixed_um.specs.declared.lengths.Point.{Point}
 use Rattle.fixed_um.specs.declared.frames.Frame.{Frame}
 use Rattle.fixed_um.specs.declared.frames.Frame.TheVariants.{Machine, Part}
@@ -20,7 +20,6 @@ use Rattle.contact_ledger.specs.declared.acts.Act.{Act}
 use Rattle.contact_ledger.specs.declared.acts.Act.TheVariants as act
 use Rattle.protocol_model.specs.Replies.{Reading, Reply, tag_is}
 use Rattle.dme_line.specs.declared.reading.LineFault.TheVariants as fault
-use Rattle.fixed_um.specs.Points.{point_opposite}
 use Rattle.protocol_model.specs.declared.machine.Job.{Job}
 use Rattle.protocol_model.specs.declared.machine.Outcome.{Outcome}
 use Rattle.protocol_model.specs.declared.lines.Misread.{Misread}
@@ -54,10 +53,6 @@ pub record Answer : Type 0 where
 abbrev pub answers : Server → List Reply → Answer
 answers s said = record { server = s; said = said }
 
--- the zero point of the machine
-abbrev pub origin : Point
-origin = record { x = pos 0; y = pos 0; z = pos 0 }
-
 -- a server that was never on a connection
 abbrev pub new_server : List (List ℕ) → Server
 new_server rack = record {
@@ -68,7 +63,7 @@ new_server rack = record {
   homed = false;
   tool = None;
   frame = Machine;
-  stored = origin;
+  stored = zero_point;
   error = false;
   running = None;
   waiting = [];
@@ -110,7 +105,7 @@ server_accepted n s = record s { on = true; last = n }
 
 -- all that belongs to the connection is given up
 abbrev pub server_left : Server → Server
-server_left s = record s { on = false; session = false; frame = Machine; stored = origin; error = false; running = None; waiting = [] }
+server_left s = record s { on = false; session = false; frame = Machine; stored = zero_point; error = false; running = None; waiting = [] }
 
 -- a restarted server besides forgets its homing and its tool
 abbrev pub server_restarted : Server → Server
@@ -190,7 +185,7 @@ server_read s (Ok line) = tagged s line.tag (Ok line.command)
 
 -- where a frame has its zero point on the machine
 abbrev pub offset : Frame → Point
-offset Machine = origin
+offset Machine = zero_point
 offset (Part p) = p
 
 -- a point that the machine can reach

@@ -12,7 +12,7 @@ use Rattle.dme_line.specs.declared.commands.Command.TheVariants as command
 use Rattle.protocol_model.specs.declared.lines.Misread.{Misread}
 use Rattle.protocol_model.specs.declared.lines.Misread.TheVariants as misread
 use Rattle.dme_line.specs.declared.reading.LineFault.TheVariants as fault
-use Rattle.contact_ledger.specs.Ledgers.{IsConnection}
+use Rattle.contact_ledger.specs.Ledgers.{connection_most, IsConnection}
 use Rattle.contact_ledger.specs.declared.acts.Act.{Act}
 use Rattle.protocol_model.specs.Plan.{is_empty}
 use Rattle.line_framing.specs.Next.{Front, next_of}
@@ -221,7 +221,7 @@ ends_on e ended may h = not_off e.server.on (λ off. none_ends e.server.running 
 on_steady : (e f : ServerEnd) (acts : List Act) → e.server.on ≡ true → IsSteady e → Moves e.server f.server acts → IsOrderly f.server
     → IsSound f.input → IsSteady f
 on_steady e f acts on h moves orderly sound = record {
-  last = subst (λ (n : ℕ). n ≤ 4000000000) (sym moves.last) h.last;
+  last = subst (λ (n : ℕ). n ≤ connection_most) (sym moves.last) h.last;
   on = λ still_on. subst IsConnection (sym moves.last) (h.on on);
   off = λ off. absurd (false≢true (sym off ∙ (moves.on ∙ on)));
   orderly = orderly;
@@ -238,9 +238,9 @@ not_zero m n above = omega arith
 
 pub accepted_steady : (n : ℕ) (e : ServerEnd) → may_accept n e.server ≡ true → IsSteady e → IsSteady (serving_accepted n e)
 accepted_steady n e may h =
-    let numbers : (nat_lt e.server.last n && nat_le n 4000000000) ≡ true = (and_parts _ _ may).1 in
+    let numbers : (nat_lt e.server.last n && nat_le n connection_most) ≡ true = (and_parts _ _ may).1 in
     let above : e.server.last < n = ltb-true e.server.last n ((and_parts _ _ numbers).0) in
-    let within : n ≤ 4000000000 = leb-true n 4000000000 ((and_parts _ _ numbers).1) in
+    let within : n ≤ connection_most = leb-true n connection_most ((and_parts _ _ numbers).1) in
     record {
       last = within;
       on = λ on. (not_zero e.server.last n above, within);
@@ -292,7 +292,7 @@ machined_steady ended e may h =
 none_kept : IsSound no_bytes
 none_kept = record { kept = λ why e. cc }
 
-off_steady : (e : ServerEnd) → e.server.last ≤ 4000000000 → e.server.on ≡ false → IsOff e → IsSteady e
+off_steady : (e : ServerEnd) → e.server.last ≤ connection_most → e.server.on ≡ false → IsOff e → IsSteady e
 off_steady e last off is = record {
   last = last;
   on = λ on. absurd (false≢true (sym off ∙ on));

@@ -1,6 +1,7 @@
 -- What callers see of a server (this profile): its setup, and its end of a connection.
 use Rattle.std.specs.Prelude.{◌≡◌, ◌≢◌, ℕ, nat_lt, nat_le, Bool, not, ◌&&◌, is_none, Option, Some, None, true, false, List, [], ◌∷◌, Result}
 use Rattle.std.specs.Prelude.{Ok, Err}
+use Rattle.contact_ledger.specs.Ledgers.{connection_most}
 use Rattle.dme_line.specs.declared.commands.Command.{Command}
 use Rattle.dme_line.specs.declared.commands.Command.TheVariants as command
 use Rattle.protocol_model.specs.declared.lines.Misread.{Misread}
@@ -32,7 +33,7 @@ with_end s e = record { setup = s.setup; end = e }
 
 -- a server comes to a connection while it is on none, and to each number once, in rising order
 abbrev pub may_accept : ℕ → Server → Bool
-may_accept n s = not s.on && (nat_lt s.last n && nat_le n 4000000000)
+may_accept n s = not s.on && (nat_lt s.last n && nat_le n connection_most)
 
 -- bytes are taken on a connection, until a framing fault is met in them
 abbrev pub may_feed : ServerEnd → Bool

@@ -2,10 +2,11 @@
 use Rattle.std.specs.Prelude.{◌≡◌, ◌≤◌, true, false, Some, None, List, [], length}
 use Rattle.std.specs.List.{AllByRecursion}
 use Rattle.fixed_um.specs.declared.frames.Frame.TheVariants.{Machine}
+use Rattle.fixed_um.specs.Points.{zero_point}
 use Rattle.dme_line.specs.Tags.{is_event_tag}
-use Rattle.contact_ledger.specs.Ledgers.{IsConnection}
+use Rattle.contact_ledger.specs.Ledgers.{IsConnection, connection_most}
 use Rattle.line_framing.specs.Framing.{IsSound, no_bytes}
-use Rattle.protocol_model.specs.Server.{Server, origin, first_failing, checks}
+use Rattle.protocol_model.specs.Server.{Server, first_failing, checks}
 use Rattle.protocol_model.specs.Ends.{ServerEnd}
 use Rattle.protocol_model.specs.declared.lines.Line.{Line}
 use Rattle.protocol_model.specs.declared.lines.Waiting.{Waiting}
@@ -17,7 +18,7 @@ pub record IsOff (e : ServerEnd) : Type 0 where
   pub session : e.server.session ≡ false
   pub error : e.server.error ≡ false
   pub frame : e.server.frame ≡ Machine
-  pub stored : e.server.stored ≡ origin
+  pub stored : e.server.stored ≡ zero_point
   pub running : e.server.running ≡ None
   pub waiting : e.server.waiting ≡ []
   pub input : e.input ≡ no_bytes
@@ -38,7 +39,7 @@ pub record IsOrderly (s : Server) : Type 0 where
 -- that is kept
 -- is what stands at the front of the bytes
 pub record IsSteady (e : ServerEnd) : Type 0 where
-  pub last : e.server.last ≤ 4000000000
+  pub last : e.server.last ≤ connection_most
   pub on : e.server.on ≡ true → IsConnection e.server.last
   pub off : e.server.on ≡ false → IsOff e
   pub orderly : IsOrderly e.server

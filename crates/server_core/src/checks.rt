@@ -4,7 +4,7 @@ ghost use Rattle.std.specs.Prelude.{◌≡◌, option_map};
 ghost use Rattle.dme_line.specs.Errors.{number_of};
 ghost use Rattle.protocol_model.specs.Server.{opens, wants_session, wants_home, lacks_tool, has_no_tool, leaves_volume, first_failing, checks, offset, refusal};
 
-use crate::controller::{Controller, origin};
+use crate::controller::Controller;
 use crate::reading::error_of;
 use dme_line::{Command, ErrorNumber};
 use fixed_um::{Frame, Name, Point};
@@ -16,7 +16,7 @@ pub(crate) fn offset(frame: Frame) -> Point
     ensures { result ≡ offset frame }
 {
     match frame {
-        Frame::Machine => origin(),
+        Frame::Machine => Point::zero(),
         Frame::Part(offset) => offset,
     }
 }

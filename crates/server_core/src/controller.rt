@@ -7,7 +7,7 @@ ghost use Rattle.protocol_model.specs.Server.{server_accepted, server_left, serv
 use crate::view::View;
 use command_queue::Queue;
 use contact_ledger::ServerLedger;
-use fixed_um::{Frame, Name, Point, Um};
+use fixed_um::{Frame, Name, Point};
 use protocol_model::{Job, Line};
 use std::alloc::{AllocError, Global};
 use std::marker::Model;
@@ -81,17 +81,6 @@ impl Model for Controller {
         (option_map (λ r. r.job) c.running) };
 }
 
-/// The machine's own zero point.
-pub(crate) fn origin() -> Point
-    ensures { result ≡ Rattle.protocol_model.specs.Server.origin }
-{
-    Point {
-        x: Um::zero(),
-        y: Um::zero(),
-        z: Um::zero(),
-    }
-}
-
 impl Controller {
     /// A server that was never on a connection. It fails where memory is wanting for the places of what waits.
     pub(crate) fn new(alloc: Global, setup: Setup) -> Result<Controller, AllocError>
@@ -107,7 +96,7 @@ impl Controller {
             homed: false,
             tool: None,
             frame: Frame::Machine,
-            stored: origin(),
+            stored: Point::zero(),
             error: false,
             running: None,
             waiting,
@@ -145,7 +134,7 @@ impl Controller {
         self.on = false;
         self.session = false;
         self.frame = Frame::Machine;
-        self.stored = origin();
+        self.stored = Point::zero();
         self.error = false;
         self.running = None;
         self.waiting.clear();

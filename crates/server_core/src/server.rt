@@ -5,7 +5,7 @@ ghost use Rattle.std.specs.Result.{IsErrOf};
 ghost use Rattle.line_framing.specs.Next.{next_of};
 ghost use Rattle.line_framing.specs.Framing.{IsLineDue, IsSound};
 ghost use Rattle.protocol_model.specs.declared.lines.Line.{Line as OneLine};
-ghost use Rattle.contact_ledger.specs.Ledgers.{IsConnection};
+ghost use Rattle.contact_ledger.specs.Ledgers.{IsConnection, connection_most};
 ghost use Rattle.server_core.specs.Steady.{IsOff, IsRunnable, AreStandard};
 ghost use Rattle.contact_ledger.specs.Ledgers.{AreOnConnections};
 ghost use Rattle.protocol_model.specs.Lines.{Readers, AreReaders};
@@ -297,7 +297,7 @@ impl Server {
 
         // What holds at any time.
         ensures numbered { self.now.end.server.on ≡ true → IsConnection self.now.end.server.last }
-        ensures last { self.now.end.server.last ≤ 4000000000 }
+        ensures last { self.now.end.server.last ≤ connection_most }
         ensures off { self.now.end.server.on ≡ false → IsOff self.now.end }
         ensures quiet { self.now.end.server.error ≡ true → self.now.end.server.waiting ≡ [] }
         ensures few { length self.now.end.server.waiting ≤ 64 }

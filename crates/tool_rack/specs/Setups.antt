@@ -1,10 +1,10 @@
 -- The setup that a text says: its tools, its stored frames and its shifts (this profile).
-use Rattle.std.specs.Prelude.{◌≡◌, ℕ, ◌+◌, ◌%◌, Bool, false, List, [], ◌∷◌, ◌++◌, length, slice_index_or, pos, Option, Some, None, is_some}
+use Rattle.std.specs.Prelude.{◌≡◌, ℕ, ◌+◌, ◌%◌, Bool, false, List, [], ◌∷◌, ◌++◌, length, slice_index_or, Option, Some, None, is_some}
 use Rattle.std.specs.Prelude.{Result, Ok, Err, if◌then◌else◌}
 use Rattle.std.specs.List.{list_any, filter_map, AllByRecursion}
 use Rattle.std.specs.Str.{bytes_eq}
 use Rattle.std.specs.Str.Lines.{lines}
-use Rattle.fixed_um.specs.Points.{IsInVolume}
+use Rattle.fixed_um.specs.Points.{zero_point, IsInVolume}
 use Rattle.fixed_um.specs.declared.lengths.Point.{Point}
 use Rattle.dmis_program.specs.Offsets.{offset_of, AreDistinct, AreFrames}
 use Rattle.tool_rack.specs.Entries.{entry_on}
@@ -88,10 +88,6 @@ pub record IsSetup (setup : SetupValue) : Type 0 where
   pub tools_once : AreDistinct setup.tools
   pub frames : AreFrames setup.frames
   pub shifts_within : AllByRecursion IsInVolume setup.shifts
-
--- no displacement
-abbrev pub zero_point : Point
-zero_point = record { x = pos 0; y = pos 0; z = pos 0 }
 
 -- shift number k, counted from 0 and from the first again behind the last; none where there is no shift
 abbrev pub shift_at : List Point → ℕ → Point

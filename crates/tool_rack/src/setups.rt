@@ -9,7 +9,7 @@ use crate::entries::{Entry, entry_on};
 use crate::faults::SetupFault;
 use dmis_program::Frames;
 use dmis_text::cut_line;
-use fixed_um::{Name, Point, Um};
+use fixed_um::{Name, Point};
 use std::alloc::{AllocError, Global};
 use std::marker::Model;
 
@@ -176,11 +176,7 @@ impl Setup {
     {
         let count = self.shifts.len() as u64;
         if count == 0 {
-            return Point {
-                x: Um::zero(),
-                y: Um::zero(),
-                z: Um::zero(),
-            };
+            return Point::zero();
         }
         self.shifts[(k % count) as usize]
     }

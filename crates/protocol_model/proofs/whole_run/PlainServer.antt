@@ -3,7 +3,7 @@ use Rattle.std.proofs.Common.{◌≡◌, ℕ, Bool, true, false, cond, not, ◌&
 use Rattle.std.proofs.Common.{arith, Option, Some, None, Ok, nat_le}
 use Rattle.std.proofs.lemmas.Bool.{false≢true, and_parts, leb-true}
 use Rattle.fixed_um.specs.Shapes.{Direction}
-use Rattle.fixed_um.specs.Points.{IsInVolume}
+use Rattle.fixed_um.specs.Points.{zero_point, IsInVolume}
 use Rattle.fixed_um.specs.declared.lengths.Point.{Point}
 use Rattle.fixed_um.specs.declared.frames.Frame.TheVariants.{Machine}
 use Rattle.dme_line.specs.Kinds.{kind_of}
@@ -17,7 +17,7 @@ use Rattle.dme_line.specs.declared.commands.Command.{Command}
 use Rattle.dme_line.specs.declared.commands.Command.TheVariants as command
 use Rattle.dme_line.specs.declared.commands.Kind.{Kind}
 use Rattle.protocol_model.specs.Replies.{Reply}
-use Rattle.protocol_model.specs.Server.{Server, Answer, origin, fails, all_fail, in_error, queued, runs_under, waits_under, is_abort}
+use Rattle.protocol_model.specs.Server.{Server, Answer, fails, all_fail, in_error, queued, runs_under, waits_under, is_abort}
 use Rattle.protocol_model.specs.Server.{is_clear, running_fails, aborted, stands, server_read, refusal, frame_of, carried_out, taken}
 use Rattle.protocol_model.specs.Server.{turned_to, server_turned, offset, in_volume, stopped, idle, finished, touched, machined}
 use Rattle.protocol_model.specs.Server.{server_machined, has_outcome, may_end, server_left}
@@ -50,8 +50,8 @@ pub record IsPlainAnswer (a : Answer) : Type 0 where
   pub server : IsPlainServer a.server
   pub said : AreReplies a.said
 
-origin_in_volume : IsInVolume origin
-origin_in_volume = record { x = omega arith; y = omega arith; z = omega arith }
+zero_in_volume : IsInVolume zero_point
+zero_in_volume = record { x = omega arith; y = omega arith; z = omega arith }
 
 pub plain_new : (rack : List (List ℕ)) → IsPlainServer (record {
   rack = rack;
@@ -61,13 +61,13 @@ pub plain_new : (rack : List (List ℕ)) → IsPlainServer (record {
   homed = false;
   tool = None;
   frame = Machine;
-  stored = origin;
+  stored = zero_point;
   error = false;
   running = None;
   waiting = [];
   ledger = [];
 })
-plain_new rack = record { lines = []; waiting_is = refl; running = tt; waiting = tt; stored = origin_in_volume; frame = origin_in_volume }
+plain_new rack = record { lines = []; waiting_is = refl; running = tt; waiting = tt; stored = zero_in_volume; frame = zero_in_volume }
 
 -- ---- failures
 
@@ -153,7 +153,7 @@ runs_plain s l h w = record {
 }
 
 frame_plain : (system : Csy) (stored : Point) → IsInVolume stored → IsInVolume (offset (frame_of system stored))
-frame_plain MachineCsy stored h = origin_in_volume
+frame_plain MachineCsy stored h = zero_in_volume
 frame_plain PartCsy stored h = h
 
 carried_plain : (s : Server) (t : Tag) (c : Command) → IsPlainServer s → IsWritable t c → IsPlainAnswer (carried_out s t c)
@@ -359,6 +359,6 @@ left_plain s homed tool = record {
   waiting_is = refl;
   running = tt;
   waiting = tt;
-  stored = origin_in_volume;
-  frame = origin_in_volume;
+  stored = zero_in_volume;
+  frame = zero_in_volume;
 }
