@@ -1,5 +1,24 @@
 -- What an event answers, and what it makes of a world.
-use Rattle.std.proofs.Common.{◌≡◌, ℕ, ◌-◌, ◌<◌, Bool, true, false, ◌++◌, length, slice_index_or, slice_set, take, List, refl, sym, ◌∙◌, ap, subst}
+use Rattle.std.proofs.Common.{
+  ◌≡◌,
+  ℕ,
+  ◌-◌,
+  ◌<◌,
+  Bool,
+  true,
+  false,
+  ◌++◌,
+  length,
+  slice_index_or,
+  slice_set,
+  take,
+  List,
+  refl,
+  sym,
+  ◌∙◌,
+  ap,
+  subst,
+}
 use Rattle.std.proofs.Common.{Result, Ok, Err}
 use Rattle.std.specs.Prelude.{OnOk, OnErr, IsErrAnd}
 use Rattle.fixed_um.specs.Calls.{Leads}

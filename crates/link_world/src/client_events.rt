@@ -2,6 +2,7 @@
 
 ghost use Rattle.std.specs.Prelude.{◌≡◌, ◌++◌, [], nat_le, ◌&&◌, true, false, is_some, take, drop};
 ghost use Rattle.fixed_um.specs.Calls.{Leads, Writes};
+ghost use Rattle.contact_ledger.specs.Ledgers.{connection_most};
 ghost use Rattle.protocol_model.specs.Client.{due, is_apart, may_abort};
 ghost use Rattle.protocol_model.specs.Ends.{end_sent, end_aborted, end_fed, end_read, end_resumed, end_left, end_restarted};
 ghost use Rattle.protocol_model.specs.World.{can, has_some, connected, client_writes, moved_down};
@@ -98,7 +99,7 @@ fn bring_down(
 
 /// Whether a client in this state may make the connection of this number.
 fn may_connect(state: State, number: u64) -> bool
-    ensures { result ≡ (is_apart state && nat_le number 4000000000) }
+    ensures { result ≡ (is_apart state && nat_le number connection_most) }
 {
     matches!(state, State::Apart) && number <= 4_000_000_000
 }
