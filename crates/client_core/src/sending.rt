@@ -35,10 +35,11 @@ impl Executor {
                 Ok(())
             }
             Err(TagFault::Memory) => Err(AllocError),
-            Err(_) => {
+            Err(TagFault::TagsSpent) => {
                 self.fault(Cause::TagsSpent);
                 Ok(())
             }
+            Err(_) => unreachable!(),
         }
     }
 
@@ -59,10 +60,11 @@ impl Executor {
                 Ok(())
             }
             Err(TagFault::Memory) => Err(AllocError),
-            Err(_) => {
+            Err(TagFault::TagsSpent) => {
                 self.fault(Cause::TagsSpent);
                 Ok(())
             }
+            Err(_) => unreachable!(),
         }
     }
 }
