@@ -2,6 +2,7 @@
 use Rattle.std.proofs.Common.{◌≡◌, ℕ, zero, suc, ◌≤◌, ◌<◌, ◌==◌, Bool, true, false, cond, not, is_some, nat_lt, List, [], ◌∷◌, ◌++◌, drop}
 use Rattle.std.proofs.Common.{refl, sym, ◌∙◌, ap, subst, arith, Option, Some, None, Result, Ok, Err, le_refl}
 use Rattle.std.proofs.lemmas.Bool.{false≢true, ltb-true, leb-true}
+use Rattle.contact_ledger.specs.Ledgers.{connection_most}
 use Rattle.fixed_um.specs.declared.lengths.Point.{Point}
 use Rattle.dme_line.specs.Kinds.{kind_of}
 use Rattle.dme_line.specs.declared.tags.Tag.{Tag}
@@ -48,7 +49,7 @@ pub record IsSteady (c : Client) : Type 0 where
   pub cause : is_some c.cause ≡ is_faulted c.state
   pub some : 1 ≤ c.window
   pub few : c.window ≤ 16
-  pub last : c.last ≤ 4000000000
+  pub last : c.last ≤ connection_most
   pub numbered : c.on ≡ true → 1 ≤ c.last
   pub opened : count_open c.table.standard ≤ c.window
 
@@ -276,7 +277,7 @@ connected_steady n c may h =
       cause = refl;
       some = some;
       few = h.few;
-      last = leb-true n 4000000000 numbers.1;
+      last = leb-true n connection_most numbers.1;
       numbered = λ on. omega (arith, above);
       opened = omega (arith);
     }

@@ -2,6 +2,7 @@
 use Rattle.std.proofs.Common.{◌≡◌, ℕ, ◌≤◌, Bool, true, false, cond, is_some, Some, None, Ok, List, [], ◌∷◌, ◌++◌, length, drop, refl, sym}
 use Rattle.std.proofs.Common.{◌∙◌, ap, subst}
 use Rattle.std.proofs.lemmas.Bool.{false≢true, le-leb}
+use Rattle.contact_ledger.specs.Ledgers.{connection_most}
 use Rattle.contact_ledger.specs.declared.features.Feature.{Feature}
 use Rattle.contact_ledger.specs.Ledgers.{IsConnection}
 use Rattle.dmis_program.specs.Meaning.{Meaning}
@@ -177,7 +178,7 @@ window_some e h = IsSteady.some (IsSound.steady (sound e h))
 pub window_few : (e : ClientEnd) → IsReached e → e.client.window ≤ 16
 window_few e h = IsSteady.few (IsSound.steady (sound e h))
 
-pub last_within : (e : ClientEnd) → IsReached e → e.client.last ≤ 4000000000
+pub last_within : (e : ClientEnd) → IsReached e → e.client.last ≤ connection_most
 last_within e h = IsSteady.last (IsSound.steady (sound e h))
 
 -- where it reads, its connection has a number

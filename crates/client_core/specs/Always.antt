@@ -8,7 +8,7 @@ use Rattle.protocol_model.specs.Lines.{Readers, AreReaders}
 use Rattle.protocol_model.specs.Ends.{ClientEnd, new_client_end}
 use Rattle.protocol_model.specs.declared.states.State.{State}
 use Rattle.client_core.specs.Calls.{Call, behind_calls}
-use Rattle.client_core.specs.Clients.{are_ours}
+use Rattle.client_core.specs.Clients.{are_ours, window_most}
 
 -- a list of calls leads to it from a client that was never on a connection, with a program, the features of it that were kept, and a window
 -- from 1 to 16
@@ -21,7 +21,7 @@ pub record IsReached (e : ClientEnd) : Type 0 where
   pub ours : are_ours program.features kept ≡ true
   pub window : ℕ
   pub some : 1 ≤ window
-  pub few : window ≤ 16
+  pub few : window ≤ window_most
   pub calls : List Call
   pub reached : e ≡ behind_calls readers calls (new_client_end program kept window)
 

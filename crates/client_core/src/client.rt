@@ -3,6 +3,7 @@
 ghost use Rattle.std.specs.Prelude.{◌≡◌, ◌≢◌, ◌↔◌, ◌⊎◌, ◌≤◌, ◌+◌, ◌&&◌, not, nat_le, true, false, None, Some, Ok, Err, length, IsTrue, IsOk, IfOk, IfErr, OnOk, OnErr, IfSome, IsSome, is_some, MatchOption};
 ghost use Rattle.std.specs.Result.{IsErrOf};
 ghost use Rattle.fixed_um.specs.Calls.{Leads};
+ghost use Rattle.contact_ledger.specs.Ledgers.{connection_most};
 ghost use Rattle.line_framing.specs.Next.{next_of};
 ghost use Rattle.line_framing.specs.Framing.{IsLineDue};
 ghost use Rattle.protocol_model.specs.Open.{count_open};
@@ -11,7 +12,7 @@ ghost use Rattle.protocol_model.specs.Client.{due, may_abort, may_resume};
 ghost use Rattle.protocol_model.specs.Ends.{new_client_end, end_connected, end_sent, end_aborted, end_fed, end_read, end_resumed, end_left, end_restarted, end_taken};
 ghost use Rattle.client_core.specs.Tables.{command_of};
 ghost use Rattle.client_core.specs.Always.{IsReached, FitsState, IsQuiet};
-ghost use Rattle.client_core.specs.Clients.{are_ours, is_faulted, may_connect, may_read};
+ghost use Rattle.client_core.specs.Clients.{are_ours, is_faulted, is_window, may_connect, may_read, window_most};
 ghost use Rattle.client_core.specs.Refusals.{IsRefused, IsReadRefused, IsSendRefused};
 
 use crate::executor::Executor;
@@ -78,13 +79,11 @@ impl Client {
     ) -> Result<Client, (NewFault, Program, FeatureLedger)>
         ensures ok { IfOk result (λ client. client ≡ new_client_end program features window) }
         ensures can { IsOk result
-            ↔ ((nat_le 1 window && (nat_le window 16
-            && are_ours program.features features)) ≡ true) }
+            ↔ ((is_window window && are_ours program.features features) ≡ true) }
         ensures window { IfErr result (λ refused. (refused.0 ≡ NewFault.BadWindow)
-            ↔ ((nat_le 1 window && nat_le window 16) ≡ false)) }
+            ↔ (is_window window ≡ false)) }
         ensures ours { IfErr result (λ refused. (refused.0 ≡ NewFault.NotOurs)
-            ↔ (((nat_le 1 window && nat_le window 16)
-            && not (are_ours program.features features)) ≡ true)) }
+            ↔ ((is_window window && not (are_ours program.features features)) ≡ true)) }
         ensures given_back { IfErr result (λ refused.
             (refused.1 ≡ program) × (refused.2 ≡ features)) }
     {
@@ -313,9 +312,9 @@ impl Client {
         ensures on { FitsState self.now.client.state self.now.client.on }
         ensures cause { is_some self.now.client.cause ≡ is_faulted self.now.client.state }
         ensures window_some { 1 ≤ self.now.client.window }
-        ensures window_few { self.now.client.window ≤ 16 }
+        ensures window_few { self.now.client.window ≤ window_most }
         ensures open { count_open self.now.client.table.standard ≤ self.now.client.window }
-        ensures last { self.now.client.last ≤ 4000000000 }
+        ensures last { self.now.client.last ≤ connection_most }
         ensures ours { are_ours self.now.client.program.features
             self.now.client.table.tally.features ≡ true }
         ensures quiet { self.now.client.on ≡ false → IsQuiet self.now }

@@ -35,10 +35,11 @@ impl Executor {
                 Ok(())
             }
             Err(TagFault::Memory) => Err(AllocError),
-            Err(_) => {
+            Err(TagFault::TagsSpent) => {
                 self.fault(Cause::TagsSpent);
                 Ok(())
             }
+            Err(_) => unreachable!(),
         }
     }
 
@@ -46,7 +47,8 @@ impl Executor {
     pub(crate) fn send_abort(&mut self, out: &mut Vec<u8>) -> Result<(), AllocError>
         requires room { HasRoom out.old LINE_MAX }
         ensures client { Leads result self.old self.new (client_aborted self.old).client }
-        ensures text { Writes result out.old out.new (command_bytes (client_aborted self.old).lines) }
+        ensures text { Writes result out.old out.new
+            (command_bytes (client_aborted self.old).lines) }
         ensures grows { Grows out.old out.new LINE_MAX }
     {
         match self.commands.draw(Kind::AbortE) {
@@ -58,10 +60,11 @@ impl Executor {
                 Ok(())
             }
             Err(TagFault::Memory) => Err(AllocError),
-            Err(_) => {
+            Err(TagFault::TagsSpent) => {
                 self.fault(Cause::TagsSpent);
                 Ok(())
             }
+            Err(_) => unreachable!(),
         }
     }
 }

@@ -46,7 +46,8 @@ down_may count client server cs written at c h on place some is =
     ∙ (ap (λ (x : Bool). x && has_some count (link_of (links_of cs) client.client.last).down) stays
     ∙ ap (λ (l : Link). has_some count l.down) link)
 
-pub down_seen : (count : ℕ) (client after : ClientEnd) (server : Serving) (cs : List Connection) (written : List ℕ) (at : ℕ) (c d : Connection)
+pub down_seen : (count : ℕ) (client after : ClientEnd) (server : Serving) (cs : List Connection) (written : List ℕ) (at : ℕ)
+    (c d : Connection)
     → IsReached (seen client server cs written) → at ≡ length cs - 1 → 0 < length cs → c ≡ slice_index_or cs at c
     → after ≡ end_fed (take count c.down.waiting) client → link_of_connection d ≡ fewer_down count c
     → seen after server (slice_set cs at d) written ≡ with_world (seen client server cs written)

@@ -2,6 +2,7 @@
 use Rattle.std.proofs.Common.{◌≡◌, ℕ, suc, ◌+◌, ◌≤◌, ◌<◌, Bool, true, false, ◌&&◌, nat_lt, nat_le, List, [], ◌∷◌, ◌++◌, length, refl, sym}
 use Rattle.std.proofs.Common.{◌∙◌, ap, subst, arith}
 use Rattle.std.proofs.lemmas.Bool.{false≢true, and_parts, and_from, ltb-true, lt-ltb, le-leb, leb-true}
+use Rattle.contact_ledger.specs.Ledgers.{connection_most}
 use Rattle.protocol_model.specs.Lines.{Readers, AreReaders}
 use Rattle.protocol_model.specs.Client.{is_apart, may_resume}
 use Rattle.protocol_model.specs.Ends.{ClientEnd, end_connected, end_resumed, end_left, end_restarted}
@@ -102,34 +103,34 @@ next_number_fits last most = refl
 
 pub connect_may : (l : Linked) (client : ClientEnd) (server : Serving) (cs : List Connection) (written : List ℕ) (number : ℕ) (b : Bool)
     → l ≡ seen client server cs written → IsReached (seen client server cs written) → number ≡ length cs + 1
-    → (is_apart client.client.state && nat_le number 4000000000) ≡ b
-    → (is_apart l.world.client.client.state && nat_lt l.world.client.client.last 4000000000) ≡ b
+    → (is_apart client.client.state && nat_le number connection_most) ≡ b
+    → (is_apart l.world.client.client.state && nat_lt l.world.client.client.last connection_most) ≡ b
 connect_may l client server cs written number b view h n is =
     let same : length cs ≡ client.client.last = made client server cs written h in
     let next : number ≡ suc client.client.last = n ∙ omega (arith, same) in
-    subst (λ (k : Linked). (is_apart k.world.client.client.state && nat_lt k.world.client.client.last 4000000000) ≡ b) (sym view)
-    (ap (λ (x : Bool). is_apart client.client.state && x) (sym (next_number_fits client.client.last 4000000000))
-    ∙ (ap (λ (k : ℕ). is_apart client.client.state && nat_le k 4000000000) (sym next) ∙ is))
+    subst (λ (k : Linked). (is_apart k.world.client.client.state && nat_lt k.world.client.client.last connection_most) ≡ b) (sym view)
+    (ap (λ (x : Bool). is_apart client.client.state && x) (sym (next_number_fits client.client.last connection_most))
+    ∙ (ap (λ (k : ℕ). is_apart client.client.state && nat_le k connection_most) (sym next) ∙ is))
 
 -- it is refused where the client is not apart, or each number is taken
 pub connect_refused : (l : Linked) (client : ClientEnd) (server : Serving) (cs : List Connection) (written : List ℕ) (number : ℕ)
     → l ≡ seen client server cs written → IsReached (seen client server cs written) → number ≡ length cs + 1
     → may_connect number client.client ≡ false
-    → (is_apart l.world.client.client.state && nat_lt l.world.client.client.last 4000000000) ≡ false
+    → (is_apart l.world.client.client.state && nat_lt l.world.client.client.last connection_most) ≡ false
 connect_refused l client server cs written number view h n never =
-    subst (λ (k : Linked). (is_apart k.world.client.client.state && nat_lt k.world.client.client.last 4000000000) ≡ false) (sym view)
-    (go (is_apart client.client.state && nat_lt client.client.last 4000000000) refl)
+    subst (λ (k : Linked). (is_apart k.world.client.client.state && nat_lt k.world.client.client.last connection_most) ≡ false) (sym view)
+    (go (is_apart client.client.state && nat_lt client.client.last connection_most) refl)
   where
     same : length cs ≡ client.client.last
     same = made client server cs written h
 
-    go : (b : Bool) → (is_apart client.client.state && nat_lt client.client.last 4000000000) ≡ b → b ≡ false
+    go : (b : Bool) → (is_apart client.client.state && nat_lt client.client.last connection_most) ≡ b → b ≡ false
     go false e = refl
     go true e =
         let parts = and_parts _ _ e in
-        let below : client.client.last < 4000000000 = ltb-true client.client.last 4000000000 parts.1 in
+        let below : client.client.last < connection_most = ltb-true client.client.last connection_most parts.1 in
         let above : nat_lt client.client.last number ≡ true = lt-ltb client.client.last number (omega (arith, same, n)) in
-        let within : nat_le number 4000000000 ≡ true = le-leb number 4000000000 (omega (arith, same, n, below)) in
+        let within : nat_le number connection_most ≡ true = le-leb number connection_most (omega (arith, same, n, below)) in
         absurd (false≢true (sym never ∙ and_from _ _ parts.0 (and_from _ _ above within)))
 
 -- ---- events of the client alone

@@ -11,6 +11,7 @@ use Rattle.protocol_model.proofs.invariant.Holding.{Inv, IsOff, IsLive, IsAtRest
 use Rattle.protocol_model.proofs.each_event.ClientWrites.{IsDue, due_is}
 use Rattle.protocol_model.proofs.each_event.ClientResumes.{never_off}
 use Rattle.protocol_model.proofs.whole_run.Carrying.{lined, IsCarried}
+use Rattle.protocol_model.proofs.whole_run.CarryingClient.{due_on, abort_on}
 use Rattle.client_core.specs.Clients.{is_faulted}
 use Rattle.server_core.specs.Serving.{Serving}
 use Rattle.link_world.specs.declared.connection.Connection.{Connection}
@@ -19,23 +20,6 @@ use Rattle.link_world.proofs.Linking.{links_same, link_put}
 use Rattle.link_world.proofs.Reached.{carried, reached_more, made, agree, never_faulted_behind}
 
 -- ---- where it may write it is on a connection
-
-due_on : (w : Lined) → Inv w → is_some (due w.client) ≡ true → w.client.on ≡ true
-due_on w inv can = go inv.side
-  where
-    d : IsDue w.client
-    d = due_is w.client can
-
-    go : IsOff w ⊎ IsLive w → w.client.on ≡ true
-    go (inl off) = absurd (subst IsAtRest d.running off.rest)
-    go (inr live) = live.on
-
-abort_on : (w : Lined) → Inv w → may_abort w.client.state ≡ true → w.client.on ≡ true
-abort_on w inv can = go inv.side
-  where
-    go : IsOff w ⊎ IsLive w → w.client.on ≡ true
-    go (inl off) = absurd (never_off w off w.client.state refl can)
-    go (inr live) = live.on
 
 pub some_made : (client : ClientEnd) (server : Serving) (cs : List Connection) (written : List ℕ)
     → IsReached (seen client server cs written) → client.client.on ≡ true → 0 < length cs

@@ -1,5 +1,24 @@
 -- What an event answers, and what it makes of a world.
-use Rattle.std.proofs.Common.{◌≡◌, ℕ, ◌-◌, ◌<◌, Bool, true, false, ◌++◌, length, slice_index_or, slice_set, take, List, refl, sym, ◌∙◌, ap, subst}
+use Rattle.std.proofs.Common.{
+  ◌≡◌,
+  ℕ,
+  ◌-◌,
+  ◌<◌,
+  Bool,
+  true,
+  false,
+  ◌++◌,
+  length,
+  slice_index_or,
+  slice_set,
+  take,
+  List,
+  refl,
+  sym,
+  ◌∙◌,
+  ap,
+  subst,
+}
 use Rattle.std.proofs.Common.{Result, Ok, Err}
 use Rattle.std.specs.Prelude.{OnOk, OnErr, IsErrAnd}
 use Rattle.fixed_um.specs.Calls.{Leads}
@@ -15,7 +34,8 @@ use Rattle.link_world.specs.declared.connection.Connection.{Connection}
 use Rattle.link_world.specs.declared.faults.WorldFault.{WorldFault}
 use Rattle.link_world.specs.declared.faults.WorldFault.TheVariants as fault
 use Rattle.link_world.specs.declared.world.World.TheInside.{Inside}
-use Rattle.link_world.specs.Events.{HappensIf, HappensIff, LeadsRead}
+use Rattle.client_core.specs.Reads.{LeadsRead}
+use Rattle.link_world.specs.Events.{HappensIf, HappensIff}
 use Rattle.link_world.specs.Links.{Linked, StandsOn, link_of_connection, with_up, with_down, fewer_up, fewer_down}
 use Rattle.link_world.specs.Links.{quiet_client, quiet_server, seen, with_world, IsReached}
 use Rattle.link_world.proofs.Reached.{reached_more, server_number, taken}

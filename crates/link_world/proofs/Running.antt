@@ -6,14 +6,14 @@ use Rattle.protocol_model.specs.Lines.{Readers}
 use Rattle.protocol_model.specs.World.{World, can, happens}
 use Rattle.protocol_model.specs.declared.events.Event.{Event}
 use Rattle.link_world.specs.Claims.{takes_memory}
-use Rattle.link_world.specs.Runs.{Answer, Happened, Refused, Wanting, Leads, happened, refused, wanting, HasRun}
+use Rattle.link_world.specs.Runs.{Answer, Happened, Refused, Wanting, Follows, happened, refused, wanting, HasRun}
 
 -- one event with its answer
 abbrev Led : Readers → World → Event → Answer → World → Type 0
-Led readers w e a v = Leads readers w (e ∷ []) (a ∷ []) v
+Led readers w e a v = Follows readers w (e ∷ []) (a ∷ []) v
 
-leads_more : (readers : Readers) (w u v : World) (es : List Event) (xs : List Answer) (e : Event) (a : Answer) → Leads readers w es xs u
-    → Led readers u e a v → Leads readers w (es ++ e ∷ []) (xs ++ a ∷ []) v
+leads_more : (readers : Readers) (w u v : World) (es : List Event) (xs : List Answer) (e : Event) (a : Answer) → Follows readers w es xs u
+    → Led readers u e a v → Follows readers w (es ++ e ∷ []) (xs ++ a ∷ []) v
 leads_more readers w u v [] [] e a h one = subst (λ (x : World). Led readers x e a v) h one
 leads_more readers w u v [] (b ∷ xs) e a h one = absurd h
 leads_more readers w u v (f ∷ es) [] e a h one = absurd h
@@ -45,7 +45,7 @@ more : (readers : Readers) (w u v : World) (events : List Event) (i : ℕ) (e : 
     → HasRun readers w (take (i + 1) events) v (done + happened (a ∷ [])) (not_now + refused (a ∷ [])) (memory + wanting (a ∷ []))
 more readers w u v events i e a done not_now memory short is h one = record {
   answers = h.answers ++ a ∷ [];
-  leads = subst (λ (es : List Event). Leads readers w es (h.answers ++ a ∷ []) v) (sym next)
+  leads = subst (λ (es : List Event). Follows readers w es (h.answers ++ a ∷ []) v) (sym next)
       (leads_more readers w u v (take i events) h.answers e a h.leads one);
   done_are = happened_more h.answers a ∙ ap (λ (n : ℕ). n + happened (a ∷ [])) h.done_are;
   not_now_are = refused_more h.answers a ∙ ap (λ (n : ℕ). n + refused (a ∷ [])) h.not_now_are;

@@ -5,7 +5,8 @@ use Rattle.protocol_model.specs.World.{World, can, happens}
 use Rattle.protocol_model.specs.declared.events.Event.{Event}
 use Rattle.protocol_model.proofs.written_lines.ReadersExist.{some_are_readers}
 use Rattle.protocol_model.proofs.whole_run.SameProgram.{run_same, run_window}
-use Rattle.link_world.specs.Events.{HappensIf, LeadsRead}
+use Rattle.client_core.specs.Reads.{LeadsRead}
+use Rattle.link_world.specs.Events.{HappensIf}
 use Rattle.link_world.specs.Links.{Linked, with_world}
 use Rattle.link_world.specs.declared.faults.WorldFault.{WorldFault}
 use Rattle.link_world.proofs.Undisturbed.{after_can}

@@ -87,7 +87,8 @@ up_may count client server cs written at c h on place short is =
     (agree (seen client server cs written) h).server
     ∙ ap (λ (l : Link). has_some count l.up) link)
 
-pub up_seen : (count : ℕ) (client : ClientEnd) (server after : Serving) (cs : List Connection) (written : List ℕ) (at : ℕ) (c d : Connection)
+pub up_seen : (count : ℕ) (client : ClientEnd) (server after : Serving) (cs : List Connection) (written : List ℕ) (at : ℕ)
+    (c d : Connection)
     → at ≡ server.end.server.last - 1 → at < length cs → c ≡ slice_index_or cs at c
     → after ≡ with_end server (serving_fed (take count c.up.waiting) server.end) → link_of_connection d ≡ fewer_up count c
     → seen client after (slice_set cs at d) written ≡ with_world (seen client server cs written)
@@ -134,4 +135,5 @@ pub reads_may : (client : ClientEnd) (server : Serving) (cs : List Connection) (
     → can event.ServerReads (seen client server cs written).world ≡ is_line (next_of server.end.input.rest)
 reads_may client server cs written h on =
     ap (λ (x : Bool). x && (is_none server.end.input.fault && is_line (next_of server.end.input.rest))) on
-    ∙ ap (λ (x : Option FramingFault). is_none x && is_line (next_of server.end.input.rest)) (agree (seen client server cs written) h).server
+    ∙ ap (λ (x : Option FramingFault). is_none x && is_line (next_of server.end.input.rest))
+    (agree (seen client server cs written) h).server

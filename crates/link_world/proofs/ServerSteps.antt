@@ -2,6 +2,7 @@
 use Rattle.std.proofs.Common.{◌≡◌, ℕ, ◌≤◌, ◌<◌, Bool, true, false, List, [], ◌∷◌, length, refl, sym, ◌∙◌, ap, subst, arith, cond}
 use Rattle.std.proofs.Common.{length-append}
 use Rattle.std.proofs.lemmas.Bool.{false≢true, and_parts, and_from, ltb-true, le-leb, leb-true}
+use Rattle.contact_ledger.specs.Ledgers.{connection_most}
 use Rattle.protocol_model.specs.Lines.{Readers, AreReaders}
 use Rattle.protocol_model.specs.Ends.{ClientEnd, ServerEnd, serving_accepted, serving_left, serving_restarted}
 use Rattle.protocol_model.specs.World.{World, no_link, start, can, happens, after, run_of}
@@ -15,44 +16,47 @@ use Rattle.link_world.specs.declared.connection.Connection.{Connection}
 use Rattle.link_world.specs.Links.{Linked, links_of, seen, with_world, IsReached}
 use Rattle.link_world.proofs.Reached.{reached_more, links_long}
 
--- ---- no more than 4,000,000,000 connections are made
+-- ---- no more connections than have numbers are made
 
-within : (readers : Readers) (e : Event) (w : World) → can e w ≡ true → length w.links ≡ w.client.client.last → length w.links ≤ 4000000000
-    → length (happens readers e w).links ≤ 4000000000
+within : (readers : Readers) (e : Event) (w : World) → can e w ≡ true → length w.links ≡ w.client.client.last
+    → length w.links ≤ connection_most
+    → length (happens readers e w).links ≤ connection_most
 within readers event.Connect w may same le =
-    let below : w.client.client.last < 4000000000 = ltb-true w.client.client.last 4000000000 (and_parts _ _ may).1 in
+    let below : w.client.client.last < connection_most = ltb-true w.client.client.last connection_most (and_parts _ _ may).1 in
     omega (arith, length-append w.links (no_link ∷ []), same, below)
 within readers (event.Accept n) w may same le = le
-within readers event.ClientSends w may same le = subst (λ (n : ℕ). n ≤ 4000000000) (sym (link_long w.links w.client.client.last _)) le
-within readers (event.Up k) w may same le = subst (λ (n : ℕ). n ≤ 4000000000) (sym (link_long w.links w.server.server.last _)) le
-within readers event.ServerReads w may same le = subst (λ (n : ℕ). n ≤ 4000000000) (sym (link_long w.links w.server.server.last _)) le
-within readers event.ServerTurn w may same le = subst (λ (n : ℕ). n ≤ 4000000000) (sym (link_long w.links w.server.server.last _)) le
-within readers (event.Machine outcome) w may same le = subst (λ (n : ℕ). n ≤ 4000000000) (sym (link_long w.links w.server.server.last _)) le
-within readers (event.Down k) w may same le = subst (λ (n : ℕ). n ≤ 4000000000) (sym (link_long w.links w.client.client.last _)) le
+within readers event.ClientSends w may same le = subst (λ (n : ℕ). n ≤ connection_most) (sym (link_long w.links w.client.client.last _)) le
+within readers (event.Up k) w may same le = subst (λ (n : ℕ). n ≤ connection_most) (sym (link_long w.links w.server.server.last _)) le
+within readers event.ServerReads w may same le = subst (λ (n : ℕ). n ≤ connection_most) (sym (link_long w.links w.server.server.last _)) le
+within readers event.ServerTurn w may same le = subst (λ (n : ℕ). n ≤ connection_most) (sym (link_long w.links w.server.server.last _)) le
+within readers (event.Machine outcome) w may same le = subst (λ (n : ℕ). n ≤ connection_most)
+    (sym (link_long w.links w.server.server.last _)) le
+within readers (event.Down k) w may same le = subst (λ (n : ℕ). n ≤ connection_most) (sym (link_long w.links w.client.client.last _)) le
 within readers event.ClientReads w may same le = le
 within readers event.ClientLeaves w may same le = le
 within readers event.ServerLeaves w may same le = le
-within readers event.Abort w may same le = subst (λ (n : ℕ). n ≤ 4000000000) (sym (link_long w.links w.client.client.last _)) le
+within readers event.Abort w may same le = subst (λ (n : ℕ). n ≤ connection_most) (sym (link_long w.links w.client.client.last _)) le
 within readers event.Resume w may same le = le
 within readers (event.ClientRestart k) w may same le = le
 within readers event.ServerRestart w may same le = le
 
-runs_within : (readers : Readers) → AreReaders readers → (es : List Event) (w : World) → IsCarried w → length w.links ≤ 4000000000
-    → length (run_of readers es w).links ≤ 4000000000
+runs_within : (readers : Readers) → AreReaders readers → (es : List Event) (w : World) → IsCarried w → length w.links ≤ connection_most
+    → length (run_of readers es w).links ≤ connection_most
 runs_within readers are [] w h le = le
 runs_within readers are (e ∷ es) w h le = go (can e w) refl
-    (λ (x : World) (c : IsCarried x) (l : length x.links ≤ 4000000000). runs_within readers are es x c l)
+    (λ (x : World) (c : IsCarried x) (l : length x.links ≤ connection_most). runs_within readers are es x c l)
   where
-    go : (b : Bool) → can e w ≡ b → ((x : World) → IsCarried x → length x.links ≤ 4000000000
-        → length (run_of readers es x).links ≤ 4000000000) → length (run_of readers es (cond b (happens readers e w) w)).links ≤ 4000000000
+    go : (b : Bool) → can e w ≡ b → ((x : World) → IsCarried x → length x.links ≤ connection_most
+        → length (run_of readers es x).links ≤ connection_most) → length (run_of readers es (cond b (happens readers e w) w)).links
+        ≤ connection_most
     go true may later = later (happens readers e w) (happens_carried readers are e w h may) (within readers e w may h.wired.made le)
     go false never later = later w h le
 
 pub connections_few : (client : ClientEnd) (server : Serving) (cs : List Connection) (written : List ℕ)
-    → IsReached (seen client server cs written) → length cs ≤ 4000000000
+    → IsReached (seen client server cs written) → length cs ≤ connection_most
 connections_few client server cs written h =
-    let few : length (links_of cs) ≤ 4000000000 =
-    subst (λ (w : World). length w.links ≤ 4000000000) (sym h.reached)
+    let few : length (links_of cs) ≤ connection_most =
+    subst (λ (w : World). length w.links ≤ connection_most) (sym h.reached)
     (runs_within h.readers h.are h.events (start h.program server.setup.tools h.window)
     (start_carried h.program server.setup.tools h.window h.is_program h.few) (omega arith)) in
     omega (arith, few, links_long cs)
@@ -104,9 +108,9 @@ accept_refused l number client server cs written view h near never =
     go false e = refl
     go true e =
         let parts = and_parts _ _ e in
-        let few : length cs ≤ 4000000000 = connections_few client server cs written h in
+        let few : length cs ≤ connection_most = connections_few client server cs written h in
         absurd (false≢true (sym never ∙ and_from _ _ parts.0 (and_from _ _ (and_parts _ _ parts.1).0
-        (le-leb number 4000000000 (omega (arith, near, few))))))
+        (le-leb number connection_most (omega (arith, near, few))))))
 
 pub accept_reached : (number : ℕ) (client : ClientEnd) (server after : Serving) (cs : List Connection) (written : List ℕ)
     → IsReached (seen client server cs written)

@@ -12,7 +12,7 @@ use Rattle.protocol_model.proofs.whole_run.SameProgram.{run_same}
 use Rattle.protocol_model.proofs.undisturbed_run.UndisturbedRun.{undisturbed_lines, undisturbed_acts, undisturbed_counts}
 use Rattle.link_world.specs.Claims.{IsNew, first_plan}
 use Rattle.link_world.specs.Links.{Linked, IsReached}
-use Rattle.link_world.specs.Runs.{Answer, Happened, Refused, Wanting, Leads, wanting, HasRun}
+use Rattle.link_world.specs.Runs.{Answer, Happened, Refused, Wanting, Follows, wanting, HasRun}
 use Rattle.link_world.proofs.Reached.{carried}
 
 -- ---- the events that happened
@@ -32,7 +32,7 @@ record Quietly (readers : Readers) (w v : World) : Type 0 where
   pub quiet : AreUndisturbed events
   pub leads : v ≡ run_of readers events w
 
-quietly : (readers : Readers) (w v : World) (events : List Event) (xs : List Answer) → AreUndisturbed events → Leads readers w events xs v
+quietly : (readers : Readers) (w v : World) (events : List Event) (xs : List Answer) → AreUndisturbed events → Follows readers w events xs v
     → Quietly readers w v
 quietly readers w v [] [] q h = record { events = []; quiet = tt; leads = h }
 quietly readers w v [] (x ∷ xs) q h = absurd h
@@ -47,7 +47,7 @@ quietly readers w v (e ∷ es) (Refused ∷ xs) q h = quietly readers w v es xs 
 quietly readers w v (e ∷ es) (Wanting ∷ xs) q h = quietly readers w v es xs q.1 h.2
 
 -- where memory sufficed, all events lead there
-all_lead : (readers : Readers) (w v : World) (events : List Event) (xs : List Answer) → wanting xs ≡ 0 → Leads readers w events xs v
+all_lead : (readers : Readers) (w v : World) (events : List Event) (xs : List Answer) → wanting xs ≡ 0 → Follows readers w events xs v
     → v ≡ run_of readers events w
 all_lead readers w v [] [] none h = h
 all_lead readers w v [] (x ∷ xs) none h = absurd h

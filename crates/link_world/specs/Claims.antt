@@ -31,10 +31,6 @@ pub record DoNotDisagree (w : World) : Type 0 where
   pub client : w.client.client.state ≢ State.Faulted
   pub server : w.server.input.fault ≡ None
 
--- a window is from 1 to 16
-abbrev pub is_window : ℕ → Bool
-is_window window = nat_le 1 window && nat_le window 16
-
 -- a program and a setup are handed back for the window's sake
 abbrev pub HandsBack : Meaning → SetupValue → NewFault → Type 0
 HandsBack program setup (fault.BadWindow given_program given_setup) = (given_program ≡ program) × (given_setup ≡ setup)

@@ -1,7 +1,6 @@
 -- Words for what an event answers (this profile).
 use Rattle.std.specs.Prelude.{◌≡◌, Bool, true, false, Result, OnOk, OnErr, IfErr}
 use Rattle.std.specs.Result.{IsErrOf}
-use Rattle.protocol_model.specs.Lines.{Readers, AreReaders}
 use Rattle.link_world.specs.declared.faults.WorldFault.{WorldFault}
 use Rattle.link_world.specs.declared.faults.WorldFault.TheVariants as fault
 
@@ -13,7 +12,3 @@ HappensIf result can =
 -- it happens where it can, and is refused where it cannot; it takes no memory
 abbrev pub HappensIff : Result (Unit {0}) WorldFault → Bool → Type 0
 HappensIff result can = OnOk result (can ≡ true) × OnErr result (can ≡ false) × IfErr result (λ f. f ≡ fault.NotNow)
-
--- it does all that is said of all readers, or answers an error and changes nothing
-abbrev pub LeadsRead : {A E S : Type 0} → Result A E → S → S → (Readers → S) → Type 0
-LeadsRead result old new then = OnOk result ((readers : Readers) → AreReaders readers → new ≡ then readers) × OnErr result (new ≡ old)

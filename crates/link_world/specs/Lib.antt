@@ -1,4 +1,3 @@
-pub mod Wires
 pub mod Links
 pub mod Events
 pub mod Claims

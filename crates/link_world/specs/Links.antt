@@ -7,6 +7,7 @@ use Rattle.protocol_model.specs.Lines.{Readers, AreReaders}
 use Rattle.protocol_model.specs.Ends.{ClientEnd, ServerEnd}
 use Rattle.protocol_model.specs.World.{World, Link, start, run_of}
 use Rattle.protocol_model.specs.declared.events.Event.{Event}
+use Rattle.client_core.specs.Clients.{window_most}
 use Rattle.server_core.specs.Serving.{Serving}
 use Rattle.link_world.specs.declared.connection.Connection.{Connection}
 
@@ -74,6 +75,6 @@ pub record IsReached (l : Linked) : Type 0 where
   pub program : Meaning
   pub is_program : IsProgram program
   pub window : ℕ
-  pub few : window ≤ 16
+  pub few : window ≤ window_most
   pub events : List Event
   pub reached : l.world ≡ run_of readers events (start program l.setup.tools window)

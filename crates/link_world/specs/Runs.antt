@@ -12,12 +12,12 @@ pub data Answer : Type 0 where
   Wanting : Answer
 
 -- each event of a list has its answer, and they lead from one world to another; only what happened changes anything
-abbrev pub Leads : Readers → World → List Event → List Answer → World → Type 0
-Leads readers w [] [] v = v ≡ w
-Leads readers w (e ∷ es) (Happened ∷ xs) v = (can e w ≡ true) × Leads readers (happens readers e w) es xs v
-Leads readers w (e ∷ es) (Refused ∷ xs) v = (can e w ≡ false) × Leads readers w es xs v
-Leads readers w (e ∷ es) (Wanting ∷ xs) v = (takes_memory e ≡ true) × (can e w ≡ true) × Leads readers w es xs v
-Leads readers w _ _ v = ⊥
+abbrev pub Follows : Readers → World → List Event → List Answer → World → Type 0
+Follows readers w [] [] v = v ≡ w
+Follows readers w (e ∷ es) (Happened ∷ xs) v = (can e w ≡ true) × Follows readers (happens readers e w) es xs v
+Follows readers w (e ∷ es) (Refused ∷ xs) v = (can e w ≡ false) × Follows readers w es xs v
+Follows readers w (e ∷ es) (Wanting ∷ xs) v = (takes_memory e ≡ true) × (can e w ≡ true) × Follows readers w es xs v
+Follows readers w _ _ v = ⊥
 
 -- how many events happened
 abbrev pub happened : List Answer → ℕ
@@ -43,7 +43,7 @@ wanting (Wanting ∷ xs) = suc (wanting xs)
 -- a list of events led from one world to another; so many of them happened, could not happen, and wanted memory
 pub record HasRun (readers : Readers) (w : World) (events : List Event) (v : World) (done not_now memory : ℕ) : Type 0 where
   pub answers : List Answer
-  pub leads : Leads readers w events answers v
+  pub leads : Follows readers w events answers v
   pub done_are : happened answers ≡ done
   pub not_now_are : refused answers ≡ not_now
   pub memory_are : wanting answers ≡ memory

@@ -2,12 +2,14 @@
 
 ghost use Rattle.std.specs.Prelude.{◌≡◌, ◌++◌, [], nat_le, ◌&&◌, true, false, is_some, take, drop};
 ghost use Rattle.fixed_um.specs.Calls.{Leads, Writes};
+ghost use Rattle.contact_ledger.specs.Ledgers.{connection_most};
 ghost use Rattle.protocol_model.specs.Client.{due, is_apart, may_abort};
 ghost use Rattle.protocol_model.specs.Ends.{end_sent, end_aborted, end_fed, end_read, end_resumed, end_left, end_restarted};
 ghost use Rattle.protocol_model.specs.World.{can, has_some, connected, client_writes, moved_down};
 ghost use Rattle.protocol_model.specs.declared.events.Event.TheVariants as event;
 ghost use Rattle.client_core.specs.Clients.{is_faulted, may_read};
-ghost use Rattle.link_world.specs.Events.{HappensIf, HappensIff, LeadsRead};
+ghost use Rattle.client_core.specs.Reads.{LeadsRead};
+ghost use Rattle.link_world.specs.Events.{HappensIf, HappensIff};
 ghost use Rattle.link_world.specs.Links.{link_of_connection, with_up, fewer_down, quiet_client, with_world};
 
 use crate::connection::Connection;
@@ -97,7 +99,7 @@ fn bring_down(
 
 /// Whether a client in this state may make the connection of this number.
 fn may_connect(state: State, number: u64) -> bool
-    ensures { result ≡ (is_apart state && nat_le number 4000000000) }
+    ensures { result ≡ (is_apart state && nat_le number connection_most) }
 {
     matches!(state, State::Apart) && number <= 4_000_000_000
 }

@@ -1,20 +1,21 @@
 // The bytes of one connection, and what joins them: what a side writes joins them in the same event. Room is made first, so that nothing
 // changes where memory is wanting.
 
-ghost use Rattle.std.specs.Prelude.{◌≡◌, ◌≤◌, ◌+◌, ◌++◌, [], length, vec_len, vec_capacity, OnOk, OnErr};
+ghost use Rattle.std.specs.Prelude.{◌≡◌, ◌≤◌, ◌++◌, [], length, OnOk};
+ghost use Rattle.fixed_um.specs.Calls.{HasRoom};
 ghost use Rattle.server_core.specs.Serving.{Serving, with_end};
-ghost use Rattle.link_world.specs.Links.{link_of_connection, quiet_client, quiet_server};
+ghost use Rattle.link_world.specs.Links.{link_of_connection, with_up, with_down, quiet_client, quiet_server};
 
-use crate::pipe::Pipe;
 use client_core::{Client, LINE_MAX};
+use line_framing::ByteQueue;
 use server_core::{ANSWER_MAX, Server};
 use std::alloc::{AllocError, Global};
 
 /// The bytes of one connection: up to the server, and down to the client.
 #[derive(Drop)]
 pub(crate) struct Connection {
-    pub(crate) up: Pipe,
-    pub(crate) down: Pipe,
+    pub(crate) up: ByteQueue,
+    pub(crate) down: ByteQueue,
 }
 
 impl Connection {
@@ -24,8 +25,8 @@ impl Connection {
         ensures down { result.down.waiting ≡ [] }
     {
         Connection {
-            up: Pipe::new(alloc),
-            down: Pipe::new(alloc),
+            up: ByteQueue::new(alloc),
+            down: ByteQueue::new(alloc),
         }
     }
 
@@ -33,8 +34,8 @@ impl Connection {
     pub(crate) fn reserve_up(&mut self, written: &mut Vec<u8>) -> Result<(), AllocError>
         ensures link { link_of_connection self.new ≡ link_of_connection self.old }
         ensures written { written.new.items ≡ written.old.items }
-        ensures room { OnOk result (202 ≤ self.new.up.room) }
-        ensures room_written { OnOk result (vec_len written.new + 202 ≤ vec_capacity written.new) }
+        ensures room { OnOk result (LINE_MAX ≤ self.new.up.room) }
+        ensures room_written { OnOk result (HasRoom written.new LINE_MAX) }
     {
         self.up.reserve(LINE_MAX)?;
         written.reserve(LINE_MAX)
@@ -43,11 +44,9 @@ impl Connection {
     /// What the client wrote joins the bytes up.
     pub(crate) fn join_up(&mut self, client: &mut Client, written: &mut Vec<u8>)
         requires room { length client.old.out ≤ self.old.up.room }
-        requires room_written { vec_len written.old + length client.old.out
-            ≤ vec_capacity written.old }
+        requires room_written { HasRoom written.old (length client.old.out) }
         ensures client { client.new ≡ quiet_client client.old }
-        ensures up { self.new.up.waiting ≡ self.old.up.waiting ++ client.old.out }
-        ensures down { self.new.down.waiting ≡ self.old.down.waiting }
+        ensures link { link_of_connection self.new ≡ with_up self.old client.old.out }
         ensures written { written.new.items ≡ written.old.items ++ client.old.out }
     {
         self.up.append(client.out());
@@ -59,7 +58,7 @@ impl Connection {
     /// Makes room for what the server answers in one call. Only want of memory is an `Err`.
     pub(crate) fn reserve_down(&mut self) -> Result<(), AllocError>
         ensures link { link_of_connection self.new ≡ link_of_connection self.old }
-        ensures room { OnOk result (10560 ≤ self.new.down.room) }
+        ensures room { OnOk result (ANSWER_MAX ≤ self.new.down.room) }
     {
         self.down.reserve(ANSWER_MAX)
     }
@@ -68,8 +67,7 @@ impl Connection {
     pub(crate) fn join_down(&mut self, server: &mut Server)
         requires room { length server.old.end.out ≤ self.old.down.room }
         ensures server { server.new ≡ with_end server.old (quiet_server server.old.end) }
-        ensures up { self.new.up.waiting ≡ self.old.up.waiting }
-        ensures down { self.new.down.waiting ≡ self.old.down.waiting ++ server.old.end.out }
+        ensures link { link_of_connection self.new ≡ with_down self.old server.old.end.out }
     {
         self.down.append(server.out());
         let count = server.out().len();

@@ -3,14 +3,13 @@
 //!
 //! - `world`: `World`, its events one by one and in lists
 //! - `client_events`, `server_events`: what each event does
-//! - `connection`, `pipe`: the bytes of a connection, both ways
+//! - `connection`: the bytes of a connection, both ways
 //! - `faults`: why an event is refused
 #![tactic(auto)]
 
 mod client_events;
 mod connection;
 mod faults;
-mod pipe;
 mod server_events;
 mod world;
 

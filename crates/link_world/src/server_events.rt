@@ -9,7 +9,8 @@ ghost use Rattle.protocol_model.specs.Ends.{serving_accepted, serving_fed, servi
 ghost use Rattle.protocol_model.specs.World.{can, is_line, has_some, server_writes, moved_up};
 ghost use Rattle.protocol_model.specs.declared.events.Event.TheVariants as event;
 ghost use Rattle.server_core.specs.Serving.{with_end, may_turn};
-ghost use Rattle.link_world.specs.Events.{HappensIf, HappensIff, LeadsRead};
+ghost use Rattle.client_core.specs.Reads.{LeadsRead};
+ghost use Rattle.link_world.specs.Events.{HappensIf, HappensIff};
 ghost use Rattle.link_world.specs.Links.{StandsOn, link_of_connection, with_down, fewer_up, quiet_server, with_world};
 
 use crate::connection::Connection;

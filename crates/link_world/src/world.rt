@@ -6,10 +6,12 @@ ghost use Rattle.protocol_model.specs.Lines.{Readers, AreReaders};
 ghost use Rattle.protocol_model.specs.Server.{running_job};
 ghost use Rattle.protocol_model.specs.World.{start, can, happens, run_of};
 ghost use Rattle.protocol_model.specs.Undisturbed.{AreUndisturbed, AreFirstLines, acts_planned, AreFirstActs, acts_in, AreFirstOf};
-ghost use Rattle.link_world.specs.Events.{HappensIf, LeadsRead};
+ghost use Rattle.client_core.specs.Reads.{LeadsRead};
+ghost use Rattle.link_world.specs.Events.{HappensIf};
+ghost use Rattle.client_core.specs.Clients.{is_window};
 ghost use Rattle.link_world.specs.Links.{with_world};
 ghost use Rattle.link_world.specs.Runs.{HasRun};
-ghost use Rattle.link_world.specs.Claims.{IsSound, IsTold, DoNotDisagree, IsNew, first_plan, is_window, HandsBack, IsWant, takes_memory, reads};
+ghost use Rattle.link_world.specs.Claims.{IsSound, IsTold, DoNotDisagree, IsNew, first_plan, HandsBack, IsWant, takes_memory, reads};
 
 use crate::connection::Connection;
 use crate::faults::{NewFault, WorldFault};

@@ -204,7 +204,8 @@ writes_carried b h s on stays plain inv = record {
       down = (client_link b).down;
     })
 
-due_on : (w : Lined) → Inv w → is_some (due w.client) ≡ true → w.client.on ≡ true
+-- a client for which a command is due, or that may abort, is on a connection
+pub due_on : (w : Lined) → Inv w → is_some (due w.client) ≡ true → w.client.on ≡ true
 due_on w inv can = go inv.side
   where
     d : IsDue w.client
@@ -214,7 +215,7 @@ due_on w inv can = go inv.side
     go (inl off) = absurd (subst IsAtRest d.running off.rest)
     go (inr live) = live.on
 
-abort_on : (w : Lined) → Inv w → may_abort w.client.state ≡ true → w.client.on ≡ true
+pub abort_on : (w : Lined) → Inv w → may_abort w.client.state ≡ true → w.client.on ≡ true
 abort_on w inv can = go inv.side
   where
     go : IsOff w ⊎ IsLive w → w.client.on ≡ true

@@ -1,4 +1,5 @@
 use Rattle.std.proofs.Common.{◌≡◌, ◌≤◌, true, false, subst, is_some, None}
+use Rattle.contact_ledger.specs.Ledgers.{connection_most}
 use Rattle.protocol_model.specs.Open.{count_open}
 use Rattle.protocol_model.specs.Ends.{ClientEnd}
 use Rattle.client_core.specs.Clients.{are_ours, is_faulted}
@@ -28,7 +29,7 @@ returns-clause-open c = subst (λ (e : ClientEnd). count_open e.client.table.sta
     (open_within _ c.self.invariant)
 
 pub returns-clause-last : goal.returns-clause-last
-returns-clause-last c = subst (λ (e : ClientEnd). e.client.last ≤ 4000000000) c.self.view_is (last_within _ c.self.invariant)
+returns-clause-last c = subst (λ (e : ClientEnd). e.client.last ≤ connection_most) c.self.view_is (last_within _ c.self.invariant)
 
 pub returns-clause-ours : goal.returns-clause-ours
 returns-clause-ours c = subst (λ (e : ClientEnd). are_ours e.client.program.features e.client.table.tally.features ≡ true) c.self.view_is

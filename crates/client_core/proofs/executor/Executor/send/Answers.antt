@@ -40,8 +40,8 @@ returns-in-Ok-clause-text c =
       tt,
     )
 
-pub returns-in-Err : goal.returns-in-Err
-returns-in-Err c =
+pub returns-in-Err-TagsSpent : goal.returns-in-Err-TagsSpent
+returns-in-Err-TagsSpent c =
     let within : c.self.inside.sent < length c.self.inside.progress.plan.items = search rules in
     let is : c.in-Some.planned.now ≡ slice_index_or c.self.inside.progress.plan.items c.self.inside.sent c.in-Some.planned.now =
     search rules in

@@ -32,8 +32,8 @@ returns-in-Ok-clause-text c =
       tt,
     )
 
-pub returns-in-Err : goal.returns-in-Err
-returns-in-Err c =
+pub returns-in-Err-TagsSpent : goal.returns-in-Err-TagsSpent
+returns-in-Err-TagsSpent c =
     let none : next_tag c.self.inside.commands kind.AbortE ≡ None = search rules in
     let whole = aborted_none c.self.inside.program c.self.inside.window c.self.inside.on c.self.inside.state
     c.self.inside.cause c.self.inside.commands c.self.inside.progress c.self.inside.sent c.self.inside.abort none in

@@ -29,7 +29,8 @@ invariant_of-self-2 c = (writes event.Abort end_aborted c.args.self.now c.self.i
     c.abort.ensures.client c.abort.ensures.link c.abort.ensures.written).reached
 
 pub returns-clause-world : goal.returns-clause-world
-returns-clause-world c = for_none _ _ _ _ (writes event.Abort end_aborted c.args.self.now c.self.inside c.abort.new.client c.abort.new.written.items
+returns-clause-world c = for_none _ _ _ _ (writes event.Abort end_aborted c.args.self.now c.self.inside c.abort.new.client
+    c.abort.new.written.items
     (vec_len c.self.inside.connections - 1) c.in-Some.connection.now c.abort.new.connection c.abort.result c.self.view_is
     c.self.invariant (λ readers x. refl) (search rules) (search rules) (search rules) (search rules)
     c.abort.ensures.client c.abort.ensures.link c.abort.ensures.written).leads

@@ -29,7 +29,8 @@ invariant_of-self-2 c = (writes event.ClientSends end_sent c.args.self.now c.sel
     c.send.ensures.client c.send.ensures.link c.send.ensures.written).reached
 
 pub returns-clause-world : goal.returns-clause-world
-returns-clause-world c = for_none _ _ _ _ (writes event.ClientSends end_sent c.args.self.now c.self.inside c.send.new.client c.send.new.written.items
+returns-clause-world c = for_none _ _ _ _ (writes event.ClientSends end_sent c.args.self.now c.self.inside c.send.new.client
+    c.send.new.written.items
     (vec_len c.self.inside.connections - 1) c.in-Some.connection.now c.send.new.connection c.send.result c.self.view_is
     c.self.invariant (λ readers x. refl) (search rules) (search rules) (search rules) (search rules)
     c.send.ensures.client c.send.ensures.link c.send.ensures.written).leads

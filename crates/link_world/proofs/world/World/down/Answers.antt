@@ -16,7 +16,8 @@ returns-clause-can c = down_can c.args.count c.args.self.now c.self.inside (vec_
     c.bring_down.ensures.can
 
 pub invariant_of-self-2 : goal.invariant_of-self-2
-invariant_of-self-2 c = (comes_down c.args.count c.args.self.now c.self.inside c.bring_down.new.client (vec_len c.self.inside.connections - 1)
+invariant_of-self-2 c = (comes_down c.args.count c.args.self.now c.self.inside c.bring_down.new.client
+    (vec_len c.self.inside.connections - 1)
     c.in-Some.connection.now c.bring_down.new.connection c.bring_down.result c.self.view_is c.self.invariant
     (down_can c.args.count c.args.self.now c.self.inside (vec_len c.self.inside.connections - 1) c.in-Some.connection.now
     c.bring_down.result c.self.view_is c.self.invariant (search rules) (search rules) (search rules) (search rules)
@@ -24,7 +25,8 @@ invariant_of-self-2 c = (comes_down c.args.count c.args.self.now c.self.inside c
     (search rules) (search rules) (search rules) c.bring_down.ensures.client c.bring_down.ensures.link).reached
 
 pub returns-clause-world : goal.returns-clause-world
-returns-clause-world c = for_none _ _ _ _ (comes_down c.args.count c.args.self.now c.self.inside c.bring_down.new.client (vec_len c.self.inside.connections - 1)
+returns-clause-world c = for_none _ _ _ _ (comes_down c.args.count c.args.self.now c.self.inside c.bring_down.new.client
+    (vec_len c.self.inside.connections - 1)
     c.in-Some.connection.now c.bring_down.new.connection c.bring_down.result c.self.view_is c.self.invariant
     (down_can c.args.count c.args.self.now c.self.inside (vec_len c.self.inside.connections - 1) c.in-Some.connection.now
     c.bring_down.result c.self.view_is c.self.invariant (search rules) (search rules) (search rules) (search rules)

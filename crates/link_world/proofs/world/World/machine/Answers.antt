@@ -26,7 +26,8 @@ invariant_of-self c = (answers (event.Machine c.args.outcome) (λ readers. servi
     (for_readers _ _ _ _ c.end_job.ensures.server) (for_readers _ _ _ _ c.end_job.ensures.link)).reached
 
 pub returns-clause-world : goal.returns-clause-world
-returns-clause-world c = for_none _ _ _ _ (answers (event.Machine c.args.outcome) (λ readers. serving_machined c.args.outcome) c.args.self.now c.self.inside
+returns-clause-world c = for_none _ _ _ _ (answers (event.Machine c.args.outcome) (λ readers. serving_machined c.args.outcome)
+    c.args.self.now c.self.inside
     c.end_job.new.server c.in-Some.at c.index_mut.result.now c.end_job.new.connection c.end_job.result c.self.view_is c.self.invariant
     (λ readers x. refl) (search rules) (search rules) (search rules) (search rules)
     (for_readers _ _ _ _ c.end_job.ensures.server) (for_readers _ _ _ _ c.end_job.ensures.link)).leads

@@ -10,7 +10,8 @@ pub bring_up-requires-clause-fine : goal.bring_up-requires-clause-fine
 bring_up-requires-clause-fine c = (agree (inner c.self.inside) c.self.invariant).server
 
 pub returns-clause-can : goal.returns-clause-can
-returns-clause-can c = up_can c.args.count c.args.self.now c.self.inside c.in-Some.at c.index_mut.result.now c.bring_up.result c.self.view_is
+returns-clause-can c = up_can c.args.count c.args.self.now c.self.inside c.in-Some.at c.index_mut.result.now c.bring_up.result
+    c.self.view_is
     c.self.invariant (search rules) (search rules) (search rules) (search rules) c.bring_up.ensures.can
 
 pub invariant_of-self : goal.invariant_of-self
@@ -21,7 +22,8 @@ invariant_of-self c = (comes_up c.args.count c.args.self.now c.self.inside c.bri
     (search rules) (search rules) (search rules) c.bring_up.ensures.server c.bring_up.ensures.link).reached
 
 pub returns-clause-world : goal.returns-clause-world
-returns-clause-world c = for_none _ _ _ _ (comes_up c.args.count c.args.self.now c.self.inside c.bring_up.new.server c.in-Some.at c.index_mut.result.now
+returns-clause-world c = for_none _ _ _ _ (comes_up c.args.count c.args.self.now c.self.inside c.bring_up.new.server c.in-Some.at
+    c.index_mut.result.now
     c.bring_up.new.connection c.bring_up.result c.self.view_is c.self.invariant
     (up_can c.args.count c.args.self.now c.self.inside c.in-Some.at c.index_mut.result.now c.bring_up.result c.self.view_is
     c.self.invariant (search rules) (search rules) (search rules) (search rules) c.bring_up.ensures.can)
