@@ -1,4 +1,4 @@
-//! Byte ports: where bytes come in and go out, and no more than that.
+//! Byte ports (this profile): where bytes come in and go out, and no more.
 //!
 //! A `Source` gives bytes, a `Sink` takes them, and either may fail, once and
 //! for good. Contracts see of a port whether it has failed and, where it

@@ -11,7 +11,7 @@ use std::marker::Model;
 /// own, for tests and for programs that simulate a slow device.
 ///
 /// It tells its bytes. It can be made to fail at a set push; it fails too
-/// where its memory has to grow and can't.
+/// where a growth of its memory is refused.
 #[derive(Drop)]
 pub struct Takes {
     taken: Vec<u8>,

@@ -1,4 +1,5 @@
-//! The program `dme`: DMIS inspection programs (ISO 22093) over the I++ DME Interface version 1.
+//! The program `dme`: DMIS inspection programs (ISO 22093) over the I++ DME Interface version 1. Its command line and what it prints
+//! are this profile's.
 //!
 //! - `words`: the command line
 //! - `orders`: an order as a whole, over ports; `files`: the files of an order as ports

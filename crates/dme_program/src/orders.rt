@@ -19,7 +19,7 @@ pub enum OrderFault {
     Setup(SetupFault),
     /// The setup's source has failed, or a million pulls have not come to the end of its text.
     SetupRead,
-    /// The program is not printed, under the setup's frames; or memory was wanting.
+    /// The program is not printed, under the setup's frames; or a growth was refused.
     Check(CheckFault),
 }
 

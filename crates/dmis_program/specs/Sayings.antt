@@ -29,7 +29,7 @@ abbrev pub begins_block : List (List ℕ) → Result Said Refusal
 begins_block (kind ∷ (feature ∷ (count ∷ []))) = begun (is_letters kind) (name_within (codes "F(") feature) (count_of count)
 begins_block _ = Err BadArguments
 
--- `x,y,z` and `x,y,z,i,j,k`: a touch at a target, from a direction
+-- `x,y,z` and `x,y,z,i,j,k`: a touch at a target, with a direction
 abbrev pub touches_at : List (List ℕ) → Result Said Refusal
 touches_at (x ∷ (y ∷ (z ∷ []))) = position_of x y z >>= λ target. Ok (Touches target None)
 touches_at (x ∷ (y ∷ (z ∷ (i ∷ (j ∷ (k ∷ [])))))) = position_of x y z >>= λ target.

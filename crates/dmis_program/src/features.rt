@@ -9,7 +9,7 @@ use std::marker::Model;
 pub struct Touch {
     /// Where to touch, in the axes of the frame, within the machine's volume.
     pub target: Point,
-    /// The direction, where the program gives one: the outward normal.
+    /// The direction, where the program gives one: the outward normal of the surface at the target, against which the probe comes.
     pub dir: Option<Dir>,
     /// The tool of the last `SNSLCT` above.
     pub tool: Name,

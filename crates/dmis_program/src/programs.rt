@@ -96,7 +96,7 @@ impl Program {
         self.features.as_slice()
     }
 
-    /// The steps in the order of their statements. Takes no memory.
+    /// The steps, which are what the statements command, in their order; a statement that commands nothing leaves none. Takes no memory.
     pub fn statements(&self) -> &[Step]
         ensures steps { result.now ≡ self.now.steps }
         ensures program { IsProgram self.now }

@@ -17,7 +17,7 @@ pub(crate) enum Said {
     Goes(Point),
     /// A block begins for a feature, which asks for so many touches.
     Begins(Name, u64),
-    /// A touch at a target, from a direction or none.
+    /// A touch at a target, with a direction or none.
     Touches(Point, Option<Dir>),
     /// The block ends.
     Ends,

@@ -1,7 +1,7 @@
 use crate::features::Touch;
 use fixed_um::{Name, Point};
 
-/// What a statement commands. Statements that command nothing leave no step.
+/// What a statement commands (ISO 22093). Statements that command nothing leave no step.
 #[derive(Debug, Drop)]
 pub enum Step {
     /// A move to a position in the axes of the selected frame (`GOTO`).

@@ -1,4 +1,4 @@
-// The lines of a text, one line at a time.
+// The lines of a text, one line at a time (this profile).
 
 ghost use Rattle.std.specs.Prelude.{◌≡◌, ◌∷◌, [], ◌<◌, ◌==◌, length, MatchOption, IfSome};
 ghost use Rattle.std.specs.List.{position};
