@@ -128,7 +128,8 @@ measured_joins : (p : Meaning) (does : Does) (given : Option Point) (y : Tally) 
     → length (measured p.features does given y).features ≡ length y.features + cond (is_last does) 1 0
 measured_joins p (Does.Touches t false) (Some q) y rest has h = omega (arith)
 measured_joins p (Does.Touches t true) (Some q) y rest has h = let more =
-    joined_more p.features y.features (length y.points) (y.points ++ q ∷ []) (origin_of y.connection t.frame) (ends_of rest) h in omega (arith, more)
+    joined_more p.features y.features (length y.points) (y.points ++ q ∷ []) (origin_of y.connection t.frame) (ends_of rest) h in
+    omega (arith, more)
 measured_joins p (Does.Touches t last) None y rest has h = absurd (has refl refl)
 measured_joins p Does.Nothing given y rest has h = omega (arith)
 measured_joins p Does.Homes given y rest has h = omega (arith)
