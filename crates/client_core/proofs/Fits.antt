@@ -12,6 +12,7 @@ use Rattle.dmis_program.specs.declared.features.Touch.{Touch}
 use Rattle.dmis_program.specs.declared.features.Wanted.{Wanted}
 use Rattle.protocol_model.specs.Client.{joined}
 use Rattle.protocol_model.specs.PlanReading.{touch_ends, feature_ends}
+use Rattle.client_core.specs.Calls.{origins_of}
 use Rattle.client_core.specs.Clients.{is_ours, are_ours}
 
 -- of the touches of a feature so many are left behind the next one, which then is the last or not
@@ -103,6 +104,18 @@ joined_more [] [] points all origin rest h = absurd (no h)
 joined_more (w ∷ ws) [] points all origin rest h = refl
 joined_more [] (f ∷ fs) points all origin rest h = absurd h
 joined_more (w ∷ ws) (f ∷ fs) points all origin rest h = ap suc (joined_more ws fs points all origin rest h.1)
+
+-- with its origin
+pub joined_origin : (ws : List Wanted) (fs : List Feature) (points : ℕ) (all : List Point) (origin : Option Origin) (rest : List Bool)
+    → Fits ws fs points (true ∷ rest) → origins_of (joined ws fs all origin) ≡ origins_of fs ++ origin ∷ []
+joined_origin [] [] points all origin rest h = absurd (no h)
+  where
+    no : true ∷ rest ≡ [] → ⊥
+    no e = cc
+joined_origin (w ∷ ws) [] points all origin rest h = refl
+joined_origin [] (f ∷ fs) points all origin rest h = absurd h
+joined_origin (w ∷ ws) (f ∷ fs) points all origin rest h =
+    ap (λ (l : List (Option Origin)). f.origin ∷ l) (joined_origin ws fs points all origin rest h.1)
 
 -- the last point of a feature
 same_bytes : (xs : List ℕ) → bytes_eq xs xs ≡ true

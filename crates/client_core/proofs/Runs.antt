@@ -1,7 +1,7 @@
 -- What a client holds and counts behind every list of calls.
 use Rattle.std.proofs.Common.{◌≡◌, ℕ, suc, ◌+◌, ◌≤◌, Bool, true, false, cond, ◌||◌, not, is_some, if◌then◌else◌, List, [], ◌∷◌, ◌++◌}
 use Rattle.std.proofs.Common.{length, take, refl, sym, ◌∙◌, ap, subst, arith, append_assoc, append-nil, length-append, Option, Some, None}
-use Rattle.std.proofs.Common.{Result, Ok, Err, eqb, eqb-true, le_refl}
+use Rattle.std.proofs.Common.{Result, Ok, Err, eqb, eqb-true, le_refl, zero, drop}
 use Rattle.std.proofs.Math.Seq.{take-append_seam}
 use Rattle.std.proofs.lemmas.Bool.{false≢true}
 use Rattle.fixed_um.specs.declared.lengths.Point.{Point}
@@ -17,6 +17,7 @@ use Rattle.dme_line.specs.declared.responses.NotResponse.{NotResponse}
 use Rattle.line_framing.specs.Next.{Front, next_of}
 use Rattle.line_framing.specs.declared.faults.FramingFault.TheVariants as framing
 use Rattle.contact_ledger.specs.declared.acts.Act.{Act}
+use Rattle.contact_ledger.specs.declared.features.Origin.{Origin}
 use Rattle.contact_ledger.specs.declared.features.Feature.{Feature}
 use Rattle.dmis_program.specs.Meaning.{Meaning}
 use Rattle.dmis_program.specs.Programs.{IsProgram}
@@ -52,9 +53,10 @@ use Rattle.protocol_model.proofs.undisturbed_run.Following.{planned_more, kinds_
 use Rattle.client_core.specs.Calls.{Call, Connected, Send, Feed, ReadOne, Abort, Resume, Leave, Restart, Sent, possible, done_by}
 use Rattle.client_core.specs.Calls.{behind_call, behind_calls, Begun, start_behind, acts_of_fronts, Plans, first_plan, plans_by}
 use Rattle.client_core.specs.Calls.{plans_behind, client_behind, plans_begun, is_last, features_ended, AreCounted, next_kind, kind_counted}
-use Rattle.client_core.specs.Calls.{counted_by}
+use Rattle.client_core.specs.Calls.{counted_by, origins_of, origin_ended, origins_ended}
 use Rattle.client_core.specs.Clients.{are_ours, may_read}
 use Rattle.client_core.proofs.Fits.{Fits, both, fits_ours, plan_fits_features, joined_more, point_fits, last_fits, fewer_are_ours}
+use Rattle.client_core.proofs.Fits.{joined_origin}
 use Rattle.client_core.proofs.Fronts.{live_kinds, Fronted, fronted, none_live, live_more}
 
 -- ---- what holds on a connection
@@ -67,6 +69,7 @@ pub record IsOnPlan (p : Meaning) (hs : List Held) (y : Tally) (unsent : List Pl
   pub acts : AreActs y.counted (acts_of_fronts p earlier ++ acts_planned finished)
   pub fits : Fits p.features y.features (length y.points) (ends_of y.todo)
   pub joined : length y.features ≡ features + features_ended finished
+  pub origins : drop features (origins_of y.features) ≡ origins_ended y.connection finished
   pub calm : y.failed ≡ false → live_kinds hs ++ kinds_of unsent ≡ kinds_of y.todo
 
 plan_asked : (p : Meaning) (k : ℕ) (start : Start) → IsProgram p → AreAsked (plan p k start)
@@ -125,13 +128,74 @@ measured_joins : (p : Meaning) (does : Does) (given : Option Point) (y : Tally) 
     → length (measured p.features does given y).features ≡ length y.features + cond (is_last does) 1 0
 measured_joins p (Does.Touches t false) (Some q) y rest has h = omega (arith)
 measured_joins p (Does.Touches t true) (Some q) y rest has h = let more =
-    joined_more p.features y.features (length y.points) (y.points ++ q ∷ []) (origin_of y.connection t.frame) (ends_of rest) h in omega (arith, more)
+    joined_more p.features y.features (length y.points) (y.points ++ q ∷ []) (origin_of y.connection t.frame) (ends_of rest) h in
+    omega (arith, more)
 measured_joins p (Does.Touches t last) None y rest has h = absurd (has refl refl)
 measured_joins p Does.Nothing given y rest has h = omega (arith)
 measured_joins p Does.Homes given y rest has h = omega (arith)
 measured_joins p (Does.Moves q f) given y rest has h = omega (arith)
 measured_joins p (Does.Changes n) given y rest has h = omega (arith)
 measured_joins p (Does.Frames f) given y rest has h = omega (arith)
+
+-- ---- where features come from
+
+origins_long : (fs : List Feature) → length (origins_of fs) ≡ length fs
+origins_long [] = refl
+origins_long (f ∷ fs) = ap suc (origins_long fs)
+
+none_behind : (fs : List Feature) → drop (length fs) (origins_of fs) ≡ []
+none_behind [] = refl
+none_behind (f ∷ fs) = none_behind fs
+
+drop_within : (k : ℕ) (xs ys : List (Option Origin)) → k ≤ length xs → drop k (xs ++ ys) ≡ drop k xs ++ ys
+drop_within zero xs ys le = refl
+drop_within (suc k) [] ys le = absurd (omega (arith, le))
+drop_within (suc k) (x ∷ xs) ys le = drop_within k xs ys (omega (arith, le))
+
+origins_more : (n : ℕ) (ps : List Planned) (q : Planned) → origins_ended n (ps ++ q ∷ []) ≡ origins_ended n ps ++ origin_ended n q.does
+origins_more n [] q = append-nil (origin_ended n q.does)
+origins_more n (p ∷ ps) q = ap (λ (l : List (Option Origin)). origin_ended n p.does ++ l) (origins_more n ps q)
+    ∙ sym (append_assoc (origin_ended n p.does) (origins_ended n ps) (origin_ended n q.does))
+
+measured_number : (ws : List Wanted) (does : Does) (given : Option Point) (y : Tally)
+    → (measured ws does given y).connection ≡ y.connection
+measured_number ws (Does.Touches t false) (Some p) y = refl
+measured_number ws (Does.Touches t true) (Some p) y = refl
+measured_number ws (Does.Touches t last) None y = refl
+measured_number ws Does.Nothing given y = refl
+measured_number ws Does.Homes given y = refl
+measured_number ws (Does.Moves p f) given y = refl
+measured_number ws (Does.Changes n) given y = refl
+measured_number ws (Does.Frames f) given y = refl
+
+measured_origins : (p : Meaning) (does : Does) (given : Option Point) (y : Tally) (rest : List Planned)
+    → (given ≡ None → is_touch does ≡ true → ⊥)
+    → Fits p.features y.features (length y.points) (end_of does ++ ends_of rest)
+    → origins_of (measured p.features does given y).features ≡ origins_of y.features ++ origin_ended y.connection does
+measured_origins p (Does.Touches t false) (Some q) y rest has h = sym (append-nil (origins_of y.features))
+measured_origins p (Does.Touches t true) (Some q) y rest has h =
+    joined_origin p.features y.features (length y.points) (y.points ++ q ∷ []) (origin_of y.connection t.frame) (ends_of rest) h
+measured_origins p (Does.Touches t last) None y rest has h = absurd (has refl refl)
+measured_origins p Does.Nothing given y rest has h = sym (append-nil (origins_of y.features))
+measured_origins p Does.Homes given y rest has h = sym (append-nil (origins_of y.features))
+measured_origins p (Does.Moves q f) given y rest has h = sym (append-nil (origins_of y.features))
+measured_origins p (Does.Changes n) given y rest has h = sym (append-nil (origins_of y.features))
+measured_origins p (Does.Frames f) given y rest has h = sym (append-nil (origins_of y.features))
+
+counted_number : (ws : List Wanted) (kind : Kind) (given : Option Point) (todo : List Planned) (y : Tally)
+    → (counted_next ws kind given todo y).connection ≡ y.connection
+counted_number ws kind given [] y = refl
+counted_number ws kind given (q ∷ todo) y = measured_number ws q.does given (record y {
+  session = y.session || begins_session kind;
+  todo = todo;
+  counted = y.counted ++ act_of q.does given;
+  completed = suc y.completed;
+})
+
+tallied_number : (ws : List Wanted) (e : Effect) (y : Tally) → (tallied ws e y).connection ≡ y.connection
+tallied_number ws Effect.Quiet y = refl
+tallied_number ws Effect.Failure y = refl
+tallied_number ws (Effect.Count kind given) y = counted_number ws kind given y.todo y
 
 joins_on : (b : Bool) (now before features ended longer : ℕ) → now ≡ before + cond b 1 0 → longer ≡ ended + cond b 1 0
     → before ≡ features + ended → now ≡ features + longer
@@ -143,13 +207,16 @@ counts_on : (p : Meaning) → IsProgram p → (y : Tally) (gs : List Held) (kind
     → finished ++ todo ≡ plan p features (start_behind earlier) → length finished ≡ y.completed
     → AreActs y.counted (acts_of_fronts p earlier ++ acts_planned finished)
     → Fits p.features y.features (length y.points) (ends_of todo) → length y.features ≡ features + features_ended finished
+    → drop features (origins_of y.features) ≡ origins_ended y.connection finished
     → kind ∷ (live_kinds gs ++ kinds_of unsent) ≡ kinds_of todo → (given ≡ None → asks_data kind ≡ false)
     → IsOnPlan p gs (counted_next p.features kind given todo y) unsent features earlier
-counts_on p program y gs kind given [] finished unsent features earlier parts many acts fits joined kinds given_one = absurd (no kinds)
+counts_on p program y gs kind given [] finished unsent features earlier parts many acts fits joined origins kinds
+    given_one = absurd (no kinds)
   where
     no : kind ∷ (live_kinds gs ++ kinds_of unsent) ≡ [] → ⊥
     no e = cc
-counts_on p program y gs kind given (q ∷ rest) finished unsent features earlier parts many acts fits joined kinds given_one =
+counts_on p program y gs kind given (q ∷ rest) finished unsent features earlier parts many acts fits joined origins kinds
+    given_one =
     let same : kind_of q.command ≡ kind = sym (ap (λ (l : List Kind). first_kind l kind) kinds) in
     let others : live_kinds gs ++ kinds_of unsent ≡ kinds_of rest = ap other_kinds kinds in
     let one : IsAsked q = asked_at finished q rest (subst AreAsked (sym parts) (plan_asked p features (start_behind earlier) program)) in
@@ -181,6 +248,12 @@ counts_on p program y gs kind given (q ∷ rest) finished unsent features earlie
           (measured_fits p program q.does given mid rest has fits);
       joined = joins_on (is_last q.does) _ (length y.features) features (features_ended finished) (features_ended (finished ++ q ∷ []))
           (measured_joins p q.does given mid rest has fits) (ended_more finished q) joined;
+      origins = ap (λ (l : List (Option Origin)). drop features l) (measured_origins p q.does given mid rest has fits)
+          ∙ (drop_within features (origins_of y.features) (origin_ended y.connection q.does)
+          (let long = origins_long y.features in omega (arith, long, joined))
+          ∙ (ap (λ (l : List (Option Origin)). l ++ origin_ended y.connection q.does) origins
+          ∙ (sym (origins_more y.connection finished q)
+          ∙ ap (λ (n : ℕ). origins_ended n (finished ++ q ∷ [])) (sym (measured_number p.features q.does given mid)))));
       calm = λ e. others ∙ ap kinds_of (sym keeps.todo);
     }
 
@@ -202,6 +275,7 @@ effect_on p program hs gs y unsent features earlier Effect.Quiet f h =
       acts = f.acts;
       fits = f.fits;
       joined = f.joined;
+      origins = f.origins;
       calm = λ still. ap (λ (l : List Kind). l ++ kinds_of unsent) h ∙ f.calm still;
     }
 effect_on p program hs gs y unsent features earlier Effect.Failure f h =
@@ -212,10 +286,12 @@ effect_on p program hs gs y unsent features earlier Effect.Failure f h =
       acts = f.acts;
       fits = f.fits;
       joined = f.joined;
+      origins = f.origins;
       calm = λ still. absurd (false≢true (sym still));
     }
 effect_on p program hs gs y unsent features earlier (Effect.Count kind given) f h =
     counts_on p program y gs kind given y.todo f.finished unsent features earlier f.parts f.many f.acts f.fits f.joined
+    f.origins
     (ap (λ (l : List Kind). l ++ kinds_of unsent) (sym h.1) ∙ f.calm (not_true y.failed h.0)) h.2
 
 abbrev OnPlan : Meaning → Table → List Planned → ℕ → List Begun → Type 0
@@ -224,6 +300,7 @@ OnPlan p b unsent features earlier = IsOnPlan p b.standard b.tally unsent featur
 record Heard (p : Meaning) (b c : Table) (unsent : List Planned) (features : ℕ) (earlier : List Begun) : Type 0 where
   plan_is : OnPlan p c unsent features earlier
   fewer : count_open c.standard ≤ count_open b.standard
+  number : c.tally.connection ≡ b.tally.connection
 
 heard_on_plan : (p : Meaning) → IsProgram p → (b c : Table) (t : Tag) (m : Mark) (unsent : List Planned) (features : ℕ)
     (earlier : List Begun) → heard p.features b t m ≡ fine c
@@ -231,15 +308,16 @@ heard_on_plan : (p : Meaning) → IsProgram p → (b c : Table) (t : Tag) (m : M
 heard_on_plan p program b c t m unsent features earlier is f =
     step_cases p.features b t m c (Heard p b c unsent features earlier) is
     (λ zero_tag same. subst (λ (x : Table). Heard p b x unsent features earlier) same
-    (record { plan_is = f; fewer = le_refl (count_open b.standard) }))
+    (record { plan_is = f; fewer = le_refl (count_open b.standard); number = refl }))
     (λ n hs e sort here after. subst (λ (x : Table). Heard p b x unsent features earlier) (sym after)
     (record {
       plan_is = effect_on p program b.standard hs b.tally unsent features earlier e f
           (fronted (not b.tally.failed) b.standard (tag.Std n) m hs e here);
       fewer = count_keeps (not b.tally.failed) b.standard (tag.Std n) m hs e here;
+      number = tallied_number p.features e b.tally;
     }))
     (λ n hs e sort other here after. subst (λ (x : Table). Heard p b x unsent features earlier) (sym after)
-    (record { plan_is = f; fewer = le_refl (count_open b.standard) }))
+    (record { plan_is = f; fewer = le_refl (count_open b.standard); number = refl }))
 
 -- ---- states
 
@@ -307,6 +385,7 @@ pub record Holds (p : Meaning) (c : Client) (plans : Plans) : Type 0 where
   pub live : c.on ≡ true → Reads c plans
   pub off : c.on ≡ false → IsOff c.state
   pub rests : Rests c.state c.table.standard
+  pub numbered : c.table.tally.connection ≡ c.last
 
 front_is : (p : Meaning) (y : Tally) (hs : List Held) (unsent : List Planned) (features : ℕ) (earlier : List Begun)
     → (f : IsOnPlan p hs y unsent features earlier)
@@ -324,8 +403,8 @@ counted_front p y hs unsent features earlier f =
 
 -- what holds on a connection holds
 read_holds : (p : Meaning) (plans : Plans) (c : Client) → IsProgram c.program → c.program ≡ p → c.on ≡ true → (r : Reads c plans)
-    → Rests c.state c.table.standard → Holds p c plans
-read_holds p plans c program same on r rests = record {
+    → Rests c.state c.table.standard → c.table.tally.connection ≡ c.last → Holds p c plans
+read_holds p plans c program same on r rests numbered = record {
   program = program;
   same = same;
   ours = fits_ours c.program.features c.table.tally.features (length c.table.tally.points) (ends_of c.table.tally.todo) r.fits;
@@ -333,10 +412,14 @@ read_holds p plans c program same on r rests = record {
     acts = counted_front c.program c.table.tally c.table.standard c.unsent plans.features plans.earlier r;
     joined = subst (λ (l : List Planned). length c.table.tally.features ≡ plans.features + features_ended l)
         (sym (front_is c.program c.table.tally c.table.standard c.unsent plans.features plans.earlier r)) r.joined;
+    origins = subst (λ (l : List Planned). drop plans.features (origins_of c.table.tally.features)
+        ≡ origins_ended c.table.tally.connection l)
+        (sym (front_is c.program c.table.tally c.table.standard c.unsent plans.features plans.earlier r)) r.origins;
   };
   live = λ e. r;
   off = λ e. absurd (false≢true (sym e ∙ on));
   rests = rests;
+  numbered = numbered;
 }
 
 faulted_holds : (p : Meaning) (plans : Plans) (c : Client) (cause : Cause) → c.on ≡ true → Holds p c plans → Holds p (faulted cause c) plans
@@ -348,6 +431,7 @@ faulted_holds p plans c cause on h = record {
   live = λ e. h.live e;
   off = λ e. absurd (false≢true (sym e ∙ on));
   rests = tt;
+  numbered = h.numbered;
 }
 
 -- ---- what is read
@@ -359,7 +443,7 @@ hears_holds p plans c t m on h (Ok b) is =
     let now : Heard c.program c.table b c.unsent plans.features plans.earlier =
     heard_on_plan c.program h.program c.table b t m c.unsent plans.features plans.earlier is r in
     read_holds p plans (client_hears c t m (Ok b)) h.program h.same on now.plan_is
-    (behind_rests c.state (ends_abort c.abort t m) b c.table.standard h.rests now.fewer)
+    (behind_rests c.state (ends_abort c.abort t m) b c.table.standard h.rests now.fewer) (now.number ∙ h.numbered)
 hears_holds p plans c t m on h (Err cause) is = faulted_holds p plans c cause on h
 
 reply_holds : (p : Meaning) (plans : Plans) (c : Client) (t : Tag) (m : Mark) → c.on ≡ true → Holds p c plans
@@ -450,10 +534,11 @@ sends_holds p plans c (q ∷ qs) (Some n) e running h =
       acts = r.acts;
       fits = r.fits;
       joined = r.joined;
+      origins = r.origins;
       calm = λ still. ap (λ (l : List Kind). l ++ kinds_of qs) (live_more c.table.standard x refl)
           ∙ (append_assoc (live_kinds c.table.standard) (kind_of q.command ∷ []) (kinds_of qs)
           ∙ (ap (λ (l : List Planned). live_kinds c.table.standard ++ kinds_of l) (sym e) ∙ r.calm still));
-    }) (subst (λ (s : State). Rests s (c.table.standard ++ x ∷ [])) (sym running) tt)
+    }) (subst (λ (s : State). Rests s (c.table.standard ++ x ∷ [])) (sym running) tt) h.numbered
 
 may_abort_on : (s : State) → may_abort s ≡ true → IsOff s → ⊥
 may_abort_on State.Apart e off = false≢true e
@@ -470,8 +555,17 @@ aborts_holds p plans c None on h = faulted_holds p plans c Cause.TagsSpent on h
 aborts_holds p plans c (Some n) on h =
     let r : Reads c plans = h.live on in
     read_holds p plans (sends_abort c (Some n)).client h.program h.same on
-    (record { finished = r.finished; parts = r.parts; many = r.many; acts = r.acts; fits = r.fits; joined = r.joined; calm = r.calm })
-    tt
+    (record {
+      finished = r.finished;
+      parts = r.parts;
+      many = r.many;
+      acts = r.acts;
+      fits = r.fits;
+      joined = r.joined;
+      origins = r.origins;
+      calm = r.calm;
+    })
+    tt h.numbered
 
 -- ---- plans are begun
 
@@ -491,8 +585,9 @@ connected_holds p plans n c h =
       acts = tt;
       fits = begins_fit c.program c.table.tally.features Start.NewConnection h.program h.ours;
       joined = omega (arith);
+      origins = none_behind c.table.tally.features;
       calm = λ still. refl;
-    }) tt
+    }) tt refl
 
 pub resumed_state : (c : Client) (s : State) → may_resume c s ≡ true → s ≡ State.Halted
 resumed_state c State.Halted e = refl
@@ -527,8 +622,9 @@ resumed_holds p plans c halted h =
           (counted_front c.program c.table.tally c.table.standard c.unsent plans.features plans.earlier r);
       fits = begins_fit c.program c.table.tally.features Start.SameConnection h.program h.ours;
       joined = omega (arith);
+      origins = none_behind c.table.tally.features;
       calm = λ still. ap (λ (l : List Kind). l ++ kinds_of steps) none;
-    }) tt
+    }) tt h.numbered
 
 -- ---- the connection is given up
 
@@ -555,10 +651,11 @@ left_holds p plans c h = record {
   program = h.program;
   same = h.same;
   ours = h.ours;
-  counted = record { acts = h.counted.acts; joined = h.counted.joined };
+  counted = record { acts = h.counted.acts; joined = h.counted.joined; origins = h.counted.origins };
   live = λ e. absurd (false≢true e);
   off = λ e. left_off c.state;
   rests = left_rests c.state c.table.standard;
+  numbered = h.numbered;
 }
 
 new_holds : (p : Meaning) (fs : List Feature) (window : ℕ) → IsProgram p → are_ours p.features fs ≡ true
@@ -567,10 +664,11 @@ new_holds p fs window program ours = record {
   program = program;
   same = refl;
   ours = ours;
-  counted = record { acts = tt; joined = omega (arith) };
+  counted = record { acts = tt; joined = omega (arith); origins = none_behind fs };
   live = λ e. absurd (false≢true e);
   off = λ e. tt;
   rests = tt;
+  numbered = refl;
 }
 
 restarted_holds : (p : Meaning) (plans : Plans) (k : ℕ) (c : Client) → Holds p c plans
@@ -579,10 +677,11 @@ restarted_holds p plans k c h = record {
   program = h.program;
   same = h.same;
   ours = fewer_are_ours c.program.features c.table.tally.features k h.ours;
-  counted = record { acts = tt; joined = omega (arith) };
+  counted = record { acts = tt; joined = omega (arith); origins = none_behind (take k c.table.tally.features) };
   live = λ e. absurd (false≢true e);
   off = λ e. tt;
   rests = tt;
+  numbered = refl;
 }
 
 -- ---- calls
@@ -653,6 +752,15 @@ counted_are_planned readers p kept window calls program ours =
     behind_holds readers p kept window calls program ours in
     subst (λ (q : Meaning). AreCounted q (plans_begun readers calls p kept window) (client_behind readers calls p kept window).table.tally)
     h.same h.counted
+
+-- on the connection of its own last number
+pub counted_on_the_last : (readers : Readers) (p : Meaning) (kept : List Feature) (window : ℕ) (calls : List Call) → IsProgram p
+    → are_ours p.features kept ≡ true
+    → (client_behind readers calls p kept window).table.tally.connection ≡ (client_behind readers calls p kept window).last
+counted_on_the_last readers p kept window calls program ours =
+    let h : Holds p (client_behind readers calls p kept window) (plans_begun readers calls p kept window) =
+    behind_holds readers p kept window calls program ours in
+    h.numbered
 
 -- a counted command is the next of the plan, by its kind
 first_is_next : (todo : List Planned) (k : Kind) (ks : List Kind) → k ∷ ks ≡ kinds_of todo → next_kind todo ≡ Some k

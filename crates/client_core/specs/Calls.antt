@@ -1,6 +1,7 @@
 -- Lists of calls of a client, whatever its peer sends, and what is claimed of them (this profile).
 use Rattle.std.specs.Prelude.{◌≡◌, ℕ, suc, ◌+◌, nat_le, Bool, true, false, not, if◌then◌else◌, is_some, Option, Some, None, List, [], ◌∷◌}
-use Rattle.std.specs.Prelude.{◌++◌, length, take, Ok, Err}
+use Rattle.std.specs.Prelude.{◌++◌, length, take, drop, Ok, Err}
+use Rattle.contact_ledger.specs.declared.features.Origin.{Origin}
 use Rattle.contact_ledger.specs.declared.features.Feature.{Feature}
 use Rattle.dme_line.specs.Kinds.{kind_of}
 use Rattle.dme_line.specs.declared.commands.Kind.{Kind}
@@ -10,7 +11,7 @@ use Rattle.protocol_model.specs.Replies.{Mark}
 use Rattle.protocol_model.specs.Open.{Effect, Heard, heard_in}
 use Rattle.protocol_model.specs.Lines.{Readers}
 use Rattle.protocol_model.specs.Plan.{plan}
-use Rattle.protocol_model.specs.Client.{Client, Tally, due, may_abort, may_resume}
+use Rattle.protocol_model.specs.Client.{Client, Tally, origin_of, due, may_abort, may_resume}
 use Rattle.protocol_model.specs.Ends.{ClientEnd, new_client_end, end_connected, end_sent, end_aborted, end_fed, end_read, end_resumed}
 use Rattle.protocol_model.specs.Ends.{end_left, end_restarted, end_taken}
 use Rattle.protocol_model.specs.Undisturbed.{acts_planned, AreActs}
@@ -133,12 +134,29 @@ abbrev pub features_ended : List Planned → ℕ
 features_ended [] = 0
 features_ended (p ∷ ps) = if is_last p.does then suc (features_ended ps) else features_ended ps
 
+-- where features come from
+abbrev pub origins_of : List Feature → List (Option Origin)
+origins_of [] = []
+origins_of (f ∷ fs) = f.origin ∷ origins_of fs
+
+-- where the feature comes from that ends with a planned command on the connection of this number, if one does
+abbrev pub origin_ended : ℕ → Does → List (Option Origin)
+origin_ended n (Does.Touches t true) = origin_of n t.frame ∷ []
+origin_ended n (Does.Touches t false) = []
+origin_ended n _ = []
+
+-- and where those come from that end in planned commands
+abbrev pub origins_ended : ℕ → List Planned → List (Option Origin)
+origins_ended n [] = []
+origins_ended n (p ∷ ps) = origin_ended n p.does ++ origins_ended n ps
+
 -- a client's tally is that of its plans: its acts are those for which the counted front of the present plan stands, behind those of the
--- plans before it;
--- and its features are those that it held when that was begun and one for each that ends in the front
+-- plans before it; and its features are those that it held when that was begun and one for each that ends in the front, with the number of
+-- the connection and the frame of its last touch
 pub record AreCounted (p : Meaning) (plans : Plans) (tally : Tally) : Type 0 where
   pub acts : AreActs tally.counted (acts_of_fronts p (record { features = plans.features; completed = tally.completed } ∷ plans.earlier))
   pub joined : length tally.features ≡ plans.features + features_ended (front_of p plans tally.completed)
+  pub origins : drop plans.features (origins_of tally.features) ≡ origins_ended tally.connection (front_of p plans tally.completed)
 
 -- the kind of the command that is to be counted next
 abbrev pub next_kind : List Planned → Option Kind

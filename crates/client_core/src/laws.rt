@@ -17,7 +17,8 @@ ghost use Rattle.client_core.specs.Clients.{are_ours};
 /// - `counted`: each plan was begun behind the features that were held when it was. The acts that are counted on the connection are
 ///   those for which the counted front of the present plan stands, behind those of the plans that were begun before it: a contact with
 ///   the target, direction, tool and frame of its touch. And the features are those that were held when the present plan was begun, and
-///   one for each that ends in its counted front;
+///   one for each that ends in its counted front, with the number of the connection and the frame of its last touch for an origin;
+/// - `numbered`: that number is the one that the client came to last;
 /// - `next`: a mark that counts a command counts one of the kind of the first command of the plan that is not counted.
 ///
 /// A call that is not possible changes nothing. What reads lines and points may be any functions.
@@ -33,6 +34,10 @@ pub fn whatever_the_peer_sends()
         (calls : List Call) → IsProgram program → are_ours program.features kept ≡ true
         → AreCounted program (plans_begun readers calls program kept window)
         (client_behind readers calls program kept window).table.tally }
+    ensures numbered { (readers : Readers) (program : Meaning) (kept : List OneFeature) (window : ℕ)
+        (calls : List Call) → IsProgram program → are_ours program.features kept ≡ true
+        → (client_behind readers calls program kept window).table.tally.connection
+        ≡ (client_behind readers calls program kept window).last }
     ensures next { (readers : Readers) (program : Meaning) (kept : List OneFeature) (window : ℕ)
         (calls : List Call) → IsProgram program → are_ours program.features kept ≡ true
         → (client_behind readers calls program kept window).on ≡ true

@@ -3,9 +3,9 @@
 // machine is done with what it is asked, and a touch meets the surface at its target and the next shift of the setup.
 
 use crate::{Event, NewFault, Outcome, RunCount, World};
-use contact_ledger::Act;
+use contact_ledger::{Act, Origin};
 use dmis_program::Program;
-use fixed_um::{Point, write_um};
+use fixed_um::{Frame, Point, write_um};
 use protocol_model::Job;
 use std::alloc::{AllocError, Global};
 use std::test::Fail;
@@ -29,33 +29,33 @@ const FRAMES: &str = "\
 DMISMN/'FRAMES',05.2;SNSLCT/S(P1);MEAS/POINT,F(A),1;PTMEAS/CART,10,0,0,0,0,1;ENDMES;\
 MEAS/LINE,F(B),2;PTMEAS/CART,20,0,0,0,0,1;RECALL/D(PART);PTMEAS/CART,30,0,0,0,0,1;ENDMES;ENDFIL";
 
-/// A program, the window, a schedule, and what it comes to: the client's state, how many acts it has counted, its features, and the
-/// server's contacts with the numbers of their connections.
-const SCHEDULES: [(&str, u8, &str, &str); 10] = [
+/// A program, the window, a schedule, and what it comes to: the client's state, how many acts it has counted, its features, each with the
+/// connection and the frame that it comes from, and the server's contacts with the numbers of their connections.
+const SCHEDULES: [(&str, u8, &str, &str); 11] = [
     (
         ONE,
         1,
         "connect;accept 1;quiet",
-        "Done;5;A 10.002 20.000 25.000;1 10.002 20.000 25.000;",
+        "Done;5;A 1 M 10.002 20.000 25.000;1 10.002 20.000 25.000;",
     ),
     (
         ONE,
         16,
         "connect;accept 1;quiet 2",
-        "Done;5;A 10.002 20.000 25.000;1 10.002 20.000 25.000;",
+        "Done;5;A 1 M 10.002 20.000 25.000;1 10.002 20.000 25.000;",
     ),
     (
         ONE,
         1,
         "connect;accept 1;clientsends;up 10;clientleaves;connect;serverreads;serverleaves;accept 2;quiet",
-        "Done;5;A 10.002 20.000 25.000;2 10.002 20.000 25.000;",
+        "Done;5;A 2 M 10.002 20.000 25.000;2 10.002 20.000 25.000;",
     ),
     (
         THREE,
         1,
         "connect;accept 1;quiet 6;clientsends;up all;serverreads;serverturn;machine auto;down 47;clientreads all;\
 clientleaves;serverleaves;connect;accept 2;quiet",
-        "Done;6;C 1.000 0.000 0.004 -0.001 1.001 0.000 -0.998 0.000 0.000;\
+        "Done;6;C 2 M 1.000 0.000 0.004 -0.001 1.001 0.000 -0.998 0.000 0.000;\
 1 1.002 0.000 0.000;2 1.000 0.000 0.004;2 -0.001 1.001 0.000;2 -0.998 0.000 0.000;",
     ),
     (
@@ -68,14 +68,14 @@ clientleaves;serverleaves;connect;accept 2;quiet",
         THREE,
         1,
         "connect;accept 1;quiet 7;clientleaves;serverleaves;connect;accept 2;quiet",
-        "Done;6;C 1.000 0.000 0.004 -0.001 1.001 0.000 -0.998 0.000 0.000;\
+        "Done;6;C 2 M 1.000 0.000 0.004 -0.001 1.001 0.000 -0.998 0.000 0.000;\
 1 1.002 0.000 0.000;2 1.000 0.000 0.004;2 -0.001 1.001 0.000;2 -0.998 0.000 0.000;",
     ),
     (
         THREE,
         1,
         "connect;accept 1;quiet 7;clientsends;up all;serverreads;serverturn;machine missed;down all;clientreads all;resume;quiet",
-        "Done;10;C 1.000 0.000 0.004 -0.001 1.001 0.000 -0.998 0.000 0.000;\
+        "Done;10;C 1 M 1.000 0.000 0.004 -0.001 1.001 0.000 -0.998 0.000 0.000;\
 1 1.002 0.000 0.000;1 1.000 0.000 0.004;1 -0.001 1.001 0.000;1 -0.998 0.000 0.000;",
     ),
     (
@@ -90,14 +90,21 @@ clientsends;up all;serverreads all;serverturn;abort;up all;serverreads;down all;
         1,
         "connect;accept 1;quiet 10;clientsends;up all;serverreads;serverturn;abort;up all;serverreads;down all;clientreads all;\
 resume;quiet",
-        "Done;12;A 10.002 0.000 0.000;B 19.999 0.001 0.000 30.002 0.000 0.000;\
+        "Done;12;A 1 M 10.002 0.000 0.000;B 1 P 100.000 0.000 0.000 19.999 0.001 0.000 30.002 0.000 0.000;\
 1 10.002 0.000 0.000;1 20.000 0.000 0.004;1 19.999 0.001 0.000;1 30.002 0.000 0.000;",
+    ),
+    (
+        FRAMES,
+        1,
+        "connect;accept 1;quiet 7;clientleaves;serverleaves;connect;accept 2;quiet",
+        "Done;6;A 1 M 10.002 0.000 0.000;B 2 P 100.000 0.000 0.000 20.000 0.000 0.004 29.999 0.001 0.000;\
+1 10.002 0.000 0.000;2 20.000 0.000 0.004;2 29.999 0.001 0.000;",
     ),
     (
         TWO,
         1,
         "connect;accept 1;quiet;clientrestart 1;serverrestart;connect;accept 2;quiet",
-        "Done;4;A 1.002 2.000 3.000;B 3.999 5.001 6.000;1 1.002 2.000 3.000;1 4.000 5.000 6.004;2 3.999 5.001 6.000;",
+        "Done;4;A 1 M 1.002 2.000 3.000;B 2 M 3.999 5.001 6.000;1 1.002 2.000 3.000;1 4.000 5.000 6.004;2 3.999 5.001 6.000;",
     ),
 ];
 
@@ -232,9 +239,25 @@ fn push_point(out: &mut Vec<u8>, point: Point) -> Result<(), AllocError> {
     write_um(out, point.z)
 }
 
-fn push_features(out: &mut Vec<u8>, world: &World) -> Result<(), AllocError> {
+/// The connection that a feature comes from, and its frame: `M`, or `P` and the zero point.
+fn push_origin(alloc: Global, out: &mut Vec<u8>, origin: Option<Origin>) -> Result<(), AllocError> {
+    let Some(Origin { connection, frame }) = origin else {
+        return push_text(out, " -");
+    };
+    push_text(out, format!(in alloc; " {connection}")?.as_str())?;
+    match frame {
+        Frame::Machine => push_text(out, " M"),
+        Frame::Part(offset) => {
+            push_text(out, " P")?;
+            push_point(out, offset)
+        }
+    }
+}
+
+fn push_features(alloc: Global, out: &mut Vec<u8>, world: &World) -> Result<(), AllocError> {
     for feature in world.features() {
         out.extend_from_slice(feature.label.as_bytes())?;
+        push_origin(alloc, out, feature.origin)?;
         for point in feature.points.as_slice() {
             push_point(out, *point)?;
         }
@@ -262,7 +285,7 @@ fn report(alloc: Global, world: &World) -> Result<Vec<u8>, AllocError> {
         &mut out,
         format!(in alloc; "{state:?};{counted};")?.as_str(),
     )?;
-    push_features(&mut out, world)?;
+    push_features(alloc, &mut out, world)?;
     push_contacts(alloc, &mut out, world)?;
     Ok(out)
 }

@@ -41,7 +41,9 @@ pub fn plans_go_on_behind_the_last_touch()
 /// between the blocks.
 pub fn position_rows()
     ensures text { program_of []
-        (codes "DMISMN/'BETWEEN',05.2\nSNSLCT/S(P1)\nMEAS/POINT,F(A),1\nPTMEAS/CART,1,2,3,0,0,1\nGOTO/1,2,10\nSNSLCT/S(P2)\nENDMES\nGOTO/4,5,10\nMEAS/POINT,F(B),1\nPTMEAS/CART,4,5,6,0,0,1\nENDMES\nENDFIL")
+        (codes "DMISMN/'BETWEEN',05.2\nSNSLCT/S(P1)\nMEAS/POINT,F(A),1\nPTMEAS/CART,1,2,3,0,0,1\n"
+        ++ codes "GOTO/1,2,10\nSNSLCT/S(P2)\nENDMES\nGOTO/4,5,10\nMEAS/POINT,F(B),1\n"
+        ++ codes "PTMEAS/CART,4,5,6,0,0,1\nENDMES\nENDFIL")
         ≡ Ok moved_between }
     ensures from_the_start { commands_of (plan moved_between 0 NewConnection)
         ≡ command.StartSession ∷ command.ClearAllErrors ∷ command.Home ∷ command.OnPtMeasReport

@@ -76,19 +76,25 @@ ghost use Rattle.protocol_model.specs.Rows.{
 pub fn text_rows()
     ensures empty { program_of [] (codes "DMISMN/'E',05.2\nENDFIL") ≡ Ok empty }
     ensures one_point { program_of []
-        (codes "DMISMN/'ONE',05.2\nSNSLCT/S(P1)\nMEAS/POINT,F(A),1\nGOTO/10,20,30\nPTMEAS/CART,10,20,25,0,0,1\nENDMES\nENDFIL")
+        (codes "DMISMN/'ONE',05.2\nSNSLCT/S(P1)\nMEAS/POINT,F(A),1\nGOTO/10,20,30\n"
+        ++ codes "PTMEAS/CART,10,20,25,0,0,1\nENDMES\nENDFIL")
         ≡ Ok one_point }
     ensures circle { program_of []
-        (codes "DMISMN/'THREE',05.2\nSNSLCT/S(P1)\nMEAS/CIRCLE,F(C),3\nPTMEAS/CART,1,0,0,-1,0,0\nPTMEAS/CART,0,1,0,0,-1,0\nPTMEAS/CART,-1,0,0,1,0,0\nENDMES\nENDFIL")
+        (codes "DMISMN/'THREE',05.2\nSNSLCT/S(P1)\nMEAS/CIRCLE,F(C),3\nPTMEAS/CART,1,0,0,-1,0,0\n"
+        ++ codes "PTMEAS/CART,0,1,0,0,-1,0\nPTMEAS/CART,-1,0,0,1,0,0\nENDMES\nENDFIL")
         ≡ Ok circle }
     ensures two_frames { program_of ((codes "PART", part) ∷ [])
-        (codes "DMISMN/'FRAMES',05.2\nSNSLCT/S(P1)\nMEAS/POINT,F(A),1\nPTMEAS/CART,10,0,0,0,0,1\nENDMES\nMEAS/LINE,F(B),2\nPTMEAS/CART,20,0,0,0,0,1\nRECALL/D(PART)\nPTMEAS/CART,30,0,0,0,0,1\nENDMES\nENDFIL")
+        (codes "DMISMN/'FRAMES',05.2\nSNSLCT/S(P1)\nMEAS/POINT,F(A),1\nPTMEAS/CART,10,0,0,0,0,1\n"
+        ++ codes "ENDMES\nMEAS/LINE,F(B),2\nPTMEAS/CART,20,0,0,0,0,1\nRECALL/D(PART)\n"
+        ++ codes "PTMEAS/CART,30,0,0,0,0,1\nENDMES\nENDFIL")
         ≡ Ok two_frames }
     ensures two_points { program_of []
-        (codes "DMISMN/'TWO',05.2\nSNSLCT/S(P1)\nMEAS/POINT,F(A),1\nPTMEAS/CART,1,2,3,0,0,1\nENDMES\nMEAS/POINT,F(B),1\nPTMEAS/CART,4,5,6,0,0,1\nENDMES\nENDFIL")
+        (codes "DMISMN/'TWO',05.2\nSNSLCT/S(P1)\nMEAS/POINT,F(A),1\nPTMEAS/CART,1,2,3,0,0,1\n"
+        ++ codes "ENDMES\nMEAS/POINT,F(B),1\nPTMEAS/CART,4,5,6,0,0,1\nENDMES\nENDFIL")
         ≡ Ok two_points }
     ensures same_twice { program_of []
-        (codes "DMISMN/'TWICE',05.2\nSNSLCT/S(P1)\nMEAS/LINE,F(A),2\nPTMEAS/CART,10,0,0,0,0,1\nPTMEAS/CART,10,0,0,0,0,1\nENDMES\nENDFIL")
+        (codes "DMISMN/'TWICE',05.2\nSNSLCT/S(P1)\nMEAS/LINE,F(A),2\nPTMEAS/CART,10,0,0,0,0,1\n"
+        ++ codes "PTMEAS/CART,10,0,0,0,0,1\nENDMES\nENDFIL")
         ≡ Ok same_twice }
 {}
 

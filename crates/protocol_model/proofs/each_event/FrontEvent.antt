@@ -49,7 +49,8 @@ pub record IsAtFront (w : World) (table : Table) (left : List Wanted) (x : Line)
     pub touches : touch_in does ++ touches_in (steps ++ w.client.unsent) ≡ marks_of left
     pub one : FitsOne (know_of w.server) x.command does
     pub rest : Fits (known_by (know_of w.server) x.command) (steps ++ w.client.unsent)
-    pub progress : IsProgress w.client.program.features w.client.last table.tally.features table.tally.points (contacts w.server.ledger) left
+    pub progress : IsProgress w.client.program.features w.client.last table.tally.features table.tally.points
+        (contacts w.server.ledger) left
 
 -- where nothing is in the error state, what runs or else waits first is such a command
 pub at_front : (w : World) (table : Table) (left : List Wanted) (x : Line) (now queued coming : List Line) (aborts : List ℕ)

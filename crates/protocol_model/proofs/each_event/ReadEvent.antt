@@ -79,7 +79,8 @@ pub record IsReading (w : World) (table : Table) (left : List Wanted) (x : Line)
   where
     pub near : IsNearBy table w.client.unsent left w.up w.server.running w.server.waiting w.server.error (know_of w.server) queued
         (x ∷ coming) aborts
-    pub progress : IsProgress w.client.program.features w.client.last table.tally.features table.tally.points (contacts w.server.ledger) left
+    pub progress : IsProgress w.client.program.features w.client.last table.tally.features table.tally.points
+        (contacts w.server.ledger) left
     pub distinct : AreDistinct table.standard
     pub few : count_open table.standard ≤ 16
 

@@ -1,4 +1,4 @@
-use Rattle.client_core.proofs.Runs.{program_stays, features_are_ours, counted_are_planned, counted_is_next}
+use Rattle.client_core.proofs.Runs.{program_stays, features_are_ours, counted_are_planned, counted_on_the_last, counted_is_next}
 use Rattle.client_core.proofs.laws.whatever_the_peer_sends.Goals as goal
 
 pub returns-clause-program : goal.returns-clause-program
@@ -9,6 +9,9 @@ returns-clause-features c = features_are_ours
 
 pub returns-clause-counted : goal.returns-clause-counted
 returns-clause-counted c = counted_are_planned
+
+pub returns-clause-numbered : goal.returns-clause-numbered
+returns-clause-numbered c = counted_on_the_last
 
 pub returns-clause-next : goal.returns-clause-next
 returns-clause-next c = counted_is_next

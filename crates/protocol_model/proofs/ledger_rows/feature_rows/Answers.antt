@@ -5,7 +5,7 @@ use Rattle.protocol_model.proofs.worked_rows.LedgerRefused.{fewer_points_are_non
 use Rattle.protocol_model.proofs.worked_rows.LedgerRefused.{exchanged_points_are_none, no_contact_is_none, more_features_are_none, both_are}
 use Rattle.protocol_model.proofs.worked_rows.LedgerRefused.{first_left_out_is_none}
 use Rattle.fixed_um.specs.declared.frames.Frame.TheVariants.{Part}
-use Rattle.protocol_model.specs.Client.{origin_of}
+use Rattle.std.proofs.Common.{Some}
 use Rattle.protocol_model.specs.Rows.{part}
 use Rattle.protocol_model.proofs.ledger_rows.feature_rows.Goals as goal
 
@@ -13,7 +13,7 @@ pub returns-clause-right : goal.returns-clause-right
 returns-clause-right c = right_is
 
 pub returns-clause-any_origin : goal.returns-clause-any_origin
-returns-clause-any_origin c = right_from (origin_of 7 (Part part))
+returns-clause-any_origin c = right_from (Some (record { connection = 7; frame = Part part }))
 
 pub returns-clause-nothing_measured : goal.returns-clause-nothing_measured
 returns-clause-nothing_measured c = nothing_is
