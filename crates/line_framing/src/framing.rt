@@ -1,4 +1,4 @@
-ghost use Rattle.std.specs.Prelude.{◌≡◌, ◌↔◌, IsTrue, ◌+◌, ◌≤◌, length, take, drop, vec_len, MatchOption, IfOk, IfErr, OnOk, OnErr, IfSome, IfNone};
+ghost use Rattle.std.specs.Prelude.{◌≡◌, ◌↔◌, IsTrue, ◌+◌, ◌≤◌, length, take, drop, MatchOption, IfOk, IfErr, OnOk, OnErr, IfSome, IfNone};
 ghost use Rattle.line_framing.specs.Content.{IsLine};
 ghost use Rattle.line_framing.specs.Next.{next_of};
 ghost use Rattle.line_framing.specs.Framing.{IsSound, IsLineDue, no_bytes, fed, after_next, IsFeedRefused, IsLineRefused, IsRefusedLeft};

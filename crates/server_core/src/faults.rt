@@ -1,6 +1,7 @@
 // Why a call of a server is refused.
 
 use line_framing::FramingFault;
+use std::alloc::AllocError;
 
 /// Why a call of a server is refused (this profile). The server is then as before, but for a framing fault, which it keeps.
 #[derive(Clone, Copy, Debug, PartialEq, Eq)]
@@ -17,4 +18,15 @@ pub enum ServerFault {
     OutOfVolume,
     /// Want of memory.
     Memory,
+}
+
+impl From<AllocError> for ServerFault {
+    ghost use Rattle.std.specs.Prelude.{◌≡◌};
+    ghost use Rattle.server_core.specs.declared.faults.ServerFault.TheVariants.{Memory};
+
+    ghost from_gives = { λ _ e. e ≡ Memory };
+
+    fn from(_error: AllocError) -> ServerFault {
+        ServerFault::Memory
+    }
 }

@@ -134,9 +134,7 @@ impl Server {
             Ok(None) => return Ok(false),
             Err(fault) => return Err(ServerFault::Framing(fault)),
         };
-        if self.out.reserve(ANSWER_MAX).is_err() {
-            return Err(ServerFault::Memory);
-        }
+        self.out.reserve(ANSWER_MAX)?;
         let line = &self.input.rest()[..length];
         if self
             .controller
@@ -170,13 +168,9 @@ impl Server {
         if !self.controller.may_turn() {
             return Err(ServerFault::NotNow);
         }
-        if self.out.reserve(ANSWER_MAX).is_err() {
-            return Err(ServerFault::Memory);
-        }
-        match self.controller.turn(self.out.as_mut_vec()) {
-            Ok(()) => Ok(()),
-            Err(AllocError) => Err(ServerFault::Memory),
-        }
+        self.out.reserve(ANSWER_MAX)?;
+        self.controller.turn(self.out.as_mut_vec())?;
+        Ok(())
     }
 
     /// Whether a waiting command may have its turn: one waits, and nothing runs. It takes no memory.
@@ -213,13 +207,9 @@ impl Server {
         ensures bounded { length self.new.end.out ≤ length self.old.end.out + ANSWER_MAX }
     {
         self.controller.check(&outcome)?;
-        if self.out.reserve(ANSWER_MAX).is_err() {
-            return Err(ServerFault::Memory);
-        }
-        match self.controller.end(self.out.as_mut_vec(), outcome) {
-            Ok(()) => Ok(()),
-            Err(AllocError) => Err(ServerFault::Memory),
-        }
+        self.out.reserve(ANSWER_MAX)?;
+        self.controller.end(self.out.as_mut_vec(), outcome)?;
+        Ok(())
     }
 
     /// Whether what runs can end so: something runs, its outcome is of that kind, and a touched point is inside the volume. It takes no memory.
