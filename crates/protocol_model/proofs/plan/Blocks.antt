@@ -78,6 +78,7 @@ selected_are tool frame (step.Tool m ∷ ss) h = selected_are (Some m) frame ss 
 selected_are tool frame (step.Recall p ∷ ss) h = selected_are tool (Part p) ss h
 selected_are tool frame (step.End ∷ ss) h = selected_are tool frame ss h
 
+-- the features, touches and selections of a program are those of its steps
 pub program_is_plain : (p : Program) → IsProgram p → IsPlain p
 program_is_plain p h = record {
   features = h.built;

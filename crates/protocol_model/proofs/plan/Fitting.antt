@@ -20,9 +20,11 @@ pub record Know : Type 0 where
   pub frame : Option Frame
   pub stored : Option Point
 
+-- nothing is known of what is selected
 abbrev pub unknown : Know
 unknown = record { tool = None; frame = None; stored = None }
 
+-- the frame of a system, where its zero point is known
 abbrev pub known_frame : Csy → Option Point → Option Frame
 known_frame MachineCsy stored = Some Machine
 known_frame PartCsy None = None
@@ -42,11 +44,13 @@ known_by k (command.SetCsyTransformation p) = record k { stored = Some (point_op
 known_by k (command.SetCoordSystem system) = record k { frame = known_frame system k.stored }
 known_by k command.AbortE = k
 
+-- a move does what it is planned to do, in the frame that is known
 pub record FitsMove (k : Know) (p : Point) (does : Does) : Type 0 where
   pub frame : Frame
   pub known : k.frame ≡ Some frame
   pub is : does ≡ Does.Moves p frame
 
+-- a touch does, with the tool and in the frame that are known
 pub record FitsTouch (k : Know) (p : Point) (d : Option Direction) (does : Does) : Type 0 where
   pub touch : Touch
   pub last : Bool
@@ -56,11 +60,13 @@ pub record FitsTouch (k : Know) (p : Point) (d : Option Direction) (does : Does)
   pub dir : d ≡ touch.dir
   pub is : does ≡ Does.Touches touch last
 
+-- the choice of a frame does
 pub record FitsFrame (k : Know) (system : Csy) (does : Does) : Type 0 where
   pub frame : Frame
   pub known : known_frame system k.stored ≡ Some frame
   pub is : does ≡ Does.Frames frame
 
+-- a command does what it is planned to do
 abbrev pub FitsOne : Know → Command → Does → Type 0
 FitsOne k command.StartSession does = does ≡ Does.Nothing
 FitsOne k command.EndSession does = does ≡ Does.Nothing
@@ -74,20 +80,24 @@ FitsOne k (command.SetCsyTransformation p) does = does ≡ Does.Nothing
 FitsOne k (command.SetCoordSystem system) does = FitsFrame k system does
 FitsOne k command.AbortE does = ⊥
 
+-- so do those of a plan, one after another
 abbrev pub Fits : Know → List Planned → Type 0
 Fits k [] = Unit {0}
 Fits k (p ∷ ps) = FitsOne k p.command p.does × Fits (known_by k p.command) ps
 
 -- ---- who knows more
 
+-- what is known here is known there
 pub record KnowsMore (k l : Know) : Type 0 where
   pub tool : (n : List ℕ) → k.tool ≡ Some n → l.tool ≡ Some n
   pub frame : (f : Frame) → k.frame ≡ Some f → l.frame ≡ Some f
   pub stored : (p : Point) → k.stored ≡ Some p → l.stored ≡ Some p
 
+-- anything is more than nothing
 pub more_than_nothing : (l : Know) → KnowsMore unknown l
 more_than_nothing l = record { tool = λ n e. absurd (cc); frame = λ f e. absurd (cc); stored = λ p e. absurd (cc) }
 
+-- what is known is known
 pub more_refl : (l : Know) → KnowsMore l l
 more_refl l = record { tool = λ n e. e; frame = λ f e. e; stored = λ p e. e }
 
@@ -139,6 +149,7 @@ one_more k l (command.SetCoordSystem system) d more h = record {
 }
 one_more k l command.AbortE d more h = h
 
+-- a plan fits where more is known
 pub fits_more : (ps : List Planned) (k l : Know) → KnowsMore k l → Fits k ps → Fits l ps
 fits_more [] k l more h = tt
 fits_more (p ∷ ps) k l more h = (
@@ -148,18 +159,22 @@ fits_more (p ∷ ps) k l more h = (
 
 -- ---- from each ClearAllErrors on, the rest fits, whatever is known
 
+-- from each ClearAllErrors on a plan fits, whatever is known before it
 abbrev pub IsSane : List Planned → Type 0
 IsSane [] = Unit {0}
 IsSane (p ∷ ps) = (is_clearing p.command ≡ true → (k : Know) → Fits k (p ∷ ps)) × IsSane ps
 
+-- no command of a plan is ClearAllErrors
 abbrev pub HasNoClear : List Planned → Type 0
 HasNoClear [] = Unit {0}
 HasNoClear (p ∷ ps) = (is_clearing p.command ≡ false) × HasNoClear ps
 
+-- a plan without one is sane
 pub sane_without : (ps : List Planned) → HasNoClear ps → IsSane ps
 sane_without [] h = tt
 sane_without (p ∷ ps) h = ((λ e k. let bad : true ≡ false = sym e ∙ h.0 in absurd (cc)), sane_without ps h.1)
 
+-- two plans without one have none together
 pub no_clear_more : (ps qs : List Planned) → HasNoClear ps → HasNoClear qs → HasNoClear (ps ++ qs)
 no_clear_more [] qs h g = g
 no_clear_more (p ∷ ps) qs h g = (h.0, no_clear_more ps qs h.1 g)

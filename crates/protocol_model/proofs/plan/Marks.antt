@@ -25,17 +25,21 @@ use Rattle.protocol_model.specs.declared.plans.Start.{Start}
 use Rattle.protocol_model.specs.declared.plans.Start.TheVariants.{NewConnection}
 use Rattle.protocol_model.specs.declared.plans.Start.TheVariants.{SameConnection}
 
+-- a touch, and whether it is the last of its feature
 abbrev pub Marked : Type 0
 Marked = Touch × Bool
 
+-- the touches of a feature, so marked
 abbrev pub marks : List Touch → List Marked
 marks [] = []
 marks (t ∷ ts) = (t, is_empty ts) ∷ marks ts
 
+-- the touches of features, so marked
 abbrev pub marks_of : List Wanted → List Marked
 marks_of [] = []
 marks_of (w ∷ ws) = marks w.touches ++ marks_of ws
 
+-- the touch that a command stands for, so marked, if it is one
 abbrev pub touch_in : Does → List Marked
 touch_in Does.Nothing = []
 touch_in Does.Homes = []
@@ -44,6 +48,7 @@ touch_in (Does.Changes n) = []
 touch_in (Does.Frames f) = []
 touch_in (Does.Touches t last) = (t, last) ∷ []
 
+-- the touches of a plan, so marked
 abbrev pub touches_in : List Planned → List Marked
 touches_in [] = []
 touches_in (p ∷ ps) = touch_in p.does ++ touches_in ps
@@ -61,6 +66,7 @@ left_with false ts ws = ws
 left_with true [] ws = ws
 left_with true (t ∷ ts) ws = record { label = []; touches = t ∷ ts } ∷ ws
 
+-- the features that are left in steps; within a block the first is that of the block
 abbrev pub left_of : Bool → List Step → List Wanted
 left_of inside ss = left_with inside (block_touches ss) (features_of ss)
 
@@ -277,6 +283,7 @@ sane_clearing p k h = (
   ),
 )
 
+-- a plan is sane
 pub plan_sane : (p : Program) (k : ℕ) (start : Start) → IsPlain p → IsSane (plan p k start)
 plan_sane p k NewConnection h = ((λ e know. absurd (false≢true e)), sane_clearing p k h)
 plan_sane p k SameConnection h = sane_clearing p k h
@@ -339,6 +346,7 @@ no_abort_measuring tool frame ss =
     no_abort_more (tooling tool) _ (no_abort_tooling tool) (no_abort_more (framing frame) _ (no_abort_framing frame)
     (no_abort_more (stepping frame ss) finish (no_abort_steps frame ss) (refl, tt)))
 
+-- a plan has no abort
 pub plan_no_abort : (p : Program) (k : ℕ) (start : Start) → HasNoAbort (plan p k start)
 plan_no_abort p k NewConnection = (refl, (refl, (refl, (refl, no_abort_measuring _ _ (behind k p.steps)))))
 plan_no_abort p k SameConnection = (refl, (refl, (refl, no_abort_measuring _ _ (behind k p.steps))))

@@ -103,11 +103,13 @@ features_second (w ∷ ws) = seconds_more (marks w.touches) (marks_of ws)
     ∙ (ap (λ (l : List Bool). l ++ seconds (marks_of ws)) (marks_second w.touches)
     ∙ ap (λ (l : List Bool). touch_ends w.touches ++ l) (features_second ws))
 
+-- the touches of a plan are those of the features that are left
 pub plan_touches_left : (p : Program) (k : ℕ) (start : Start) → IsProgram p
     → touches_of (plan p k start) ≡ feature_touches (drop k p.features)
 plan_touches_left p k start h = touches_first (plan p k start)
     ∙ (ap firsts (plan_touches p k start (program_is_plain p h)) ∙ features_first (drop k p.features))
 
+-- the last of each feature is marked
 pub plan_ends_left : (p : Program) (k : ℕ) (start : Start) → IsProgram p → ends_of (plan p k start) ≡ feature_ends (drop k p.features)
 plan_ends_left p k start h = ends_second (plan p k start) ∙ (ap seconds (plan_touches p k start (program_is_plain p h))
     ∙ features_second (drop k p.features))
@@ -178,6 +180,7 @@ as_planned (p ∷ ps) k s h fits = (
   as_planned ps (known_by k p.command) (selected_by s p.command) (selects k s p.command h) fits.1,
 )
 
+-- read one after another, its commands do what they are planned to do
 pub plan_as_planned : (p : Program) (k : ℕ) (start : Start) → IsProgram p → ReadAsPlanned nothing_selected (plan p k start)
 plan_as_planned p k start h = as_planned (plan p k start) unknown nothing_selected (nothing_known nothing_selected)
     (plan_fits p k start unknown (program_is_plain p h))
@@ -250,6 +253,7 @@ all_makes (p ∷ ps) s h =
     ∙ (ap (λ (l : List (Option Touch)). l ++ all_known (touches_of ps)) (makes s p.command p.does h.0)
     ∙ sym (known_more (touch_of p.does) (touches_of ps)))
 
+-- and make the touches of the features that are left
 pub plan_makes : (p : Program) (k : ℕ) (start : Start) → IsProgram p
     → touches_made nothing_selected (commands_of (plan p k start)) ≡ all_known (feature_touches (drop k p.features))
 plan_makes p k start h = all_makes (plan p k start) nothing_selected (plan_as_planned p k start h)
@@ -257,6 +261,7 @@ plan_makes p k start h = all_makes (plan p k start) nothing_selected (plan_as_pl
 
 -- ---- the order
 
+-- the commands of two plans, one behind the other
 pub commands_more : (ps qs : List Planned) → commands_of (ps ++ qs) ≡ commands_of ps ++ commands_of qs
 commands_more [] qs = refl
 commands_more (p ∷ ps) qs = ap (λ (l : List Command). p.command ∷ l) (commands_more ps qs)
@@ -307,6 +312,7 @@ measured_of tool frame ss = record {
       (measure_join (commands_of (framing frame)) _ (framing_measures frame) (stepping_measures frame ss));
 }
 
+-- a plan is its opening, what measures, and the end of the session
 pub plan_in_order : (p : Program) (k : ℕ) (start : Start) → IsInOrder start (commands_of (plan p k start))
 plan_in_order p k start = go start
   where
@@ -331,6 +337,7 @@ plan_in_order p k start = go start
 
 -- ---- the plan of a whole program
 
+-- the commands of steps are those of each step
 pub steps_commands : (frame : Frame) (ss : List Step) → commands_of (stepping frame ss) ≡ flat_map step_commands ss
 steps_commands frame [] = refl
 steps_commands frame (step.Goto p ∷ ss) = ap (λ (l : List Command). command.GoTo p ∷ l) (steps_commands frame ss)
@@ -341,6 +348,7 @@ steps_commands frame (step.Recall p ∷ ss) = ap (λ (l : List Command). command
     ∷ command.SetCoordSystem PartCsy ∷ l) (steps_commands (Part p) ss)
 steps_commands frame (step.End ∷ ss) = steps_commands frame ss
 
+-- from the start the commands are those of all steps
 pub plan_whole : (p : Program) (start : Start) → commands_of (plan p 0 start) ≡ whole_commands start p.steps
 plan_whole p start = go start
   where
@@ -389,6 +397,7 @@ can_be_written (p ∷ ps) n from to h g = (
   can_be_written ps n from to h.1 g.1,
 )
 
+-- each command of a plan can be written
 pub plan_can_be_written : (p : Program) (k : ℕ) (start : Start) (n : ℕ) → IsProgram p → 1 ≤ n → n ≤ 9999
     → CanBeWritten (Std n) (plan p k start)
 plan_can_be_written p k start n h from to = can_be_written (plan p k start) n from to (plan_arguments p k start h) (plan_no_abort p k start)

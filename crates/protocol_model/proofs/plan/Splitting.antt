@@ -36,6 +36,7 @@ touch_parts : (b : Bool) (t : Touch) (here there here_behind there_behind ss : L
 touch_parts true t here there a b ss e f = ap (λ (l : List Step). step.Touch t ∷ l) e
 touch_parts false t here there a b ss e f = ap (λ (l : List Step). step.Touch t ∷ l) f
 
+-- the steps up to a position and those behind it are all of them
 pub all_steps : (k : ℕ) (ss : List Step) → up_to k ss ++ behind k ss ≡ ss
 all_steps zero ss = refl
 all_steps (suc k) [] = refl
@@ -86,6 +87,7 @@ left_touches p k h =
     sym (measuring_touches (tool_behind None (up_to k p.steps)) (frame_behind Machine (up_to k p.steps)) (behind k p.steps))
     ∙ plan_touches_left p k SameConnection h
 
+-- the touches up to it are those of the first features
 pub front_touches : (p : Program) (k : ℕ) → IsProgram p → step_touches (up_to k p.steps) ≡ feature_touches (take k p.features)
 front_touches p k h =
     append_cancel_right (step_touches (up_to k p.steps)) (feature_touches (take k p.features)) (feature_touches (drop k p.features)) both
@@ -181,6 +183,7 @@ ends_by inside k (step.End ∷ ss) h long =
     let before : length (left_of inside (step.End ∷ ss)) ≡ length (features_of ss) = none_left inside (features_of ss) in
     one_more step.End _ (ends_by false k ss h.1 (omega (arith, before, long)))
 
+-- the steps up to it end in a touch
 pub front_ends : (p : Program) (k : ℕ) → IsProgram p → 0 < k → k ≤ length p.features → EndInTouch (up_to k p.steps)
 front_ends p zero h some few = absurd (omega (arith, some))
 front_ends p (suc k) h some few =
@@ -206,6 +209,7 @@ measuring_commands tool frame ss =
     (framing_commands frame _ ∙ ap (λ (l : List Command). frame_commands frame ++ l)
     (commands_more (stepping frame ss) finish ∙ ap (λ (l : List Command). l ++ command.EndSession ∷ []) (steps_commands frame ss)))
 
+-- a plan is that of the steps behind its position
 pub plan_commands : (p : Program) (k : ℕ) (start : Start) → commands_of (plan p k start)
     ≡ commands_from start (up_to k p.steps) (behind k p.steps)
 plan_commands p k start = go start

@@ -19,6 +19,7 @@ data_failed : (b : Bool) (p : Point) → judged_given b Stage.Failed p ≡ Refus
 data_failed true p = refl
 data_failed false p = refl
 
+-- a command that has failed goes to no other stage
 pub failed_stays : (b : Bool) (k : Kind) (m : Mark) (s : Stage) → judged b k Stage.Failed m ≡ Becomes s → s ≡ Stage.Failed
 failed_stays b k Mark.Ack s e = absurd (cc)
 failed_stays b k (Mark.Given p) s e = let d : judged_given (b && asks_data k) Stage.Failed p ≡ Refused Cause.OutOfOrder =
@@ -26,6 +27,7 @@ failed_stays b k (Mark.Given p) s e = let d : judged_given (b && asks_data k) St
 failed_stays b k Mark.Done s e = absurd (cc)
 failed_stays b k Mark.Error s e = cc
 
+-- the stage that is told as failed is Failed
 pub is_failed-true : (s : Stage) → is_failed s ≡ true → s ≡ Stage.Failed
 is_failed-true Stage.Sent e = absurd (false≢true e)
 is_failed-true Stage.Received e = absurd (false≢true e)
@@ -58,6 +60,7 @@ count_becomes front h hs m s false f v =
     let one : count_open (h ∷ hs) ≡ suc (count_open hs) = if_false {A = ℕ} (is_failed h.stage) (count_open hs) (suc (count_open hs)) f in
     rw one (count_cons (staged h s) hs)
 
+-- a reply opens no command
 pub count_keeps : (front : Bool) (hs : List Held) (t : Tag) (m : Mark) (gs : List Held) (e : Effect) → heard_in front hs t m ≡ two gs e
     → count_open gs ≤ count_open hs
 count_keeps front [] t m gs e is = absurd (cc)
@@ -76,10 +79,12 @@ count_keeps front (h ∷ hs) t m gs e is =
 
 -- ---- where all have failed
 
+-- each of these commands has failed
 abbrev pub AreFailed : List Held → Type 0
 AreFailed [] = Unit {0}
 AreFailed (h ∷ hs) = (h.stage ≡ Stage.Failed) × AreFailed hs
 
+-- where none is open, each has failed
 pub all_failed : (hs : List Held) → count_open hs ≡ 0 → AreFailed hs
 all_failed [] e = tt
 all_failed (h ∷ hs) e = if_cases {A = ℕ} (is_failed h.stage) (count_open hs) (suc (count_open hs)) 0 (AreFailed (h ∷ hs)) e
@@ -109,6 +114,7 @@ never_breaks b k (Mark.Given p) e = let d : judged_given (b && asks_data k) Stag
 never_breaks b k Mark.Done e = cc
 never_breaks b k Mark.Error e = cc
 
+-- a command that has failed is not counted
 pub never_counts : (b : Bool) (k : Kind) (m : Mark) (given : Option Point) → judged b k Stage.Failed m ≡ Counts given → ⊥
 never_counts b k Mark.Ack given e = cc
 never_counts b k (Mark.Given p) given e = let d : judged_given (b && asks_data k) Stage.Failed p ≡ Refused Cause.OutOfOrder =
@@ -116,6 +122,7 @@ never_counts b k (Mark.Given p) given e = let d : judged_given (b && asks_data k
 never_counts b k Mark.Done given e = cc
 never_counts b k Mark.Error given e = cc
 
+-- where each has failed, a reply counts nothing, and has its place at the front or not
 pub only_ends : (front : Bool) (hs : List Held) (t : Tag) (m : Mark) (gs : List Held) (e : Effect) → heard_in front hs t m ≡ two gs e
     → AreFailed hs → OnlyEnds hs gs t m e
 only_ends front [] t m gs e is failed = absurd (cc)
@@ -153,6 +160,7 @@ only_ends front (h ∷ hs) t m gs e is failed =
 
 -- ---- which tags have failed
 
+-- the tags of the commands that have failed
 abbrev pub failed_tags : List Held → List Tag
 failed_tags [] = []
 failed_tags (h ∷ hs) = cond (is_failed h.stage) (h.tag ∷ failed_tags hs) (failed_tags hs)
@@ -164,6 +172,7 @@ none_of h hs e = if_cases {A = List Tag} (is_failed h.stage) (h.tag ∷ failed_t
     (λ failed no_way. absurd (cc))
     (λ live others. (live, others))
 
+-- the mark of an error
 abbrev pub is_error : Mark → Bool
 is_error Mark.Ack = false
 is_error (Mark.Given p) = false
@@ -183,6 +192,7 @@ ack_lives Stage.Received x e = absurd (cc)
 ack_lives (Stage.Given p) x e = absurd (cc)
 ack_lives Stage.Failed x e = absurd (cc)
 
+-- an end brings a command to no other stage
 pub done_moves : (a b : Bool) (s x : Stage) → judged_done a b s ≡ Becomes x → ⊥
 done_moves true b Stage.Sent x e = cc
 done_moves true true Stage.Received x e = cc
@@ -225,6 +235,7 @@ done_no_break false b Stage.Received e = cc
 done_no_break false b (Stage.Given p) e = cc
 done_no_break false b Stage.Failed e = cc
 
+-- no mark but an error breaks a command
 pub no_break : (b : Bool) (k : Kind) (s : Stage) (m : Mark) → is_error m ≡ false → judged b k s m ≡ Breaks → ⊥
 no_break b k s Mark.Ack n e = ack_no_break s e
 no_break b k s (Mark.Given p) n e = data_no_break (b && asks_data k) s p e

@@ -25,6 +25,7 @@ found_by sort hs n left m true e is deeper = let f : IsFound sort hs (suc n) lef
 found_by sort hs n left m false e is deeper = let same : n ≡ m = cc
     in record { free = subst (λ (k : ℕ). is_held (sort k) hs ≡ false) same e; from = omega arith; below = omega arith }
 
+-- the number that is found is free, and those before it are held
 pub found : (sort : ℕ → Tag) (hs : List Held) (n left m : ℕ) → first_free sort hs n left ≡ Some m → IsFound sort hs n left m
 found sort hs n zero m is = absurd (cc)
 found sort hs n (suc left) m is = found_by sort hs n left m (is_held (sort n) hs) refl is (found sort hs (suc n) left m)
@@ -40,6 +41,7 @@ none_by sort hs n left i true e is deeper from below = go (eqb n i) refl
     go false other = let apart : n ≡ i → ⊥ = eqb-false n i other in deeper is (omega arith) (omega arith)
 none_by sort hs n left i false e is deeper from below = absurd (cc)
 
+-- where none is found, each of these numbers is held
 pub none_free : (sort : ℕ → Tag) (hs : List Held) (n left i : ℕ) → first_free sort hs n left ≡ None → n ≤ i → i < n + left
     → is_held (sort i) hs ≡ true
 none_free sort hs n zero i is from below = absurd (go from below)
@@ -100,18 +102,22 @@ many_held sort apart hs n (suc left) all =
     too_far : (i : ℕ) → suc n ≤ i → n ≡ i → ⊥
     too_far i from e = omega arith
 
+-- standard tags of different numbers are different
 pub standard_apart : AreApart Std
 standard_apart i j apart = ne_eqb i j apart
 
+-- event tags of different numbers are different
 pub event_apart : AreApart Event
 event_apart i j apart = ne_eqb i j apart
 
 -- ---- the next number
 
+-- a number that was drawn: free, and from 1 on
 pub record IsDrawn (sort : ℕ → Tag) (hs : List Held) (n : ℕ) : Type 0 where
   pub free : is_held (sort n) hs ≡ false
   pub from : 1 ≤ n
 
+-- the first of two numbers that is there is the one or the other
 pub or_cases : (a b : Option ℕ) (n : ℕ) (P : Type 0) → or_else a b ≡ Some n → (a ≡ Some n → P) → (b ≡ Some n → P) → P
 or_cases None b n P e first other = other e
 or_cases (Some m) b n P e first other = first e
@@ -120,6 +126,7 @@ or_none : (a b : Option ℕ) → or_else a b ≡ None → b ≡ None
 or_none None b e = e
 or_none (Some m) b e = absurd (cc)
 
+-- what is drawn in two rounds is such a number
 pub drawn : (sort : ℕ → Tag) (hs : List Held) (last left all n : ℕ)
     → or_else (first_free sort hs (suc last) left) (first_free sort hs 1 all) ≡ Some n → IsDrawn sort hs n
 drawn sort hs last left all n e = or_cases _ _ n (IsDrawn sort hs n) e
@@ -127,6 +134,7 @@ drawn sort hs last left all n e = or_cases _ _ n (IsDrawn sort hs n) e
     in record { free = f.free; from = omega (arith, f.from) })
     (λ other. let f : IsFound sort hs 1 all n = found sort hs 1 all n other in record { free = f.free; from = f.from })
 
+-- where none is drawn, as many tags are held as there are
 pub none_drawn : (sort : ℕ → Tag) (hs : List Held) (last left all : ℕ) → AreApart sort
     → or_else (first_free sort hs (suc last) left) (first_free sort hs 1 all) ≡ None → all ≤ length hs
 none_drawn sort hs last left all apart e = many_held sort apart hs 1 all
@@ -138,6 +146,7 @@ length_by : (b : Bool) (t : Tag) (ts : List Tag) (n m : ℕ) → m ≤ n + lengt
 length_by true t ts n m h = omega arith
 length_by false t ts n m h = omega arith
 
+-- what is held is open or has failed
 pub held_length : (hs : List Held) → length hs ≤ count_open hs + length (failed_tags hs)
 held_length [] = omega arith
 held_length (h ∷ hs) = length_by (is_failed h.stage) h.tag (failed_tags hs) (count_open hs) (length hs) (held_length hs)

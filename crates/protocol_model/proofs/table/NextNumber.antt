@@ -91,24 +91,30 @@ spent_of sort hs last left all i e from to = none_free sort hs 1 all i (none_of 
 
 -- ---- the number that is drawn next
 
+-- the number that is drawn is held by no command
 pub drawn_free : (sort : ℕ → Tag) (hs : List Held) (drawn n : ℕ) → next_number sort hs drawn ≡ Some n → is_held (sort n) hs ≡ false
 drawn_free sort hs drawn n e = free_of sort hs drawn (9999 - drawn) 9999 n e
 
+-- it is from 1 to 9,999
 pub drawn_within : (sort : ℕ → Tag) (hs : List Held) (drawn n : ℕ) → next_number sort hs drawn ≡ Some n → (1 ≤ n) × (n ≤ 9999)
 drawn_within sort hs drawn n e = within_of sort hs drawn 9999 n e
 
+-- where it is above the last one, those between are held
 pub drawn_passed : (sort : ℕ → Tag) (hs : List Held) (drawn n i : ℕ) → next_number sort hs drawn ≡ Some n → drawn < n → drawn < i → i < n
     → is_held (sort i) hs ≡ true
 drawn_passed sort hs drawn n i e lt from below = passed_of sort hs drawn 9999 n i e lt from below
 
+-- where it is not, all above the last one are held
 pub drawn_up : (sort : ℕ → Tag) (hs : List Held) (drawn n i : ℕ) → next_number sort hs drawn ≡ Some n → n ≤ drawn → drawn < i → i ≤ 9999
     → is_held (sort i) hs ≡ true
 drawn_up sort hs drawn n i e le from to = up_of sort hs drawn 9999 n i e le from to
 
+-- and those below it
 pub drawn_again : (sort : ℕ → Tag) (hs : List Held) (drawn n i : ℕ) → next_number sort hs drawn ≡ Some n → n ≤ drawn → 1 ≤ i → i < n
     → is_held (sort i) hs ≡ true
 drawn_again sort hs drawn n i e le from below = again_of sort hs drawn 9999 n i e le from below
 
+-- where none is drawn, all are held
 pub drawn_spent : (sort : ℕ → Tag) (hs : List Held) (drawn i : ℕ) → next_number sort hs drawn ≡ None → 1 ≤ i → i ≤ 9999
     → is_held (sort i) hs ≡ true
 drawn_spent sort hs drawn i e from to = spent_of sort hs drawn (9999 - drawn) 9999 i e from to

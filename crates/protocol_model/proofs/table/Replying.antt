@@ -20,9 +20,11 @@ use Rattle.protocol_model.specs.declared.plans.Does.{Does}
 use Rattle.protocol_model.specs.declared.states.Cause.{Cause}
 use Rattle.protocol_model.specs.declared.held.Held.{Held}
 
+-- a table of these open commands and this tally
 abbrev pub tabled : List Held → List Held → Tally → Table
 tabled standard event tally = record { standard = standard; event = event; tally = tally }
 
+-- a reply that had its place
 abbrev pub fine : Table → Result Table Cause
 fine b = Ok b
 
@@ -64,6 +66,7 @@ pub standard_step : (ws : List Wanted) (b : Table) (n : ℕ) (m : Mark) (hs : Li
     → heard_in (not b.tally.failed) b.standard (Std n) m ≡ two hs e → heard ws b (Std n) m ≡ fine (tabled hs b.event (tallied ws e b.tally))
 standard_step ws b n m hs e is = ap (heard_standard ws b) is
 
+-- a reply on an event tag that has its place changes the event commands alone
 pub event_step : (ws : List Wanted) (b : Table) (n : ℕ) (m : Mark) (hs : List Held) (e : Effect) → tag_is (Event n) (Event 0) ≡ false
     → heard_in true b.event (Event n) m ≡ two hs e → heard ws b (Event n) m ≡ fine (tabled b.standard hs b.tally)
 event_step ws b n m hs e other is = if_false {A = Result Table Cause} (tag_is (Event n) (Event 0)) (fine b)
@@ -76,6 +79,7 @@ abbrev pub Reads : List Wanted → Table → List Reply → Table → Type 0
 Reads ws b [] c = b ≡ c
 Reads ws b (r ∷ rs) c = (mid : Table) × (heard ws b (tag_of r) (mark_of r) ≡ fine mid) × Reads ws mid rs c
 
+-- replies that are read one after another
 pub reads_more : (ws : List Wanted) (rs ss : List Reply) (b c d : Table) → Reads ws b rs c → Reads ws c ss d → Reads ws b (rs ++ ss) d
 reads_more ws [] ss b c d first then = subst (λ (x : Table). Reads ws x ss d) (sym first) then
 reads_more ws (r ∷ rs) ss b c d first then = (first.0, first.1, reads_more ws rs ss first.0 c d first.2 then)
@@ -88,9 +92,11 @@ reads_keeps ws P keeps (r ∷ rs) b c reads p = reads_keeps ws P keeps rs reads.
 
 -- ---- with one open command more
 
+-- a table with one standard command more
 abbrev pub with_standard : Held → Table → Table
 with_standard x b = tabled (b.standard ++ x ∷ []) b.event b.tally
 
+-- a table with one event command more
 abbrev pub with_event : Held → Table → Table
 with_event x b = tabled b.standard (b.event ++ x ∷ []) b.tally
 
@@ -114,6 +120,7 @@ step_with_event ws x b t m c is =
     (λ n hs e tag other walk g. rw (tag, g) (event_step ws (with_event x b) n m (hs ++ x ∷ []) e (rw tag at other)
     (heard_more true b.event x (Event n) m hs e walk)))
 
+-- what is read is read beside one standard command more
 pub reads_with_standard : (ws : List Wanted) (x : Held) (rs : List Reply) (b c : Table) → Reads ws b rs c
     → Reads ws (with_standard x b) rs (with_standard x c)
 reads_with_standard ws x [] b c reads = ap (with_standard x) reads
@@ -123,6 +130,7 @@ reads_with_standard ws x (r ∷ rs) b c reads = (
   reads_with_standard ws x rs reads.0 c reads.2,
 )
 
+-- what is read is read beside one event command more
 pub reads_with_event : (ws : List Wanted) (x : Held) (rs : List Reply) (b c : Table) → Reads ws b rs c
     → Reads ws (with_event x b) rs (with_event x c)
 reads_with_event ws x [] b c reads = ap (with_event x) reads
@@ -134,9 +142,11 @@ reads_with_event ws x (r ∷ rs) b c reads = (
 
 -- ---- where all standard commands have failed: replies count nothing, whatever is to be counted
 
+-- a table with another tally
 abbrev pub with_tally : Tally → Table → Table
 with_tally y b = tabled b.standard b.event y
 
+-- replies that count nothing, leave each standard command failed, and have their places whatever is counted
 pub record OnlyCloses (ws : List Wanted) (b c : Table) (rs : List Reply) : Type 0 where
   pub same : c.tally ≡ b.tally
   pub left : AreFailed c.standard
@@ -176,6 +186,7 @@ step_closes ws b t m c is failed =
           ∙ ap (λ (x : Table). fine (with_tally y x)) (sym g));
     })
 
+-- where each standard command has failed, replies do no more
 pub only_closes : (ws : List Wanted) (rs : List Reply) (b c : Table) → Reads ws b rs c → AreFailed b.standard → OnlyCloses ws b c rs
 only_closes ws [] b c reads failed = record {
   same = ap (λ (x : Table). x.tally) (sym reads);
@@ -193,15 +204,18 @@ only_closes ws (r ∷ rs) b c reads failed =
 
 -- ---- what only grows, and what only shrinks
 
+-- a list is the front of another
 abbrev pub IsFront : {A : Type 0} → List A → List A → Type 0
 IsFront {A} xs ys = (more : List A) × (xs ++ more ≡ ys)
 
 pub front_refl : {A : Type 0} (xs : List A) → IsFront xs xs
 front_refl xs = ([], append-nil xs)
 
+-- the front of a front is a front
 pub front_trans : {A : Type 0} (xs ys zs : List A) → IsFront xs ys → IsFront ys zs → IsFront xs zs
 front_trans {A} xs ys zs h g = (h.0 ++ g.0, sym (append_assoc xs h.0 g.0) ∙ (ap (λ (l : List A). l ++ g.0) h.1 ∙ g.1))
 
+-- a list is the front of itself with more
 pub front_more : {A : Type 0} (xs ys : List A) → IsFront xs (xs ++ ys)
 front_more xs ys = (ys, refl)
 
@@ -264,6 +278,7 @@ step_grows ws b t m c is =
     (λ n hs e tag walk g. subst (λ (x : Table). Grows b.tally x.tally) (sym g) (tallied_grows ws e b.tally))
     (λ n hs e tag other walk g. subst (λ (x : Table). Grows b.tally x.tally) (sym g) (grows_refl b.tally))
 
+-- what is counted and the features only grow while replies are read
 pub reads_grows : (ws : List Wanted) (rs : List Reply) (b c : Table) → Reads ws b rs c → Grows b.tally c.tally
 reads_grows ws rs b c reads = reads_keeps ws (λ (x : Table). Grows b.tally x.tally)
     (λ x t m y is h. grows_trans b.tally x.tally y.tally h (step_grows ws x t m y is)) rs b c reads (grows_refl b.tally)
@@ -278,10 +293,12 @@ step_counts ws b t m c is =
     (count_keeps (not b.tally.failed) b.standard (Std n) m hs e walk))
     (λ n hs e tag other walk g. subst (λ (x : Table). count_open x.standard ≤ count_open b.standard) (sym g) (le_refl _))
 
+-- replies open no command
 pub reads_counts : (ws : List Wanted) (rs : List Reply) (b c : Table) → Reads ws b rs c → count_open c.standard ≤ count_open b.standard
 reads_counts ws rs b c reads = reads_keeps ws (λ (x : Table). count_open x.standard ≤ count_open b.standard)
     (λ x t m y is h. le_trans (step_counts ws x t m y is) h) rs b c reads (le_refl _)
 
+-- a reply leaves the tags of open commands different
 pub step_distinct : (ws : List Wanted) (b : Table) (t : Tag) (m : Mark) (c : Table) → heard ws b t m ≡ fine c → AreDistinct b.standard
     → AreDistinct c.standard
 step_distinct ws b t m c is d =
@@ -291,6 +308,7 @@ step_distinct ws b t m c is d =
     (distinct_keeps (not b.tally.failed) b.standard (Std n) m hs e walk d))
     (λ n hs e tag other walk g. subst (λ (x : Table). AreDistinct x.standard) (sym g) d)
 
+-- so do replies, one after another
 pub reads_distinct : (ws : List Wanted) (rs : List Reply) (b c : Table) → Reads ws b rs c → AreDistinct b.standard → AreDistinct c.standard
 reads_distinct ws rs b c reads d = reads_keeps ws (λ (x : Table). AreDistinct x.standard) (step_distinct ws) rs b c reads d
 
@@ -312,5 +330,6 @@ step_no_event ws b t m c is none =
     (λ n hs e tag other walk g. let nowhere : heard_in true [] (Event n) m
     ≡ two hs e = ap (λ (l : List Held). heard_in true l (Event n) m) (sym none) ∙ walk in absurd (cc))
 
+-- where no event command is held, none is behind replies
 pub reads_no_event : (ws : List Wanted) (rs : List Reply) (b c : Table) → Reads ws b rs c → b.event ≡ [] → c.event ≡ []
 reads_no_event ws rs b c reads none = reads_keeps ws (λ (x : Table). x.event ≡ []) (step_no_event ws) rs b c reads none

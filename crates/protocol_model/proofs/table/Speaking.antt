@@ -298,6 +298,7 @@ pub accepts_only : (k : Kind) (ms : List Placed) → Accepts k Stage.Sent ms →
     × AreAtFront false ms
 accepts_only k ms h = let both = accepts_goes k Stage.Sent ms h in (sent_front (asks_data k) (marks_of ms) both.0, both.1)
 
+-- the table accepts each front of the replies to a command
 pub accepts_all : (k : Kind) (ms : List Placed) → IsRepliesFront (asks_data k) (marks_of ms) → AreAtFront false ms → Accepts k Stage.Sent ms
 accepts_all k ms h f = goes_accepts k Stage.Sent ms (goes_front (asks_data k) Stage.Sent (marks_of ms) h.more
     (replies_go (asks_data k) (marks_of ms ++ h.more) h.whole)) f

@@ -9,6 +9,7 @@ use Rattle.protocol_model.proofs.table.Basics.{if_cases, if_true, if_false}
 use Rattle.protocol_model.specs.declared.held.Stage.{Stage}
 use Rattle.protocol_model.specs.declared.held.Held.{Held}
 
+-- a reply with its place: what is held then, and the effect
 abbrev pub two : List Held → Effect → Heard
 two hs e = Ok (hs, e)
 
@@ -29,10 +30,12 @@ pub heard_at : (front : Bool) (h : Held) (hs : List Held) (t : Tag) (m : Mark) �
     → heard_in front (h ∷ hs) t m ≡ settled h hs (judged front h.kind h.stage m)
 heard_at front h hs t m e = if_true {A = Heard} (tag_is h.tag t) _ _ e
 
+-- a reply to another tag passes a command by
 pub heard_past : (front : Bool) (h : Held) (hs : List Held) (t : Tag) (m : Mark) → tag_is h.tag t ≡ false
     → heard_in front (h ∷ hs) t m ≡ put_before h (heard_in (front && is_failed h.stage) hs t m)
 heard_past front h hs t m e = if_false {A = Heard} (tag_is h.tag t) _ _ e
 
+-- a command at another stage
 abbrev pub staged : Held → Stage → Held
 staged h s = record h { stage = s }
 
@@ -75,6 +78,7 @@ heard_cases front h hs t m gs e P is becomes breaks closes counts past =
 
 -- ---- with one command more at the end
 
+-- a reply that has its place has it beside one command more
 pub heard_more : (front : Bool) (hs : List Held) (x : Held) (t : Tag) (m : Mark) (gs : List Held) (e : Effect)
     → heard_in front hs t m ≡ two gs e → heard_in front (hs ++ x ∷ []) t m ≡ two (gs ++ x ∷ []) e
 heard_more front [] x t m gs e is = absurd (cc)
@@ -89,6 +93,7 @@ heard_more front (h ∷ hs) x t m gs e is =
 
 -- ---- the tags that are held become no more
 
+-- a tag that is not held is not held behind a reply
 pub not_held_keeps : (u : Tag) (front : Bool) (hs : List Held) (t : Tag) (m : Mark) (gs : List Held) (e : Effect)
     → heard_in front hs t m ≡ two gs e → is_held u hs ≡ false → is_held u gs ≡ false
 not_held_keeps u front [] t m gs e is free = absurd (cc)
@@ -109,6 +114,7 @@ abbrev pub AreDistinct : List Held → Type 0
 AreDistinct [] = Unit {0}
 AreDistinct (h ∷ hs) = (is_held h.tag hs ≡ false) × AreDistinct hs
 
+-- tags that differ differ behind a reply
 pub distinct_keeps : (front : Bool) (hs : List Held) (t : Tag) (m : Mark) (gs : List Held) (e : Effect) → heard_in front hs t m ≡ two gs e
     → AreDistinct hs → AreDistinct gs
 distinct_keeps front [] t m gs e is d = absurd (cc)

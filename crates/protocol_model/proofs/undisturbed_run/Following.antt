@@ -26,6 +26,7 @@ use Rattle.protocol_model.specs.declared.plans.Does.{Does}
 
 -- ---- plans whose touches are commands that ask for data
 
+-- a command stands for a touch
 abbrev pub is_touch : Does → Bool
 is_touch (Does.Touches t last) = true
 is_touch Does.Nothing = false
@@ -34,9 +35,11 @@ is_touch (Does.Moves p f) = false
 is_touch (Does.Changes n) = false
 is_touch (Does.Frames f) = false
 
+-- a command that stands for a touch asks for data
 abbrev pub IsAsked : Planned → Type 0
 IsAsked p = is_touch p.does ≡ true → asks_data (kind_of p.command) ≡ true
 
+-- each command of a plan does
 abbrev pub AreAsked : List Planned → Type 0
 AreAsked [] = Unit {0}
 AreAsked (p ∷ ps) = IsAsked p × AreAsked ps
@@ -58,27 +61,32 @@ one_asked k (command.SetCoordSystem system) d h is = let f : FitsFrame k system 
     in absurd (no_touch d (Does.Frames f.frame) f.is refl is)
 one_asked k command.AbortE d h is = absurd h
 
+-- in a plan that fits each does
 pub fits_asked : (ps : List Planned) (k : Know) → Fits k ps → AreAsked ps
 fits_asked [] k h = tt
 fits_asked (p ∷ ps) k h = (one_asked k p.command p.does h.0, fits_asked ps (known_by k p.command) h.1)
 
+-- so does each that stands in such a plan
 pub asked_at : (xs : List Planned) (p : Planned) (ys : List Planned) → AreAsked (xs ++ p ∷ ys) → IsAsked p
 asked_at [] p ys h = h.0
 asked_at (x ∷ xs) p ys h = asked_at xs p ys h.1
 
 -- ---- acts for what is planned
 
+-- acts that stand for commands, one list behind another
 pub acts_join : (xs ys : List Act) (ds es : List Does) → AreActs xs ds → AreActs ys es → AreActs (xs ++ ys) (ds ++ es)
 acts_join [] ys [] es h g = g
 acts_join [] ys (d ∷ ds) es h g = absurd h
 acts_join (a ∷ xs) ys [] es h g = absurd h
 acts_join (a ∷ xs) ys (d ∷ ds) es h g = (h.0, acts_join xs ys ds es h.1 g)
 
+-- acts that stand for the front of commands
 pub first_acts : (xs : List Act) (ds es : List Does) → AreActs xs ds → AreFirstActs xs (ds ++ es)
 first_acts [] ds es h = tt
 first_acts (a ∷ xs) [] es h = absurd h
 first_acts (a ∷ xs) (d ∷ ds) es h = (h.0, first_acts xs ds es h.1)
 
+-- what two plans stand for, one behind the other
 pub planned_more : (ps qs : List Planned) → acts_planned (ps ++ qs) ≡ acts_planned ps ++ acts_planned qs
 planned_more [] qs = refl
 planned_more (p ∷ ps) qs = ap (λ (l : List Does). act_in p.does ++ l) (planned_more ps qs)
@@ -96,6 +104,7 @@ act_stands (Does.Touches t last) (Some p) h = ((refl, refl, refl, refl), tt)
 
 -- ---- open commands that have not failed
 
+-- no open command has failed
 abbrev pub AreCalm : List Held → Type 0
 AreCalm [] = Unit {0}
 AreCalm (h ∷ hs) = (is_failed h.stage ≡ false) × AreCalm hs
@@ -105,10 +114,12 @@ abbrev pub HaveTags : ℕ → List Held → Type 0
 HaveTags place [] = Unit {0}
 HaveTags place (h ∷ hs) = (h.tag ≡ tag_at place) × HaveTags (suc place) hs
 
+-- the kinds of open commands
 abbrev pub kinds_held : List Held → List Kind
 kinds_held [] = []
 kinds_held (h ∷ hs) = h.kind ∷ kinds_held hs
 
+-- the kinds of planned commands
 abbrev pub kinds_of : List Planned → List Kind
 kinds_of [] = []
 kinds_of (p ∷ ps) = kind_of p.command ∷ kinds_of ps
@@ -133,6 +144,7 @@ data_calm true (Stage.Given q) p s e = absurd (cc)
 data_calm true Stage.Failed p s e = absurd (cc)
 data_calm false stage p s e = absurd (cc)
 
+-- where a command that has not failed goes to another stage, it still has not
 pub becomes_calm : (front : Bool) (kind : Kind) (stage : Stage) (m : Mark) (s : Stage) → is_failed stage ≡ false
     → judged front kind stage m ≡ Becomes s → is_failed s ≡ false
 becomes_calm front kind stage (Mark.Given p) s calm e = data_calm (front && asks_data kind) stage p s e
@@ -168,6 +180,7 @@ data_closes true (Stage.Given q) p e = cc
 data_closes true Stage.Failed p e = cc
 data_closes false stage p e = cc
 
+-- a command that has not failed is not closed uncounted
 pub no_closes : (front : Bool) (kind : Kind) (stage : Stage) (m : Mark) → is_failed stage ≡ false → judged front kind stage m ≡ Closes → ⊥
 no_closes front kind stage (Mark.Given p) calm e = data_closes (front && asks_data kind) stage p e
 no_closes front kind Stage.Sent Mark.Ack calm e = cc
@@ -200,6 +213,7 @@ data_counts true (Stage.Given q) p given e = cc
 data_counts true Stage.Failed p given e = cc
 data_counts false stage p given e = cc
 
+-- behind the front no command is counted
 pub no_counts : (kind : Kind) (stage : Stage) (m : Mark) (given : Option Point) → judged false kind stage m ≡ Counts given → ⊥
 no_counts kind stage (Mark.Given p) given e = data_counts false stage p given e
 no_counts kind Stage.Sent Mark.Ack given e = cc
@@ -398,6 +412,7 @@ standard_follows ws steps unsent hs gs y t m e asked f false calm is =
 abbrev pub Follows : List Planned → List Planned → Table → Type 0
 Follows steps unsent b = IsFollowing steps unsent b.standard b.tally
 
+-- behind a reply what is counted still follows the plan
 pub heard_follows : (ws : List Wanted) (steps unsent : List Planned) → AreAsked steps → (b : Table) (t : Tag) (m : Mark) (c : Table)
     → heard ws b t m ≡ fine c → Follows steps unsent b → Follows steps unsent c
 heard_follows ws steps unsent asked b t m c is f =

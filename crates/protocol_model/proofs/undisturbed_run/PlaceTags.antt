@@ -14,6 +14,7 @@ use Rattle.protocol_model.specs.declared.lines.Line.{Line}
 use Rattle.protocol_model.specs.declared.held.Held.{Held}
 use Rattle.protocol_model.specs.declared.plans.Planned.{Planned}
 
+-- the number of the tag at a place of the plan
 abbrev pub number_at : ℕ → ℕ
 number_at place = place % 9999 + 1
 
@@ -66,6 +67,7 @@ next_step (suc place) = go (eqb (number_at place) 9999) refl
         above : (number_at place ≡ 9999 → ⊥) → number_at (suc place) ≡ suc (number_at place)
         above other = omega arith
 
+-- the next number that is drawn is that of the place
 pub next_is : (hs : List Held) (i j d : ℕ) → HaveTags i hs → i + length hs ≡ j → length hs ≤ 16 → d ≡ drawn_at j
     → next_number Std hs d ≡ Some (number_at j)
 next_is hs i j d h e few drawn = ap (next_number Std hs) drawn
@@ -76,10 +78,12 @@ pub tags_more : (hs : List Held) (i j : ℕ) (x : Held) → HaveTags i hs → i 
 tags_more [] i j x h e is = (is ∙ ap tag_at (omega (arith, e)), tt)
 tags_more (y ∷ hs) i j x h e is = (h.0, tags_more hs (suc i) j x h.1 (omega (arith, e)) is)
 
+-- a calm table with one command more that has not failed
 pub calm_more : (hs : List Held) (x : Held) → AreCalm hs → is_failed x.stage ≡ false → AreCalm (hs ++ x ∷ [])
 calm_more [] x h e = (e, tt)
 calm_more (y ∷ hs) x h e = (h.0, calm_more hs x h.1 e)
 
+-- in a calm table each command is open
 pub count_calm : (hs : List Held) → AreCalm hs → count_open hs ≡ length hs
 count_calm [] h = refl
 count_calm (x ∷ hs) h = if_false {A = ℕ} (is_failed x.stage) (count_open hs) (suc (count_open hs)) h.0 ∙ ap suc (count_calm hs h.1)
@@ -90,5 +94,6 @@ lines_more place [] qs = ap (λ (k : ℕ). lines_from k qs) (omega arith)
 lines_more place (p ∷ ps) qs = ap (λ (l : List Line). record { tag = tag_at place; command = p.command } ∷ l) (lines_more (suc place) ps qs
     ∙ ap (λ (k : ℕ). lines_from (suc place) ps ++ lines_from k qs) (omega arith))
 
+-- the lines of two plans, one behind the other
 pub lines_start : (ps qs : List Planned) → lines_from 0 (ps ++ qs) ≡ lines_from 0 ps ++ lines_from (length ps) qs
 lines_start ps qs = lines_more 0 ps qs ∙ ap (λ (k : ℕ). lines_from 0 ps ++ lines_from k qs) (omega arith)

@@ -143,6 +143,7 @@ line_on : (readers : Readers) (steps : List Planned) (c : Client) (written : Lis
 line_on readers steps c written (Ok r) asked h = response_on readers steps c written r.tag r.mark asked h
 line_on readers steps c written (Err refused) asked h = stays_faulted steps c written Cause.NotResponse h
 
+-- behind what is read a client is still on its plan
 pub front_on : (readers : Readers) (steps : List Planned) (c : Client) (written : List ℕ) (f : Front) → AreAsked steps
     → IsOnPlan steps c written → IsOnPlan steps (front_read readers c f) written
 front_on readers steps c written (Ok None) asked h = h
@@ -219,6 +220,7 @@ sends_on steps c written p others number h unsent failed is =
 
 -- ---- the plan begins
 
+-- on its first connection a client begins its plan
 pub begins_on : (c : Client) → c.last ≡ 0 → IsOnPlan (plan c.program (length c.table.tally.features) Start.NewConnection)
     (client_connected (suc c.last) c) []
 begins_on c last = record {

@@ -322,12 +322,14 @@ counted_acts p b k (inr h) =
     told_now (lined b k.up k.down) k.inv in
     record { more = told.0; parts = told.1 ∙ acts_are_on p b h }
 
+-- the lines that are written are the first of the plan
 pub undisturbed_lines : (readers : Readers) → AreReaders readers → (p : Meaning) (rack : List (List ℕ)) (window : ℕ) (es : List Event)
     → IsProgram p → window ≤ 16 → AreUndisturbed es
     → AreFirstLines (run_of readers es (start p rack window)).written (plan p 0 Start.NewConnection)
 undisturbed_lines readers are p rack window es program le quiet =
     first_lines p (run_of readers es (start p rack window)) (from_start readers are p rack window es program le quiet).planned
 
+-- the acts of the server are the first that the plan stands for
 pub undisturbed_acts : (readers : Readers) → AreReaders readers → (p : Meaning) (rack : List (List ℕ)) (window : ℕ) (es : List Event)
     → IsProgram p → window ≤ 16 → AreUndisturbed es
     → AreFirstActs (acts_in (run_of readers es (start p rack window)).server.server.ledger) (acts_planned (plan p 0 Start.NewConnection))
@@ -335,6 +337,7 @@ undisturbed_acts readers are p rack window es program le quiet =
     let h : IsRunning p (run_of readers es (start p rack window)) = from_start readers are p rack window es program le quiet in
     done_acts p (run_of readers es (start p rack window)) (steps_asked p program) h.carried h.planned
 
+-- what is counted is the front of these acts
 pub undisturbed_counts : (readers : Readers) → AreReaders readers → (p : Meaning) (rack : List (List ℕ)) (window : ℕ) (es : List Event)
     → IsProgram p → window ≤ 16 → AreUndisturbed es
     → AreFirstOf (run_of readers es (start p rack window)).client.client.table.tally.counted

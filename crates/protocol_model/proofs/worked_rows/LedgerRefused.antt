@@ -38,12 +38,15 @@ right_from origin = record {
   );
 }
 
+-- the right ledger serves the feature
 pub right_is : Sound one_wanted (measured_as (codes "A") ∷ []) right_ledger
 right_is = right_from None
 
+-- no feature is claimed of nothing
 pub nothing_is : Sound one_wanted [] []
 nothing_is = record { starts = []; runs = tt }
 
+-- each of two features has its contacts
 pub both_are : Sound two_wanted (measured_as (codes "A") ∷ measured_as (codes "B") ∷ [])
     (first_contact ∷ second_contact ∷ first_contact ∷ second_contact ∷ [])
 both_are = record {
@@ -112,6 +115,7 @@ abbrev size_of : Option Direction → ℕ
 size_of None = 0
 size_of (Some d) = unsigned_abs d.i + 1
 
+-- another tool
 pub other_tool_is_none : Sound one_wanted (measured_as (codes "A") ∷ [])
     (ledger_with (contact_of 1 (at (pos 20000) (pos 0) (pos 0)) from_above (codes "P2") frame.Machine second_point)) → ⊥
 other_tool_is_none h =
@@ -119,6 +123,7 @@ other_tool_is_none h =
     let e : false ≡ true = ap (λ (name : List ℕ). bytes_eq name tool) served.serves.1.0.tool in
     absurd (false≢true e)
 
+-- another frame
 pub other_frame_is_none : Sound one_wanted (measured_as (codes "A") ∷ [])
     (ledger_with (contact_of 1 (at (pos 20000) (pos 0) (pos 0)) from_above tool (frame.Part part) second_point)) → ⊥
 other_frame_is_none h =
@@ -126,6 +131,7 @@ other_frame_is_none h =
     let e : false ≡ true = ap is_machine served.serves.1.0.frame in
     absurd (false≢true e)
 
+-- another target
 pub other_target_is_none : Sound one_wanted (measured_as (codes "A") ∷ [])
     (ledger_with (contact_of 1 (at (pos 20001) (pos 0) (pos 0)) from_above tool frame.Machine second_point)) → ⊥
 other_target_is_none h =
@@ -133,6 +139,7 @@ other_target_is_none h =
     let e : ◌≡◌ {A = ℕ} 20001 20000 = ap (λ (q : Point). unsigned_abs q.x) served.serves.1.0.target in
     absurd (omega arith)
 
+-- another direction
 pub other_direction_is_none : Sound one_wanted (measured_as (codes "A") ∷ [])
     (ledger_with (contact_of 1 (at (pos 20000) (pos 0) (pos 0)) (along (pos 1000000) (pos 0) (pos 0)) tool frame.Machine second_point)) → ⊥
 other_direction_is_none h =
@@ -140,6 +147,7 @@ other_direction_is_none h =
     let e : ◌≡◌ {A = ℕ} 1000001 1 = ap size_of served.serves.1.0.dir in
     absurd (omega arith)
 
+-- no direction
 pub no_direction_is_none : Sound one_wanted (measured_as (codes "A") ∷ [])
     (ledger_with (contact_of 1 (at (pos 20000) (pos 0) (pos 0)) None tool frame.Machine second_point)) → ⊥
 no_direction_is_none h =
@@ -147,6 +155,7 @@ no_direction_is_none h =
     let e : ◌≡◌ {A = ℕ} 0 1 = ap size_of served.serves.1.0.dir in
     absurd (omega arith)
 
+-- another point
 pub other_point_is_none : Sound one_wanted (measured_as (codes "A") ∷ [])
     (ledger_with (contact_of 1 (at (pos 20000) (pos 0) (pos 0)) from_above tool frame.Machine (at (pos 20000) (pos 0) (pos 5)))) → ⊥
 other_point_is_none h =
@@ -154,6 +163,7 @@ other_point_is_none h =
     let e : ◌≡◌ {A = ℕ} 5 4 = ap (λ (q : Point). unsigned_abs q.z) served.serves.1.0.point_is in
     absurd (omega arith)
 
+-- two connections
 pub two_connections_are_none : Sound one_wanted (measured_as (codes "A") ∷ [])
     (ledger_with (contact_of 2 (at (pos 20000) (pos 0) (pos 0)) from_above tool frame.Machine second_point)) → ⊥
 two_connections_are_none h =
@@ -168,6 +178,7 @@ label_by : (starts : List ℕ) → AreRuns one_wanted (measured_as (codes "B") �
 label_by [] h = absurd h
 label_by (s ∷ starts) h = h.1.label
 
+-- another label
 pub other_label_is_none : Sound one_wanted (measured_as (codes "B") ∷ []) right_ledger → ⊥
 other_label_is_none h = let e : false ≡ true = ap (λ (name : List ℕ). bytes_eq name (codes "A")) (label_by h.starts h.runs)
     in absurd (false≢true e)
@@ -177,6 +188,7 @@ first_label_by : (starts : List ℕ) → AreRuns two_wanted (measured_as (codes 
 first_label_by [] h = absurd h
 first_label_by (s ∷ starts) h = h.1.label
 
+-- the first feature is left out
 pub first_left_out_is_none : Sound two_wanted (measured_as (codes "B") ∷ []) right_ledger → ⊥
 first_left_out_is_none h = let e : false ≡ true = ap (λ (name : List ℕ). bytes_eq name (codes "A")) (first_label_by h.starts h.runs)
     in absurd (false≢true e)
@@ -191,6 +203,7 @@ fewer_by : (starts : List ℕ) → AreRuns one_wanted (feature (codes "A") (firs
 fewer_by [] h = h
 fewer_by (s ∷ starts) h = one_of_two h.1.connection s h.1.serves
 
+-- fewer points than touches
 pub fewer_points_are_none : Sound one_wanted (feature (codes "A") (first_point ∷ []) ∷ []) right_ledger → ⊥
 fewer_points_are_none h = fewer_by h.starts h.runs
 
@@ -198,6 +211,7 @@ no_points_by : (starts : List ℕ) → AreRuns one_wanted (feature (codes "A") [
 no_points_by [] h = h
 no_points_by (s ∷ starts) h = h.1.serves
 
+-- no points
 pub no_points_are_none : Sound one_wanted (feature (codes "A") [] ∷ []) right_ledger → ⊥
 no_points_are_none h = no_points_by h.starts h.runs
 
@@ -214,10 +228,12 @@ more_by : (starts : List ℕ) → AreRuns one_wanted (feature (codes "A") (first
 more_by [] h = h
 more_by (s ∷ starts) h = three_of_two h.1.connection s h.1.serves
 
+-- more points than touches
 pub more_points_are_none : Sound one_wanted (feature (codes "A") (first_point ∷ second_point ∷ second_point ∷ []) ∷ [])
     (first_contact ∷ second_contact ∷ second_contact ∷ []) → ⊥
 more_points_are_none h = more_by h.starts h.runs
 
+-- the points are exchanged
 pub exchanged_points_are_none : Sound one_wanted (feature (codes "A") (second_point ∷ first_point ∷ []) ∷ []) right_ledger → ⊥
 exchanged_points_are_none h =
     let served = has_both second_point first_point first_made second_made h.starts h.runs in
@@ -232,6 +248,7 @@ no_contact_by : (starts : List ℕ) → AreRuns one_wanted (measured_as (codes "
 no_contact_by [] h = h
 no_contact_by (s ∷ starts) h = no_contact_at h.1.connection s h.1.serves
 
+-- no contact
 pub no_contact_is_none : Sound one_wanted (measured_as (codes "A") ∷ []) [] → ⊥
 no_contact_is_none h = no_contact_by h.starts h.runs
 
@@ -241,21 +258,26 @@ more_features_by [] h = h
 more_features_by (s ∷ []) h = h.2
 more_features_by (s ∷ t ∷ starts) h = h.2
 
+-- more features than are wanted
 pub more_features_are_none : Sound one_wanted (measured_as (codes "A") ∷ measured_as (codes "A") ∷ [])
     (first_contact ∷ second_contact ∷ first_contact ∷ second_contact ∷ []) → ⊥
 more_features_are_none h = more_features_by h.starts h.runs
 
 -- ---- counted acts
 
+-- all that was done on the first connection
 pub first_connection_is : Told (act.Homed ∷ act.Changed tool ∷ []) two_connections 1
 first_connection_is = record { more = []; whole = refl }
 
+-- all that was done on the second
 pub second_connection_is : Told (act.Homed ∷ act.Framed frame.Machine ∷ []) two_connections 2
 second_connection_is = record { more = []; whole = refl }
 
+-- the front of what was done
 pub front_is : Told (act.Homed ∷ []) two_connections 1
 front_is = record { more = act.Changed tool ∷ []; whole = refl }
 
+-- nothing was counted
 pub nothing_counted_is : Told [] two_connections 3
 nothing_counted_is = record { more = []; whole = refl }
 
@@ -287,20 +309,26 @@ abbrev next_tool : List Act → List ℕ
 next_tool (a ∷ b ∷ rest) = tool_changed b
 next_tool _ = []
 
+-- the first act is left out
 pub no_front_is_none : Told (act.Changed tool ∷ []) two_connections 1 → ⊥
 no_front_is_none h = let e : ◌≡◌ {A = ℕ} 3 1 = ap first_sort h.whole in absurd (omega arith)
 
+-- the acts are exchanged
 pub exchanged_is_none : Told (act.Changed tool ∷ act.Homed ∷ []) two_connections 1 → ⊥
 exchanged_is_none h = let e : ◌≡◌ {A = ℕ} 3 1 = ap first_sort h.whole in absurd (omega arith)
 
+-- an act was never done
 pub never_done_is_none : Told (act.Homed ∷ act.Changed (codes "P2") ∷ []) two_connections 1 → ⊥
 never_done_is_none h = let e : false ≡ true = ap (λ (l : List Act). bytes_eq (next_tool l) tool) h.whole in absurd (false≢true e)
 
+-- one act too many
 pub too_many_are_none : Told (act.Homed ∷ act.Changed tool ∷ act.Homed ∷ []) two_connections 1 → ⊥
 too_many_are_none h = let e : ◌≡◌ {A = ℕ} 1 0 = ap third_sort h.whole in absurd (omega arith)
 
+-- acts of another connection
 pub other_connection_is_none : Told (act.Homed ∷ act.Changed tool ∷ []) two_connections 2 → ⊥
 other_connection_is_none h = let e : ◌≡◌ {A = ℕ} 3 4 = ap next_sort h.whole in absurd (omega arith)
 
+-- acts of no connection
 pub no_connection_is_none : Told (act.Homed ∷ []) two_connections 3 → ⊥
 no_connection_is_none h = let e : ◌≡◌ {A = ℕ} 1 0 = ap first_sort h.whole in absurd (omega arith)

@@ -15,6 +15,7 @@ second_start : (s n t : ℕ) → s + 1 ≤ t → Serves n (alike ∷ []) (at (po
 second_start s n zero l h = absurd (omega arith)
 second_start s n (suc k) l h = none_behind n k alike (at (pos 10002) (pos 0) (pos 0)) (made 10002) h
 
+-- one contact does not serve two features
 pub one_contact_serves_once : (starts : List ℕ) → AreRuns alike_wanted alike_features starts 0 (made 10002 ∷ []) → ⊥
 one_contact_serves_once [] h = h
 one_contact_serves_once (s ∷ []) h = h.2
@@ -29,6 +30,7 @@ two_of_three n (suc (suc zero)) h = h.1
 two_of_three n (suc (suc (suc zero))) h = h
 two_of_three n (suc (suc (suc (suc k)))) h = h
 
+-- no contact within a run is left out
 pub no_contact_is_left_out : (starts : List ℕ) → AreRuns twice_wanted twice_features starts 0 (made 10002 ∷ made 10003 ∷ made 10004 ∷ [])
     → ⊥
 no_contact_is_left_out [] h = h
