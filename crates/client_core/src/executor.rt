@@ -10,7 +10,7 @@ ghost use Rattle.client_core.specs.Refusals.{IsRefusal};
 
 use crate::faults::ClientFault;
 use crate::progress::Progress;
-use contact_ledger::{Act, Feature, FeatureLedger, Points};
+use contact_ledger::{Act, CONNECTION_MAX, Feature, FeatureLedger, Points};
 use dme_line::{Command, Tag};
 use dme_tags::Open;
 use dmis_program::Program;
@@ -191,7 +191,7 @@ impl Executor {
     {
         matches!(self.state, State::Apart)
             && self.progress.connection < number
-            && number <= 4_000_000_000
+            && number <= CONNECTION_MAX
     }
 
     /// Whether the client reads.

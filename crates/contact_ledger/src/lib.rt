@@ -14,7 +14,7 @@ pub mod server_ledger;
 pub use acts::Act;
 pub use feature_ledger::FeatureLedger;
 pub use features::{Feature, Origin, Points};
-pub use server_ledger::ServerLedger;
+pub use server_ledger::{CONNECTION_MAX, ServerLedger};
 
 #[cfg(test)]
 mod tests;

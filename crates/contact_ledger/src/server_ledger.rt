@@ -7,6 +7,9 @@ use crate::acts::Act;
 use std::alloc::{AllocFailed, Global};
 use std::marker::Model;
 
+/// The largest number of a connection (this profile): `connection_most` of the definitions.
+pub const CONNECTION_MAX: u64 = 4_000_000_000;
+
 /// What a server has done, in order: each act beside the number of its connection (this profile). Contracts see
 /// this list. An act is appended when it is completed, and none is ever taken away.
 #[derive(Debug, Drop)]
@@ -48,7 +51,7 @@ impl ServerLedger {
         }
     }
 
-    /// Appends an act that was completed on this connection. The caller owes a number from 1 to 4,000,000,000.
+    /// Appends an act that was completed on this connection. The caller owes a number from 1 to `CONNECTION_MAX`.
     ///
     /// Only want of memory is an `Err`: it hands the act back, and the ledger is as before. The room doubles
     /// when it is full, so that all pushes together copy no more than twice what they append.

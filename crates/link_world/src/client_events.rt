@@ -16,6 +16,7 @@ use crate::connection::Connection;
 use crate::faults::WorldFault;
 use crate::world::World;
 use client_core::{Client, State};
+use contact_ledger::CONNECTION_MAX;
 
 /// The client writes the command that is due.
 fn send(
@@ -101,7 +102,7 @@ fn bring_down(
 fn may_connect(state: State, number: u64) -> bool
     ensures { result ≡ (is_apart state && nat_le number connection_most) }
 {
-    matches!(state, State::Apart) && number <= 4_000_000_000
+    matches!(state, State::Apart) && number <= CONNECTION_MAX
 }
 
 impl World {

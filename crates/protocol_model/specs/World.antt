@@ -3,6 +3,7 @@ use Rattle.std.specs.Prelude.{ℕ, suc, ◌-◌, nat_lt, nat_le, Bool, true, fal
 use Rattle.std.specs.Prelude.{[], ◌∷◌, ◌++◌, length, take, drop, slice_set, Ok, Err}
 use Rattle.std.specs.List.{slice_index_or}
 use Rattle.dmis_program.specs.Meaning.{Meaning}
+use Rattle.contact_ledger.specs.Ledgers.{connection_most}
 use Rattle.line_framing.specs.Next.{Front, next_of}
 use Rattle.protocol_model.specs.Lines.{Readers}
 use Rattle.protocol_model.specs.Plan.{is_empty}
@@ -117,7 +118,7 @@ has_some k bytes = nat_le 1 k && nat_le k (length bytes)
 
 -- whether an event can happen now
 abbrev pub can : Event → World → Bool
-can Connect w = is_apart w.client.client.state && nat_lt w.client.client.last 4000000000
+can Connect w = is_apart w.client.client.state && nat_lt w.client.client.last connection_most
 can (Accept n) w = not w.server.server.on && (nat_lt w.server.server.last n && nat_le n (length w.links))
 can ClientSends w = is_some (due w.client.client)
 can (Up k) w = w.server.server.on && (is_none w.server.input.fault && has_some k (server_link w).up)

@@ -6,7 +6,7 @@ ghost use Rattle.protocol_model.specs.Server.{server_accepted, server_left, serv
 
 use crate::view::View;
 use command_queue::Queue;
-use contact_ledger::ServerLedger;
+use contact_ledger::{CONNECTION_MAX, ServerLedger};
 use fixed_um::{Frame, Name, Point};
 use protocol_model::{Job, Line};
 use std::alloc::{AllocError, Global};
@@ -115,7 +115,7 @@ impl Controller {
     pub(crate) fn may_accept(&self, number: u64) -> bool
         ensures { result ≡ may_accept number self.now.server }
     {
-        !self.on && self.last < number && number <= 4_000_000_000
+        !self.on && self.last < number && number <= CONNECTION_MAX
     }
 
     /// The server comes to a connection.
