@@ -1,5 +1,5 @@
 // A source of stored pieces.
-ghost use Rattle.std.specs.Prelude.{◌≡◌, ◌-◌, ◌<◌, ◌≤◌, ◌++◌, ◌↔◌, [], min, length, take, true, false, option_map, IfOk, OnOk, OnErr, IsOk, IsErr};
+ghost use Rattle.std.specs.Prelude.{◌≡◌, ◌-◌, ◌<◌, ◌≤◌, ◌++◌, ◌↔◌, [], min, length, take, true, false, option_map, IfOk, OnOk, MatchResult, OnErr, IsOk, IsErr};
 ghost use Rattle.std.specs.Io.KnownBytes.{ReadConsumes};
 
 use crate::fuse::Fuse;
@@ -74,9 +74,9 @@ impl Pieces {
     /// Stores a copy of a piece behind the others; after want of memory
     /// nothing has changed.
     pub fn add(&mut self, piece: &[u8]) -> Result<(), AllocError>
-        ensures ok { OnOk result (self.new
-            ≡ record self.old { pieces = self.old.pieces ++ stored_piece piece.now }) }
-        ensures err { OnErr result (self.new ≡ self.old) }
+        ensures stored { MatchResult result (λ _. self.new
+            ≡ record self.old { pieces = self.old.pieces ++ stored_piece piece.now })
+            (λ _. self.new ≡ self.old) }
         ensures empty { length piece.now ≡ 0 → IsOk result }
     {
         if piece.is_empty() {

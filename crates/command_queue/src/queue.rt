@@ -1,5 +1,6 @@
 // The waiting commands.
 
+ghost use Rattle.fixed_um.specs.Calls.{Leads};
 ghost use Rattle.std.specs.Prelude.{◌≡◌, ◌↔◌, ◌<◌, ◌≤◌, [], ◌∷◌, ◌++◌, length, drop, IsOk, IsTrue, IfOk, IfErr, OnOk, OnErr, MatchOption};
 ghost use Rattle.std.specs.List.{list_any};
 ghost use Rattle.command_queue.specs.Limits.{places};
@@ -92,8 +93,7 @@ impl Queue {
     /// Takes all commands, in order. Only want of memory is an `Err`, and the queue is then as before.
     pub fn drain_all(&mut self) -> Result<Vec<Waiting>, AllocError>
         ensures all { IfOk result (λ commands. commands.items ≡ self.old) }
-        ensures ok { OnOk result (self.new ≡ []) }
-        ensures err { OnErr result (self.new ≡ self.old) }
+        ensures leads { Leads result self.old self.new [] }
     {
         self.commands.split_off(0)
     }

@@ -1,6 +1,6 @@
 // The features that a client holds.
 ghost use Rattle.std.specs.Prelude.{◌≡◌, ◌≤◌, [], ◌∷◌, ◌++◌, length, take, IfErr};
-ghost use Rattle.fixed_um.specs.Calls.{Leads};
+ghost use Rattle.fixed_um.specs.Calls.{Leads, Shows};
 ghost use Rattle.contact_ledger.specs.Ledgers.{IsOrigin, HaveOrigins};
 
 use crate::features::Feature;
@@ -48,8 +48,7 @@ impl FeatureLedger {
 
     /// The features in order.
     pub fn list(&self) -> &[Feature]
-        ensures features { result.now ≡ self.now }
-        ensures origins { HaveOrigins self.now }
+        ensures { Shows result.now self.now HaveOrigins }
     {
         self.features.as_slice()
     }

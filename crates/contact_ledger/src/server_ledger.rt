@@ -1,6 +1,6 @@
 // The acts of a server.
 ghost use Rattle.std.specs.Prelude.{◌≡◌, [], ◌∷◌, ◌++◌, IfErr};
-ghost use Rattle.fixed_um.specs.Calls.{Leads};
+ghost use Rattle.fixed_um.specs.Calls.{Leads, Shows};
 ghost use Rattle.contact_ledger.specs.Ledgers.{is_contact, contact_count, IsConnection, AreOnConnections};
 
 use crate::acts::Act;
@@ -78,8 +78,7 @@ impl ServerLedger {
 
     /// The acts in order, each beside the number of its connection.
     pub fn acts(&self) -> &[(u64, Act)]
-        ensures acts { result.now ≡ self.now }
-        ensures connections { AreOnConnections self.now }
+        ensures { Shows result.now self.now AreOnConnections }
     {
         self.acts.as_slice()
     }

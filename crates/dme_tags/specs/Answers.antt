@@ -1,8 +1,11 @@
 -- What the calls on open commands answer.
-use Rattle.std.specs.Prelude.{◌≡◌, Bool, true, false, Option, Some, None, Result, Ok, Err}
+use Rattle.std.specs.Prelude.{◌≡◌, Bool, true, false, Option, Some, None, Result, Ok, Err, IfOk, IfErr, OnErr}
 use Rattle.protocol_model.specs.Open.{Effect}
 use Rattle.protocol_model.specs.declared.states.Cause.{Cause}
 use Rattle.protocol_model.specs.declared.states.Cause.TheVariants as cause
+use Rattle.dme_line.specs.declared.tags.Tag.{Tag}
+use Rattle.dme_line.specs.declared.commands.Kind.{Kind}
+use Rattle.dme_tags.specs.Opened.{Opened, with_drawn}
 use Rattle.dme_tags.specs.declared.faults.TagFault.{TagFault}
 use Rattle.dme_tags.specs.declared.faults.TagFault.TheVariants as fault
 use Rattle.dme_tags.specs.declared.endings.Ended.{Ended}
@@ -21,6 +24,10 @@ cause_of fault.Memory = None
 abbrev pub IsRefused : {A : Type 0} → Result A Cause → Option Cause → Type 0
 IsRefused answer None = ⊥
 IsRefused answer (Some cause) = answer ≡ Err cause
+
+-- a call that answers an error does so for the cause of this answer, and changes nothing
+abbrev pub Refuses : {A R : Type 0} → Result R TagFault → Opened → Opened → Result A Cause → Type 0
+Refuses result old new answer = IfErr result (λ fault. IsRefused answer (cause_of fault)) × OnErr result (new ≡ old)
 
 -- the effect of a command's end
 abbrev pub effect_of : Ended → Effect
@@ -41,3 +48,7 @@ failure_of false = Effect.Quiet
 abbrev pub is_counted : Ended → Bool
 is_counted (ended.Counted kind given) = true
 is_counted ended.Closed = false
+
+-- a tag that is answered is drawn, and an error changes nothing
+abbrev pub Draws : {E : Type 0} → Result Tag E → Opened → Opened → Kind → Type 0
+Draws result old new kind = IfOk result (λ tag. new ≡ with_drawn old tag kind) × OnErr result (new ≡ old)

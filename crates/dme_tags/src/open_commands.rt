@@ -4,7 +4,7 @@ ghost use Rattle.std.specs.Prelude.{◌≡◌, ◌↔◌, Option, Ok, Some, None
 ghost use Rattle.dme_line.specs.Kinds.{IsTagOf};
 ghost use Rattle.protocol_model.specs.Replies.{Mark};
 ghost use Rattle.protocol_model.specs.Open.{Effect, count_open, is_held};
-ghost use Rattle.dme_tags.specs.Answers.{cause_of, effect_of, effect_heard, is_counted, IsRefused};
+ghost use Rattle.dme_tags.specs.Answers.{cause_of, effect_of, effect_heard, is_counted, Draws, IsRefused, Refuses};
 ghost use Rattle.dme_tags.specs.Endings.{IsEnding};
 ghost use Rattle.dme_tags.specs.Limits.{last_number};
 ghost use Rattle.dme_tags.specs.Opened.{heard, held_beside, kind_under, next_tag, none_open, number_of, with_drawn, ArePassedOver, IsNext, IsSpentFor};
@@ -104,11 +104,10 @@ impl Open {
     /// growth can fail where `next_tag` has answered a tag.
     pub fn draw(&mut self, kind: Kind) -> Result<Tag, TagFault>
         ensures next { IfOk result (λ tag. next_tag self.old kind ≡ Some tag) }
-        ensures held { IfOk result (λ tag. self.new ≡ with_drawn self.old tag kind) }
+        ensures drawn { Draws result self.old self.new kind }
         ensures spent { IsErrOf result TagFault.TagsSpent ↔ (next_tag self.old kind ≡ None) }
         ensures named { IfErr result (λ fault. (fault ≡ TagFault.TagsSpent)
             ⊎ (fault ≡ TagFault.Memory)) }
-        ensures unchanged { OnErr result (self.new ≡ self.old) }
         ensures tag { IfOk result (λ tag. IsTagOf kind tag × (number_of tag ≤ last_number)) }
         ensures fresh { IfOk result (λ tag. is_held tag (held_beside tag self.old) ≡ false) }
         ensures all_held { IsErrOf result TagFault.TagsSpent ↔ IsSpentFor kind self.old }
@@ -152,9 +151,7 @@ impl Open {
         ensures named { IfErr result (λ fault. (fault ≡ TagFault.UnknownTag)
             ⊎ (fault ≡ TagFault.OutOfOrder)) }
         ensures ok { OnOk result (heard self.old tag Mark.Ack ≡ Ok (self.new, Effect.Quiet)) }
-        ensures refused { IfErr result (λ fault. IsRefused (heard self.old tag Mark.Ack)
-            (cause_of fault)) }
-        ensures unchanged { OnErr result (self.new ≡ self.old) }
+        ensures refused { Refuses result self.old self.new (heard self.old tag Mark.Ack) }
     {
         match tag {
             Tag::Std(_) => receive(&mut self.standard, tag),
@@ -175,9 +172,7 @@ impl Open {
             ⊎ (fault ≡ TagFault.SecondData)) }
         ensures ok { OnOk result (heard self.old tag (Mark.Given point)
             ≡ Ok (self.new, Effect.Quiet)) }
-        ensures refused { IfErr result (λ fault. IsRefused (heard self.old tag (Mark.Given point))
-            (cause_of fault)) }
-        ensures unchanged { OnErr result (self.new ≡ self.old) }
+        ensures refused { Refuses result self.old self.new (heard self.old tag (Mark.Given point)) }
     {
         match tag {
             Tag::Std(_) => give(&mut self.standard, !self.failed, tag, point),
@@ -193,9 +188,7 @@ impl Open {
         ensures named { IfErr result (λ fault. fault ≡ TagFault.UnknownTag) }
         ensures ok { OnOk result ((heard self.old tag Mark.Error ≡ Ok (self.new, Effect.Failure))
             ⊎ (heard self.old tag Mark.Error ≡ Ok (self.new, Effect.Quiet))) }
-        ensures refused { IfErr result (λ fault. IsRefused (heard self.old tag Mark.Error)
-            (cause_of fault)) }
-        ensures unchanged { OnErr result (self.new ≡ self.old) }
+        ensures refused { Refuses result self.old self.new (heard self.old tag Mark.Error) }
     {
         match tag {
             Tag::Std(_) => {
@@ -235,9 +228,7 @@ impl Open {
         ensures ending { IsEnding tag self.old result }
         ensures ok { IfOk result (λ ended. heard self.old tag Mark.Done
             ≡ Ok (self.new, effect_of ended)) }
-        ensures refused { IfErr result (λ fault. IsRefused (heard self.old tag Mark.Done)
-            (cause_of fault)) }
-        ensures unchanged { OnErr result (self.new ≡ self.old) }
+        ensures refused { Refuses result self.old self.new (heard self.old tag Mark.Done) }
         ensures in_order { IfOk result (λ ended. is_counted ended ≡ true → IsNext tag self.old) }
     {
         match tag {

@@ -20,3 +20,7 @@ Writes result old new text = OnOk result (new.items ≡ old.items ++ text) × On
 -- what is found is such a thing; where nothing is found there is none
 abbrev pub Finds : {A : Type 0} → Option A → (A → Type 0) → Type 0
 Finds {A} found Is = MatchOption found ((a : A) → Is a → ⊥) Is
+
+-- what is shown is the value, and each such value is of this sort
+abbrev pub Shows : {S : Type 0} → S → S → (S → Type 0) → Type 0
+Shows shown value Is = (shown ≡ value) × Is value

@@ -2,6 +2,7 @@
 
 ghost use Rattle.std.specs.Prelude.{◌≡◌, IfOk, if◌then◌else◌};
 ghost use Rattle.std.specs.List.{list_all};
+ghost use Rattle.fixed_um.specs.Calls.{Shows};
 ghost use Rattle.fixed_um.specs.Names.{folded, is_name_byte, is_name_text, IsName};
 
 use std::alloc::{AllocError, Global};
@@ -63,8 +64,7 @@ impl Name {
 
     /// The folded bytes.
     pub fn as_bytes(&self) -> &[u8]
-        ensures value { result.now ≡ self.now }
-        ensures name { IsName self.now }
+        ensures { Shows result.now self.now IsName }
     {
         self.bytes.as_slice()
     }

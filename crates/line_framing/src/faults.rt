@@ -1,3 +1,7 @@
+// Why bytes are refused, and what may stand at their front in place of a line.
+
+use std::alloc::AllocError;
+
 /// Why no line stands at the front of a framing buffer.
 #[derive(Clone, Copy, Debug, PartialEq, Eq)]
 pub enum FramingFault {
@@ -14,4 +18,15 @@ pub enum LinesFault {
     Framing(FramingFault),
     /// Memory was wanting. It is never kept: the buffer is as before, and the call may be made again.
     Memory,
+}
+
+impl From<AllocError> for LinesFault {
+    ghost use Rattle.std.specs.Prelude.{◌≡◌};
+    ghost use Rattle.line_framing.specs.declared.faults.LinesFault.TheVariants.{Memory};
+
+    ghost from_gives = { λ _ e. e ≡ Memory };
+
+    fn from(_error: AllocError) -> LinesFault {
+        LinesFault::Memory
+    }
 }

@@ -75,22 +75,11 @@ impl Lines {
         self.fault = None;
     }
 
-    /// Appends to the rest. Only want of memory is an `Err`.
-    #[tactic(auto, using(crate::proofs::Buffers::longer_content))]
-    fn append(&mut self, piece: &[u8]) -> Result<(), AllocError>
-        requires { self.old.fault ≡ None }
-        ensures ok { OnOk result (self.new ≡ fed self.old piece.now) }
-        ensures err { OnErr result (self.new ≡ self.old) }
-    {
-        self.queue.reserve(piece.len())?;
-        self.queue.append(piece);
-        Ok(())
-    }
-
     /// Appends a piece, however the stream is cut, to the rest. A bad byte in it is met by `next_line`.
     ///
     /// It answers the fault that was met, if any; `Memory` where room was wanting. After each the buffer is as
     /// before.
+    #[tactic(auto, using(crate::proofs::Buffers::longer_content))]
     pub fn feed(&mut self, piece: &[u8]) -> Result<(), LinesFault>
         ensures kept { IfSome self.old.fault (λ fault. result ≡ Err (LinesFault.Framing fault)) }
         ensures ok { OnOk result (self.new ≡ fed self.old piece.now) }
@@ -99,13 +88,12 @@ impl Lines {
         ensures cause { IfErr result (λ why. IsFeedRefused self.old why) }
         ensures sound { IsSound self.new }
     {
-        match self.fault {
-            Some(fault) => Err(LinesFault::Framing(fault)),
-            None => match self.append(piece) {
-                Ok(()) => Ok(()),
-                Err(AllocError) => Err(LinesFault::Memory),
-            },
+        if let Some(fault) = self.fault {
+            return Err(LinesFault::Framing(fault));
         }
+        self.queue.reserve(piece.len())?;
+        self.queue.append(piece);
+        Ok(())
     }
 
     /// How many bytes the first line at the front of the rest has without its CR LF; `None` where no whole line
@@ -194,12 +182,8 @@ impl Lines {
             Ok(None) => return Ok(None),
             Err(fault) => return Err(LinesFault::Framing(fault)),
         };
-        match Line::copied(self.alloc, &self.rest()[..length]) {
-            Ok(line) => {
-                self.drop_line(length);
-                Ok(Some(line))
-            }
-            Err(AllocError) => Err(LinesFault::Memory),
-        }
+        let line = Line::copied(self.alloc, &self.rest()[..length])?;
+        self.drop_line(length);
+        Ok(Some(line))
     }
 }

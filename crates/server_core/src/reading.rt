@@ -169,8 +169,7 @@ impl Controller {
         ensures text { OnOk result ((readers : Readers) → AreReaders readers
             → out.new.items ≡ out.old.items ++ reply_bytes
             (server.server_read self.old.server (reading_of (readers.command line.now))).said) }
-        ensures err { OnErr result (self.new ≡ self.old) }
-        ensures silent { OnErr result (out.new.items ≡ out.old.items) }
+        ensures err { OnErr result ((self.new ≡ self.old) × (out.new.items ≡ out.old.items)) }
         ensures len { IsBounded out.old out.new }
     {
         let reading = read_command(self.alloc, line)?;

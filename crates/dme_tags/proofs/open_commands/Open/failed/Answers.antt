@@ -1,4 +1,4 @@
-use Rattle.std.proofs.Common.{ap, not, true}
+use Rattle.std.proofs.Common.{ap, not, true, rules}
 use Rattle.std.proofs.lemmas.Result.{err_from_is_err_and}
 use Rattle.protocol_model.specs.Replies.{Mark}
 use Rattle.dme_tags.specs.Opened.{Opened}
@@ -9,14 +9,20 @@ use Rattle.dme_tags.proofs.open_commands.Open.failed.Goals as goal
 pub returns-in_err-fail-in-Std-clause-refused : goal.returns-in_err-fail-in-Std-clause-refused
 returns-in_err-fail-in-Std-clause-refused c =
     let p = err_from_is_err_and c.from_residual.result c.from_residual.ensures.1 in
-    rw (p.1, p.2) (refused_standard c.args.self.now _ c.args.tag c.in-Std.field-0 Mark.Error _ c.in-Std.is
-    (ap (λ (o : Opened). o.standard) c.self.view_is) (c.in_err-fail-in-Std.ensures.refused _))
+    rw (p.1, p.2) (
+      refused_standard c.args.self.now _ c.args.tag c.in-Std.field-0 Mark.Error _ c.in-Std.is
+          (ap (λ (o : Opened). o.standard) c.self.view_is) (c.in_err-fail-in-Std.ensures.refused _),
+      search rules,
+    )
 
 pub returns-in_err-fail-in-Event-clause-refused : goal.returns-in_err-fail-in-Event-clause-refused
 returns-in_err-fail-in-Event-clause-refused c =
     let p = err_from_is_err_and c.from_residual-in_err-fail-in-Event.result c.from_residual-in_err-fail-in-Event.ensures.1 in
-    rw (p.1, p.2) (refused_event c.args.self.now _ c.args.tag c.in-Event.field-0 Mark.Error _ c.in-Event.is
-    (ap (λ (o : Opened). o.event) c.self.view_is) (c.in_err-fail-in-Event.ensures.refused _))
+    rw (p.1, p.2) (
+      refused_event c.args.self.now _ c.args.tag c.in-Event.field-0 Mark.Error _ c.in-Event.is
+          (ap (λ (o : Opened). o.event) c.self.view_is) (c.in_err-fail-in-Event.ensures.refused _),
+      search rules,
+    )
 
 pub returns-in_err-fail-in-Std-clause-unknown : goal.returns-in_err-fail-in-Std-clause-unknown
 returns-in_err-fail-in-Std-clause-unknown c =

@@ -19,7 +19,7 @@ returns-in_err-accept-clause-can c = refused_iff _ _ _ c.from_residual.ensures.1
 pub invariant_of-self-2 : goal.invariant_of-self-2
 invariant_of-self-2 c = accept_reached c.args.number c.self.inside.client c.self.inside.server c.accept.new.self
     c.self.inside.connections.items c.self.inside.written.items c.self.invariant (c.in_ok-accept.ensures.can.0 refl) (search rules)
-    c.in_ok-accept.ensures.ok
+    c.in_ok-accept.ensures.leads.0
 
 pub returns-clause-can : goal.returns-clause-can
 returns-clause-can c = (
