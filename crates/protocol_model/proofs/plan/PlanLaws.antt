@@ -1,14 +1,12 @@
 -- What a plan measures, and in which order: the laws of plans.
 use Rattle.std.proofs.Common.{◌≡◌, ℕ, ◌≤◌, Bool, true, false, List, [], ◌∷◌, ◌++◌, drop, refl, sym, ◌∙◌, ap, arith, append_assoc, Option}
-use Rattle.std.proofs.Common.{Some, None, Ok}
-use Rattle.std.proofs.lemmas.Bool.{false≢true}
+use Rattle.std.proofs.Common.{Some, None}
 use Rattle.std.specs.List.{list_all, flat_map}
 use Rattle.fixed_um.specs.Shapes.{Direction}
 use Rattle.fixed_um.specs.Points.{point_opposite}
 use Rattle.fixed_um.specs.declared.lengths.Point.{Point}
 use Rattle.fixed_um.specs.declared.frames.Frame.{Frame}
 use Rattle.fixed_um.specs.declared.frames.Frame.TheVariants.{Machine, Part}
-use Rattle.dme_line.specs.Kinds.{kind_of, is_event_kind}
 use Rattle.dme_line.specs.Written.{HasVolumeLengths, HasArguments}
 use Rattle.dme_line.specs.declared.tags.Tag.TheVariants.{Std}
 use Rattle.dme_line.specs.declared.commands.Csy.{Csy}
@@ -26,12 +24,11 @@ use Rattle.protocol_model.specs.PlanReading.{touch_of, touches_of, end_of, ends_
 use Rattle.protocol_model.specs.PlanReading.{nothing_selected, selected_frame, selected_by, read_touch, read_move, read_frame, read_as}
 use Rattle.protocol_model.specs.PlanReading.{is_last, ReadAsPlanned, touch_made, touches_made_by, touches_made, all_known, opening}
 use Rattle.protocol_model.specs.PlanReading.{is_measuring, IsInOrder, step_commands, whole_commands, CanBeWritten}
-use Rattle.protocol_model.specs.Server.{is_abort}
 use Rattle.protocol_model.proofs.plan.Blocks.{program_is_plain}
 use Rattle.protocol_model.proofs.plan.Fitting.{Know, unknown, known_frame, known_by, FitsMove, FitsTouch, FitsFrame, FitsOne, Fits}
 use Rattle.protocol_model.proofs.plan.Marks.{Marked, marks, marks_of, touch_in, touches_in, HasNoAbort, plan_touches, plan_fits}
 use Rattle.protocol_model.proofs.plan.Marks.{plan_no_abort}
-use Rattle.protocol_model.proofs.written_lines.PlainClient.{HaveArguments, plan_arguments}
+use Rattle.protocol_model.proofs.written_lines.PlainClient.{HaveArguments, plan_arguments, standard_kind}
 use Rattle.protocol_model.specs.declared.plans.Planned.{Planned}
 use Rattle.protocol_model.specs.declared.plans.Does.{Does}
 use Rattle.protocol_model.specs.declared.plans.Start.{Start}
@@ -362,19 +359,6 @@ plan_whole p start = go start
     go SameConnection = ap (λ (l : List Command). opening SameConnection ++ command.SetCoordSystem MachineCsy ∷ l) body
 
 -- ---- lines
-
-standard_kind : (c : Command) → is_abort (Ok c) ≡ false → false ≡ is_event_kind (kind_of c)
-standard_kind command.StartSession h = refl
-standard_kind command.EndSession h = refl
-standard_kind command.ClearAllErrors h = refl
-standard_kind command.Home h = refl
-standard_kind command.OnPtMeasReport h = refl
-standard_kind (command.GoTo p) h = refl
-standard_kind (command.PtMeas p d) h = refl
-standard_kind (command.ChangeTool n) h = refl
-standard_kind (command.SetCsyTransformation p) h = refl
-standard_kind (command.SetCoordSystem s) h = refl
-standard_kind command.AbortE h = absurd (false≢true (sym h))
 
 in_volume : (c : Command) → HasArguments c → HasVolumeLengths c
 in_volume command.StartSession h = tt

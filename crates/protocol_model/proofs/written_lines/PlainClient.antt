@@ -172,7 +172,8 @@ pub record IsPlainSends (s : Sends) : Type 0 where
   pub client : IsPlainClient s.client
   pub lines : AreWritable s.lines
 
-standard_kind : (c : Command) → is_abort (Ok c) ≡ false → false ≡ is_event_kind (kind_of c)
+-- a command that is no abort goes out under a standard tag
+pub standard_kind : (c : Command) → is_abort (Ok c) ≡ false → false ≡ is_event_kind (kind_of c)
 standard_kind command.StartSession h = refl
 standard_kind command.EndSession h = refl
 standard_kind command.ClearAllErrors h = refl

@@ -1,5 +1,5 @@
 -- Streams of written lines hand out these lines in order.
-use Rattle.std.proofs.Common.{◌≡◌, ℕ, ◌≤◌, List, [], ◌∷◌, ◌++◌, map, Option, Some, None, Result, Ok, Err, refl, sym, subst, ap, ◌∙◌, arith}
+use Rattle.std.proofs.Common.{◌≡◌, ℕ, List, [], ◌∷◌, ◌++◌, map, Some, None, Ok, Err, refl, sym, subst, ap, ◌∙◌, arith}
 use Rattle.line_framing.specs.Content.{IsLine, AreLines, line_bytes}
 use Rattle.line_framing.specs.Next.{Front, next_of}
 use Rattle.line_framing.specs.Stream.{TakesFirst}
