@@ -1,40 +1,26 @@
 -- What is read of a line fits a server, and is read in one way.
 use Rattle.std.proofs.Common.{◌≡◌, ℕ, List, Result, Ok, Err}
 use Rattle.dme_line.specs.Tags.{IsTag, IsNumbered}
-use Rattle.dme_line.specs.Written.{HasVolumeLengths, HasArguments}
 use Rattle.dme_line.specs.CommandText.{ReadsCommand}
 use Rattle.dme_line.specs.declared.tags.Tag.{Tag}
 use Rattle.dme_line.specs.declared.tags.Tag.TheVariants.{Std, Event}
 use Rattle.dme_line.specs.declared.commands.Command.{Command}
-use Rattle.dme_line.specs.declared.commands.Command.TheVariants as command
 use Rattle.dme_line.specs.declared.reading.LineFault.{LineFault}
 use Rattle.dme_line.specs.declared.reading.LineFault.TheVariants as fault
 use Rattle.dme_line.proofs.ReadWritable.{read_is_writable}
 use Rattle.dme_line.proofs.OneCommand.{one_command_reading}
 use Rattle.protocol_model.specs.Lines.{Readers, AreReaders}
+use Rattle.protocol_model.proofs.plan.PlanLaws.{in_volume}
 use Rattle.server_core.specs.Kept.{IsLineFit}
 
 tag_of_numbered : (t : Tag) → IsNumbered t → IsTag t
 tag_of_numbered (Std n) h = h.1
 tag_of_numbered (Event n) h = h.1
 
-lengths_of : (c : Command) → HasArguments c → HasVolumeLengths c
-lengths_of command.StartSession h = tt
-lengths_of command.EndSession h = tt
-lengths_of command.ClearAllErrors h = tt
-lengths_of command.Home h = tt
-lengths_of command.OnPtMeasReport h = tt
-lengths_of (command.GoTo p) h = tt
-lengths_of (command.PtMeas p d) h = tt
-lengths_of (command.ChangeTool n) h = tt
-lengths_of (command.SetCsyTransformation p) h = h
-lengths_of (command.SetCoordSystem s) h = tt
-lengths_of command.AbortE h = tt
-
 -- what is read of a line has a tag that can be written, and lengths in the volume
 pub read_is_fit : (line : List ℕ) (reading : Result (Tag × Command) LineFault) → ReadsCommand line reading → IsLineFit reading
 read_is_fit line (Ok (t, c)) h =
-    (tag_of_numbered t h.begins.tagged.numbered, lengths_of c (read_is_writable line t c h).arguments)
+    (tag_of_numbered t h.begins.tagged.numbered, in_volume c (read_is_writable line t c h).arguments)
 read_is_fit line (Err fault.NoTag) h = tt
 read_is_fit line (Err (fault.UnknownCommand t)) h = tag_of_numbered t h.2.tagged.numbered
 read_is_fit line (Err (fault.BadArguments t k)) h = tag_of_numbered t h.2.tagged.numbered

@@ -1,10 +1,8 @@
 -- What waits has standard tags, where lines are read as the interface says.
-use Rattle.std.proofs.Common.{◌≡◌, ℕ, nat_le, false, not, ◌&&◌, ◌||◌, List, [], ◌∷◌, ◌++◌, length, refl, sym, ◌∙◌, Option, Some}
+use Rattle.std.proofs.Common.{◌≡◌, ℕ, nat_le, false, not, ◌&&◌, ◌||◌, List, [], ◌∷◌, ◌++◌, length, sym, ◌∙◌, Option, Some}
 use Rattle.std.proofs.Common.{None, Result, Ok, Err}
-use Rattle.std.proofs.lemmas.Bool.{false≢true}
 use Rattle.fixed_um.specs.declared.lengths.Point.{Point}
 use Rattle.dme_line.specs.Tags.{is_event_tag}
-use Rattle.dme_line.specs.Kinds.{kind_of, is_event_kind}
 use Rattle.dme_line.specs.CommandText.{ReadsCommand}
 use Rattle.dme_line.specs.declared.tags.Tag.{Tag}
 use Rattle.dme_line.specs.declared.commands.Command.{Command}
@@ -23,6 +21,7 @@ use Rattle.protocol_model.specs.Ends.{ServerEnd, front_served, serving_read}
 use Rattle.protocol_model.specs.declared.lines.Line.{Line}
 use Rattle.protocol_model.specs.declared.lines.Waiting.{Waiting}
 use Rattle.protocol_model.specs.declared.machine.Outcome.{Outcome}
+use Rattle.protocol_model.proofs.written_lines.PlainClient.{standard_kind}
 use Rattle.server_core.specs.Steady.{HasStandardTag, AreStandard}
 use Rattle.server_core.proofs.Steadies.{branch}
 
@@ -57,24 +56,11 @@ tagged_standard : (s : Server) (t : Tag) (reading : Result Command Misread) → 
 tagged_standard s t reading sorted h =
     branch Waits (runs_under t s.running || waits_under t s.waiting) _ _ (λ used. h) (λ free. fresh_standard s t reading sorted h)
 
-no_event : (c : Command) → is_abort (Ok c) ≡ false → is_event_kind (kind_of c) ≡ false
-no_event command.StartSession e = refl
-no_event command.EndSession e = refl
-no_event command.ClearAllErrors e = refl
-no_event command.Home e = refl
-no_event command.OnPtMeasReport e = refl
-no_event (command.GoTo p) e = refl
-no_event (command.PtMeas p d) e = refl
-no_event (command.ChangeTool n) e = refl
-no_event (command.SetCsyTransformation p) e = refl
-no_event (command.SetCoordSystem system) e = refl
-no_event command.AbortE e = absurd (false≢true (sym e))
-
 reading_standard : (s : Server) (line : List ℕ) (reading : Result (Tag × Command) LineFault) → ReadsCommand line reading
     → AreStandard s.waiting
     → Waits (server_read s (reading_of reading))
 reading_standard s line (Ok (t, c)) reads h =
-    tagged_standard s t (Ok c) (λ other. (read_is_writable line t c reads).tagged.sort ∙ no_event c other) h
+    tagged_standard s t (Ok c) (λ other. (read_is_writable line t c reads).tagged.sort ∙ sym (standard_kind c other)) h
 reading_standard s line (Err fault.NoTag) reads h = h
 reading_standard s line (Err (fault.UnknownCommand t)) reads h =
     tagged_standard s t (Err misread.UnknownCommand) tt h

@@ -360,7 +360,8 @@ plan_whole p start = go start
 
 -- ---- lines
 
-in_volume : (c : Command) → HasArguments c → HasVolumeLengths c
+-- arguments that can be written are lengths in the volume, where a command asks for those
+pub in_volume : (c : Command) → HasArguments c → HasVolumeLengths c
 in_volume command.StartSession h = tt
 in_volume command.EndSession h = tt
 in_volume command.ClearAllErrors h = tt
