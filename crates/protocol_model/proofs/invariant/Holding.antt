@@ -32,27 +32,34 @@ use Rattle.protocol_model.specs.declared.lines.Waiting.{Waiting}
 
 -- ---- lines as open commands and as what waits
 
+-- the line that runs, if one does, as a list
 abbrev pub listed : Option Line → List Line
 listed None = []
 listed (Some line) = line ∷ []
 
+-- a line as an open command that was received
 abbrev pub received : Line → Held
 received l = record { tag = l.tag; kind = kind_of l.command; stage = Stage.Received }
 
+-- a line as an open command that was just sent
 abbrev pub sent_now : Line → Held
 sent_now l = record { tag = l.tag; kind = kind_of l.command; stage = Stage.Sent }
 
+-- lines as open commands that were received, in order
 abbrev pub all_received : List Line → List Held
 all_received [] = []
 all_received (l ∷ ls) = received l ∷ all_received ls
 
+-- lines as open commands that were just sent, in order
 abbrev pub all_sent : List Line → List Held
 all_sent [] = []
 all_sent (l ∷ ls) = sent_now l ∷ all_sent ls
 
+-- a line as what waits: its tag, and its command read without a fault
 abbrev pub waits : Line → Waiting
 waits l = record { tag = l.tag; reading = Ok l.command }
 
+-- lines as what waits, in order
 abbrev pub all_wait : List Line → List Waiting
 all_wait [] = []
 all_wait (l ∷ ls) = waits l ∷ all_wait ls
@@ -61,24 +68,30 @@ all_wait (l ∷ ls) = waits l ∷ all_wait ls
 abbrev pub abort_tag : ℕ → Tag
 abort_tag k = Event (suc k)
 
+-- the line of an abort under the event tag after this number
 abbrev pub abort_line : ℕ → Line
 abort_line k = record { tag = abort_tag k; command = command.AbortE }
 
+-- the lines of aborts under the event tags after these numbers
 abbrev pub abort_lines : List ℕ → List Line
 abort_lines [] = []
 abort_lines (k ∷ ks) = abort_line k ∷ abort_lines ks
 
+-- such an abort as an open command that was just sent
 abbrev pub abort_held : ℕ → Held
 abort_held k = record { tag = abort_tag k; kind = kind.AbortE; stage = Stage.Sent }
 
+-- such aborts as open commands that were just sent, in order
 abbrev pub abort_helds : List ℕ → List Held
 abort_helds [] = []
 abort_helds (k ∷ ks) = abort_held k ∷ abort_helds ks
 
+-- the commands of the steps of a plan, in order
 abbrev pub commands_of : List Planned → List Command
 commands_of [] = []
 commands_of (p ∷ ps) = p.command ∷ commands_of ps
 
+-- the commands of lines, in order
 abbrev pub commands_in : List Line → List Command
 commands_in [] = []
 commands_in (l ∷ ls) = l.command ∷ commands_in ls
@@ -104,6 +117,7 @@ know_of s = record { tool = s.tool; frame = Some s.frame; stored = Some s.stored
 
 -- ---- where nothing has failed, what is not done is what is planned
 
+-- to do are the commands of these lines, then what is unsent; its touches are those left, and where there is no error it fits
 pub record IsClean (tally : Tally) (unsent : List Planned) (left : List Wanted) (lines : List Line) (error : Bool) (know : Know) : Type 0
   where
     pub steps : List Planned
@@ -128,6 +142,7 @@ pub record IsNearBy (table : Table) (unsent : List Planned) (left : List Wanted)
   pub clear_first : IsClearFirst table.tally.failed (listed running ++ (queued ++ coming))
   pub clean : table.tally.failed ≡ false → IsClean table.tally unsent left (listed running ++ (queued ++ coming)) error know
 
+-- so it is for some lines that wait, some that the server has not read, and some aborts behind them
 pub record IsNear (table : Table) (unsent : List Planned) (left : List Wanted) (up : List Line) (running : Option Line)
     (waiting : List Waiting) (error : Bool) (know : Know) : Type 0 where
   pub queued : List Line
@@ -146,6 +161,7 @@ pub record IsAborting (abort : Option Tag) (event : List Held) : Type 0 where
   pub same : held.tag ≡ tag
   pub sort : is_event_tag tag ≡ true
 
+-- which event commands are open in a state: the abort in Aborting, none in the others, and Faulted is ruled out
 abbrev pub HasEvents : State → Option Tag → List Held → Type 0
 HasEvents State.Apart abort event = event ≡ []
 HasEvents State.Running abort event = event ≡ []
@@ -178,6 +194,7 @@ IsTidy None (Reply.Ack u ∷ rs) = IsTidy None rs
 IsTidy None (Reply.Given u p ∷ rs) = IsTidy None rs
 IsTidy None (Reply.Error u code name ∷ rs) = (is_event_tag u ≡ false) × IsTidy (Some u) rs
 
+-- the tag, if there is one, as a list
 abbrev pub tags_of : Option Tag → List Tag
 tags_of None = []
 tags_of (Some t) = t ∷ []
@@ -190,14 +207,17 @@ pub record IsHere (w : World) (table : Table) (left : List Wanted) : Type 0 wher
   pub same : w.server.last ≡ w.client.last
   pub near : IsNear table w.client.unsent left w.up w.server.running w.server.waiting w.server.error (know_of w.server)
 
+-- the server has come to earlier connections alone: here nothing runs or waits, there is no error, and nothing is known of it
 pub record IsAhead (w : World) (table : Table) (left : List Wanted) : Type 0 where
   pub below : w.server.last < w.client.last
   pub near : IsNear table w.client.unsent left w.up None [] false unknown
 
+-- the server came to the last connection of the client, and is on none now
 pub record IsGone (w : World) : Type 0 where
   pub off : w.server.on ≡ false
   pub same : w.server.last ≡ w.client.last
 
+-- a client on its connection: the table that is left when all is read, what is left of the features, and where the server is
 pub record IsLive (w : World) : Type 0 where
   pub on : w.client.on ≡ true
   pub table : Table
@@ -217,6 +237,7 @@ pub record IsLive (w : World) : Type 0 where
 
 -- ---- a client on no connection
 
+-- the states of a client on no connection: Apart and Done
 abbrev pub IsAtRest : State → Type 0
 IsAtRest State.Apart = Unit {0}
 IsAtRest State.Running = ⊥
@@ -226,6 +247,7 @@ IsAtRest State.Halted = ⊥
 IsAtRest State.Done = Unit {0}
 IsAtRest State.Faulted = ⊥
 
+-- a client on no connection: its features are served, and the acts it counted are the front of those that were done
 pub record IsOff (w : World) : Type 0 where
   pub off : w.client.on ≡ false
   pub rest : IsAtRest w.client.state
@@ -234,11 +256,13 @@ pub record IsOff (w : World) : Type 0 where
 
 -- ---- all
 
+-- a server where nothing runs, nothing waits, and that is in no error
 pub record IsIdle (s : Server) : Type 0 where
   pub running : s.running ≡ None
   pub waiting : s.waiting ≡ []
   pub error : s.error ≡ false
 
+-- a plain program, a window of at most 16, no act on a connection to come, a server idle when off, and a client that is off or live
 pub record Inv (w : World) : Type 0 where
   pub program : IsPlain w.client.program
   pub window : w.client.window ≤ 16

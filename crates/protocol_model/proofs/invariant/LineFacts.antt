@@ -20,6 +20,7 @@ use Rattle.protocol_model.specs.declared.held.Held.{Held}
 use Rattle.protocol_model.specs.declared.plans.Planned.{Planned}
 use Rattle.protocol_model.specs.declared.plans.Does.{Does}
 
+-- where one tag is not another, the other is not the one
 pub tag_is_false : (t u : Tag) → tag_is t u ≡ false → tag_is u t ≡ false
 tag_is_false t u e = go (tag_is u t) refl
   where
@@ -34,15 +35,18 @@ held_parts t h hs e = if_cases {A = Bool} (tag_is h.tag t) true (is_held t hs) f
     (λ same no_way. absurd (false≢true (sym no_way)))
     (λ other rest. (other, rest))
 
+-- a tag that is not held in two lists together is not held in the second
 pub not_held_behind : (t : Tag) (xs ys : List Held) → is_held t (xs ++ ys) ≡ false → is_held t ys ≡ false
 not_held_behind t [] ys e = e
 not_held_behind t (x ∷ xs) ys e = not_held_behind t xs ys (held_parts t x (xs ++ ys) e).1
 
+-- nor in the first
 pub not_held_before : (t : Tag) (xs ys : List Held) → is_held t (xs ++ ys) ≡ false → is_held t xs ≡ false
 not_held_before t [] ys e = refl
 not_held_before t (x ∷ xs) ys e = let parts = held_parts t x (xs ++ ys) e
     in if_false {A = Bool} (tag_is x.tag t) true (is_held t xs) parts.0 ∙ not_held_before t xs ys parts.1
 
+-- where each tag is held once, the tag of a command is not held before it
 pub apart_from : (xs : List Held) (y : Held) (ys : List Held) → AreDistinct (xs ++ y ∷ ys) → is_held y.tag xs ≡ false
 apart_from [] y ys d = refl
 apart_from (x ∷ xs) y ys d =
@@ -54,6 +58,7 @@ waits_not t [] e = refl
 waits_not t (l ∷ ls) e = let parts = held_parts t (received l) (all_received ls) e
     in ap (λ (b : Bool). b || waits_under t (all_wait ls)) parts.0 ∙ waits_not t ls parts.1
 
+-- a tag that is held by none of the received commands neither runs nor waits
 pub not_in_use : (t : Tag) (running : Option Line) (queued : List Line) → is_held t (all_received (listed running ++ queued)) ≡ false
     → (runs_under t running || waits_under t (all_wait queued)) ≡ false
 not_in_use t None queued e = waits_not t queued e
@@ -71,44 +76,54 @@ event_not_held t (l ∷ ls) sorts e = if_false {A = Bool} (tag_is l.tag t) true 
     apart (Std n) (Event m) a b = refl
     apart (Event n) v a b = absurd (false≢true (sym a))
 
+-- nor does an event tag, where only standard lines run and wait
 pub event_not_in_use : (t : Tag) (running : Option Line) (queued : List Line) → AreStandard (listed running ++ queued)
     → is_event_tag t ≡ true → (runs_under t running || waits_under t (all_wait queued)) ≡ false
 event_not_in_use t running queued sorts e = not_in_use t running queued (event_not_held t (listed running ++ queued) sorts e)
 
 -- ---- lists of lines
 
+-- where two lists together are standard lines, so is the first
 pub standard_before : (xs ys : List Line) → AreStandard (xs ++ ys) → AreStandard xs
 standard_before [] ys h = tt
 standard_before (x ∷ xs) ys h = (h.0, h.1, standard_before xs ys h.2)
 
+-- and so is the second
 pub standard_behind : (xs ys : List Line) → AreStandard (xs ++ ys) → AreStandard ys
 standard_behind [] ys h = h
 standard_behind (x ∷ xs) ys h = standard_behind xs ys h.2
 
+-- two lists of standard lines are such lines together
 pub standard_join : (xs ys : List Line) → AreStandard xs → AreStandard ys → AreStandard (xs ++ ys)
 standard_join [] ys h g = g
 standard_join (x ∷ xs) ys h g = (h.0, h.1, standard_join xs ys h.2 g)
 
+-- where two lists of lines together have no ClearAllErrors, the second has none
 pub no_clears_behind : (xs ys : List Line) → AreNoClears (xs ++ ys) → AreNoClears ys
 no_clears_behind [] ys h = h
 no_clears_behind (x ∷ xs) ys h = no_clears_behind xs ys h.1
 
+-- two lists of lines without ClearAllErrors have none together
 pub no_clears_join : (xs ys : List Line) → AreNoClears xs → AreNoClears ys → AreNoClears (xs ++ ys)
 no_clears_join [] ys h g = g
 no_clears_join (x ∷ xs) ys h g = (h.0, no_clears_join xs ys h.1 g)
 
+-- lines without ClearAllErrors have none out of its place, whether anything has failed or not
 pub clear_first_none : (failed : Bool) (ls : List Line) → AreNoClears ls → IsClearFirst failed ls
 clear_first_none failed [] h = tt
 clear_first_none failed (l ∷ ls) h = ((λ e. absurd (false≢true (sym h.0 ∙ e))), h.1)
 
+-- two lists of received lines: the open commands of the first, then those of the second
 pub received_more : (xs ys : List Line) → all_received (xs ++ ys) ≡ all_received xs ++ all_received ys
 received_more [] ys = refl
 received_more (x ∷ xs) ys = ap (λ (l : List Held). received x ∷ l) (received_more xs ys)
 
+-- two lists of lines that were just sent, likewise
 pub sent_more : (xs ys : List Line) → all_sent (xs ++ ys) ≡ all_sent xs ++ all_sent ys
 sent_more [] ys = refl
 sent_more (x ∷ xs) ys = ap (λ (l : List Held). sent_now x ∷ l) (sent_more xs ys)
 
+-- what waits of two lists of lines: that of the first, then that of the second
 pub wait_more : (xs ys : List Line) → all_wait (xs ++ ys) ≡ all_wait xs ++ all_wait ys
 wait_more [] ys = refl
 wait_more (x ∷ xs) ys = ap (λ (l : List _). record { tag = x.tag; reading = Ok x.command } ∷ l) (wait_more xs ys)
@@ -118,6 +133,7 @@ pub one_behind : (busy queued : List Line) (x : Line) (coming : List Line)
     → busy ++ (queued ++ x ∷ coming) ≡ busy ++ ((queued ++ x ∷ []) ++ coming)
 one_behind busy queued x coming = ap (λ (l : List Line). busy ++ l) (sym (append_assoc queued (x ∷ []) coming))
 
+-- a command received behind what runs and waits is open like one more line that waits last
 pub received_behind : (busy queued : List Line) (x : Line) (coming : List Line)
     → all_received (busy ++ queued) ++ received x ∷ all_sent coming ≡ all_received (busy ++ (queued ++ x ∷ [])) ++ all_sent coming
 received_behind busy queued x coming =
@@ -131,15 +147,18 @@ count_received : (ls : List Line) (hs : List Held) → length ls ≤ count_open 
 count_received [] hs = omega arith
 count_received (l ∷ ls) hs = let rest = count_received ls hs in omega arith
 
+-- as many wait as there are lines
 pub wait_long : (ls : List Line) → length (all_wait ls) ≡ length ls
 wait_long [] = refl
 wait_long (l ∷ ls) = ap suc (wait_long ls)
 
+-- no more lines wait than commands are open
 pub few_wait : (busy queued : List Line) (hs : List Held) → length queued ≤ count_open (all_received (busy ++ queued) ++ hs)
 few_wait busy queued hs = omega (arith, count_received (busy ++ queued) hs, length-append busy queued)
 
 -- ---- commands
 
+-- a server and a client take the same commands for ClearAllErrors
 pub clear_same : (c : Command) → is_clear (Ok c) ≡ is_clearing c
 clear_same command.StartSession = refl
 clear_same command.EndSession = refl
@@ -153,10 +172,12 @@ clear_same (command.SetCsyTransformation p) = refl
 clear_same (command.SetCoordSystem system) = refl
 clear_same command.AbortE = refl
 
+-- the commands of two lists of lines: those of the first, then those of the second
 pub commands_more : (xs ys : List Line) → commands_in (xs ++ ys) ≡ commands_in xs ++ commands_in ys
 commands_more [] ys = refl
 commands_more (x ∷ xs) ys = ap (λ (l : List Command). x.command ∷ l) (commands_more xs ys)
 
+-- the commands of two lists of steps, likewise
 pub steps_more : (xs ys : List Planned) → commands_of (xs ++ ys) ≡ commands_of xs ++ commands_of ys
 steps_more [] ys = refl
 steps_more (x ∷ xs) ys = ap (λ (l : List Command). x.command ∷ l) (steps_more xs ys)
@@ -166,6 +187,7 @@ pub no_steps : (steps : List Planned) → commands_of steps ≡ [] → steps ≡
 no_steps [] e = refl
 no_steps (p ∷ ps) e = absurd (cc)
 
+-- the first of these steps has this command, and the rest have the others
 pub record IsFirstStep (steps : List Planned) (c : Command) (others : List Command) : Type 0 where
   pub does : Does
   pub rest : List Planned
@@ -180,6 +202,7 @@ abbrev tail_of : List Command → List Command
 tail_of [] = []
 tail_of (c ∷ cs) = cs
 
+-- steps whose commands are this one and others begin with such a first step
 pub first_step : (steps : List Planned) (c : Command) (others : List Command) → commands_of steps ≡ c ∷ others → IsFirstStep steps c others
 first_step [] c others e = absurd (cc)
 first_step (p ∷ ps) c others e =

@@ -22,6 +22,7 @@ use Rattle.protocol_model.specs.declared.lines.Misread.TheVariants as misread
 use Rattle.protocol_model.specs.declared.lines.Waiting.{Waiting}
 use Rattle.protocol_model.specs.declared.machine.Outcome.{Outcome}
 
+-- these acts as a ledger has them, each beside the number of this connection
 abbrev pub done_on : ℕ → List Act → List (ℕ × Act)
 done_on n [] = []
 done_on n (a ∷ acts) = (n, a) ∷ done_on n acts
@@ -32,30 +33,36 @@ acts_step : (t : Bool) (b : Act) (l m k : List Act) → l ≡ m ++ k → cond t 
 acts_step true b l m k e = ap (λ (x : List Act). b ∷ x) e
 acts_step false b l m k e = e
 
+-- the acts on a connection in two ledgers together: those in the first, then those in the second
 pub acts_more : (n : ℕ) (l k : List (ℕ × Act)) → acts_on n (l ++ k) ≡ acts_on n l ++ acts_on n k
 acts_more n [] k = refl
 acts_more n ((m, b) ∷ l) k = acts_step _ b _ _ (acts_on n k) (acts_more n l k)
 
+-- acts that were done on a connection are all on it
 pub acts_done : (n : ℕ) (acts : List Act) → acts_on n (done_on n acts) ≡ acts
 acts_done n [] = refl
 acts_done n (a ∷ acts) = if_true {A = List Act} _ (a ∷ acts_on n (done_on n acts)) (acts_on n (done_on n acts)) (eq-eqb n n refl)
     ∙ ap (λ (x : List Act). a ∷ x) (acts_done n acts)
 
+-- and none of them is on another
 pub acts_elsewhere : (n m : ℕ) (acts : List Act) → (m ≡ n → ⊥) → acts_on n (done_on m acts) ≡ []
 acts_elsewhere n m [] apart = refl
 acts_elsewhere n m (a ∷ acts) apart = if_false {A = List Act} _ (a ∷ acts_on n (done_on m acts)) (acts_on n (done_on m acts))
     (ne_eqb m n apart) ∙ acts_elsewhere n m acts apart
 
+-- two ledgers without an act above a connection have none above it together
 pub up_to_join : (n : ℕ) (l k : List (ℕ × Act)) → AreUpTo n l → AreUpTo n k → AreUpTo n (l ++ k)
 up_to_join n [] k h g = g
 up_to_join n ((m, a) ∷ l) k h g = (h.0, up_to_join n l k h.1 g)
 
+-- acts that were done on a connection are not above it
 pub up_to_done : (n : ℕ) (acts : List Act) → AreUpTo n (done_on n acts)
 up_to_done n [] = tt
 up_to_done n (a ∷ acts) = (omega arith, up_to_done n acts)
 
 -- ---- a server that is still on the same connection, with these acts more
 
+-- the server has the connection it had, on or off as it was, and its ledger has these acts more, done on that connection
 pub record Moves (s t : Server) (acts : List Act) : Type 0 where
   pub on : t.on ≡ s.on
   pub last : t.last ≡ s.last
@@ -86,6 +93,7 @@ tagged_stays : (s : Server) (t : Tag) (reading : Result Command Misread) → Sta
 tagged_stays s t reading = either (Stays s) (runs_under t s.running || waits_under t s.waiting) _ _ (stays s s refl refl refl)
     (fresh_stays s t reading)
 
+-- a server that reads a line does no act
 pub read_moves : (s : Server) (reading : Reading) → Moves s (server_read s reading).server []
 read_moves s (Ok line) = tagged_stays s line.tag (Ok line.command)
 read_moves s (Err fault.NoTag) = stays s s refl refl refl
@@ -122,6 +130,7 @@ turned_to_moves : (s : Server) (ws : List Waiting) → (acts : List Act) × Move
 turned_to_moves s [] = ([], stays s _ refl refl refl)
 turned_to_moves s (w ∷ ws) = taken_moves s w ws (refusal s w.reading)
 
+-- where its first waiting command has its turn, it does some acts or none, on its connection
 pub turned_moves : (s : Server) → (acts : List Act) × Moves s (server_turned s).server acts
 turned_moves s = turned_to_moves s s.waiting
 
@@ -162,5 +171,6 @@ machined_by s (Outcome.Touched at) (Some line) = touched_moves s line.tag line.c
 machined_by s Outcome.Missed (Some line) = ([], stays s _ refl refl refl)
 machined_by s Outcome.Fault (Some line) = ([], stays s _ refl refl refl)
 
+-- so it does where the machine is done with what runs
 pub machined_moves : (s : Server) (outcome : Outcome) → (acts : List Act) × Moves s (server_machined s outcome).server acts
 machined_moves s outcome = machined_by s outcome s.running

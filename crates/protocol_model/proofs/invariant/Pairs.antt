@@ -29,9 +29,11 @@ pub standard_hears : (ws : List Wanted) (b : Table) (t : Tag) (m : Mark) (hs : L
 standard_hears ws b (Std n) m hs e sort is = standard_step ws b n m hs e is
 standard_hears ws b (Event n) m hs e sort is = absurd (false≢true (sym sort))
 
+-- a line as an open command at a stage
 abbrev pub staged_line : Line → Stage → Held
 staged_line l s = record { tag = l.tag; kind = kind_of l.command; stage = s }
 
+-- a tally in which a command has failed
 abbrev pub broken : Tally → Tally
 broken y = record y { failed = true }
 
@@ -59,6 +61,7 @@ breaks_broken : (xs : List Line) (y : Tally) → breaks xs (broken y) ≡ broken
 breaks_broken [] y = refl
 breaks_broken (x ∷ xs) y = refl
 
+-- the errors and ends of all that wait take them off the open commands, and something has failed if any did wait
 pub pairs : (ws : List Wanted) (queued : List Line) (hs ev : List Held) (y : Tally) → AreStandard queued
     → Reads ws (tabled (all_received queued ++ hs) ev y) (all_fail 9007 (all_wait queued)) (tabled hs ev (breaks queued y))
 pairs ws [] hs ev y sort = refl
@@ -80,6 +83,7 @@ pair_and_pairs ws x queued hs ev y code name sort sorts =
     (subst (λ (z : Tally). Reads ws (tabled (all_received queued ++ hs) ev (broken y)) (all_fail 9007 (all_wait queued)) (tabled hs ev z))
     (breaks_broken queued y) (pairs ws queued hs ev (broken y) sorts))
 
+-- so do those of what runs, and then of all that wait
 pub running_pairs : (ws : List Wanted) (running : Option Line) (queued : List Line) (hs ev : List Held) (y : Tally)
     → AreStandard (listed running ++ queued) → Reads ws (tabled (all_received (listed running ++ queued) ++ hs) ev y) (running_fails running
     ++ all_fail 9007 (all_wait queued)) (tabled hs ev (breaks (listed running ++ queued) y))
@@ -98,6 +102,7 @@ ack_in front (l ∷ ls) x hs free =
     (λ other rest. heard_past front (received l) (all_received ls ++ sent_now x ∷ hs) x.tag Mark.Ack other
     ∙ ap (put_before (received l)) (ack_in (front && false) ls x hs rest))
 
+-- the receipt of a command that was just sent, behind received ones under other tags, makes it a received one
 pub ack : (ws : List Wanted) (busy : List Line) (x : Line) (hs ev : List Held) (y : Tally) → is_event_tag x.tag ≡ false
     → is_held x.tag (all_received busy) ≡ false → heard ws (tabled (all_received busy ++ sent_now x ∷ hs) ev y) x.tag Mark.Ack
     ≡ fine (tabled (all_received busy ++ received x ∷ hs) ev y)
@@ -117,6 +122,7 @@ done_first ws x hs ev y sort calm asks = (
   refl,
 )
 
+-- and the point and the end of one that asks for data: it is counted with that point
 pub given_first : (ws : List Wanted) (x : Line) (p : Point) (hs ev : List Held) (y : Tally) → is_event_tag x.tag ≡ false → y.failed ≡ false
     → asks_data (kind_of x.command) ≡ true → Reads ws (tabled (received x ∷ hs) ev y) (Reply.Given x.tag p ∷ Reply.Done x.tag ∷ [])
     (tabled hs ev (counted_next ws (kind_of x.command) (Some p) y.todo y))
@@ -140,14 +146,17 @@ given_first ws x p hs ev y sort calm asks = (
 not_zero : (k : ℕ) → tag_is (Event (suc k)) (Event 0) ≡ false
 not_zero k = ne_eqb (suc k) 0 (λ (e : suc k ≡ 0). suc-ne-zero k e)
 
+-- an abort as an open command that was received
 abbrev pub abort_received : ℕ → Held
 abort_received k = record { tag = abort_tag k; kind = kind.AbortE; stage = Stage.Received }
 
+-- the receipt of an abort that was just sent, the first event command, makes it a received one
 pub abort_acked : (ws : List Wanted) (k : ℕ) (st hs : List Held) (y : Tally)
     → heard ws (tabled st (abort_held k ∷ hs) y) (abort_tag k) Mark.Ack ≡ fine (tabled st (abort_received k ∷ hs) y)
 abort_acked ws k st hs y = event_step ws (tabled st (abort_held k ∷ hs) y) (suc k) Mark.Ack (abort_received k ∷ hs) Effect.Quiet
     (not_zero k) (heard_at true (abort_held k) hs (abort_tag k) Mark.Ack (tag_is-refl (abort_tag k)))
 
+-- the end of a received abort, the first event command, takes it off the open commands and counts nothing
 pub abort_ended : (ws : List Wanted) (k : ℕ) (st hs : List Held) (y : Tally)
     → heard ws (tabled st (abort_received k ∷ hs) y) (abort_tag k) Mark.Done ≡ fine (tabled st hs y)
 abort_ended ws k st hs y = event_step ws (tabled st (abort_received k ∷ hs) y) (suc k) Mark.Done hs (Effect.Count kind.AbortE None)

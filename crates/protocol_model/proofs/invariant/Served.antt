@@ -21,6 +21,7 @@ use Rattle.protocol_model.proofs.plan.Marks.{Marked, marks, marks_of}
 
 -- ---- ledgers
 
+-- the contacts in two ledgers together: those in the first, then those in the second
 pub contacts_more : (l m : List (ℕ × Act)) → contacts (l ++ m) ≡ contacts l ++ contacts m
 contacts_more [] m = refl
 contacts_more ((n, act.Contact target dir tool frame point) ∷ l) m =
@@ -35,10 +36,12 @@ acts_step : (t : Bool) (b : Act) (l m : List Act) (more : List Act) → l ≡ m 
 acts_step true b l m more e = ap (λ (k : List Act). b ∷ k) e
 acts_step false b l m more e = e
 
+-- one act more on a connection is the last of those on it
 pub acts_same : (n : ℕ) (l : List (ℕ × Act)) (a : Act) → acts_on n (l ++ (n, a) ∷ []) ≡ acts_on n l ++ a ∷ []
 acts_same n [] a = if_true {A = List Act} _ (a ∷ []) [] (eq-eqb n n refl)
 acts_same n ((m, b) ∷ l) a = acts_step _ b _ _ (a ∷ []) (acts_same n l a)
 
+-- one act more on another connection changes nothing of those on this one
 pub acts_other : (n m : ℕ) (l : List (ℕ × Act)) (a : Act) → (m ≡ n → ⊥) → acts_on n (l ++ (m, a) ∷ []) ≡ acts_on n l
 acts_other n m [] a apart = if_false {A = List Act} _ (a ∷ []) [] (ne_eqb m n apart)
 acts_other n m ((k, b) ∷ l) a apart = acts_step _ b _ _ [] (acts_other n m l a apart ∙ sym (append-nil (acts_on n l))) ∙ append-nil _
@@ -48,14 +51,17 @@ abbrev pub AreUpTo : ℕ → List (ℕ × Act) → Type 0
 AreUpTo n [] = Unit {0}
 AreUpTo n ((m, a) ∷ l) = (m ≤ n) × AreUpTo n l
 
+-- where no act is above a connection, one act more that is not above it leaves it so
 pub up_to_more : (n : ℕ) (l : List (ℕ × Act)) (m : ℕ) (a : Act) → AreUpTo n l → m ≤ n → AreUpTo n (l ++ (m, a) ∷ [])
 up_to_more n [] m a h le = (le, tt)
 up_to_more n ((k, b) ∷ l) m a h le = (h.0, up_to_more n l m a h.1 le)
 
+-- where no act is above a connection, none is above a greater one
 pub up_to_above : (n m : ℕ) (l : List (ℕ × Act)) → n ≤ m → AreUpTo n l → AreUpTo m l
 up_to_above n m [] le h = tt
 up_to_above n m ((k, b) ∷ l) le h = (omega (arith, h.0), up_to_above n m l le h.1)
 
+-- so the acts on a greater one are none
 pub acts_none : (n m : ℕ) (l : List (ℕ × Act)) → AreUpTo n l → n < m → acts_on m l ≡ []
 acts_none n m [] h lt = refl
 acts_none n m ((k, b) ∷ l) h lt = if_false {A = List Act} _ (b ∷ acts_on m l) (acts_on m l) (ne_eqb k m (λ (e : k ≡ m). below e))
@@ -69,6 +75,7 @@ abbrev pub AreMadeUpTo : ℕ → List Made → Type 0
 AreMadeUpTo n [] = Unit {0}
 AreMadeUpTo n (m ∷ ms) = (m.connection ≤ n) × AreMadeUpTo n ms
 
+-- where no act of a ledger is above a connection, none of its contacts is
 pub made_up_to : (n : ℕ) (l : List (ℕ × Act)) → AreUpTo n l → AreMadeUpTo n (contacts l)
 made_up_to n [] h = tt
 made_up_to n ((m, act.Contact target dir tool frame point) ∷ l) h = (h.0, made_up_to n l h.1)
@@ -77,6 +84,7 @@ made_up_to n ((m, act.Moved p f) ∷ l) h = made_up_to n l h.1
 made_up_to n ((m, act.Changed k) ∷ l) h = made_up_to n l h.1
 made_up_to n ((m, act.Framed f) ∷ l) h = made_up_to n l h.1
 
+-- where no contact of two lists is above a connection, none of the second is
 pub made_behind : (n : ℕ) (xs ys : List Made) → AreMadeUpTo n (xs ++ ys) → AreMadeUpTo n ys
 made_behind n [] ys h = h
 made_behind n (x ∷ xs) ys h = made_behind n xs ys h.1
@@ -92,6 +100,7 @@ pub record HasRun (wanted : Wanted) (feature : Feature) (made rest : List Made) 
   pub label : feature.label ≡ wanted.label
   pub serves : Serves connection wanted.touches feature.points run
 
+-- features are the first of the wanted ones, and each is served by a run of contacts, behind the run of the one before
 abbrev pub Served : List Wanted → List Feature → List Made → Type 0
 Served ws [] made = Unit {0}
 Served [] (f ∷ fs) made = ⊥
@@ -108,16 +117,19 @@ run_more w f made rest more h = record {
   serves = h.serves;
 }
 
+-- features that are served are so with more contacts behind
 pub served_more : (ws : List Wanted) (fs : List Feature) (made more : List Made) → Served ws fs made → Served ws fs (made ++ more)
 served_more ws [] made more h = tt
 served_more [] (f ∷ fs) made more h = absurd h
 served_more (w ∷ ws) (f ∷ fs) made more h = (h.0 ++ more, run_more w f made h.0 more h.1, served_more ws fs h.0 more h.2)
 
+-- where features are served, the first ones of them are
 pub served_front : (ws : List Wanted) (fs gs : List Feature) (made : List Made) → Served ws (fs ++ gs) made → Served ws fs made
 served_front ws [] gs made h = tt
 served_front [] (f ∷ fs) gs made h = absurd h
 served_front (w ∷ ws) (f ∷ fs) gs made h = (h.0, h.1, served_front ws fs gs h.0 h.2)
 
+-- so are the first k of them
 pub served_take : (k : ℕ) (ws : List Wanted) (fs : List Feature) (made : List Made) → Served ws fs made → Served ws (take k fs) made
 served_take zero ws fs made h = tt
 served_take (suc k) ws [] made h = tt
@@ -145,6 +157,7 @@ served_push (v ∷ front) w later [] f made run n e h label serves = absurd (cc)
 served_push (v ∷ front) w later (g ∷ gs) f made run n e h label serves =
     (h.0 ++ run, run_more v g made h.0 run h.1, served_push front w later gs f h.0 run n (omega arith) h.2 label serves)
 
+-- the next wanted feature, behind as many as are held, joins them last under its own label
 pub joined_is : (front : List Wanted) (w : Wanted) (later : List Wanted) (fs : List Feature) (ps : List Point) (origin : Option Origin)
     → length front ≡ length fs
     → joined (front ++ w ∷ later) fs ps origin ≡ fs ++ record { label = w.label; points = ps; origin = origin } ∷ []
@@ -153,6 +166,7 @@ joined_is [] w later (g ∷ gs) ps origin e = absurd (cc)
 joined_is (v ∷ front) w later [] ps origin e = absurd (cc)
 joined_is (v ∷ front) w later (g ∷ gs) ps origin e = ap (λ (l : List Feature). g ∷ l) (joined_is front w later gs ps origin (omega arith))
 
+-- behind contacts that serve touches, a contact that serves one touch more
 pub serves_more : (n : ℕ) (ts : List Touch) (ps : List Point) (ms : List Made) (t : Touch) (p : Point) (m : Made) → Serves n ts ps ms
     → IsServed n t p m → Serves n (ts ++ t ∷ []) (ps ++ p ∷ []) (ms ++ m ∷ [])
 serves_more n [] [] [] t p m h g = (g, tt)
@@ -174,6 +188,7 @@ abbrev pub with_made : List Touch → List Wanted → List Wanted
 with_made made [] = []
 with_made made (w ∷ ws) = record { label = w.label; touches = made ++ w.touches } ∷ ws
 
+-- contacts: those that serve the features held, then those that serve the touches made of the unfinished one; and what is left
 pub record IsProgress (ws : List Wanted) (n : ℕ) (fs : List Feature) (points : List Point) (ms : List Made) (left : List Wanted) : Type 0
   where
     pub front : List Wanted
@@ -187,6 +202,7 @@ pub record IsProgress (ws : List Wanted) (n : ℕ) (fs : List Feature) (points :
     pub serves : Serves n made points run
     pub some : HaveTouches left
 
+-- the features that are held are served by all of these contacts
 pub progress_served : (ws : List Wanted) (n : ℕ) (fs : List Feature) (points : List Point) (ms : List Made) (left : List Wanted)
     → IsProgress ws n fs points ms left → Served ws fs ms
 progress_served ws n fs points ms left h = subst (λ (l : List Made). Served ws fs l) (sym h.parts)
@@ -240,6 +256,7 @@ serves_up_to n b (t ∷ ts) (p ∷ ps) [] h u lt = absurd h
 serves_up_to n b (t ∷ ts) (p ∷ ps) (m ∷ ms) h u lt = let on : m.connection ≡ n = h.0.on in let le : m.connection ≤ b = u.0
     in absurd (omega arith)
 
+-- where all contacts are on earlier connections, the unfinished feature has no points yet
 pub no_points : (ws : List Wanted) (n b : ℕ) (fs : List Feature) (points : List Point) (ms : List Made) (left : List Wanted)
     → IsProgress ws n fs points ms left → AreMadeUpTo b ms → b < n → points ≡ []
 no_points ws n b fs points ms left h u lt =
@@ -298,6 +315,7 @@ next_by t last rest w later (u ∷ us) e some is =
       rest_is = cc;
     }
 
+-- the first of the marked touches is the next one of what is left, and its mark tells whether it ends its feature
 pub next_touch : (t : Touch) (last : Bool) (rest : List Marked) (left : List Wanted) → HaveTouches left → (t, last) ∷ rest ≡ marks_of left
     → IsNext t last rest left
 next_touch t last rest [] some is = absurd (cc)
@@ -305,6 +323,7 @@ next_touch t last rest (w ∷ later) some is = next_by t last rest w later w.tou
 
 -- ---- programs
 
+-- where the blocks of steps are well made, each of their features has a touch
 pub features_have : (inside : Bool) (ss : List Step) → AreBlocks inside ss → HaveTouches (features_of ss)
 features_have inside [] h = tt
 features_have inside (step.Goto p ∷ ss) h = features_have inside ss h
@@ -314,6 +333,7 @@ features_have inside (step.Tool n ∷ ss) h = features_have inside ss h
 features_have inside (step.Recall p ∷ ss) h = features_have inside ss h
 features_have inside (step.End ∷ ss) h = features_have false ss h.1
 
+-- each feature of a plain program has a touch
 pub program_has : (p : Program) → IsPlain p → HaveTouches p.features
 program_has p h = subst HaveTouches (sym h.features) (features_have false p.steps h.blocks)
 
@@ -367,5 +387,6 @@ served_starts (w ∷ ws) (f ∷ fs) passed ms h =
       ),
     )
 
+-- features that the contacts of a ledger serve are true of that ledger
 pub served_sound : (ws : List Wanted) (fs : List Feature) (l : List (ℕ × Act)) → Served ws fs (contacts l) → Sound ws fs l
 served_sound ws fs l h = let all = served_starts ws fs [] (contacts l) h in record { starts = all.0; runs = all.1 }

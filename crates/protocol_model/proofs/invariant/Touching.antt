@@ -35,6 +35,7 @@ pub record Keeps (y z : Tally) : Type 0 where
 keeps_all : (y : Tally) → Keeps y y
 keeps_all y = record { failed = refl; todo = refl; counted = refl }
 
+-- what is measured of a command, whatever it does, changes neither failures nor the plan nor the counted acts
 pub measured_keeps : (ws : List Wanted) (does : Does) (given : Option Point) (y : Tally) → Keeps y (measured ws does given y)
 measured_keeps ws (Does.Touches t false) (Some p) y = record { failed = refl; todo = refl; counted = refl }
 measured_keeps ws (Does.Touches t true) (Some p) y = record { failed = refl; todo = refl; counted = refl }
@@ -149,6 +150,7 @@ calm_goes : (ws : List Wanted) (n : ℕ) (y : Tally) (ms : List Made) (left : Li
     → IsProgress ws n y.features y.points (ms ++ []) left
 calm_goes ws n y ms left h = subst (λ (l : List Made). IsProgress ws n y.features y.points l left) (sym (append-nil ms)) h
 
+-- a command that does the next touch left, with a point, brings its contact to the progress; one that does none leaves it
 pub does_goes : (ws : List Wanted) (n : ℕ) (y : Tally) (ms : List Made) (left : List Wanted) (does : Does) (given : Option Point)
     (rest : List Marked) → IsProgress ws n y.features y.points ms left → HasPoint does given → touch_in does ++ rest ≡ marks_of left
     → Goes ws n y ms does given rest

@@ -31,37 +31,45 @@ use Rattle.dme_line.proofs.ToolLemmas.{tool_read, same_word}
 
 -- ---- what is so or is not so
 
+-- a statement holds, or it is false
 abbrev pub Decided : Type 0 → Type 0
 Decided P = P ⊎ (P → ⊥)
 
+-- of two statements that follow from each other, the one is decided as the other is
 pub decided_by : {P Q : Type 0} → (P → Q) → (Q → P) → Decided P → Decided Q
 decided_by f g (inl p) = inl (f p)
 decided_by f g (inr none) = inr (λ q. none (g q))
 
+-- where two statements are decided, it is decided whether both hold
 pub both : {P Q : Type 0} → Decided P → Decided Q → Decided (P × Q)
 both (inl p) (inl q) = inl (p, q)
 both (inl p) (inr none) = inr (λ h. none h.1)
 both (inr none) q = inr (λ h. none h.0)
 
+-- it is decided whether a test is true
 pub test : (b : Bool) → Decided (b ≡ true)
 test true = inl refl
 test false = inr (λ e. false≢true e)
 
+-- it is decided whether two texts are the same
 pub same_bytes : (xs ys : List ℕ) → Decided (xs ≡ ys)
 same_bytes xs ys = decided_by (bytes_eq-Decides xs ys).0 (bytes_eq-Decides xs ys).1 (test (bytes_eq xs ys))
 
 -- ---- the shape of tokens, and their words
 
+-- a number for the shape of a token: a parenthesis that opens or closes, a comma, or a word
 abbrev pub shape : Token → ℕ
 shape Open = 0
 shape Close = 1
 shape Comma = 2
 shape (Word w) = 3
 
+-- the shapes of tokens, in order
 abbrev pub shapes : List Token → List ℕ
 shapes [] = []
 shapes (t ∷ ts) = shape t ∷ shapes ts
 
+-- the words among tokens, in order
 abbrev pub words : List Token → List (List ℕ)
 words [] = []
 words (Open ∷ ts) = words ts
@@ -69,10 +77,12 @@ words (Close ∷ ts) = words ts
 words (Comma ∷ ts) = words ts
 words (Word w ∷ ts) = w ∷ words ts
 
+-- the first of these words, or an empty one where there is none
 abbrev pub first_of : List (List ℕ) → List ℕ
 first_of [] = []
 first_of (w ∷ ws) = w
 
+-- the words behind the first
 abbrev pub others_of : List (List ℕ) → List (List ℕ)
 others_of [] = []
 others_of (w ∷ ws) = ws
@@ -96,6 +106,7 @@ filled_again (Word w ∷ ts) = ap (λ (l : List Token). Word w ∷ l) (filled_ag
 pub filled_of : (ns : List ℕ) (ts : List Token) → shapes ts ≡ ns → ts ≡ filled ns (words ts)
 filled_of ns ts e = filled_again ts ∙ ap (λ (l : List ℕ). filled l (words ts)) e
 
+-- it is decided whether tokens have these shapes
 pub has_shape : (ns : List ℕ) (ts : List Token) → Decided (shapes ts ≡ ns)
 has_shape ns ts = same_bytes (shapes ts) ns
 
@@ -116,6 +127,7 @@ pub record Front (ns : List ℕ) (ts : List Token) : Type 0 where
   pub shaped : shapes front ≡ ns
   pub parts : ts ≡ front ++ behind
 
+-- it is decided whether they do
 pub front_is : (ns : List ℕ) (ts : List Token) → Decided (Front ns ts)
 front_is ns ts = decided_by here there (has_shape ns (take (length ns) ts))
   where
@@ -130,6 +142,7 @@ front_is ns ts = decided_by here there (has_shape ns (take (length ns) ts))
 
 -- ---- arguments
 
+-- tokens begin with an argument
 pub record FirstArgument (ts : List Token) : Type 0 where
   pub argument : Argument
   pub behind : List Token
@@ -271,10 +284,12 @@ listed_is k ts = decided_by here (λ (l : Listed k ts). there l.arguments l.long
 
 -- ---- numerals and places
 
+-- a text reads as a number at this scale, within this limit
 pub record Length (scale limit : ℕ) (text : List ℕ) : Type 0 where
   pub value : ℤ
   pub reads : Reads scale limit text (Ok value)
 
+-- it is decided whether a text does
 pub length_is : (scale limit : ℕ) (text : List ℕ) → Decided (Length scale limit text)
 length_is scale limit text = go (value_of scale limit text) (value_of-reads scale limit text)
   where
@@ -429,6 +444,7 @@ directed_is ts = go (listed_is 3 ts)
 
 -- ---- the other arguments
 
+-- tokens are one word in parentheses
 pub record OneWord (ts : List Token) : Type 0 where
   pub word : List ℕ
   pub spelled : IsOneWord ts word
@@ -598,6 +614,7 @@ transformation_is ts = decided_by here there (both (has_shape seven_shape ts)
 
 -- ---- what the tokens behind a command's name say
 
+-- tokens say a command of this kind
 pub record Saying (k : Kind) (ts : List Token) : Type 0 where
   pub command : Command
   pub says : Says k ts command
@@ -621,6 +638,7 @@ touch_is ts = go (move_is ts) (directed_is ts)
     })
     go (inr m) (inr a) = inr (λ s. neither m a s.says.0 s.says.1 s.says.2)
 
+-- it is decided whether they do, for each kind
 pub saying : (k : Kind) (ts : List Token) → Decided (Saying k ts)
 saying kind.StartSession ts = decided_by (λ (e : ts ≡ enclosed []). record { command = command.StartSession; says = (e, refl) })
     (λ (s : Saying kind.StartSession ts). s.says.0) (nothing_is ts)

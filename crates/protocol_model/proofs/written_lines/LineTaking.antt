@@ -35,6 +35,7 @@ abbrev tail_of : List (List ℕ) → List (List ℕ)
 tail_of [] = []
 tail_of (x ∷ xs) = xs
 
+-- a line is that of the first command, and the bytes left, with those to come, are those of the others
 pub record NextCommand (ls : List Line) (line rest more : List ℕ) : Type 0 where
   pub first : Line
   pub others : List Line
@@ -52,11 +53,13 @@ command_by (l ∷ ls) line rest more t = record {
   behind = t.behind ∙ ap (λ (x : List (List ℕ)). Rattle.line_framing.specs.Content.line_bytes x) (sym (ap tail_of t.first));
 }
 
+-- such is each line that is found in a front of the bytes of commands that can be written
 pub next_command : (ls : List Line) (read more line rest : List ℕ) → AreWritable ls → read ++ more ≡ command_bytes ls
     → next_of read ≡ Ok (Some (line, rest)) → NextCommand ls line rest more
 next_command ls read more line rest w e next = command_by ls line rest more
     (takes_first read more (command_texts ls) line rest (command_lines ls w) e next)
 
+-- a line is that of the first reply, and the bytes left, with those to come, are those of the others
 pub record NextReply (rs : List Reply) (line rest more : List ℕ) : Type 0 where
   pub first : Reply
   pub others : List Reply
@@ -74,11 +77,13 @@ reply_by (r ∷ rs) line rest more t = record {
   behind = t.behind ∙ ap (λ (x : List (List ℕ)). Rattle.line_framing.specs.Content.line_bytes x) (sym (ap tail_of t.first));
 }
 
+-- such is each line that is found in a front of the bytes of replies that can be written
 pub next_reply : (rs : List Reply) (read more line rest : List ℕ) → AreReplies rs → read ++ more ≡ reply_bytes rs
     → next_of read ≡ Ok (Some (line, rest)) → NextReply rs line rest more
 next_reply rs read more line rest w e next = reply_by rs line rest more
     (takes_first read more (reply_texts rs) line rest (reply_lines rs w) e next)
 
+-- in a front of the bytes of replies that can be written no framing fault is found
 pub no_reply_fault : (rs : List Reply) (read more : List ℕ) (why : FramingFault) → AreReplies rs → read ++ more ≡ reply_bytes rs
     → next_of read ≡ Err why → ⊥
 no_reply_fault rs read more why w e next = no_fault read more (reply_texts rs) why (reply_lines rs w) e next

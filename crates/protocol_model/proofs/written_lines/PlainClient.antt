@@ -37,6 +37,7 @@ use Rattle.protocol_model.specs.declared.plans.Start.TheVariants.{SameConnection
 
 -- ---- plans
 
+-- the commands of these steps have arguments that can be written
 abbrev pub HaveArguments : List Planned → Type 0
 HaveArguments [] = Unit {0}
 HaveArguments (p ∷ ps) = HasArguments p.command × HaveArguments ps
@@ -129,6 +130,7 @@ arguments_measuring tool frame ss t f h =
     (arguments_join (framing frame) _ (arguments_framing frame f)
     (arguments_join (stepping frame ss) _ (arguments_steps frame ss h) (tt, tt)))
 
+-- so have those of each plan of a program, behind any number of features and from either start
 pub plan_arguments : (p : Program) (k : ℕ) (start : Start) → IsProgram p → HaveArguments (plan p k start)
 plan_arguments p k start h = go start
   where
@@ -161,6 +163,7 @@ number_below sort hs last all n le e = or_cases _ _ n ((1 ≤ n) × (n ≤ all))
 
 -- ---- the client
 
+-- a client with a well-made program, drawn numbers of at most 9,999, and unsent commands that can be written and are no aborts
 pub record IsPlainClient (c : Client) : Type 0 where
   pub program : IsProgram c.program
   pub drawn : c.drawn ≤ 9999
@@ -168,6 +171,7 @@ pub record IsPlainClient (c : Client) : Type 0 where
   pub unsent : HaveArguments c.unsent
   pub no_abort : HasNoAbort c.unsent
 
+-- such a client, with lines to send that can be written
 pub record IsPlainSends (s : Sends) : Type 0 where
   pub client : IsPlainClient s.client
   pub lines : AreWritable s.lines
@@ -186,6 +190,7 @@ standard_kind (command.SetCsyTransformation p) h = refl
 standard_kind (command.SetCoordSystem s) h = refl
 standard_kind command.AbortE h = absurd (false≢true (sym h))
 
+-- a plain client stays one on a new connection
 pub plain_connected : (n : ℕ) (c : Client) → IsPlainClient c → IsPlainClient (client_connected n c)
 plain_connected n c h = record {
   program = h.program;
@@ -221,6 +226,7 @@ sends_by c (p ∷ ps) (Some n) h a b within =
       );
     }
 
+-- what it sends of its plan can be written, and it stays plain
 pub plain_sent : (c : Client) → IsPlainClient c → IsPlainSends (client_sent c)
 plain_sent c h = sends_by c c.unsent (next_number Std c.table.standard c.drawn) h h.unsent h.no_abort
     (λ n e. number_below Std c.table.standard c.drawn 9999 n h.drawn e)
@@ -244,6 +250,7 @@ aborts_by c (Some n) h within =
       lines = (record { tagged = record { numbered = (bounds.0, bounds.1); sort = refl }; arguments = tt }, tt);
     }
 
+-- so it is with an abort that it sends
 pub plain_aborted : (c : Client) → IsPlainClient c → IsPlainSends (client_aborted c)
 plain_aborted c h = aborts_by c (next_number Event c.table.event c.event_drawn) h
     (λ n e. number_below Event c.table.event c.event_drawn 9999 n h.event_drawn e)
@@ -264,6 +271,7 @@ hears_plain c t m (Err cause) h = record {
   no_abort = h.no_abort;
 }
 
+-- it stays plain behind each reply that it reads
 pub plain_read : (c : Client) (t : Tag) (m : Mark) → IsPlainClient c → IsPlainClient (client_read c t m)
 plain_read c t m h = go (tag_is t (Event 0))
   where
@@ -271,6 +279,7 @@ plain_read c t m h = go (tag_is t (Event 0))
     go true = h
     go false = hears_plain c t m (heard_on c.program.features c.table t m) h
 
+-- and where it resumes measuring
 pub plain_resumed : (c : Client) → IsPlainClient c → IsPlainClient (client_resumed c)
 plain_resumed c h = record {
   program = h.program;
@@ -280,8 +289,10 @@ plain_resumed c h = record {
   no_abort = plan_no_abort c.program (length c.table.tally.features) Start.SameConnection;
 }
 
+-- and where it leaves its connection
 pub plain_left : (c : Client) → IsPlainClient c → IsPlainClient (client_left c)
 plain_left c h = record { program = h.program; drawn = h.drawn; event_drawn = h.event_drawn; unsent = h.unsent; no_abort = h.no_abort }
 
+-- and where it is begun anew with its first k features
 pub plain_restarted : (k : ℕ) (c : Client) → IsPlainClient c → IsPlainClient (client_restarted k c)
 plain_restarted k c h = record { program = h.program; drawn = omega arith; event_drawn = omega arith; unsent = tt; no_abort = tt }

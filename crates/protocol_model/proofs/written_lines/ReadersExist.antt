@@ -513,5 +513,6 @@ readers_are = record {
   point = λ text. (point_reading text).reads;
 }
 
+-- there are readers that read as the interface says
 pub some_are_readers : (readers : Readers) × AreReaders readers
 some_are_readers = (some_readers, readers_are)

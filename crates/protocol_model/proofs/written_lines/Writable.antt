@@ -30,14 +30,17 @@ use Rattle.protocol_model.specs.declared.lines.Line.{Line}
 
 -- ---- commands
 
+-- each of these commands can be written under its tag
 abbrev pub AreWritable : List Line → Type 0
 AreWritable [] = Unit {0}
 AreWritable (l ∷ ls) = IsWritable l.tag l.command × AreWritable ls
 
+-- where each of two lists of commands can be written, both together can
 pub writable_join : (xs ys : List Line) → AreWritable xs → AreWritable ys → AreWritable (xs ++ ys)
 writable_join [] ys h g = g
 writable_join (x ∷ xs) ys h g = (h.0, writable_join xs ys h.1 g)
 
+-- where two lists of commands together can be written, the second can
 pub writable_behind : (xs ys : List Line) → AreWritable (xs ++ ys) → AreWritable ys
 writable_behind [] ys h = h
 writable_behind (x ∷ xs) ys h = writable_behind xs ys h.1
@@ -45,6 +48,7 @@ writable_behind (x ∷ xs) ys h = writable_behind xs ys h.1
 wire_line : (n : ℕ) (text : List ℕ) → IsWireText n text → n ≤ 65536 → IsLine text
 wire_line n text h le = record { free = h.free; short = omega (arith, h.short) }
 
+-- the texts of commands that can be written are lines
 pub command_lines : (ls : List Line) → AreWritable ls → AreLines (command_texts ls)
 command_lines [] h = tt
 command_lines (l ∷ ls) h = (wire_line 200 (command_text l) (command-wire l.tag l.command h.0) (omega arith), command_lines ls h.1)
@@ -53,25 +57,30 @@ texts_more : (xs ys : List Line) → command_texts (xs ++ ys) ≡ command_texts 
 texts_more [] ys = refl
 texts_more (x ∷ xs) ys = ap (λ (l : List (List ℕ)). command_text x ∷ l) (texts_more xs ys)
 
+-- the bytes of two lists of commands: those of the first, then those of the second
 pub command_bytes_more : (xs ys : List Line) → command_bytes (xs ++ ys) ≡ command_bytes xs ++ command_bytes ys
 command_bytes_more xs ys = ap line_bytes (texts_more xs ys) ∙ line_bytes-append (command_texts xs) (command_texts ys)
 
+-- a command that can be written under a tag is read back as itself under that tag
 pub command_read : (r : Readers) → AreReaders r → (t : Tag) (c : Command) → IsWritable t c → r.command (written_command t c) ≡ Ok (t, c)
 command_read r h t c w = one_command_reading (written_command t c) (r.command (written_command t c)) (Ok (t, c))
     (h.command (written_command t c)) (command_reads_back t c w)
 
 -- ---- replies
 
+-- a reply can be written: its tag has room in its digits, and a point that it gives is within the wire limit
 abbrev pub IsWritableReply : Reply → Type 0
 IsWritableReply (Reply.Ack t) = IsTag t
 IsWritableReply (Reply.Given t p) = IsTag t × IsOnWire p
 IsWritableReply (Reply.Done t) = IsTag t
 IsWritableReply (Reply.Error t code name) = IsTag t
 
+-- each of these replies can be written
 abbrev pub AreReplies : List Reply → Type 0
 AreReplies [] = Unit {0}
 AreReplies (r ∷ rs) = IsWritableReply r × AreReplies rs
 
+-- where each of two lists of replies can be written, both together can
 pub replies_join : (xs ys : List Reply) → AreReplies xs → AreReplies ys → AreReplies (xs ++ ys)
 replies_join [] ys h g = g
 replies_join (x ∷ xs) ys h g = (h.0, replies_join xs ys h.1 g)
@@ -90,6 +99,7 @@ reply_wire (Reply.Given t p) h = response-wire (record { tag = t; mark = mark.Gi
 reply_wire (Reply.Done t) h = response-wire (record { tag = t; mark = mark.Done }) (record { tagged = h; texts = tt })
 reply_wire (Reply.Error t code name) h = wire_weaker 80 200 (written_error t code name) (omega arith) (error-wire t code name)
 
+-- the texts of replies that can be written are lines
 pub reply_lines : (rs : List Reply) → AreReplies rs → AreLines (reply_texts rs)
 reply_lines [] h = tt
 reply_lines (r ∷ rs) h = (wire_line 200 (reply_text r) (reply_wire r h.0) (omega arith), reply_lines rs h.1)
@@ -98,6 +108,7 @@ reply_texts_more : (xs ys : List Reply) → reply_texts (xs ++ ys) ≡ reply_tex
 reply_texts_more [] ys = refl
 reply_texts_more (x ∷ xs) ys = ap (λ (l : List (List ℕ)). reply_text x ∷ l) (reply_texts_more xs ys)
 
+-- the bytes of two lists of replies: those of the first, then those of the second
 pub reply_bytes_more : (xs ys : List Reply) → reply_bytes (xs ++ ys) ≡ reply_bytes xs ++ reply_bytes ys
 reply_bytes_more xs ys = ap line_bytes (reply_texts_more xs ys) ∙ line_bytes-append (reply_texts xs) (reply_texts ys)
 
@@ -105,6 +116,7 @@ response_back : (r : Readers) → AreReaders r → (x : Response) → IsTag x.ta
 response_back r h x t = one_response_reading (written_response x) (r.response (written_response x)) (Ok x) (h.response (written_response x))
     (response_reads_back x t)
 
+-- a reply that can be written is read back as the response it is written as
 pub reply_read : (r : Readers) → AreReaders r → (x : Reply) → IsWritableReply x → r.response (reply_text x) ≡ Ok (response_of x)
 reply_read r h (Reply.Ack t) w = response_back r h (record { tag = t; mark = mark.Ack }) w
 reply_read r h (Reply.Given t p) w = response_back r h (record { tag = t; mark = mark.Given (written_point p) }) w.0
@@ -114,6 +126,7 @@ reply_read r h (Reply.Error t code name) w =
     (Ok (record { tag = t; mark = mark.Error (error_report code name) })) (h.response (written_error t code name))
     (error_reads_back t code name w)
 
+-- a point within the wire limit is read back as itself
 pub point_read : (r : Readers) → AreReaders r → (p : Point) → IsOnWire p → r.point (written_point p) ≡ Ok p
 point_read r h p w = one_point_reading (written_point p) (r.point (written_point p)) (Ok p) (h.point (written_point p))
     (point_reads_back p w)
@@ -123,6 +136,7 @@ point_read r h p w = one_point_reading (written_point p) (r.point (written_point
 abs_difference : (a b : ℤ) → unsigned_abs a ≤ volume_limit → unsigned_abs b ≤ volume_limit → unsigned_abs (a -ℤ b) ≤ wire_limit
 abs_difference a b h g = omega (arith, ints)
 
+-- the difference of two points in the volume is within the wire limit
 pub difference_on_wire : (p q : Point) → IsInVolume p → IsInVolume q → IsOnWire (point_difference p q)
 difference_on_wire p q h g = record {
   x = abs_difference p.x q.x h.x g.x;
@@ -133,5 +147,6 @@ difference_on_wire p q h g = record {
 abs_opposite : (a : ℤ) → unsigned_abs a ≤ volume_limit → unsigned_abs (neg_ℤ a) ≤ volume_limit
 abs_opposite a h = omega (arith, ints)
 
+-- the opposite of a point in the volume is in the volume
 pub opposite_in_volume : (p : Point) → IsInVolume p → IsInVolume (point_opposite p)
 opposite_in_volume p h = record { x = abs_opposite p.x h.x; y = abs_opposite p.y h.y; z = abs_opposite p.z h.z }
