@@ -26,6 +26,3 @@ pub use faults::{ClientFault, NewFault};
 pub use laws::whatever_the_peer_sends;
 pub use protocol_model::{Cause, State};
 pub use sending::LINE_MAX;
-
-#[cfg(test)]
-mod tests;

@@ -9,6 +9,3 @@ mod queue;
 
 pub use protocol_model::{Misread, Waiting};
 pub use queue::{PLACES, Queue};
-
-#[cfg(test)]
-mod tests;

@@ -15,6 +15,3 @@ pub use acts::Act;
 pub use feature_ledger::FeatureLedger;
 pub use features::{Feature, Origin, Points};
 pub use server_ledger::{CONNECTION_MAX, ServerLedger};
-
-#[cfg(test)]
-mod tests;

@@ -19,6 +19,3 @@ mod open_commands;
 pub use endings::Ended;
 pub use faults::TagFault;
 pub use open_commands::Open;
-
-#[cfg(test)]
-mod tests;

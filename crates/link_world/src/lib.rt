@@ -16,6 +16,3 @@ mod world;
 pub use faults::{NewFault, WorldFault};
 pub use protocol_model::{Event, Outcome};
 pub use world::{RunCount, World};
-
-#[cfg(test)]
-mod tests;

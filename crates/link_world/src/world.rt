@@ -225,6 +225,13 @@ impl World {
         self.written.as_slice()
     }
 
+    /// The server's setup, which no event changes. Takes no memory.
+    pub fn setup(&self) -> &Setup
+        ensures { result.now ≡ self.now.setup }
+    {
+        self.server.setup()
+    }
+
     /// What the server did, with the numbers of the connections: the features that the client holds are true of it, what the client has
     /// counted is a front of it on its connection, and neither side has met a line or a mark that has no place.
     #[tactic(auto, using(crate::proofs::Reached::sound, crate::proofs::Reached::told, crate::proofs::Reached::agree))]

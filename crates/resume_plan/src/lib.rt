@@ -9,6 +9,3 @@ mod position;
 
 pub use planning::plan;
 pub use protocol_model::{Does, Planned, Start};
-
-#[cfg(test)]
-mod tests;

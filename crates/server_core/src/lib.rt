@@ -18,6 +18,3 @@ pub use faults::ServerFault;
 pub use protocol_model::{Job, Outcome};
 pub use server::Server;
 pub use view::View;
-
-#[cfg(test)]
-mod tests;

@@ -19,6 +19,3 @@ mod setups;
 
 pub use faults::SetupFault;
 pub use setups::{Rack, Setup};
-
-#[cfg(test)]
-mod tests;

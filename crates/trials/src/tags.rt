@@ -1,7 +1,7 @@
 // What no clause says: that tags are drawn with memory, and worked rows.
 
-use crate::{Ended, Open, TagFault};
 use dme_line::{Kind, Tag};
+use dme_tags::{Ended, Open, TagFault};
 use fixed_um::{Point, Um};
 use std::alloc::Global;
 use std::test::Fail;

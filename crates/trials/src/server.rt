@@ -2,9 +2,9 @@
 // that is fed and read, or a word for another call. Behind it stand the lines that are answered, each with `;` for its end, or why the call
 // is refused.
 
-use crate::{Job, Outcome, Server, ServerFault};
 use contact_ledger::Act;
 use fixed_um::{Dir, Frame, Point, Um, read_um, write_dir, write_um};
+use server_core::{Job, Outcome, Server, ServerFault};
 use std::alloc::{AllocError, Global};
 use std::process::Abort;
 use std::test::Fail;

@@ -1,6 +1,6 @@
 // What no clause says: that the calls which want memory succeed with it.
 
-use crate::{Act, Feature, FeatureLedger, Origin, Points, ServerLedger};
+use contact_ledger::{Act, Feature, FeatureLedger, Origin, Points, ServerLedger};
 use fixed_um::{Frame, Name, Point, Um};
 use std::alloc::{AllocError, Global};
 use std::test::Fail;

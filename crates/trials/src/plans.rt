@@ -4,10 +4,10 @@
 ghost use Rattle.std.specs.Prelude.{All};
 ghost use Rattle.resume_plan.specs.Sendable.{IsSendable};
 
-use crate::{Does, Planned, Start, plan};
 use dme_line::{Tag, write_command, write_point};
 use dmis_program::{Frames, Program};
 use fixed_um::{Frame, Name, Point, Um};
+use resume_plan::{Does, Planned, Start, plan};
 use std::alloc::{AllocError, Global};
 use std::test::Fail;
 

@@ -2,10 +2,10 @@
 // repeats one while it can happen, `quiet` makes so many rounds in which all that can happens, or goes on until one does nothing. The
 // machine is done with what it is asked, and a touch meets the surface at its target and the next shift of the setup.
 
-use crate::{Event, NewFault, Outcome, RunCount, World};
 use contact_ledger::{Act, Origin};
 use dmis_program::Program;
 use fixed_um::{Frame, Point, write_um};
+use link_world::{Event, NewFault, Outcome, RunCount, World};
 use protocol_model::Job;
 use std::alloc::{AllocError, Global};
 use std::test::Fail;
@@ -146,7 +146,7 @@ fn all(world: &mut World, event: &Event) -> bool {
 fn outcome(world: &World) -> Outcome {
     let number = world.ledger().contacts();
     match world.running() {
-        Some(Job::Touch(at, _)) => match at.shifted(world.server.setup().shift(number)) {
+        Some(Job::Touch(at, _)) => match at.shifted(world.setup().shift(number)) {
             Some(at) => Outcome::Touched(at),
             None => Outcome::Missed,
         },

@@ -6,7 +6,7 @@
 // `ended n` and `sends n` do so with more commands and show no line. `letters n` feeds so many letters A, `bare` a line that ends with LF
 // alone.
 
-use crate::{Cause, Client, ClientFault, NewFault, State};
+use client_core::{Cause, Client, ClientFault, NewFault, State};
 use contact_ledger::{Act, Feature, FeatureLedger, Origin, Points};
 use dmis_program::{Frames, Program};
 use fixed_um::{Dir, Frame, Name, Point, Um, write_dir, write_um};

@@ -1,6 +1,6 @@
 // What no clause says: that the calls which want memory succeed with it, and that the places are used again.
 
-use crate::{Misread, Queue, Waiting};
+use command_queue::{Misread, Queue, Waiting};
 use dme_line::{Command, Tag};
 use std::test::Fail;
 

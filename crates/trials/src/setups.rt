@@ -1,10 +1,10 @@
 // What no clause says: that the definitions mean the setups that an operator writes, and that reading succeeds with memory.
 // In the texts of tables `;` stands for the end of a line.
 
-use crate::{Setup, SetupFault};
 use fixed_um::{Name, Point, write_um};
 use std::alloc::{AllocError, Global};
 use std::test::Fail;
+use tool_rack::{Setup, SetupFault};
 
 const SETUP: &str =
     "TOOL P1;TOOL P2;FRAME PART 100 0 0;SHIFT 0.002 0 0;SHIFT 0 0 0.004;SHIFT -0.001 0.001 0;";
