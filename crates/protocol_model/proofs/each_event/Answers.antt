@@ -42,6 +42,7 @@ moved_acts n s t acts m = ap (acts_on n) m.ledger ∙ acts_more n s.ledger (done
 
 -- ---- a client on no connection
 
+-- where the client is on no connection, an answer that only adds acts to the ledger of its connection keeps all that holds
 pub off_answers : (w : World) (up : List Line) (a : Answer) (acts : List Act) → Inv w → IsOff w → w.server.on ≡ true
     → Moves w.server a.server acts → Inv (answered w up a)
 off_answers w up a acts inv off on m = record {
@@ -62,6 +63,7 @@ off_answers w up a acts inv off on m = record {
 
 -- ---- the server on an older connection than the client
 
+-- an answer on an older connection than the client's keeps all that holds, whatever lines it has
 pub old_answers : (w : World) (a : Answer) (acts : List Act) → Inv w → IsLive w → w.server.on ≡ true → w.server.last < w.client.last
     → Moves w.server a.server acts → Inv (answered w w.up a)
 old_answers w a acts inv live on below m =
@@ -112,6 +114,7 @@ old_answers w a acts inv live on below m =
 
 -- ---- the server on the client's connection
 
+-- where each error is followed at once by its end in two lists of replies, it is so in the two as one list
 pub tidy_more : (p : Option Tag) (rs ss : List Reply) → IsTidy p rs → IsTidy None ss → IsTidy p (rs ++ ss)
 tidy_more None [] ss h g = g
 tidy_more (Some t) [] ss h g = absurd h
@@ -137,6 +140,7 @@ pub record IsAnswered (w : World) (table : Table) (up : List Line) (a : Answer) 
       ++ contacts (done_on w.server.last acts)) left
   pub near : IsNear next w.client.unsent left up a.server.running a.server.waiting a.server.error (know_of a.server)
 
+-- an answer on the client's own connection keeps all that holds, if it shows what an event of the server has to show
 pub here_answers : (w : World) (up : List Line) (a : Answer) → Inv w → (live : IsLive w) → w.server.on ≡ true
     → w.server.last ≡ w.client.last → IsAnswered w live.table up a → Inv (answered w up a)
 here_answers w up a inv live on same is =

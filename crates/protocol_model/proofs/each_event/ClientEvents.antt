@@ -64,6 +64,7 @@ told_now w inv = go inv.side
 never_at_rest : (s : State) → IsAtRest s → s ≡ State.Faulted → ⊥
 never_at_rest s h e = subst IsAtRest e h
 
+-- where all holds, the client is not Faulted
 pub never_faulted : (w : World) → Inv w → w.client.state ≡ State.Faulted → ⊥
 never_faulted w inv e = go inv.side
   where
@@ -73,6 +74,7 @@ never_faulted w inv e = go inv.side
 
 -- ---- a new connection
 
+-- the client makes its next connection, where nothing is on its way, and all that holds is kept
 pub connect_event : (w : World) → Inv w → Inv (connected w)
 connect_event w inv =
     let c : Client = w.client in
@@ -134,6 +136,7 @@ connect_event w inv =
 
 -- ---- leaving, and a restart
 
+-- the client leaves its connection, and all that holds is kept
 pub client_left_event : (w : World) → Inv w → Inv (record w { client = client_left w.client })
 client_left_event w inv = record {
   program = inv.program;
@@ -153,6 +156,7 @@ client_left_event w inv = record {
     go State.Done = tt
     go State.Faulted = tt
 
+-- the client restarts with its first k features, and all that holds is kept
 pub client_restart_event : (w : World) (k : ℕ) → Inv w → Inv (record w { client = client_restarted k w.client })
 client_restart_event w k inv = record {
   program = inv.program;
@@ -170,10 +174,12 @@ client_restart_event w k inv = record {
 
 -- ---- a command is sent
 
+-- a further command that has not failed changes nothing of the tags of those that have
 pub failed_tags_more : (hs : List Held) (x : Held) → is_failed x.stage ≡ false → failed_tags (hs ++ x ∷ []) ≡ failed_tags hs
 failed_tags_more [] x e = if_false {A = List Tag} (is_failed x.stage) (x.tag ∷ []) [] e
 failed_tags_more (h ∷ hs) x e = ap (λ (ts : List Tag). cond (is_failed h.stage) (h.tag ∷ ts) ts) (failed_tags_more hs x e)
 
+-- a further command adds at most one to the count of the open ones
 pub count_more : (hs : List Held) (x : Held) → count_open (hs ++ x ∷ []) ≤ suc (count_open hs)
 count_more [] x = go (is_failed x.stage)
   where
@@ -194,6 +200,7 @@ one_more_tag u (h ∷ hs) x e apart = if_cases {A = Bool} (tag_is h.tag u) true 
     (λ same no_way. absurd (false≢true (sym no_way)))
     (λ other rest. if_false {A = Bool} (tag_is h.tag u) true (is_held u (hs ++ x ∷ [])) other ∙ one_more_tag u hs x rest apart)
 
+-- where each tag is held once, it is so with a further command whose tag was not held
 pub distinct_more : (hs : List Held) (x : Held) → AreDistinct hs → is_held x.tag hs ≡ false → AreDistinct (hs ++ x ∷ [])
 distinct_more [] x d free = (refl, tt)
 distinct_more (h ∷ hs) x d free = if_cases {A = Bool} (tag_is h.tag x.tag) true (is_held x.tag hs) false (AreDistinct (h ∷ (hs ++ x ∷ [])))
@@ -201,6 +208,7 @@ distinct_more (h ∷ hs) x d free = if_cases {A = Bool} (tag_is h.tag x.tag) tru
     (λ same no_way. absurd (false≢true (sym no_way)))
     (λ other rest. (one_more_tag h.tag hs x d.0 (tag_is_false h.tag x.tag other), distinct_more hs x d.1 rest))
 
+-- where the list of open aborts is empty, so is the list of their numbers
 pub no_aborts : (ks : List ℕ) → abort_helds ks ≡ [] → ks ≡ []
 no_aborts [] e = refl
 no_aborts (k ∷ ks) e = absurd (cc)
@@ -227,6 +235,7 @@ none_received (x ∷ xs) ys h = absurd (go h.0)
     go : ◌≡◌ {A = Stage} Stage.Received Stage.Failed → ⊥
     go e = cc
 
+-- the next command of the plan goes out while no abort is open, and the table that is left still fits the server
 pub near_sends : (table : Table) (p : Planned) (ps : List Planned) (left : List Wanted) (up : List Line) (running : Option Line)
     (waiting : List Waiting) (error : Bool) (know : Know) (n : ℕ)
     → IsNear table (p ∷ ps) left up running waiting error know → table.event ≡ [] → is_abort (Ok p.command) ≡ false

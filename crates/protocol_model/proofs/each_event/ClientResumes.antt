@@ -71,6 +71,7 @@ no_event_in w live State.Halted is may = absurd (false≢true may)
 no_event_in w live State.Done is may = absurd (false≢true may)
 no_event_in w live State.Faulted is may = absurd (false≢true may)
 
+-- a client on no connection is in no state in which it may abort
 pub never_off : (w : World) (off : IsOff w) (s : State) → w.client.state ≡ s → may_abort s ≡ true → ⊥
 never_off w off State.Apart is may = false≢true may
 never_off w off State.Running is may = subst IsAtRest is off.rest
@@ -142,6 +143,7 @@ none_at_all n hs e le = let short : suc n ≤ 0 = subst (λ (l : List Held). suc
     go : suc n ≤ 0 → ⊥
     go h = omega arith
 
+-- a client that may abort sends an abort under a new event tag, and all that holds is kept
 pub abort_event : (w : World) → Inv w → may_abort w.client.state ≡ true → Inv (sent w (client_aborted w.client))
 abort_event w inv can = go inv.side
   where
@@ -276,6 +278,7 @@ resumes w inv live halted =
     }))
     placed y failed (inr (inr gone)) = inr (inr (record { off = gone.off; same = gone.same }))
 
+-- a client that may resume begins its plan again on the same connection, and all that holds is kept
 pub resume_event : (w : World) → Inv w → may_resume w.client w.client.state ≡ true → Inv (record w { client = client_resumed w.client })
 resume_event w inv can = go inv.side
   where

@@ -25,6 +25,7 @@ use Rattle.protocol_model.specs.declared.states.State.{State}
 
 -- ---- a command is sent
 
+-- the client is Running, and the first command that it has not sent may go with so many open
 pub record IsDue (c : Client) : Type 0 where
   pub running : c.state ≡ State.Running
   pub planned : Planned
@@ -50,6 +51,7 @@ due_by : (c : Client) (ps : List Planned) → c.unsent ≡ ps → c.state ≡ St
 due_by c [] e r is = absurd (false≢true is)
 due_by c (p ∷ ps) e r is = record { running = r; planned = p; others = ps; unsent = e; go = first_by _ p is }
 
+-- where a command is due, it is the first one that a client in Running has not sent
 pub due_is : (c : Client) → is_some (due c) ≡ true → IsDue c
 due_is c is = go (is_running c.state) refl is
   where
@@ -152,6 +154,7 @@ held_few w inv live =
 too_many : (n : ℕ) → 9999 ≤ n → n ≤ 17 → ⊥
 too_many n a b = omega arith
 
+-- the command that is due goes out under a new standard tag, and all that holds is kept
 pub sends_event : (w : World) → Inv w → is_some (due w.client) ≡ true → Inv (sent w (client_sent w.client))
 sends_event w inv can = go inv.side
   where

@@ -42,6 +42,7 @@ running_state b calm = go (is_whole b)
     go true = tt
     go false = calm
 
+-- the state behind a reply fits the table behind it, where the state before it fitted, and no more commands are open
 pub has_state : (state : State) (ends : Bool) (b c : Table) → HasState state b → count_open c.standard ≤ count_open b.standard
     → HasState (state_behind state ends c) c
 has_state State.Apart ends b c h le = tt
@@ -92,6 +93,7 @@ ends_no_abort abort a t m is sort other = ap (λ (o : Option Tag). ends_abort o 
     go Mark.Done = apart a t sort other
     go Mark.Error = apart a t sort other
 
+-- behind a reply on a standard tag, the open event commands are still such as the state allows
 pub standard_events : (state : State) (abort : Option Tag) (event : List Held) (t : Tag) (m : Mark) (b : Table) → is_event_tag t ≡ false
     → HasEvents state abort event → HasEvents (state_behind state (ends_abort abort t m) b) abort event
 standard_events State.Apart abort event t m b sort h = h
@@ -171,10 +173,12 @@ becomes_by held m hs s n v e = there s e (no_end m (λ (d : m ≡ Mark.Done). no
     not_done d = done_moves true (asks_data held.kind) held.stage s
         (subst (λ (x : Mark). judged true held.kind held.stage x ≡ Becomes s) d v)
 
+-- a reply is on the tag of this abort, and either left it open or ended it
 pub record IsAbortReply (held : Held) (t : Tag) (m : Mark) (hs : List Held) : Type 0 where
   pub same : tag_is held.tag t ≡ true
   pub left : AbortLeft held m hs
 
+-- where one event command is open, a reply with its place that is no error is on its tag, and leaves it open or ends it
 pub abort_reply : (held : Held) (t : Tag) (m : Mark) (hs : List Held) (e : Effect) → heard_in true (held ∷ []) t m ≡ two hs e
     → is_error m ≡ false → IsAbortReply held t m hs
 abort_reply held t m hs e is n =

@@ -272,6 +272,7 @@ zero_is_event : (t : Tag) → tag_is t (Event 0) ≡ true → is_event_tag t ≡
 zero_is_event (Std n) e = absurd (false≢true e)
 zero_is_event (Event n) e = refl
 
+-- a client on a connection reads the first reply on its way down, if there is one, and all that holds is kept
 pub hear_event : (w : World) → Inv w → w.client.on ≡ true → Inv (client_reads w w.down)
 hear_event w inv on = go w.down refl
   where

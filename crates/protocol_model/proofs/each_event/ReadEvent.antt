@@ -273,6 +273,7 @@ tidy_pairs : (ls : List Line) → AreStandard ls → IsTidy None (all_fail 9007 
 tidy_pairs [] h = tt
 tidy_pairs (l ∷ ls) h = (h.0, (refl, h.0, tidy_pairs ls h.2))
 
+-- where a standard command fails, and those that wait fail behind it, each error is followed at once by its end
 pub tidy_pair_and_pairs : (x : Line) (ls : List Line) (code : ℕ) (name : Option Kind) → is_event_tag x.tag ≡ false → AreStandard ls
     → IsTidy None (fails x.tag code name ++ all_fail 9007 (all_wait ls))
 tidy_pair_and_pairs x ls code name sort sorts = (sort, (refl, sort, tidy_pairs ls sorts))
@@ -314,6 +315,7 @@ still_clean w table left queued know c none =
       fits = λ e. absurd (false≢true (sym e));
     }
 
+-- an abort is read, with no standard line before it: the answer shows what an event of the server has to show
 pub reads_abort : (w : World) (table : Table) (left : List Wanted) (k : ℕ) (queued : List Line) (aborts : List ℕ)
     → IsNearBy table w.client.unsent left w.up w.server.running w.server.waiting w.server.error (know_of w.server) queued [] (k ∷ aborts)
     → IsProgress w.client.program.features w.client.last table.tally.features table.tally.points (contacts w.server.ledger) left

@@ -67,6 +67,7 @@ reads_next w inv live x up queued [] (k ∷ aborts) n e =
     (reads_abort w live.table live.left k queued aborts n live.progress)
 reads_next w inv live x up queued [] [] n e = absurd (cc)
 
+-- a server on the client's connection reads the first line on its way up, if there is one, and all that holds is kept
 pub reads_event : (w : World) → Inv w → w.server.on ≡ true → eqb w.server.last w.client.last ≡ true → Inv (server_reads w w.up)
 reads_event w inv on same = go w.up refl inv.side
   where
@@ -89,6 +90,7 @@ reads_event w inv on same = go w.up refl inv.side
 apart_below : (m n : ℕ) → m ≤ n → eqb m n ≡ false → m < n
 apart_below m n le e = let apart : m ≡ n → ⊥ = eqb-false m n e in omega arith
 
+-- a server on an older connection than the client's reads anything at all, and all that holds is kept
 pub reads_old_event : (w : World) (reading : Reading) → Inv w → w.server.on ≡ true → eqb w.server.last w.client.last ≡ false
     → Inv (answered w w.up (server_read w.server reading))
 reads_old_event w reading inv on apart = go inv.side
@@ -114,10 +116,12 @@ works w a acts inv on moves at_it = go inv.side
     go (inl off) = off_answers w w.up a acts inv off on moves
     go (inr live) = placed live live.place
 
+-- where the test finds no line, there is none
 pub is_none_of : (o : Option Line) → is_none o ≡ true → o ≡ None
 is_none_of None e = refl
 is_none_of (Some x) e = absurd (false≢true e)
 
+-- where the test finds that commands wait, their list is not empty
 pub not_nothing : (l : List Waiting) → not (is_empty l) ≡ true → l ≡ [] → ⊥
 not_nothing [] e none = false≢true e
 not_nothing (x ∷ xs) e none = cc
@@ -127,6 +131,7 @@ pub on_by : (w : World) → Inv w → (b : Bool) → w.server.on ≡ b → (w.se
 on_by w inv true e busy = e
 on_by w inv false e busy = let idle : IsIdle w.server = inv.idle e in absurd (busy idle.running idle.waiting)
 
+-- the first command that waits has its turn, where none runs, and all that holds is kept
 pub turn_event : (w : World) → Inv w → (is_none w.server.running && not (is_empty w.server.waiting)) ≡ true
     → Inv (answered w w.up (server_turned w.server))
 turn_event w inv can =
@@ -138,6 +143,7 @@ turn_event w inv can =
     (λ live here. turned_here w live.table live.left here.near.queued here.near.coming here.near.aborts here.near.by live.progress here.same
     no_run some)
 
+-- the machine is done with what runs, with an outcome that it can have, and all that holds is kept
 pub machine_event : (w : World) (outcome : Outcome) → Inv w → may_end w.server.running outcome ≡ true
     → Inv (answered w w.up (server_machined w.server outcome))
 machine_event w outcome inv can =
@@ -179,6 +185,7 @@ near_knows table unsent left up running waiting error k l more n = record {
   };
 }
 
+-- a server on no connection takes one that the client made later than its last, and all that holds is kept
 pub accept_event : (w : World) (n : ℕ) → Inv w → (not w.server.on && (nat_lt w.server.last n && nat_le n w.client.last)) ≡ true
     → Inv (record w { server = server_accepted n w.server })
 accept_event w n inv can =
@@ -249,6 +256,7 @@ accept_event w n inv can =
 abbrev gone_from : World → Bool → Option (List ℕ) → World
 gone_from w homed tool = record w { server = record (server_left w.server) { homed = homed; tool = tool } }
 
+-- the server is on no connection any more, homed or not and with any tool or none, and all that holds is kept
 pub gone_event : (w : World) (homed : Bool) (tool : Option (List ℕ)) → Inv w
     → Inv (record w { server = record (server_left w.server) { homed = homed; tool = tool } })
 gone_event w homed tool inv = record {
@@ -287,8 +295,10 @@ gone_event w homed tool inv = record {
       place = placed live live.place;
     })
 
+-- the server leaves its connection, and all that holds is kept
 pub left_event : (w : World) → Inv w → Inv (record w { server = server_left w.server })
 left_event w inv = gone_event w w.server.homed w.server.tool inv
 
+-- the server restarts, neither homed nor with a tool, and all that holds is kept
 pub restart_event : (w : World) → Inv w → Inv (record w { server = server_restarted w.server })
 restart_event w inv = gone_event w false None inv

@@ -25,6 +25,7 @@ not_true : (b : Bool) → not b ≡ true → b ≡ false
 not_true false e = refl
 not_true true e = absurd (false≢true e)
 
+-- every event that can happen keeps all that holds
 pub happens_keeps : (e : Event) (w : World) → Inv w → can e w ≡ true → Inv (happens e w)
 happens_keeps Connect w inv can = connect_event w inv
 happens_keeps (Accept n) w inv can = accept_event w n inv can
@@ -46,10 +47,12 @@ after_by : (e : Event) (w : World) → Inv w → (b : Bool) → can e w ≡ b �
 after_by e w inv true is = happens_keeps e w inv is
 after_by e w inv false is = inv
 
+-- so does every list of events, where those that cannot happen change nothing
 pub run_keeps : (es : List Event) (w : World) → Inv w → Inv (run_of es w)
 run_keeps [] w inv = inv
 run_keeps (e ∷ es) w inv = run_keeps es (after e w) (after_by e w inv (can e w) refl)
 
+-- all of it holds at the start, where neither side was ever on a connection and the window is at most 16
 pub start_holds : (p : Program) (rack : List (List ℕ)) (window : ℕ) → IsPlain p → window ≤ 16 → Inv (start p rack window)
 start_holds p rack window program le = record {
   program = program;
@@ -70,6 +73,7 @@ from_start_holds : (p : Program) (rack : List (List ℕ)) (window : ℕ) (es : L
 from_start_holds p rack window es program le = run_keeps es (start p rack window)
     (start_holds p rack window (program_is_plain p program) le)
 
+-- whatever happens from the start on, the features that the client holds are true of the server's acts
 pub always_sound : (p : Program) (rack : List (List ℕ)) (window : ℕ) (es : List Event) → IsProgram p → window ≤ 16
     → Sound p.features (run_of es (start p rack window)).client.table.tally.features (run_of es (start p rack window)).server.ledger
 always_sound p rack window es program le =
@@ -78,6 +82,7 @@ always_sound p rack window es program le =
     (served_sound w.client.program.features w.client.table.tally.features w.server.ledger
     (served_now w (from_start_holds p rack window es program le)))
 
+-- what the client has counted is then the front of what the server did on the connection that the client made last
 pub always_told : (p : Program) (rack : List (List ℕ)) (window : ℕ) (es : List Event) → IsProgram p → window ≤ 16
     → Told (run_of es (start p rack window)).client.table.tally.counted (run_of es (start p rack window)).server.ledger
     (run_of es (start p rack window)).client.last
@@ -85,6 +90,7 @@ always_told p rack window es program le =
     let told = told_now (from_start p rack window es) (from_start_holds p rack window es program le) in
     record { more = told.0; whole = told.1 }
 
+-- and the client is never Faulted
 pub never_disagree : (p : Program) (rack : List (List ℕ)) (window : ℕ) (es : List Event) → IsProgram p → window ≤ 16
     → (run_of es (start p rack window)).client.state ≢ State.Faulted
 never_disagree p rack window es program le = never_faulted (from_start p rack window es) (from_start_holds p rack window es program le)

@@ -21,6 +21,7 @@ before_by sort hs n left m i true e is deeper from below = go (eqb n i) refl
     go false other = let apart : n ≡ i → ⊥ = eqb-false n i other in deeper is (omega arith) below
 before_by sort hs n left m i false e is deeper from below = let same : n ≡ m = cc in absurd (omega arith)
 
+-- the numbers from where a search begins on, below the one that it finds, are held
 pub before_first : (sort : ℕ → Tag) (hs : List Held) (n left m i : ℕ) → first_free sort hs n left ≡ Some m → n ≤ i → i < m
     → is_held (sort i) hs ≡ true
 before_first sort hs n zero m i is from below = absurd (cc)

@@ -30,6 +30,7 @@ use Rattle.protocol_model.specs.declared.machine.Outcome.{Outcome}
 abbrev pub lined : World → List Line → List Reply → Lined
 lined b up down = record { client = b.client.client; server = b.server.server; up = up; down = down }
 
+-- the bytes of all connections are those of lines and replies for which all holds; no byte waits to be sent, and no fault was met
 pub record IsCarried (b : World) : Type 0 where
   pub up : List Line
   pub down : List Reply
@@ -146,6 +147,7 @@ serving_is readers are e line rest l next text w =
     ap (front_served readers e) next ∙ ap (λ (r : Result _ _). with_answer e (record { rest = rest; fault = e.input.fault })
     (server_read e.server (reading_of r))) read
 
+-- a server on a connection reads the line at the front of its bytes, and what both ends carry is kept
 pub reads_carried : (readers : Readers) → AreReaders readers → (b : World) (h : IsCarried b) → b.server.server.on ≡ true
     → is_line (next_of b.server.input.rest) ≡ true → IsCarried (server_writes b (serving_read readers b.server))
 reads_carried readers are b h on due = go (next_of b.server.input.rest) refl due
@@ -201,6 +203,7 @@ busy_on : (b : World) (h : IsCarried b) (t : Bool) → b.server.server.on ≡ t
 busy_on b h true e busy = e
 busy_on b h false e busy = let idle : IsIdle b.server.server = h.inv.idle e in absurd (busy idle.running idle.waiting)
 
+-- the first command that waits has its turn, where none runs, and what both ends carry is kept
 pub turn_carried : (b : World) (h : IsCarried b) → b.server.server.on ≡ true
     → (is_none b.server.server.running && not (Rattle.protocol_model.specs.Plan.is_empty b.server.server.waiting)) ≡ true
     → IsCarried (server_writes b (serving_turned b.server))
@@ -209,6 +212,7 @@ turn_carried b h on can =
     answer_carried b h h.up b.server.input.rest (server_turned b.server.server) moves.0 on moves.1 (turned_plain b.server.server h.server)
     h.wired (turn_event (lined b h.up h.down) h.inv can)
 
+-- the machine is done with what runs, with an outcome that it can have, and what both ends carry is kept
 pub machine_carried : (b : World) (outcome : Outcome) (h : IsCarried b) → b.server.server.on ≡ true
     → may_end b.server.server.running outcome ≡ true → IsCarried (server_writes b (serving_machined outcome b.server))
 machine_carried b outcome h on can =
@@ -218,6 +222,7 @@ machine_carried b outcome h on can =
 
 -- ---- bytes that move
 
+-- the first k bytes up move to a server on a connection, and what both ends carry is kept
 pub up_carried : (b : World) (k : ℕ) (h : IsCarried b) → b.server.server.on ≡ true → IsCarried (moved_up k b)
 up_carried b k h on =
     let fed_is : fed b.server.input (take k (server_link b).up)
@@ -244,6 +249,7 @@ up_carried b k h on =
           b.server.server.last o (b.server.input.rest ++ take k (server_link b).up) h.up h.down) (sym on) wired);
     }
 
+-- the first k bytes down move to a client on a connection, and what both ends carry is kept
 pub down_carried : (b : World) (k : ℕ) (h : IsCarried b) → b.client.client.on ≡ true → IsCarried (moved_down k b)
 down_carried b k h on =
     let fed_is : fed b.client.input (take k (client_link b).down)

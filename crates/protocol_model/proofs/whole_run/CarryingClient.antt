@@ -32,6 +32,7 @@ use Rattle.protocol_model.specs.declared.plans.Planned.{Planned}
 
 -- ---- connections
 
+-- the client makes its next connection, with no bytes on it, and what both ends carry is kept
 pub connect_carried : (b : World) → IsCarried b → IsCarried (connected b)
 connect_carried b h = record {
   up = [];
@@ -58,6 +59,7 @@ accepted_plain s n h = record {
   frame = h.frame;
 }
 
+-- a server on no connection takes one that was made later than its last, and what both ends carry is kept
 pub accept_carried : (b : World) (n : ℕ) (h : IsCarried b) → (not b.server.server.on
     && (nat_lt b.server.server.last n && nat_le n (length b.links))) ≡ true → IsCarried (record b { server = serving_accepted n b.server })
 accept_carried b n h can =
@@ -88,6 +90,7 @@ accept_carried b n h can =
     is_off false e = refl
     is_off true e = absurd (false≢true e)
 
+-- the client leaves its connection and keeps no byte of it, and what both ends carry is kept
 pub client_left_carried : (b : World) → IsCarried b → IsCarried (record b { client = end_left b.client })
 client_left_carried b h = record {
   up = h.up;
@@ -104,6 +107,7 @@ client_left_carried b h = record {
       b.server.input.rest h.up h.down h.wired;
 }
 
+-- the client restarts with its first k features and no bytes, and what both ends carry is kept
 pub client_restart_carried : (b : World) (k : ℕ) → IsCarried b → IsCarried (record b { client = end_restarted k b.client })
 client_restart_carried b k h = record {
   up = h.up;
@@ -143,9 +147,11 @@ gone_carried b homed tool h = record {
       b.server.input.rest h.up h.down h.wired;
 }
 
+-- the server leaves its connection and keeps no byte of it, and what both ends carry is kept
 pub server_left_carried : (b : World) → IsCarried b → IsCarried (record b { server = serving_left b.server })
 server_left_carried b h = gone_carried b b.server.server.homed b.server.server.tool h
 
+-- the server restarts with no bytes, neither homed nor with a tool, and what both ends carry is kept
 pub server_restart_carried : (b : World) → IsCarried b → IsCarried (record b { server = serving_restarted b.server })
 server_restart_carried b h = gone_carried b false None h
 
@@ -215,6 +221,7 @@ due_on w inv can = go inv.side
     go (inl off) = absurd (subst IsAtRest d.running off.rest)
     go (inr live) = live.on
 
+-- a client in a state in which it may abort is on a connection
 pub abort_on : (w : Lined) → Inv w → may_abort w.client.state ≡ true → w.client.on ≡ true
 abort_on w inv can = go inv.side
   where
@@ -222,12 +229,14 @@ abort_on w inv can = go inv.side
     go (inl off) = absurd (never_off w off w.client.state refl can)
     go (inr live) = live.on
 
+-- the bytes of the command that is due join those up on the client's connection, and what both ends carry is kept
 pub sends_carried : (b : World) (h : IsCarried b) → is_some (due b.client.client) ≡ true → IsCarried (client_writes b (end_sent b.client))
 sends_carried b h can =
     writes_carried b h (client_sent b.client.client) (due_on (lined b h.up h.down) h.inv can)
     (sends_stays b.client.client b.client.client.unsent (next_number Std b.client.client.table.standard b.client.client.drawn))
     (plain_sent b.client.client h.client) (sends_event (lined b h.up h.down) h.inv can)
 
+-- a client that may abort adds the bytes of an abort to those up, and what both ends carry is kept
 pub abort_carried : (b : World) (h : IsCarried b) → may_abort b.client.client.state ≡ true
     → IsCarried (client_writes b (end_aborted b.client))
 abort_carried b h can =
@@ -235,6 +244,7 @@ abort_carried b h can =
     (aborts_stays b.client.client (next_number Event b.client.client.table.event b.client.client.event_drawn))
     (plain_aborted b.client.client h.client) (abort_event (lined b h.up h.down) h.inv can)
 
+-- a client that may resume begins its plan again and writes nothing yet, and what both ends carry is kept
 pub resume_carried : (b : World) (h : IsCarried b) → may_resume b.client.client b.client.client.state ≡ true
     → IsCarried (record b { client = end_resumed b.client })
 resume_carried b h can = record {
@@ -309,6 +319,7 @@ heard_carried b h r others rest on down_is behind =
           others) (sym stays.last) wired);
     }
 
+-- a client reads what stands at the front of its bytes, which is a reply and no fault, and what both ends carry is kept
 pub hears_carried : (readers : Readers) → AreReaders readers → (b : World) (h : IsCarried b) → b.client.client.on ≡ true
     → is_any (next_of b.client.input.rest) ≡ true → IsCarried (record b { client = end_read readers b.client })
 hears_carried readers are b h on due_now = go (next_of b.client.input.rest) refl due_now

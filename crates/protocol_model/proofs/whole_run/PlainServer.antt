@@ -29,6 +29,7 @@ use Rattle.protocol_model.specs.declared.lines.Line.{Line}
 use Rattle.protocol_model.specs.declared.lines.Waiting.{Waiting}
 use Rattle.protocol_model.specs.declared.machine.Outcome.{Outcome}
 
+-- a tag that a command can have has a number with room in its digits
 pub tag_of_numbered : (t : Tag) → IsNumbered t → IsTag t
 tag_of_numbered (Std n) h = h.1
 tag_of_numbered (Event n) h = h.1
@@ -53,6 +54,7 @@ pub record IsPlainAnswer (a : Answer) : Type 0 where
 zero_in_volume : IsInVolume zero_point
 zero_in_volume = record { x = omega arith; y = omega arith; z = omega arith }
 
+-- a server that was never on a connection is such a one: nothing runs or waits, and the zero point lies in the volume
 pub plain_new : (rack : List (List ℕ)) → IsPlainServer (record {
   rack = rack;
   on = false;
@@ -134,6 +136,7 @@ aborted_plain s t h tag = record {
   );
 }
 
+-- at a line that can be written, such a server answers replies that can be written, and stays such a one
 pub read_plain : (s : Server) (l : Line) → IsPlainServer s → IsWritable l.tag l.command → IsPlainAnswer (server_read s (Ok l))
 read_plain s l h w =
     let tag : IsTag l.tag = line_tag l w in
@@ -245,6 +248,7 @@ turned_by s (l ∷ ls) h w = go (refusal s (Ok l.command))
     go None = carried_plain (record s { waiting = all_wait ls }) l.tag l.command
         (record { lines = ls; waiting_is = refl; running = h.running; waiting = w.1; stored = h.stored; frame = h.frame }) w.0
 
+-- at the turn of the first that waits, such a server answers replies that can be written, and stays such a one
 pub turned_plain : (s : Server) → IsPlainServer s → IsPlainAnswer (server_turned s)
 turned_plain s h = subst (λ (ws : List Waiting). IsPlainAnswer (turned_to s ws)) (sym h.waiting_is) (turned_by s h.lines h h.waiting)
 
@@ -304,6 +308,7 @@ finished_plain s t (command.SetCsyTransformation p) h tag can = record { server 
 finished_plain s t (command.SetCoordSystem system) h tag can = record { server = h; said = tt }
 finished_plain s t command.AbortE h tag can = record { server = h; said = tt }
 
+-- a point that passes the test of the volume lies in it on each axis
 pub volume_is : (p : Point) → in_volume p ≡ true → IsInVolume p
 volume_is p e =
     let parts = and_parts _ _ e in
@@ -339,6 +344,7 @@ machined_by s (Outcome.Touched at) l h w can = touched_plain s l.tag l.command a
 machined_by s Outcome.Missed l h w can = stopped_plain s l 9014 h w
 machined_by s Outcome.Fault l h w can = stopped_plain s l 9015 h w
 
+-- at an outcome that what runs can have, such a server answers replies that can be written, and stays such a one
 pub machined_plain : (s : Server) (outcome : Outcome) → IsPlainServer s → may_end s.running outcome ≡ true
     → IsPlainAnswer (server_machined s outcome)
 machined_plain s outcome h can = go s.running refl
@@ -352,6 +358,7 @@ machined_plain s outcome h can = go s.running refl
 
 -- ---- leaving
 
+-- a server that has left its connection is such a one, homed or not and with any tool or none
 pub left_plain : (s : Server) (homed : Bool) (tool : Option (List ℕ))
     → IsPlainServer (record (server_left s) { homed = homed; tool = tool })
 left_plain s homed tool = record {

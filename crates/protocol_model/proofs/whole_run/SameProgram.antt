@@ -106,8 +106,10 @@ runs_same : (readers : Readers) (es : List Event) (b : World) → Same b.client.
 runs_same readers [] b = refl
 runs_same readers (e ∷ es) b = runs_same readers es (after readers e b) ∙ after_same readers e b (can e b)
 
+-- after any list of events the client has the program that it had before
 pub run_same : (readers : Readers) (es : List Event) (b : World) → (run_of readers es b).client.client.program ≡ b.client.client.program
 run_same readers es b = ap (λ (k : Meaning × ℕ). k.0) (runs_same readers es b)
 
+-- and as many commands may be open as before
 pub run_window : (readers : Readers) (es : List Event) (b : World) → (run_of readers es b).client.client.window ≡ b.client.client.window
 run_window readers es b = ap (λ (k : Meaning × ℕ). k.1) (runs_same readers es b)

@@ -26,6 +26,7 @@ use Rattle.protocol_model.proofs.whole_run.CarryingClient.{resume_carried, hears
 use Rattle.protocol_model.specs.declared.lines.Line.{Line}
 use Rattle.protocol_model.specs.declared.states.State.{State}
 
+-- every event that can happen keeps what both ends with their bytes carry
 pub happens_carried : (readers : Readers) → AreReaders readers → (e : Event) (b : World) → IsCarried b → can e b ≡ true
     → IsCarried (happens readers e b)
 happens_carried readers are Connect b h can = connect_carried b h
@@ -56,10 +57,12 @@ after_by : (readers : Readers) → AreReaders readers → (e : Event) (b : World
 after_by readers are e b h true is = happens_carried readers are e b h is
 after_by readers are e b h false is = h
 
+-- so does every list of events, where those that cannot happen change nothing
 pub run_carried : (readers : Readers) → AreReaders readers → (es : List Event) (b : World) → IsCarried b → IsCarried (run_of readers es b)
 run_carried readers are [] b h = h
 run_carried readers are (e ∷ es) b h = run_carried readers are es (after readers e b) (after_by readers are e b h (can e b) refl)
 
+-- at the start no connection is made and no byte is there: with a window of at most 16, it all holds
 pub start_carried : (p : Meaning) (rack : List (List ℕ)) (window : ℕ) → IsProgram p → window ≤ 16 → IsCarried (start p rack window)
 start_carried p rack window program le = record {
   up = [];
@@ -95,6 +98,7 @@ start_carried p rack window program le = record {
 
 -- ---- the claims
 
+-- whatever happens to both ends and their bytes, the features that the client holds are true of the server's acts
 pub always_sound : (readers : Readers) → AreReaders readers → (p : Meaning) (rack : List (List ℕ)) (window : ℕ) (es : List Event)
     → IsProgram p → window ≤ 16
     → Sound p.features (run_of readers es (start p rack window)).client.client.table.tally.features
@@ -107,6 +111,7 @@ always_sound readers are p rack window es program le =
     (served_sound b.client.client.program.features b.client.client.table.tally.features b.server.server.ledger
     (served_now (lined b h.up h.down) h.inv))
 
+-- what the client has counted is then the front of what the server did on the connection that the client made last
 pub always_told : (readers : Readers) → AreReaders readers → (p : Meaning) (rack : List (List ℕ)) (window : ℕ) (es : List Event)
     → IsProgram p → window ≤ 16
     → Told (run_of readers es (start p rack window)).client.client.table.tally.counted
@@ -117,6 +122,7 @@ always_told readers are p rack window es program le =
     let told = told_now (lined b h.up h.down) h.inv in
     record { more = told.0; whole = told.1 }
 
+-- whatever happens to both ends and their bytes, the client is never Faulted
 pub never_faulted_run : (readers : Readers) → AreReaders readers → (p : Meaning) (rack : List (List ℕ)) (window : ℕ) (es : List Event)
     → IsProgram p → window ≤ 16
     → (run_of readers es (start p rack window)).client.client.state ≢ State.Faulted
@@ -125,6 +131,7 @@ never_faulted_run readers are p rack window es program le =
     let h : IsCarried b = run_carried readers are es (start p rack window) (start_carried p rack window program le) in
     never_faulted (lined b h.up h.down) h.inv
 
+-- the server never meets a line that is too long or a bad byte
 pub no_framing_fault : (readers : Readers) → AreReaders readers → (p : Meaning) (rack : List (List ℕ)) (window : ℕ) (es : List Event)
     → IsProgram p → window ≤ 16
     → (run_of readers es (start p rack window)).server.input.fault ≡ None

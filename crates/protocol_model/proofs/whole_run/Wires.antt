@@ -36,6 +36,7 @@ pub record IsWired (links : List Link) (n : ℕ) (client_on : Bool) (heard : Lis
 no_lines : IsWhole []
 no_lines = record { lines = []; writable = tt; is = refl }
 
+-- the client makes one connection more: it is on that one, and neither lines nor replies are on their way there
 pub wired_connect : (links : List Link) (n : ℕ) (client_on : Bool) (heard : List ℕ) (m : ℕ) (server_on : Bool) (read : List ℕ)
     (up : List Line) (down : List Reply)
     → IsWired links n client_on heard m server_on read up down → IsWired (links ++ no_link ∷ []) (suc n) true [] m server_on read [] []
@@ -73,6 +74,7 @@ wired_connect links n client_on heard m server_on read up down h = record {
         subst (λ (l : Link). IsWhole l.up) (sym (link_old links k no_link (omega arith) (subst (λ (i : ℕ). k ≤ i) (sym h.made) small)))
         (h.waits k lt small)
 
+-- the server takes a later connection that was made, of which it has read no byte: the lines and replies stay the same
 pub wired_accept : (links : List Link) (n : ℕ) (client_on : Bool) (heard : List ℕ) (m k : ℕ) (server_on : Bool) (read : List ℕ)
     (up : List Line) (down : List Reply)
     → IsWired links n client_on heard m server_on read up down → m < k → k ≤ n → IsWired links n client_on heard k true [] up down
@@ -90,6 +92,7 @@ wired_accept links n client_on heard m k server_on read up down h lt le = record
   serves = λ e. h.waits k lt le;
 }
 
+-- the client is on no connection any more, and keeps no byte: the lines and replies stay the same
 pub wired_left : (links : List Link) (n : ℕ) (client_on : Bool) (heard : List ℕ) (m : ℕ) (server_on : Bool) (read : List ℕ) (up : List Line)
     (down : List Reply)
     → IsWired links n client_on heard m server_on read up down → IsWired links n false [] m server_on read up down
@@ -107,6 +110,7 @@ wired_left links n client_on heard m server_on read up down h = record {
   serves = h.serves;
 }
 
+-- the server is on no connection any more, and keeps no byte: the lines and replies stay the same
 pub wired_gone : (links : List Link) (n : ℕ) (client_on : Bool) (heard : List ℕ) (m : ℕ) (server_on : Bool) (read : List ℕ) (up : List Line)
     (down : List Reply)
     → IsWired links n client_on heard m server_on read up down → IsWired links n client_on heard m false [] up down
@@ -133,6 +137,7 @@ whole_join bytes ls h w = record {
   is = ap (λ (b : List ℕ). b ++ command_bytes ls) h.is ∙ sym (command_bytes_more h.lines ls);
 }
 
+-- the client's lines join those that are unread, and their bytes join those up on its connection
 pub wired_writes : (links : List Link) (n : ℕ) (heard : List ℕ) (m : ℕ) (server_on : Bool) (read : List ℕ) (up : List Line)
     (down : List Reply) (ls : List Line)
     → IsWired links n true heard m server_on read up down → AreWritable ls
@@ -191,6 +196,7 @@ up_stays links m k l from to also same = go (eqb k m) refl
         ∙ (ap (λ (x : Link). x.up) (link_same links m l from to) ∙ (same ∙ ap (λ (i : ℕ). (link_of links i).up) (sym equal)))
     go false other = ap (λ (x : Link). x.up) (link_other links m k l from also (eqb-false k m other))
 
+-- bytes of the server join those down: they add replies where it is on the client's last connection, and none elsewhere
 pub wired_answers : (links : List Link) (n : ℕ) (client_on : Bool) (heard : List ℕ) (m : ℕ) (read : List ℕ) (up : List Line)
     (down now : List Reply) (more : List ℕ)
     → IsWired links n client_on heard m true read up down → AreReplies now
@@ -243,6 +249,7 @@ wired_answers links n client_on heard m read up down now more h w same_one other
 split_moves : (a b : List ℕ) (k : ℕ) → (a ++ take k b) ++ drop k b ≡ a ++ b
 split_moves a b k = append_assoc a (take k b) (drop k b) ∙ ap (λ (c : List ℕ). a ++ c) (take-append-drop k b)
 
+-- the first k bytes up move to the server: the lines that it has not read stay the same
 pub wired_up : (links : List Link) (n : ℕ) (client_on : Bool) (heard : List ℕ) (m : ℕ) (read : List ℕ) (up : List Line) (down : List Reply)
     (k : ℕ)
     → IsWired links n client_on heard m true read up down
@@ -286,6 +293,7 @@ wired_up links n client_on heard m read up down k h = record {
         ∙ (ap (λ (l : Link). l.down) here ∙ ap (λ (i : ℕ). (link_of links i).down) (sym equal))
     down_stays from false other = ap (λ (l : Link). l.down) (link_other links m n new (h.taken refl) from (eqb-false n m other))
 
+-- the first k bytes down move to the client: the replies that it has not read stay the same
 pub wired_down : (links : List Link) (n : ℕ) (heard : List ℕ) (m : ℕ) (server_on : Bool) (read : List ℕ) (up : List Line)
     (down : List Reply) (k : ℕ)
     → IsWired links n true heard m server_on read up down
