@@ -55,7 +55,8 @@ returns-in-Err-TagsSpent c =
     ∙ ap (λ (s : Sends). s.lines) whole in
     record {
       client = (
-        c.fault.ensures ∙ (ap (λ o. faulted Cause.TagsSpent (seen c.self.inside.program c.self.inside.window c.self.inside.on c.self.inside.state c.self.inside.cause o c.self.inside.progress c.self.inside.sent c.self.inside.abort))
+        c.fault.ensures ∙ (ap (λ o. faulted Cause.TagsSpent (seen c.self.inside.program c.self.inside.window c.self.inside.on
+            c.self.inside.state c.self.inside.cause o c.self.inside.progress c.self.inside.sent c.self.inside.abort))
             same
             ∙ (sym (ap (λ (s : Sends). s.client) whole) ∙ ap (λ x. (client_sent x).client) c.self.view_is)),
         tt,
