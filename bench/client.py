@@ -1,5 +1,5 @@
 #!/usr/bin/env python3
-"""Measures a client that is driven through a program of touches, answered by a peer in memory.
+"""Measures a client that is driven through a program of touches, answered by a peer in memory whose machine is not homed.
 
 For the windows 1 and 16 it prints the instructions executed (valgrind
 --tool=callgrind), without those that read the program, for 4,950 and for 9,900
@@ -20,7 +20,7 @@ HALF = 4_950
 
 def wanted(touches):
     """What the program prints: the sum over the lines of such a client and the points that it is told."""
-    commands = ["StartSession()", "ClearAllErrors()", "Home()", "OnPtMeasReport(X(), Y(), Z())",
+    commands = ["StartSession()", "ClearAllErrors()", "IsHomed()", "Home()", "OnPtMeasReport(X(), Y(), Z())",
                 "SetCoordSystem(MachineCsy)", 'ChangeTool("P1")']
     commands += [f"PtMeas(X({number}.000), Y(1.000), Z(2.000), IJK(0.000000, 0.000000, 1.000000))"
                  for number in range(touches)]

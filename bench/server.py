@@ -23,7 +23,8 @@ def length(number):
 
 def wanted(rounds):
     """What the program prints: the sum over the lines that such a server answers."""
-    answers = [b"00001 &\r\n00001 %\r\n00002 &\r\n00002 %\r\n00003 &\r\n00003 %\r\n"]
+    answers = [b"00001 &\r\n00001 %\r\n00002 &\r\n00002 # IsHomed(0)\r\n00002 %\r\n"
+               b"00003 &\r\n00003 %\r\n00004 &\r\n00004 %\r\n"]
     for number in range(rounds):
         tag = f"{number % 9999 + 1:05d}"
         point = f"X({length(number)}), Y({length(number // 3)}), Z({length(number // 7)})"

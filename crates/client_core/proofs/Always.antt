@@ -1,5 +1,6 @@
 -- What holds of a client at any time: its state and connection, its cause, its window and numbers, and what it holds on no connection.
-use Rattle.std.proofs.Common.{◌≡◌, ℕ, zero, suc, ◌≤◌, ◌<◌, ◌==◌, Bool, true, false, cond, not, is_some, nat_lt, List, [], ◌∷◌, ◌++◌, drop}
+use Rattle.std.proofs.Common.{◌≡◌, ℕ, zero, suc, ◌≤◌, ◌<◌, ◌==◌, Bool, true, false, cond, ◌&&◌, not, is_some, nat_lt, List, []}
+use Rattle.std.proofs.Common.{◌∷◌, ◌++◌, drop}
 use Rattle.std.proofs.Common.{refl, sym, ◌∙◌, ap, subst, arith, Option, Some, None, Result, Ok, Err, le_refl}
 use Rattle.std.proofs.lemmas.Bool.{false≢true, ltb-true, leb-true}
 use Rattle.contact_ledger.specs.Ledgers.{connection_most}
@@ -7,8 +8,10 @@ use Rattle.fixed_um.specs.declared.lengths.Point.{Point}
 use Rattle.dme_line.specs.Kinds.{kind_of}
 use Rattle.dme_line.specs.declared.tags.Tag.{Tag}
 use Rattle.dme_line.specs.declared.tags.Tag.TheVariants as tag
+use Rattle.dme_line.specs.declared.homed.NotHomedText.{NotHomedText}
 use Rattle.dme_line.specs.declared.points.NotPoint.{NotPoint}
 use Rattle.dme_line.specs.declared.commands.Kind.{Kind}
+use Rattle.dme_line.specs.declared.commands.Kind.TheVariants as kind
 use Rattle.dme_line.specs.declared.responses.Mark.{Mark as Marked}
 use Rattle.dme_line.specs.declared.responses.Mark.TheVariants as mark
 use Rattle.dme_line.specs.declared.responses.Response.{Response}
@@ -22,12 +25,14 @@ use Rattle.dmis_program.specs.Meaning.{Meaning}
 use Rattle.dmis_program.specs.declared.features.Wanted.{Wanted}
 use Rattle.protocol_model.specs.Replies.{Mark, tag_is}
 use Rattle.protocol_model.specs.Lines.{Readers}
-use Rattle.protocol_model.specs.Open.{asks_data, is_failed, count_open}
+use Rattle.protocol_model.specs.Open.{is_asking, is_failed, count_open}
 use Rattle.protocol_model.specs.Client.{Client, Table, heard, heard_on, faulted, new_client, client_connected, may_go, first_due, due}
 use Rattle.protocol_model.specs.Client.{held_now, sends_next, next_number, sends_abort, may_abort, first_state, last_state, state_behind}
 use Rattle.protocol_model.specs.Client.{is_running, is_whole, ends_abort, client_hears, client_read, client_resumed, client_left}
 use Rattle.protocol_model.specs.Client.{left_state, client_restarted}
-use Rattle.protocol_model.specs.Ends.{ClientEnd, new_client_end, held_under, given_point, given_under, response_read, line_read, front_read}
+use Rattle.protocol_model.specs.Ends.{ClientEnd, new_client_end, held_under, given_point, given_homed, given_for, given_under}
+use Rattle.protocol_model.specs.Ends.{response_read, line_read, front_read}
+use Rattle.protocol_model.specs.declared.held.Datum.TheVariants as datum
 use Rattle.protocol_model.specs.declared.held.Held.{Held}
 use Rattle.protocol_model.specs.declared.plans.Planned.{Planned}
 use Rattle.protocol_model.specs.declared.states.State.{State}
@@ -41,7 +46,7 @@ use Rattle.client_core.specs.Clients.{is_faulted, may_connect, may_read}
 use Rattle.client_core.specs.Clients as clients
 use Rattle.client_core.specs.Always.{IsReached, FitsState, IsQuiet}
 use Rattle.client_core.proofs.Fits.{both}
-use Rattle.client_core.proofs.Runs.{due_running, resumed_state}
+use Rattle.client_core.proofs.Runs.{IsDue, due_running, resumed_state}
 
 -- of the client without its bytes
 pub record IsSteady (c : Client) : Type 0 where
@@ -159,15 +164,32 @@ either_live true c d h g = h
 either_live false c d h g = g
 
 point_live : (c : Client) (t : Tag) (r : Result Point NotPoint) → Reads c → IsLive c → IsLive (given_point c t r)
-point_live c t (Ok q) reads h = reply_live c t (Mark.Given q) reads h
+point_live c t (Ok q) reads h = reply_live c t (Mark.Given (datum.Point q)) reads h
 point_live c t (Err why) reads h = faulted_live c Cause.NotResponse h
+
+homed_live : (c : Client) (t : Tag) (r : Result Bool NotHomedText) → Reads c → IsLive c → IsLive (given_homed c t r)
+homed_live c t (Ok homed) reads h = reply_live c t (Mark.Given (datum.Homed homed)) reads h
+homed_live c t (Err why) reads h = faulted_live c Cause.NotResponse h
+
+given_live : (readers : Readers) (c : Client) (t : Tag) (text : List ℕ) (k : Kind) → Reads c → IsLive c
+    → IsLive (given_for readers c t text k)
+given_live readers c t text kind.PtMeas reads h = point_live c t (readers.point text) reads h
+given_live readers c t text kind.IsHomed reads h = homed_live c t (readers.homed text) reads h
+given_live readers c t text kind.StartSession reads h = faulted_live c Cause.OutOfOrder h
+given_live readers c t text kind.EndSession reads h = faulted_live c Cause.OutOfOrder h
+given_live readers c t text kind.ClearAllErrors reads h = faulted_live c Cause.OutOfOrder h
+given_live readers c t text kind.Home reads h = faulted_live c Cause.OutOfOrder h
+given_live readers c t text kind.OnPtMeasReport reads h = faulted_live c Cause.OutOfOrder h
+given_live readers c t text kind.GoTo reads h = faulted_live c Cause.OutOfOrder h
+given_live readers c t text kind.ChangeTool reads h = faulted_live c Cause.OutOfOrder h
+given_live readers c t text kind.SetCsyTransformation reads h = faulted_live c Cause.OutOfOrder h
+given_live readers c t text kind.SetCoordSystem reads h = faulted_live c Cause.OutOfOrder h
+given_live readers c t text kind.AbortE reads h = faulted_live c Cause.OutOfOrder h
 
 under_live : (readers : Readers) (c : Client) (t : Tag) (text : List ℕ) (kind : Option Kind) → Reads c → IsLive c
     → IsLive (given_under readers c t text kind)
 under_live readers c t text None reads h = faulted_live c Cause.UnknownTag h
-under_live readers c t text (Some k) reads h =
-    either_live (asks_data k) (given_point c t (readers.point text)) (faulted Cause.OutOfOrder c)
-    (point_live c t (readers.point text) reads h) (faulted_live c Cause.OutOfOrder h)
+under_live readers c t text (Some k) reads h = given_live readers c t text k reads h
 
 response_live : (readers : Readers) (c : Client) (t : Tag) (m : Marked) → Reads c → IsLive c → IsLive (response_read readers c t m)
 response_live readers c t mark.Ack reads h = reply_live c t Mark.Ack reads h
@@ -202,12 +224,12 @@ due_fewer window open_now (p ∷ ps) e = go (may_go window open_now p.command) r
     go false never is = absurd (false≢true is)
 
 may_fewer : (c : Client) → is_some (due c) ≡ true → count_open c.table.standard < c.window
-may_fewer c e = go (is_running c.state) refl e
+may_fewer c e = go (is_running c.state && not (is_asking c.table.standard)) e
   where
-    go : (b : Bool) → is_running c.state ≡ b → is_some (cond b (first_due c.window (count_open c.table.standard) c.unsent) None) ≡ true
+    go : (b : Bool) → is_some (cond b (first_due c.window (count_open c.table.standard) c.table.tally.unsent) None) ≡ true
         → count_open c.table.standard < c.window
-    go true r is = due_fewer c.window (count_open c.table.standard) c.unsent is
-    go false r is = absurd (false≢true is)
+    go true is = due_fewer c.window (count_open c.table.standard) c.table.tally.unsent is
+    go false is = absurd (false≢true is)
 
 open_more : (hs : List Held) (x : Held) → count_open (hs ++ x ∷ []) ≤ suc (count_open hs)
 open_more [] x = go (is_failed x.stage)
@@ -387,10 +409,12 @@ done_sound : (readers : Readers) (call : Call) (e : ClientEnd) → possible call
 done_sound readers (Connected n) e may h = live_sound (done_by readers (Connected n) e) refl
     (connected_steady n e.client may (IsSound.steady h)) (λ awake. refl)
 done_sound readers Send e may h =
-    let running : e.client.state ≡ State.Running = due_running e.client may in
+    let now : IsDue e.client = due_running e.client may in
+    let running : e.client.state ≡ State.Running = now.running in
     let number : Option ℕ = next_number tag.Std e.client.table.standard e.client.drawn in
-    live_sound (done_by readers Send e) (sends_on e.client e.client.unsent number ∙ running_on e.client running (IsSound.steady h))
-    (sends_steady e.client e.client.unsent number running (may_fewer e.client may) (IsSound.steady h))
+    live_sound (done_by readers Send e)
+    (sends_on e.client e.client.table.tally.unsent number ∙ running_on e.client running (IsSound.steady h))
+    (sends_steady e.client e.client.table.tally.unsent number running (may_fewer e.client may) (IsSound.steady h))
     (λ awake. IsSound.unmet h (ap is_faulted running))
 done_sound readers (Feed bytes) e may h =
     let r : Reads e.client = reads_by e.client may in

@@ -1,18 +1,20 @@
 -- What a reply does to the open commands that have not failed.
-use Rattle.std.proofs.Common.{◌≡◌, Bool, true, false, cond, ◌&&◌, ℕ, suc, List, [], ◌∷◌, ◌++◌, refl, sym, ◌∙◌, ap, subst, Option, None}
+use Rattle.std.proofs.Common.{◌≡◌, Bool, true, false, cond, ◌&&◌, ◌||◌, not, ℕ, suc, List, [], ◌∷◌, ◌++◌, refl, sym, ◌∙◌, ap, subst, Option}
 use Rattle.std.proofs.Math.Bool.{and-true}
 use Rattle.std.proofs.lemmas.Bool.{false≢true}
-use Rattle.fixed_um.specs.declared.lengths.Point.{Point}
 use Rattle.dme_line.specs.declared.tags.Tag.{Tag}
 use Rattle.dme_line.specs.declared.commands.Kind.{Kind}
 use Rattle.protocol_model.specs.Replies.{Mark}
-use Rattle.protocol_model.specs.Open.{Effect, Becomes, Closes, Counts, judged, heard_in, is_failed, asks_data, count_open}
+use Rattle.protocol_model.specs.Open.{Effect, Becomes, Closes, Counts, judged, heard_in, is_failed, asks_homed, is_asking, count_open}
+use Rattle.protocol_model.specs.declared.held.Datum.{Datum}
 use Rattle.protocol_model.specs.declared.held.Stage.{Stage}
 use Rattle.protocol_model.specs.declared.held.Held.{Held}
+use Rattle.protocol_model.proofs.table.Asking.{AskNothing, ask_nothing}
 use Rattle.protocol_model.proofs.table.Walks.{two, staged, heard_cases}
 use Rattle.protocol_model.proofs.table.Basics.{if_true, if_false, and_false}
 use Rattle.protocol_model.proofs.table.Counts.{failed_stays, is_failed-true, never_counts}
-use Rattle.protocol_model.proofs.undisturbed_run.Following.{becomes_calm, no_closes, no_counts, counts_given}
+use Rattle.protocol_model.proofs.undisturbed_run.Following.{becomes_calm, becomes_filled, no_closes, no_counts, counts_given}
+use Rattle.protocol_model.proofs.undisturbed_run.Following.{IsGiven, IsFilled, AreFilled}
 
 -- the kinds of those that have not failed, in sending order
 abbrev pub live_kinds : List Held → List Kind
@@ -25,11 +27,11 @@ live_failed h hs e = if_true {A = List Kind} (is_failed h.stage) (live_kinds hs)
 pub live_calm : (h : Held) (hs : List Held) → is_failed h.stage ≡ false → live_kinds (h ∷ hs) ≡ h.kind ∷ live_kinds hs
 live_calm h hs e = if_false {A = List Kind} (is_failed h.stage) (live_kinds hs) (h.kind ∷ live_kinds hs) e
 
--- what a reply's effect means for them: they stay, one has failed, or the first is counted, with its point where it asks for one
+-- what a reply's effect means for them: they stay, one has failed, or the first is counted, with the data that it asks for
 abbrev pub Fronted : Bool → List Kind → List Kind → Effect → Type 0
 Fronted front ks ls Effect.Quiet = ls ≡ ks
 Fronted front ks ls Effect.Failure = Unit {0}
-Fronted front ks ls (Effect.Count k given) = (front ≡ true) × (ks ≡ k ∷ ls) × (given ≡ None → asks_data k ≡ false)
+Fronted front ks ls (Effect.Count k given) = (front ≡ true) × (ks ≡ k ∷ ls) × IsGiven k given
 
 -- one more in front of them
 behind_one : (k : Kind) (ks ls : List Kind) (e : Effect) → Fronted false ks ls e → Fronted false (k ∷ ks) (k ∷ ls) e
@@ -54,17 +56,13 @@ closes_front : (front : Bool) (h : Held) (hs : List Held) (m : Mark) (b : Bool) 
 closes_front front h hs m true failed v = sym (live_failed h hs failed)
 closes_front front h hs m false calm v = absurd (no_closes front h.kind h.stage m calm v)
 
-counts_front : (front : Bool) (h : Held) (hs : List Held) (m : Mark) (given : Option Point) (b : Bool) → is_failed h.stage ≡ b
-    → judged front h.kind h.stage m ≡ Counts given
+counts_front : (front : Bool) (h : Held) (hs : List Held) (m : Mark) (given : Option Datum) (b : Bool) → is_failed h.stage ≡ b
+    → IsFilled h.kind h.stage → judged front h.kind h.stage m ≡ Counts given
     → Fronted front (live_kinds (h ∷ hs)) (live_kinds hs) (Effect.Count h.kind given)
-counts_front front h hs m given true failed v = absurd (never_counts front h.kind m given
+counts_front front h hs m given true failed filled v = absurd (never_counts front h.kind m given
     (ap (λ (x : Stage). judged front h.kind x m) (sym (is_failed-true h.stage failed)) ∙ v))
-counts_front true h hs m given false calm v = (
-  refl,
-  live_calm h hs calm,
-  λ none. counts_given h.kind h.stage m (v ∙ ap (λ (o : Option Point). Counts o) none),
-)
-counts_front false h hs m given false calm v = absurd (no_counts h.kind h.stage m given v)
+counts_front true h hs m given false calm filled v = (refl, live_calm h hs calm, counts_given h.kind h.stage m given filled v)
+counts_front false h hs m given false calm filled v = absurd (no_counts h.kind h.stage m given v)
 
 -- the mark stands behind it
 past_front : (front : Bool) (h : Held) (hs rest : List Held) (e : Effect) (b : Bool) → is_failed h.stage ≡ b
@@ -87,16 +85,16 @@ past_front front h hs rest e false calm later =
     looser f ks ls (Effect.Count k given) g = absurd (false≢true g.0)
 
 pub fronted : (front : Bool) (hs : List Held) (t : Tag) (m : Mark) (gs : List Held) (e : Effect) → heard_in front hs t m ≡ two gs e
-    → Fronted front (live_kinds hs) (live_kinds gs) e
-fronted front [] t m gs e is = absurd (cc)
-fronted front (h ∷ hs) t m gs e is =
+    → AreFilled hs → Fronted front (live_kinds hs) (live_kinds gs) e
+fronted front [] t m gs e is filled = absurd (cc)
+fronted front (h ∷ hs) t m gs e is filled =
     heard_cases front h hs t m gs e (Fronted front (live_kinds (h ∷ hs)) (live_kinds gs) e) is
     (λ s same v g f. rw (g, f) (becomes_front front h hs m s (is_failed h.stage) refl v))
     (λ same v g f. rw f tt)
     (λ same v g f. rw (g, f) (closes_front front h hs m (is_failed h.stage) refl v))
-    (λ given same v g f. rw (g, f) (counts_front front h hs m given (is_failed h.stage) refl v))
+    (λ given same v g f. rw (g, f) (counts_front front h hs m given (is_failed h.stage) refl filled.0 v))
     (λ rest other later g. rw g (past_front front h hs rest e (is_failed h.stage) refl
-    (fronted (front && is_failed h.stage) hs t m rest e later)))
+    (fronted (front && is_failed h.stage) hs t m rest e later filled.1)))
 
 -- where none is open, none is left that has not failed
 pub none_live : (hs : List Held) → count_open hs ≡ 0 → live_kinds hs ≡ []
@@ -120,3 +118,58 @@ live_more (h ∷ hs) x calm = go (is_failed h.stage) refl (live_more hs x calm)
         ∙ (others ∙ ap (λ (l : List Kind). l ++ x.kind ∷ []) (sym (live_failed h hs failed)))
     go false live others = live_calm h (hs ++ x ∷ []) live ∙ (ap (λ (l : List Kind). h.kind ∷ l) others
         ∙ ap (λ (l : List Kind). l ++ x.kind ∷ []) (sym (live_calm h hs live)))
+
+-- ---- the data that they were given
+
+-- they still are those that are asked for
+pub stay_filled : (front : Bool) (hs : List Held) (t : Tag) (m : Mark) (gs : List Held) (e : Effect) → heard_in front hs t m ≡ two gs e
+    → AreFilled hs → AreFilled gs
+stay_filled front [] t m gs e is filled = absurd (cc)
+stay_filled front (h ∷ hs) t m gs e is filled =
+    heard_cases front h hs t m gs e (AreFilled gs) is
+    (λ s same v g f. rw g (becomes_filled front h.kind h.stage m s v, filled.1))
+    (λ same v g f. rw g (tt, filled.1))
+    (λ same v g f. rw g filled.1)
+    (λ given same v g f. rw g filled.1)
+    (λ rest other later g. rw g (filled.0, stay_filled (front && is_failed h.stage) hs t m rest e later filled.1))
+
+-- a command that was just sent has none
+pub filled_more : (hs : List Held) (x : Held) → AreFilled hs → IsFilled x.kind x.stage → AreFilled (hs ++ x ∷ [])
+filled_more [] x h one = (one, tt)
+filled_more (y ∷ hs) x h one = (h.0, filled_more hs x h.1 one)
+
+-- ---- the question whether the machine is homed
+
+-- one of these kinds asks it
+abbrev pub ask : List Kind → Bool
+ask [] = false
+ask (k ∷ ks) = asks_homed k || ask ks
+
+-- where it is not open, none that has not failed asks it
+pub none_asks : (hs : List Held) → is_asking hs ≡ false → ask (live_kinds hs) ≡ false
+none_asks [] e = refl
+none_asks (h ∷ hs) e =
+    let a : AskNothing h hs = ask_nothing h hs e in
+    go (is_failed h.stage) refl a.first (none_asks hs a.others)
+  where
+    go : (b : Bool) → is_failed h.stage ≡ b → (asks_homed h.kind && not (is_failed h.stage)) ≡ false → ask (live_kinds hs) ≡ false
+        → ask (live_kinds (h ∷ hs)) ≡ false
+    go true failed first others = ap ask (live_failed h hs failed) ∙ others
+    go false calm first others = ap ask (live_calm h hs calm)
+        ∙ (ap (λ (b : Bool). b || ask (live_kinds hs)) (sym (and-true (asks_homed h.kind))
+        ∙ (ap (λ (b : Bool). asks_homed h.kind && not b) (sym calm) ∙ first)) ∙ others)
+
+-- behind the question none stands
+abbrev pub IsAskedLast : List Kind → Type 0
+IsAskedLast [] = Unit {0}
+IsAskedLast (k ∷ ks) = (asks_homed k ≡ true → ks ≡ []) × IsAskedLast ks
+
+pub asked_last : (ks : List Kind) (k : Kind) → ask ks ≡ false → IsAskedLast (ks ++ k ∷ [])
+asked_last [] k e = (λ asks. refl, tt)
+asked_last (x ∷ ks) k e =
+    let none = neither (asks_homed x) (ask ks) e in
+    (λ is. absurd (false≢true (sym none.0 ∙ is)), asked_last ks k none.1)
+  where
+    neither : (a b : Bool) → (a || b) ≡ false → (a ≡ false) × (b ≡ false)
+    neither true b e = absurd (false≢true (sym e))
+    neither false b e = (refl, e)

@@ -1,9 +1,11 @@
 pub mod Joining
+pub mod Counting
 pub mod Tables
 pub mod Sends
 pub mod Readings
 pub mod Fronts
 pub mod Fits
+pub mod Homing
 pub mod Runs
 pub mod Always
 pub mod Reached

@@ -1,14 +1,16 @@
 -- What a client holds and counts behind every list of calls.
-use Rattle.std.proofs.Common.{◌≡◌, ℕ, suc, ◌+◌, ◌≤◌, Bool, true, false, cond, ◌||◌, not, is_some, if◌then◌else◌, List, [], ◌∷◌, ◌++◌}
+use Rattle.std.proofs.Common.{◌≡◌, ℕ, suc, ◌+◌, ◌≤◌, Bool, true, false, cond, ◌||◌, ◌&&◌, not, is_some, if◌then◌else◌, List, [], ◌∷◌, ◌++◌}
 use Rattle.std.proofs.Common.{length, take, refl, sym, ◌∙◌, ap, subst, arith, append_assoc, append-nil, length-append, Option, Some, None}
 use Rattle.std.proofs.Common.{Result, Ok, Err, eqb, eqb-true, le_refl, zero, drop}
-use Rattle.std.proofs.Math.Seq.{take-append_seam}
+use Rattle.std.proofs.Math.Seq.{take-append_seam, drop-append_seam}
 use Rattle.std.proofs.lemmas.Bool.{false≢true}
 use Rattle.fixed_um.specs.declared.lengths.Point.{Point}
 use Rattle.dme_line.specs.Kinds.{kind_of}
 use Rattle.dme_line.specs.declared.tags.Tag.{Tag}
 use Rattle.dme_line.specs.declared.tags.Tag.TheVariants as tag
 use Rattle.dme_line.specs.declared.commands.Kind.{Kind}
+use Rattle.dme_line.specs.declared.commands.Kind.TheVariants as kind
+use Rattle.dme_line.specs.declared.homed.NotHomedText.{NotHomedText}
 use Rattle.dme_line.specs.declared.points.NotPoint.{NotPoint}
 use Rattle.dme_line.specs.declared.responses.Mark.{Mark as Marked}
 use Rattle.dme_line.specs.declared.responses.Mark.TheVariants as mark
@@ -24,18 +26,22 @@ use Rattle.dmis_program.specs.Programs.{IsProgram}
 use Rattle.dmis_program.specs.declared.features.Wanted.{Wanted}
 use Rattle.protocol_model.specs.Replies.{Mark, tag_is}
 use Rattle.protocol_model.specs.Lines.{Readers}
-use Rattle.protocol_model.specs.Open.{Effect, Heard as Heardings, heard_in, asks_data, count_open}
-use Rattle.protocol_model.specs.Client.{Client, Table, Tally, act_of, origin_of, measured, counted_next, begins_session, tallied, heard}
+use Rattle.protocol_model.specs.Open.{Effect, Heard as Heardings, heard_in, asks_homed, is_asking, count_open}
+use Rattle.protocol_model.specs.Client.{Client, Table, Tally, act_of, origin_of, measured, counted_next, begins_session, tells_homed}
+use Rattle.protocol_model.specs.Client.{passed_over, tallied, heard}
 use Rattle.protocol_model.specs.Client.{heard_on}
 use Rattle.protocol_model.specs.Client.{faulted, new_client, client_connected, is_running, first_due, due, held_now, sends_next}
 use Rattle.protocol_model.specs.Client.{next_number, sends_abort, may_abort, first_state, last_state, state_behind, is_whole, ends_abort}
 use Rattle.protocol_model.specs.Client.{client_hears, client_read, may_resume, client_resumed, client_left, left_state, client_restarted}
-use Rattle.protocol_model.specs.Ends.{ClientEnd, new_client_end, held_under, given_point, given_under, response_read, line_read, front_read}
+use Rattle.protocol_model.specs.Ends.{ClientEnd, new_client_end, held_under, given_point, given_homed, given_for, given_under}
+use Rattle.protocol_model.specs.Ends.{response_read, line_read, front_read}
 use Rattle.protocol_model.specs.Plan.{plan}
 use Rattle.protocol_model.specs.PlanReading.{end_of, ends_of}
-use Rattle.protocol_model.specs.Undisturbed.{act_in, acts_planned, AreActs}
+use Rattle.protocol_model.specs.Undisturbed.{act_in, acts_planned, AreActs, followed}
 use Rattle.protocol_model.specs.declared.states.State.{State}
 use Rattle.protocol_model.specs.declared.states.Cause.{Cause}
+use Rattle.protocol_model.specs.declared.held.Datum.{Datum}
+use Rattle.protocol_model.specs.declared.held.Datum.TheVariants as datum
 use Rattle.protocol_model.specs.declared.held.Held.{Held}
 use Rattle.protocol_model.specs.declared.plans.Planned.{Planned}
 use Rattle.protocol_model.specs.declared.plans.Does.{Does}
@@ -47,30 +53,49 @@ use Rattle.protocol_model.proofs.plan.PlanLaws.{plan_ends_left}
 use Rattle.protocol_model.proofs.plan.Fitting.{unknown}
 use Rattle.protocol_model.proofs.table.Counts.{count_keeps}
 use Rattle.protocol_model.proofs.table.Replying.{fine, step_cases}
-use Rattle.protocol_model.proofs.invariant.Touching.{Keeps, measured_keeps}
-use Rattle.protocol_model.proofs.undisturbed_run.Following.{is_touch, AreAsked, IsAsked, fits_asked, asked_at, acts_join, act_stands}
-use Rattle.protocol_model.proofs.undisturbed_run.Following.{planned_more, kinds_of}
+use Rattle.protocol_model.proofs.invariant.Touching.{HasDatum, Keeps, measured_keeps}
+use Rattle.protocol_model.proofs.undisturbed_run.Following.{AreAsked, IsAsked, fits_asked, asked_at, acts_join, act_stands}
+use Rattle.protocol_model.proofs.undisturbed_run.Following.{planned_more, kinds_of, IsGiven, AreFilled, has_datum}
 use Rattle.client_core.specs.Calls.{Call, Connected, Send, Feed, ReadOne, Abort, Resume, Leave, Restart, Sent, possible, done_by}
-use Rattle.client_core.specs.Calls.{behind_call, behind_calls, Begun, start_behind, acts_of_fronts, Plans, first_plan, plans_by}
-use Rattle.client_core.specs.Calls.{plans_behind, client_behind, plans_begun, is_last, features_ended, AreCounted, next_kind, kind_counted}
+use Rattle.client_core.specs.Calls.{behind_call, behind_calls, start_behind, acts_of_fronts, Plans, first_plan, plans_by, told_homed}
+use Rattle.client_core.specs.Calls.{is_told, begun_now, has_homing}
+use Rattle.client_core.specs.Calls.{plans_behind, client_behind, plans_begun, front_of, is_last, features_ended, AreCounted, next_kind}
+use Rattle.client_core.specs.Calls.{kind_counted}
 use Rattle.client_core.specs.Calls.{counted_by, origins_of, origin_ended, origins_ended}
 use Rattle.client_core.specs.Clients.{are_ours, may_read}
 use Rattle.client_core.proofs.Fits.{Fits, both, fits_ours, plan_fits_features, joined_more, point_fits, last_fits, fewer_are_ours}
 use Rattle.client_core.proofs.Fits.{joined_origin}
-use Rattle.client_core.proofs.Fronts.{live_kinds, Fronted, fronted, none_live, live_more}
+use Rattle.client_core.proofs.Fronts.{live_kinds, Fronted, fronted, none_live, live_more, stay_filled, filled_more, none_asks}
+use Rattle.client_core.proofs.Fronts.{IsAskedLast, asked_last}
+use Rattle.client_core.proofs.Homing.{once, asked, asked_more, plan_asks_once, followed_unhomed, unhomed_behind, passed_kinds, homing_kinds}
+use Rattle.client_core.proofs.Homing.{passed_ends, HomesBehind, plan_homes, followed_asked, followed_are_asked, followed_at, told_more}
+use Rattle.client_core.proofs.Homing.{told_by, told_asks, untold}
 
 -- ---- what holds on a connection
 
--- the plan that was begun behind so many features: the counted front of it, the acts and the features that it gave, and what is open of it
-pub record IsOnPlan (p : Meaning) (hs : List Held) (y : Tally) (unsent : List Planned) (features : ℕ) (earlier : List Begun) : Type 0 where
+-- what is open of a plan of which no command has failed, and what is unsent of it, are what is to be counted; behind the question whether
+-- the machine is homed nothing is open
+pub record IsCalm (hs : List Held) (y : Tally) : Type 0 where
+  pub kinds : live_kinds hs ++ kinds_of y.unsent ≡ kinds_of y.todo
+  pub asked_last : IsAskedLast (live_kinds hs)
+
+-- the present plan: its counted front, the acts and the features that it gave, and what is open of it
+pub record IsOnPlan (p : Meaning) (hs : List Held) (y : Tally) (plans : Plans) : Type 0 where
   pub finished : List Planned
-  pub parts : finished ++ y.todo ≡ plan p features (start_behind earlier)
+  pub first : List Act
+  pub since : List Act
+  pub counted_are : y.counted ≡ first ++ since
+  pub before : length first ≡ plans.before
+  pub parts : finished ++ y.todo ≡ followed (told_homed since) (plan p plans.features (start_behind plans.earlier))
   pub many : length finished ≡ y.completed
-  pub acts : AreActs y.counted (acts_of_fronts p earlier ++ acts_planned finished)
+  pub earlier_acts : AreActs first (acts_of_fronts p plans.earlier)
+  pub acts : AreActs since (acts_planned finished)
   pub fits : Fits p.features y.features (length y.points) (ends_of y.todo)
-  pub joined : length y.features ≡ features + features_ended finished
-  pub origins : drop features (origins_of y.features) ≡ origins_ended y.connection finished
-  pub calm : y.failed ≡ false → live_kinds hs ++ kinds_of unsent ≡ kinds_of y.todo
+  pub joined : length y.features ≡ plans.features + features_ended finished
+  pub origins : drop plans.features (origins_of y.features) ≡ origins_ended y.connection finished
+  pub filled : AreFilled hs
+  pub unhomed : told_homed since ≡ true → has_homing y.unsent ≡ false
+  pub calm : y.failed ≡ false → IsCalm hs y
 
 plan_asked : (p : Meaning) (k : ℕ) (start : Start) → IsProgram p → AreAsked (plan p k start)
 plan_asked p k start h = fits_asked (plan p k start) unknown (plan_fits p k start unknown (program_is_plain p h))
@@ -85,27 +110,33 @@ abbrev other_kinds : List Kind → List Kind
 other_kinds [] = []
 other_kinds (k ∷ ks) = ks
 
-measured_completed : (ws : List Wanted) (does : Does) (given : Option Point) (y : Tally)
+measured_completed : (ws : List Wanted) (does : Does) (given : Option Datum) (y : Tally)
     → (measured ws does given y).completed ≡ y.completed
-measured_completed ws (Does.Touches t false) (Some p) y = refl
-measured_completed ws (Does.Touches t true) (Some p) y = refl
-measured_completed ws (Does.Touches t last) None y = refl
+measured_completed ws (Does.Touches t false) (Some (datum.Point p)) y = refl
+measured_completed ws (Does.Touches t true) (Some (datum.Point p)) y = refl
+measured_completed ws (Does.Touches t false) (Some (datum.Homed homed)) y = refl
+measured_completed ws (Does.Touches t true) (Some (datum.Homed homed)) y = refl
+measured_completed ws (Does.Touches t false) None y = refl
+measured_completed ws (Does.Touches t true) None y = refl
 measured_completed ws Does.Nothing given y = refl
+measured_completed ws Does.AsksHomed given y = refl
 measured_completed ws Does.Homes given y = refl
 measured_completed ws (Does.Moves p f) given y = refl
 measured_completed ws (Does.Changes n) given y = refl
 measured_completed ws (Does.Frames f) given y = refl
 
-measured_fits : (p : Meaning) → IsProgram p → (does : Does) (given : Option Point) (y : Tally) (rest : List Planned)
-    → (given ≡ None → is_touch does ≡ true → ⊥)
+measured_fits : (p : Meaning) → IsProgram p → (does : Does) (given : Option Datum) (y : Tally) (rest : List Planned)
+    → HasDatum does given
     → Fits p.features y.features (length y.points) (end_of does ++ ends_of rest)
     → Fits p.features (measured p.features does given y).features (length (measured p.features does given y).points) (ends_of rest)
-measured_fits p program (Does.Touches t false) (Some q) y rest has h =
+measured_fits p program (Does.Touches t false) (Some (datum.Point q)) y rest has h =
     subst (λ (n : ℕ). Fits p.features y.features n (ends_of rest)) (omega (arith, length-append y.points (q ∷ [])))
     (point_fits p.features y.features (length y.points) (ends_of rest) h)
-measured_fits p program (Does.Touches t true) (Some q) y rest has h =
+measured_fits p program (Does.Touches t true) (Some (datum.Point q)) y rest has h =
     last_fits p.features y.features y.points q (origin_of y.connection t.frame) (ends_of rest) (IsProgram.features program) h
-measured_fits p program (Does.Touches t last) None y rest has h = absurd (has refl refl)
+measured_fits p program (Does.Touches t last) (Some (datum.Homed homed)) y rest has h = absurd has
+measured_fits p program (Does.Touches t last) None y rest has h = absurd has
+measured_fits p program Does.AsksHomed given y rest has h = h
 measured_fits p program Does.Nothing given y rest has h = h
 measured_fits p program Does.Homes given y rest has h = h
 measured_fits p program (Does.Moves q f) given y rest has h = h
@@ -122,15 +153,17 @@ ended_more (p ∷ ps) q = go (is_last p.does) (ended_more ps q)
     go true e = omega (arith, e)
     go false e = e
 
-measured_joins : (p : Meaning) (does : Does) (given : Option Point) (y : Tally) (rest : List Planned)
-    → (given ≡ None → is_touch does ≡ true → ⊥)
+measured_joins : (p : Meaning) (does : Does) (given : Option Datum) (y : Tally) (rest : List Planned)
+    → HasDatum does given
     → Fits p.features y.features (length y.points) (end_of does ++ ends_of rest)
     → length (measured p.features does given y).features ≡ length y.features + cond (is_last does) 1 0
-measured_joins p (Does.Touches t false) (Some q) y rest has h = omega (arith)
-measured_joins p (Does.Touches t true) (Some q) y rest has h = let more =
+measured_joins p (Does.Touches t false) (Some (datum.Point q)) y rest has h = omega (arith)
+measured_joins p (Does.Touches t true) (Some (datum.Point q)) y rest has h = let more =
     joined_more p.features y.features (length y.points) (y.points ++ q ∷ []) (origin_of y.connection t.frame) (ends_of rest) h in
     omega (arith, more)
-measured_joins p (Does.Touches t last) None y rest has h = absurd (has refl refl)
+measured_joins p (Does.Touches t last) (Some (datum.Homed homed)) y rest has h = absurd has
+measured_joins p (Does.Touches t last) None y rest has h = absurd has
+measured_joins p Does.AsksHomed given y rest has h = omega (arith)
 measured_joins p Does.Nothing given y rest has h = omega (arith)
 measured_joins p Does.Homes given y rest has h = omega (arith)
 measured_joins p (Does.Moves q f) given y rest has h = omega (arith)
@@ -157,37 +190,44 @@ origins_more n [] q = append-nil (origin_ended n q.does)
 origins_more n (p ∷ ps) q = ap (λ (l : List (Option Origin)). origin_ended n p.does ++ l) (origins_more n ps q)
     ∙ sym (append_assoc (origin_ended n p.does) (origins_ended n ps) (origin_ended n q.does))
 
-measured_number : (ws : List Wanted) (does : Does) (given : Option Point) (y : Tally)
+measured_number : (ws : List Wanted) (does : Does) (given : Option Datum) (y : Tally)
     → (measured ws does given y).connection ≡ y.connection
-measured_number ws (Does.Touches t false) (Some p) y = refl
-measured_number ws (Does.Touches t true) (Some p) y = refl
-measured_number ws (Does.Touches t last) None y = refl
+measured_number ws (Does.Touches t false) (Some (datum.Point p)) y = refl
+measured_number ws (Does.Touches t true) (Some (datum.Point p)) y = refl
+measured_number ws (Does.Touches t false) (Some (datum.Homed homed)) y = refl
+measured_number ws (Does.Touches t true) (Some (datum.Homed homed)) y = refl
+measured_number ws (Does.Touches t false) None y = refl
+measured_number ws (Does.Touches t true) None y = refl
 measured_number ws Does.Nothing given y = refl
+measured_number ws Does.AsksHomed given y = refl
 measured_number ws Does.Homes given y = refl
 measured_number ws (Does.Moves p f) given y = refl
 measured_number ws (Does.Changes n) given y = refl
 measured_number ws (Does.Frames f) given y = refl
 
-measured_origins : (p : Meaning) (does : Does) (given : Option Point) (y : Tally) (rest : List Planned)
-    → (given ≡ None → is_touch does ≡ true → ⊥)
+measured_origins : (p : Meaning) (does : Does) (given : Option Datum) (y : Tally) (rest : List Planned)
+    → HasDatum does given
     → Fits p.features y.features (length y.points) (end_of does ++ ends_of rest)
     → origins_of (measured p.features does given y).features ≡ origins_of y.features ++ origin_ended y.connection does
-measured_origins p (Does.Touches t false) (Some q) y rest has h = sym (append-nil (origins_of y.features))
-measured_origins p (Does.Touches t true) (Some q) y rest has h =
+measured_origins p (Does.Touches t false) (Some (datum.Point q)) y rest has h = sym (append-nil (origins_of y.features))
+measured_origins p (Does.Touches t true) (Some (datum.Point q)) y rest has h =
     joined_origin p.features y.features (length y.points) (y.points ++ q ∷ []) (origin_of y.connection t.frame) (ends_of rest) h
-measured_origins p (Does.Touches t last) None y rest has h = absurd (has refl refl)
+measured_origins p (Does.Touches t last) (Some (datum.Homed homed)) y rest has h = absurd has
+measured_origins p (Does.Touches t last) None y rest has h = absurd has
+measured_origins p Does.AsksHomed given y rest has h = sym (append-nil (origins_of y.features))
 measured_origins p Does.Nothing given y rest has h = sym (append-nil (origins_of y.features))
 measured_origins p Does.Homes given y rest has h = sym (append-nil (origins_of y.features))
 measured_origins p (Does.Moves q f) given y rest has h = sym (append-nil (origins_of y.features))
 measured_origins p (Does.Changes n) given y rest has h = sym (append-nil (origins_of y.features))
 measured_origins p (Does.Frames f) given y rest has h = sym (append-nil (origins_of y.features))
 
-counted_number : (ws : List Wanted) (kind : Kind) (given : Option Point) (todo : List Planned) (y : Tally)
+counted_number : (ws : List Wanted) (kind : Kind) (given : Option Datum) (todo : List Planned) (y : Tally)
     → (counted_next ws kind given todo y).connection ≡ y.connection
 counted_number ws kind given [] y = refl
 counted_number ws kind given (q ∷ todo) y = measured_number ws q.does given (record y {
   session = y.session || begins_session kind;
-  todo = todo;
+  todo = passed_over (tells_homed kind given) todo;
+  unsent = passed_over (tells_homed kind given) y.unsent;
   counted = y.counted ++ act_of q.does given;
   completed = suc y.completed;
 })
@@ -202,60 +242,157 @@ joins_on : (b : Bool) (now before features ended longer : ℕ) → now ≡ befor
 joins_on true now before features ended longer e f g = omega (arith, e, f, g)
 joins_on false now before features ended longer e f g = omega (arith, e, f, g)
 
-counts_on : (p : Meaning) → IsProgram p → (y : Tally) (gs : List Held) (kind : Kind) (given : Option Point)
-    (todo finished unsent : List Planned) (features : ℕ) (earlier : List Begun)
-    → finished ++ todo ≡ plan p features (start_behind earlier) → length finished ≡ y.completed
-    → AreActs y.counted (acts_of_fronts p earlier ++ acts_planned finished)
-    → Fits p.features y.features (length y.points) (ends_of todo) → length y.features ≡ features + features_ended finished
-    → drop features (origins_of y.features) ≡ origins_ended y.connection finished
-    → kind ∷ (live_kinds gs ++ kinds_of unsent) ≡ kinds_of todo → (given ≡ None → asks_data kind ≡ false)
-    → IsOnPlan p gs (counted_next p.features kind given todo y) unsent features earlier
-counts_on p program y gs kind given [] finished unsent features earlier parts many acts fits joined origins kinds
-    given_one = absurd (no kinds)
+-- the plan as it is followed, behind one command more
+record IsFollowed (p : Meaning) (plans : Plans) (finished rest : List Planned) (q : Planned) (told now : Bool) : Type 0 where
+  pub parts : (finished ++ q ∷ []) ++ passed_over told rest ≡ followed now (plan p plans.features (start_behind plans.earlier))
+  pub unhomed : told ≡ true → has_homing (passed_over told rest) ≡ false
+
+-- where a command asks, none asked before it
+not_before : (finished : List Planned) (q : Planned) (rest : List Planned) → asks_homed (kind_of q.command) ≡ true
+    → asked finished + asked (q ∷ rest) ≡ 1 → asked finished ≡ 0
+not_before finished q rest asks e =
+    let more : asked (q ∷ rest) ≡ once true + asked rest = ap (λ (b : Bool). once b + asked rest) asks in omega (arith, more, e)
+
+follows_on : (p : Meaning) → IsProgram p → (plans : Plans) (finished rest : List Planned) (q : Planned) (since more : List Act)
+    (told : Bool)
+    → finished ++ q ∷ rest ≡ followed (told_homed since) (plan p plans.features (start_behind plans.earlier))
+    → AreActs since (acts_planned finished) → AreAsked (finished ++ q ∷ rest)
+    → told_homed more ≡ told → (told ≡ true → asks_homed (kind_of q.command) ≡ true)
+    → IsFollowed p plans finished rest q told (told_homed (since ++ more))
+follows_on p program plans finished rest q since more false parts acts are tells asks = record {
+  parts = append_assoc finished (q ∷ []) rest ∙ (parts ∙ ap (λ (b : Bool). followed b (plan p plans.features (start_behind plans.earlier)))
+      (sym (told_more since more ∙ (ap (λ (b : Bool). told_homed since || b) tells ∙ or_false (told_homed since)))));
+  unhomed = λ e. absurd (false≢true e);
+}
   where
-    no : kind ∷ (live_kinds gs ++ kinds_of unsent) ≡ [] → ⊥
+    or_false : (b : Bool) → (b || false) ≡ b
+    or_false true = refl
+    or_false false = refl
+follows_on p program plans finished rest q since more true parts acts are tells asks =
+    let steps : List Planned = plan p plans.features (start_behind plans.earlier) in
+    let times : asked (finished ++ q ∷ rest) ≡ 1 = ap asked parts ∙ (followed_asked (told_homed since) steps
+    ∙ plan_asks_once p plans.features (start_behind plans.earlier)) in
+    let none : asked finished ≡ 0 = not_before finished q rest (asks refl) (sym (asked_more finished (q ∷ rest)) ∙ times) in
+    let not_yet : told_homed since ≡ false = untold since finished acts (front_asked finished (q ∷ rest) are) none in
+    let whole : finished ++ q ∷ rest ≡ steps = parts ∙ ap (λ (b : Bool). followed b steps) not_yet in
+    let told_now : told_homed (since ++ more) ≡ true = told_more since more
+    ∙ (ap (λ (b : Bool). b || told_homed more) not_yet ∙ tells) in
+    let passed : (finished ++ q ∷ []) ++ passed_over true rest ≡ followed true steps =
+    append_assoc finished (q ∷ []) (passed_over true rest) ∙ (sym (followed_at finished q rest
+    (subst HomesBehind (sym whole) (plan_homes p plans.features (start_behind plans.earlier))) none (asks refl))
+    ∙ ap (followed true) whole) in
+    record {
+      parts = passed ∙ ap (λ (b : Bool). followed b steps) (sym told_now);
+      unhomed = λ e. unhomed_behind (finished ++ q ∷ []) (passed_over true rest)
+          (ap has_homing passed ∙ followed_unhomed steps);
+    }
+  where
+    front_asked : (xs ys : List Planned) → AreAsked (xs ++ ys) → AreAsked xs
+    front_asked [] ys h = tt
+    front_asked (x ∷ xs) ys h = (h.0, front_asked xs ys h.1)
+
+counts_on : (p : Meaning) → IsProgram p → (y : Tally) (hs gs : List Held) (kind : Kind) (given : Option Datum) (todo : List Planned)
+    (plans : Plans) → (f : IsOnPlan p hs y plans) → y.todo ≡ todo → IsCalm hs y → live_kinds hs ≡ kind ∷ live_kinds gs
+    → IsGiven kind given → AreFilled gs → IsOnPlan p gs (counted_next p.features kind given todo y) plans
+counts_on p program y hs gs kind given [] plans f is calm live given_one filled =
+    absurd (no (ap (λ (l : List Kind). l ++ kinds_of y.unsent) (sym live) ∙ (calm.kinds ∙ ap kinds_of is)))
+  where
+    no : kind ∷ (live_kinds gs ++ kinds_of y.unsent) ≡ [] → ⊥
     no e = cc
-counts_on p program y gs kind given (q ∷ rest) finished unsent features earlier parts many acts fits joined origins kinds
-    given_one =
+counts_on p program y hs gs kind given (q ∷ rest) plans f is calm live given_one filled =
+    let steps : List Planned = plan p plans.features (start_behind plans.earlier) in
+    let kinds : kind ∷ (live_kinds gs ++ kinds_of y.unsent) ≡ kinds_of (q ∷ rest) =
+    ap (λ (l : List Kind). l ++ kinds_of y.unsent) (sym live) ∙ (calm.kinds ∙ ap kinds_of is) in
     let same : kind_of q.command ≡ kind = sym (ap (λ (l : List Kind). first_kind l kind) kinds) in
-    let others : live_kinds gs ++ kinds_of unsent ≡ kinds_of rest = ap other_kinds kinds in
-    let one : IsAsked q = asked_at finished q rest (subst AreAsked (sym parts) (plan_asked p features (start_behind earlier) program)) in
-    let has : given ≡ None → is_touch q.does ≡ true → ⊥ = λ none touch. false≢true (sym (given_one none)
-    ∙ (ap asks_data (sym same) ∙ one touch)) in
+    let others : live_kinds gs ++ kinds_of y.unsent ≡ kinds_of rest = ap other_kinds kinds in
+    let last : IsAskedLast (kind ∷ live_kinds gs) = subst IsAskedLast live calm.asked_last in
+    let parts : f.finished ++ q ∷ rest ≡ followed (told_homed f.since) steps =
+    ap (λ (l : List Planned). f.finished ++ l) (sym is) ∙ f.parts in
+    let are : AreAsked (f.finished ++ q ∷ rest) = subst AreAsked (sym parts)
+    (followed_are_asked (told_homed f.since) steps (plan_asked p plans.features (start_behind plans.earlier) program)) in
+    let one : IsAsked q = asked_at f.finished q rest are in
+    let has : HasDatum q.does given = has_datum q.does (kind_of q.command) given one
+    (subst (λ (k : Kind). IsGiven k given) (sym same) given_one) in
+    let told : Bool = tells_homed kind given in
+    let tells : told_homed (act_of q.does given) ≡ told = told_by q.does (kind_of q.command) given one has
+    ∙ ap (λ (k : Kind). tells_homed k given) same in
     let mid : Tally = record y {
       session = y.session || begins_session kind;
-      todo = rest;
+      todo = passed_over told rest;
+      unsent = passed_over told y.unsent;
       counted = y.counted ++ act_of q.does given;
       completed = suc y.completed;
     } in
-    let keeps : Keeps mid (measured p.features q.does given mid) = measured_keeps p.features q.does given mid in
-    let stands : AreActs (y.counted ++ act_of q.does given) ((acts_of_fronts p earlier ++ acts_planned finished) ++ act_in q.does) =
-    acts_join y.counted (act_of q.does given) (acts_of_fronts p earlier ++ acts_planned finished) (act_in q.does) acts
-    (act_stands q.does given has) in
-    let longer : (acts_of_fronts p earlier ++ acts_planned finished) ++ act_in q.does ≡ acts_of_fronts p earlier
-    ++ acts_planned (finished ++ q ∷ []) =
-    append_assoc (acts_of_fronts p earlier) (acts_planned finished) (act_in q.does)
-    ∙ ap (λ (l : List Does). acts_of_fronts p earlier ++ l) (ap (λ (l : List Does). acts_planned finished ++ l)
-    (sym (append-nil (act_in q.does))) ∙ sym (planned_more finished (q ∷ []))) in
+    let z : Tally = measured p.features q.does given mid in
+    let keeps : Keeps mid z = measured_keeps p.features q.does given mid in
+    let on : IsFollowed p plans f.finished rest q told (told_homed (f.since ++ act_of q.does given)) =
+    follows_on p program plans f.finished rest q f.since (act_of q.does given) told parts f.acts are tells
+    (λ e. ap asks_homed same ∙ told_asks kind given e) in
+    let left : told ≡ true → kinds_of y.unsent ≡ kinds_of rest =
+    λ e. ap (λ (l : List Kind). l ++ kinds_of y.unsent) (sym (last.0 (told_asks kind given e))) ∙ others in
+    let fits : Fits p.features y.features (length y.points) (end_of q.does ++ ends_of rest) =
+    subst (λ (l : List Planned). Fits p.features y.features (length y.points) (ends_of l)) is f.fits in
+    let ends : ends_of z.todo ≡ ends_of rest = ap ends_of keeps.todo ∙ passed_ends told rest (behind_asked f.finished q rest are) in
     record {
-      finished = finished ++ q ∷ [];
-      parts = ap (λ (l : List Planned). (finished ++ q ∷ []) ++ l) keeps.todo ∙ (append_assoc finished (q ∷ []) rest ∙ parts);
-      many = length-append finished (q ∷ []) ∙ (omega (arith, many) ∙ sym (measured_completed p.features q.does given mid));
-      acts = subst (λ (l : List Act). AreActs l (acts_of_fronts p earlier ++ acts_planned (finished ++ q ∷ []))) (sym keeps.counted)
-          (subst (λ (l : List Does). AreActs (y.counted ++ act_of q.does given) l) longer stands);
-      fits = subst (λ (l : List Planned). Fits p.features (measured p.features q.does given mid).features
-          (length (measured p.features q.does given mid).points) (ends_of l)) (sym keeps.todo)
+      finished = f.finished ++ q ∷ [];
+      first = f.first;
+      since = f.since ++ act_of q.does given;
+      counted_are = keeps.counted ∙ (ap (λ (l : List Act). l ++ act_of q.does given) f.counted_are
+          ∙ append_assoc f.first f.since (act_of q.does given));
+      before = f.before;
+      parts = ap (λ (l : List Planned). (f.finished ++ q ∷ []) ++ l) keeps.todo ∙ on.parts;
+      many = let so_far = f.many in length-append f.finished (q ∷ []) ∙ (omega (arith, so_far)
+          ∙ sym (measured_completed p.features q.does given mid));
+      earlier_acts = f.earlier_acts;
+      acts = subst (λ (l : List Does). AreActs (f.since ++ act_of q.does given) l)
+          (ap (λ (l : List Does). acts_planned f.finished ++ l) (sym (append-nil (act_in q.does)))
+          ∙ sym (planned_more f.finished (q ∷ [])))
+          (acts_join f.since (act_of q.does given) (acts_planned f.finished) (act_in q.does) f.acts (act_stands q.does given has));
+      fits = subst (λ (l : List Bool). Fits p.features z.features (length z.points) l) (sym ends)
           (measured_fits p program q.does given mid rest has fits);
-      joined = joins_on (is_last q.does) _ (length y.features) features (features_ended finished) (features_ended (finished ++ q ∷ []))
-          (measured_joins p q.does given mid rest has fits) (ended_more finished q) joined;
-      origins = ap (λ (l : List (Option Origin)). drop features l) (measured_origins p q.does given mid rest has fits)
-          ∙ (drop_within features (origins_of y.features) (origin_ended y.connection q.does)
-          (let long = origins_long y.features in omega (arith, long, joined))
-          ∙ (ap (λ (l : List (Option Origin)). l ++ origin_ended y.connection q.does) origins
-          ∙ (sym (origins_more y.connection finished q)
-          ∙ ap (λ (n : ℕ). origins_ended n (finished ++ q ∷ [])) (sym (measured_number p.features q.does given mid)))));
-      calm = λ e. others ∙ ap kinds_of (sym keeps.todo);
+      joined = joins_on (is_last q.does) _ (length y.features) plans.features (features_ended f.finished)
+          (features_ended (f.finished ++ q ∷ []))
+          (measured_joins p q.does given mid rest has fits) (ended_more f.finished q) f.joined;
+      origins = ap (λ (l : List (Option Origin)). drop plans.features l) (measured_origins p q.does given mid rest has fits)
+          ∙ (drop_within plans.features (origins_of y.features) (origin_ended y.connection q.does)
+          (let long = origins_long y.features in let so_many = f.joined in omega (arith, long, so_many))
+          ∙ (ap (λ (l : List (Option Origin)). l ++ origin_ended y.connection q.does) f.origins
+          ∙ (sym (origins_more y.connection f.finished q)
+          ∙ ap (λ (n : ℕ). origins_ended n (f.finished ++ q ∷ [])) (sym (measured_number p.features q.does given mid)))));
+      filled = filled;
+      unhomed = λ e. ap has_homing keeps.unsent ∙ stay_unhomed told y.unsent rest f.since (act_of q.does given) tells left on.unhomed
+          f.unhomed e;
+      calm = λ e. record {
+        kinds = ap (λ (l : List Planned). live_kinds gs ++ kinds_of l) keeps.unsent
+            ∙ (still_kinds told (live_kinds gs) y.unsent rest others left (λ t. last.0 (told_asks kind given t))
+            ∙ ap kinds_of (sym keeps.todo));
+        asked_last = last.1;
+      };
     }
+  where
+    behind_asked : (xs : List Planned) (x : Planned) (ys : List Planned) → AreAsked (xs ++ x ∷ ys) → AreAsked ys
+    behind_asked [] x ys h = h.1
+    behind_asked (w ∷ xs) x ys h = behind_asked xs x ys h.1
+
+    stay_unhomed : (told : Bool) (unsent rest : List Planned) (since more : List Act) → told_homed more ≡ told
+        → (told ≡ true → kinds_of unsent ≡ kinds_of rest) → (told ≡ true → has_homing (passed_over told rest) ≡ false)
+        → (told_homed since ≡ true → has_homing unsent ≡ false) → told_homed (since ++ more) ≡ true
+        → has_homing (passed_over told unsent) ≡ false
+    stay_unhomed true unsent rest since more tells left on before e =
+        homing_kinds (passed_over true unsent) (passed_over true rest) (passed_kinds true unsent rest (left refl)) ∙ on refl
+    stay_unhomed false unsent rest since more tells left on before e = before (no_more (told_homed since)
+        (ap (λ (b : Bool). told_homed since || b) (sym tells) ∙ (sym (told_more since more) ∙ e)))
+      where
+        no_more : (b : Bool) → (b || false) ≡ true → b ≡ true
+        no_more true is = refl
+        no_more false is = is
+
+    still_kinds : (told : Bool) (ks : List Kind) (unsent rest : List Planned) → ks ++ kinds_of unsent ≡ kinds_of rest
+        → (told ≡ true → kinds_of unsent ≡ kinds_of rest) → (told ≡ true → ks ≡ [])
+        → ks ++ kinds_of (passed_over told unsent) ≡ kinds_of (passed_over told rest)
+    still_kinds false ks unsent rest others left none = others
+    still_kinds true ks unsent rest others left none =
+        ap (λ (l : List Kind). l ++ kinds_of (passed_over true unsent)) (none refl) ∙ passed_kinds true unsent rest (left refl)
 
 -- ---- a reply
 
@@ -263,60 +400,74 @@ not_true : (b : Bool) → not b ≡ true → b ≡ false
 not_true true e = absurd (false≢true e)
 not_true false e = refl
 
-effect_on : (p : Meaning) → IsProgram p → (hs gs : List Held) (y : Tally) (unsent : List Planned) (features : ℕ) (earlier : List Begun)
-    (e : Effect)
-    → IsOnPlan p hs y unsent features earlier → Fronted (not y.failed) (live_kinds hs) (live_kinds gs) e
-    → IsOnPlan p gs (tallied p.features e y) unsent features earlier
-effect_on p program hs gs y unsent features earlier Effect.Quiet f h =
+effect_on : (p : Meaning) → IsProgram p → (hs gs : List Held) (y : Tally) (plans : Plans) (e : Effect)
+    → IsOnPlan p hs y plans → Fronted (not y.failed) (live_kinds hs) (live_kinds gs) e → AreFilled gs
+    → IsOnPlan p gs (tallied p.features e y) plans
+effect_on p program hs gs y plans Effect.Quiet f h filled =
     record {
       finished = f.finished;
+      first = f.first;
+      since = f.since;
+      counted_are = f.counted_are;
+      before = f.before;
       parts = f.parts;
       many = f.many;
+      earlier_acts = f.earlier_acts;
       acts = f.acts;
       fits = f.fits;
       joined = f.joined;
       origins = f.origins;
-      calm = λ still. ap (λ (l : List Kind). l ++ kinds_of unsent) h ∙ f.calm still;
+      filled = filled;
+      unhomed = f.unhomed;
+      calm = λ still. let c : IsCalm hs y = f.calm still in record {
+        kinds = ap (λ (l : List Kind). l ++ kinds_of y.unsent) h ∙ c.kinds;
+        asked_last = subst IsAskedLast (sym h) c.asked_last;
+      };
     }
-effect_on p program hs gs y unsent features earlier Effect.Failure f h =
+effect_on p program hs gs y plans Effect.Failure f h filled =
     record {
       finished = f.finished;
+      first = f.first;
+      since = f.since;
+      counted_are = f.counted_are;
+      before = f.before;
       parts = f.parts;
       many = f.many;
+      earlier_acts = f.earlier_acts;
       acts = f.acts;
       fits = f.fits;
       joined = f.joined;
       origins = f.origins;
+      filled = filled;
+      unhomed = f.unhomed;
       calm = λ still. absurd (false≢true (sym still));
     }
-effect_on p program hs gs y unsent features earlier (Effect.Count kind given) f h =
-    counts_on p program y gs kind given y.todo f.finished unsent features earlier f.parts f.many f.acts f.fits f.joined
-    f.origins
-    (ap (λ (l : List Kind). l ++ kinds_of unsent) (sym h.1) ∙ f.calm (not_true y.failed h.0)) h.2
+effect_on p program hs gs y plans (Effect.Count kind given) f h filled =
+    counts_on p program y hs gs kind given y.todo plans f refl (f.calm (not_true y.failed h.0)) h.1 h.2 filled
 
-abbrev OnPlan : Meaning → Table → List Planned → ℕ → List Begun → Type 0
-OnPlan p b unsent features earlier = IsOnPlan p b.standard b.tally unsent features earlier
+abbrev OnPlan : Meaning → Table → Plans → Type 0
+OnPlan p b plans = IsOnPlan p b.standard b.tally plans
 
-record Heard (p : Meaning) (b c : Table) (unsent : List Planned) (features : ℕ) (earlier : List Begun) : Type 0 where
-  plan_is : OnPlan p c unsent features earlier
+record Heard (p : Meaning) (b c : Table) (plans : Plans) : Type 0 where
+  plan_is : OnPlan p c plans
   fewer : count_open c.standard ≤ count_open b.standard
   number : c.tally.connection ≡ b.tally.connection
 
-heard_on_plan : (p : Meaning) → IsProgram p → (b c : Table) (t : Tag) (m : Mark) (unsent : List Planned) (features : ℕ)
-    (earlier : List Begun) → heard p.features b t m ≡ fine c
-    → OnPlan p b unsent features earlier → Heard p b c unsent features earlier
-heard_on_plan p program b c t m unsent features earlier is f =
-    step_cases p.features b t m c (Heard p b c unsent features earlier) is
-    (λ zero_tag same. subst (λ (x : Table). Heard p b x unsent features earlier) same
+heard_on_plan : (p : Meaning) → IsProgram p → (b c : Table) (t : Tag) (m : Mark) (plans : Plans) → heard p.features b t m ≡ fine c
+    → OnPlan p b plans → Heard p b c plans
+heard_on_plan p program b c t m plans is f =
+    step_cases p.features b t m c (Heard p b c plans) is
+    (λ zero_tag same. subst (λ (x : Table). Heard p b x plans) same
     (record { plan_is = f; fewer = le_refl (count_open b.standard); number = refl }))
-    (λ n hs e sort here after. subst (λ (x : Table). Heard p b x unsent features earlier) (sym after)
+    (λ n hs e sort here after. subst (λ (x : Table). Heard p b x plans) (sym after)
     (record {
-      plan_is = effect_on p program b.standard hs b.tally unsent features earlier e f
-          (fronted (not b.tally.failed) b.standard (tag.Std n) m hs e here);
+      plan_is = effect_on p program b.standard hs b.tally plans e f
+          (fronted (not b.tally.failed) b.standard (tag.Std n) m hs e here f.filled)
+          (stay_filled (not b.tally.failed) b.standard (tag.Std n) m hs e here f.filled);
       fewer = count_keeps (not b.tally.failed) b.standard (tag.Std n) m hs e here;
       number = tallied_number p.features e b.tally;
     }))
-    (λ n hs e sort other here after. subst (λ (x : Table). Heard p b x unsent features earlier) (sym after)
+    (λ n hs e sort other here after. subst (λ (x : Table). Heard p b x plans) (sym after)
     (record { plan_is = f; fewer = le_refl (count_open b.standard); number = refl }))
 
 -- ---- states
@@ -375,7 +526,7 @@ IsOff State.Faulted = ⊥
 -- ---- what holds at any time
 
 abbrev Reads : Client → Plans → Type 0
-Reads c plans = OnPlan c.program c.table c.unsent plans.features plans.earlier
+Reads c plans = OnPlan c.program c.table plans
 
 pub record Holds (p : Meaning) (c : Client) (plans : Plans) : Type 0 where
   pub program : IsProgram c.program
@@ -385,21 +536,30 @@ pub record Holds (p : Meaning) (c : Client) (plans : Plans) : Type 0 where
   pub live : c.on ≡ true → Reads c plans
   pub off : c.on ≡ false → IsOff c.state
   pub rests : Rests c.state c.table.standard
+  pub unhomed : is_told plans c.table.tally ≡ true → has_homing c.table.tally.unsent ≡ false
   pub numbered : c.table.tally.connection ≡ c.last
 
-front_is : (p : Meaning) (y : Tally) (hs : List Held) (unsent : List Planned) (features : ℕ) (earlier : List Begun)
-    → (f : IsOnPlan p hs y unsent features earlier)
-    → take y.completed (plan p features (start_behind earlier)) ≡ f.finished
-front_is p y hs unsent features earlier f =
-    subst (λ (n : ℕ). take n (plan p features (start_behind earlier)) ≡ f.finished) f.many
+drop_first : (xs ys : List Act) (n : ℕ) → length xs ≡ n → drop n (xs ++ ys) ≡ ys
+drop_first xs ys n e = subst (λ (k : ℕ). drop k (xs ++ ys) ≡ ys) e (drop-append_seam xs ys)
+
+told_is : (p : Meaning) (y : Tally) (hs : List Held) (plans : Plans) → (f : IsOnPlan p hs y plans) → is_told plans y ≡ told_homed f.since
+told_is p y hs plans f = ap told_homed (ap (λ (l : List Act). drop plans.before l) f.counted_are
+    ∙ drop_first f.first f.since plans.before f.before)
+
+front_is : (p : Meaning) (y : Tally) (hs : List Held) (plans : Plans) → (f : IsOnPlan p hs y plans)
+    → front_of p plans y ≡ f.finished
+front_is p y hs plans f =
+    ap (λ (b : Bool). take y.completed (followed b (plan p plans.features (start_behind plans.earlier)))) (told_is p y hs plans f)
+    ∙ subst (λ (n : ℕ). take n (followed (told_homed f.since) (plan p plans.features (start_behind plans.earlier))) ≡ f.finished) f.many
     (ap (λ (l : List Planned). take (length f.finished) l) (sym f.parts) ∙ take-append_seam f.finished y.todo)
 
-counted_front : (p : Meaning) (y : Tally) (hs : List Held) (unsent : List Planned) (features : ℕ) (earlier : List Begun)
-    → IsOnPlan p hs y unsent features earlier
-    → AreActs y.counted (acts_of_fronts p (record { features = features; completed = y.completed } ∷ earlier))
-counted_front p y hs unsent features earlier f =
-    subst (λ (l : List Planned). AreActs y.counted (acts_of_fronts p earlier ++ acts_planned l))
-    (sym (front_is p y hs unsent features earlier f)) f.acts
+counted_front : (p : Meaning) (y : Tally) (hs : List Held) (plans : Plans) → IsOnPlan p hs y plans
+    → AreActs y.counted (acts_of_fronts p (begun_now plans y ∷ plans.earlier))
+counted_front p y hs plans f =
+    subst (λ (l : List Planned). AreActs y.counted (acts_of_fronts p plans.earlier ++ acts_planned l))
+    (sym (front_is p y hs plans f))
+    (subst (λ (l : List Act). AreActs l (acts_of_fronts p plans.earlier ++ acts_planned f.finished)) (sym f.counted_are)
+    (acts_join f.first f.since (acts_of_fronts p plans.earlier) (acts_planned f.finished) f.earlier_acts f.acts))
 
 -- what holds on a connection holds
 read_holds : (p : Meaning) (plans : Plans) (c : Client) → IsProgram c.program → c.program ≡ p → c.on ≡ true → (r : Reads c plans)
@@ -409,16 +569,17 @@ read_holds p plans c program same on r rests numbered = record {
   same = same;
   ours = fits_ours c.program.features c.table.tally.features (length c.table.tally.points) (ends_of c.table.tally.todo) r.fits;
   counted = record {
-    acts = counted_front c.program c.table.tally c.table.standard c.unsent plans.features plans.earlier r;
+    acts = counted_front c.program c.table.tally c.table.standard plans r;
     joined = subst (λ (l : List Planned). length c.table.tally.features ≡ plans.features + features_ended l)
-        (sym (front_is c.program c.table.tally c.table.standard c.unsent plans.features plans.earlier r)) r.joined;
+        (sym (front_is c.program c.table.tally c.table.standard plans r)) r.joined;
     origins = subst (λ (l : List Planned). drop plans.features (origins_of c.table.tally.features)
         ≡ origins_ended c.table.tally.connection l)
-        (sym (front_is c.program c.table.tally c.table.standard c.unsent plans.features plans.earlier r)) r.origins;
+        (sym (front_is c.program c.table.tally c.table.standard plans r)) r.origins;
   };
   live = λ e. r;
   off = λ e. absurd (false≢true (sym e ∙ on));
   rests = rests;
+  unhomed = λ e. r.unhomed (sym (told_is c.program c.table.tally c.table.standard plans r) ∙ e);
   numbered = numbered;
 }
 
@@ -431,6 +592,7 @@ faulted_holds p plans c cause on h = record {
   live = λ e. h.live e;
   off = λ e. absurd (false≢true (sym e ∙ on));
   rests = tt;
+  unhomed = h.unhomed;
   numbered = h.numbered;
 }
 
@@ -440,8 +602,7 @@ hears_holds : (p : Meaning) (plans : Plans) (c : Client) (t : Tag) (m : Mark) �
     → heard c.program.features c.table t m ≡ r → Holds p (client_hears c t m r) plans
 hears_holds p plans c t m on h (Ok b) is =
     let r : Reads c plans = h.live on in
-    let now : Heard c.program c.table b c.unsent plans.features plans.earlier =
-    heard_on_plan c.program h.program c.table b t m c.unsent plans.features plans.earlier is r in
+    let now : Heard c.program c.table b plans = heard_on_plan c.program h.program c.table b t m plans is r in
     read_holds p plans (client_hears c t m (Ok b)) h.program h.same on now.plan_is
     (behind_rests c.state (ends_abort c.abort t m) b c.table.standard h.rests now.fewer) (now.number ∙ h.numbered)
 hears_holds p plans c t m on h (Err cause) is = faulted_holds p plans c cause on h
@@ -461,15 +622,33 @@ either_holds p plans false c d h g = g
 
 point_holds : (p : Meaning) (plans : Plans) (c : Client) (t : Tag) (r : Result Point NotPoint) → c.on ≡ true → Holds p c plans
     → Holds p (given_point c t r) plans
-point_holds p plans c t (Ok q) on h = reply_holds p plans c t (Mark.Given q) on h
+point_holds p plans c t (Ok q) on h = reply_holds p plans c t (Mark.Given (datum.Point q)) on h
 point_holds p plans c t (Err why) on h = faulted_holds p plans c Cause.NotResponse on h
+
+homed_holds : (p : Meaning) (plans : Plans) (c : Client) (t : Tag) (r : Result Bool NotHomedText) → c.on ≡ true → Holds p c plans
+    → Holds p (given_homed c t r) plans
+homed_holds p plans c t (Ok homed) on h = reply_holds p plans c t (Mark.Given (datum.Homed homed)) on h
+homed_holds p plans c t (Err why) on h = faulted_holds p plans c Cause.NotResponse on h
+
+given_holds : (readers : Readers) (p : Meaning) (plans : Plans) (c : Client) (t : Tag) (text : List ℕ) (k : Kind) → c.on ≡ true
+    → Holds p c plans → Holds p (given_for readers c t text k) plans
+given_holds readers p plans c t text kind.PtMeas on h = point_holds p plans c t (readers.point text) on h
+given_holds readers p plans c t text kind.IsHomed on h = homed_holds p plans c t (readers.homed text) on h
+given_holds readers p plans c t text kind.StartSession on h = faulted_holds p plans c Cause.OutOfOrder on h
+given_holds readers p plans c t text kind.EndSession on h = faulted_holds p plans c Cause.OutOfOrder on h
+given_holds readers p plans c t text kind.ClearAllErrors on h = faulted_holds p plans c Cause.OutOfOrder on h
+given_holds readers p plans c t text kind.Home on h = faulted_holds p plans c Cause.OutOfOrder on h
+given_holds readers p plans c t text kind.OnPtMeasReport on h = faulted_holds p plans c Cause.OutOfOrder on h
+given_holds readers p plans c t text kind.GoTo on h = faulted_holds p plans c Cause.OutOfOrder on h
+given_holds readers p plans c t text kind.ChangeTool on h = faulted_holds p plans c Cause.OutOfOrder on h
+given_holds readers p plans c t text kind.SetCsyTransformation on h = faulted_holds p plans c Cause.OutOfOrder on h
+given_holds readers p plans c t text kind.SetCoordSystem on h = faulted_holds p plans c Cause.OutOfOrder on h
+given_holds readers p plans c t text kind.AbortE on h = faulted_holds p plans c Cause.OutOfOrder on h
 
 under_holds : (readers : Readers) (p : Meaning) (plans : Plans) (c : Client) (t : Tag) (text : List ℕ) (kind : Option Kind) → c.on ≡ true
     → Holds p c plans → Holds p (given_under readers c t text kind) plans
 under_holds readers p plans c t text None on h = faulted_holds p plans c Cause.UnknownTag on h
-under_holds readers p plans c t text (Some k) on h =
-    either_holds p plans (asks_data k) (given_point c t (readers.point text)) (faulted Cause.OutOfOrder c)
-    (point_holds p plans c t (readers.point text) on h) (faulted_holds p plans c Cause.OutOfOrder on h)
+under_holds readers p plans c t text (Some k) on h = given_holds readers p plans c t text k on h
 
 response_holds : (readers : Readers) (p : Meaning) (plans : Plans) (c : Client) (t : Tag) (m : Marked) → c.on ≡ true → Holds p c plans
     → Holds p (response_read readers c t m) plans
@@ -510,35 +689,54 @@ running_by State.Halted e = absurd (false≢true e)
 running_by State.Done e = absurd (false≢true e)
 running_by State.Faulted e = absurd (false≢true e)
 
-pub due_running : (c : Client) → is_some (due c) ≡ true → c.state ≡ State.Running
-due_running c e = go (is_running c.state) refl e
+-- a command is due while it is running, and no question is open
+pub record IsDue (c : Client) : Type 0 where
+  pub running : c.state ≡ State.Running
+  pub unasked : is_asking c.table.standard ≡ false
+
+pub due_running : (c : Client) → is_some (due c) ≡ true → IsDue c
+due_running c e = go (is_running c.state && not (is_asking c.table.standard)) refl e
   where
-    go : (b : Bool) → is_running c.state ≡ b → is_some (cond b (first_due c.window (count_open c.table.standard) c.unsent) None) ≡ true
-        → c.state ≡ State.Running
-    go true r is = running_by c.state r
+    go : (b : Bool) → (is_running c.state && not (is_asking c.table.standard)) ≡ b
+        → is_some (cond b (first_due c.window (count_open c.table.standard) c.table.tally.unsent) None) ≡ true → IsDue c
+    go true r is = let two = both (is_running c.state) _ r in
+        record { running = running_by c.state two.0; unasked = not_true (is_asking c.table.standard) two.1 }
     go false r is = absurd (false≢true is)
 
-sends_holds : (p : Meaning) (plans : Plans) (c : Client) (l : List Planned) (number : Option ℕ) → c.unsent ≡ l → c.state ≡ State.Running
+sends_holds : (p : Meaning) (plans : Plans) (c : Client) (l : List Planned) (number : Option ℕ) → c.table.tally.unsent ≡ l → IsDue c
     → Holds p c plans → Holds p (sends_next c l number).client plans
-sends_holds p plans c [] number e running h = h
-sends_holds p plans c (q ∷ qs) None e running h = faulted_holds p plans c Cause.TagsSpent
-    (on_unless_off c (λ off. subst IsOff running (h.off off))) h
-sends_holds p plans c (q ∷ qs) (Some n) e running h =
-    let on : c.on ≡ true = on_unless_off c (λ off. subst IsOff running (h.off off)) in
+sends_holds p plans c [] number e now h = h
+sends_holds p plans c (q ∷ qs) None e now h = faulted_holds p plans c Cause.TagsSpent
+    (on_unless_off c (λ off. subst IsOff now.running (h.off off))) h
+sends_holds p plans c (q ∷ qs) (Some n) e now h =
+    let on : c.on ≡ true = on_unless_off c (λ off. subst IsOff now.running (h.off off)) in
     let r : Reads c plans = h.live on in
     let x : Held = held_now (tag.Std n) (kind_of q.command) in
+    let one_more : live_kinds (c.table.standard ++ x ∷ []) ≡ live_kinds c.table.standard ++ kind_of q.command ∷ [] =
+    live_more c.table.standard x refl in
     read_holds p plans (sends_next c (q ∷ qs) (Some n)).client h.program h.same on (record {
       finished = r.finished;
+      first = r.first;
+      since = r.since;
+      counted_are = r.counted_are;
+      before = r.before;
       parts = r.parts;
       many = r.many;
+      earlier_acts = r.earlier_acts;
       acts = r.acts;
       fits = r.fits;
       joined = r.joined;
       origins = r.origins;
-      calm = λ still. ap (λ (l : List Kind). l ++ kinds_of qs) (live_more c.table.standard x refl)
-          ∙ (append_assoc (live_kinds c.table.standard) (kind_of q.command ∷ []) (kinds_of qs)
-          ∙ (ap (λ (l : List Planned). live_kinds c.table.standard ++ kinds_of l) (sym e) ∙ r.calm still));
-    }) (subst (λ (s : State). Rests s (c.table.standard ++ x ∷ [])) (sym running) tt) h.numbered
+      filled = filled_more c.table.standard x r.filled tt;
+      unhomed = λ told. unhomed_behind (q ∷ []) qs (ap has_homing (sym e) ∙ r.unhomed told);
+      calm = λ still. let k : IsCalm c.table.standard c.table.tally = r.calm still in record {
+        kinds = ap (λ (l : List Kind). l ++ kinds_of qs) one_more
+            ∙ (append_assoc (live_kinds c.table.standard) (kind_of q.command ∷ []) (kinds_of qs)
+            ∙ (ap (λ (l : List Planned). live_kinds c.table.standard ++ kinds_of l) (sym e) ∙ k.kinds));
+        asked_last = subst IsAskedLast (sym one_more) (asked_last (live_kinds c.table.standard) (kind_of q.command)
+            (none_asks c.table.standard now.unasked));
+      };
+    }) (subst (λ (s : State). Rests s (c.table.standard ++ x ∷ [])) (sym now.running) tt) h.numbered
 
 may_abort_on : (s : State) → may_abort s ≡ true → IsOff s → ⊥
 may_abort_on State.Apart e off = false≢true e
@@ -557,13 +755,21 @@ aborts_holds p plans c (Some n) on h =
     read_holds p plans (sends_abort c (Some n)).client h.program h.same on
     (record {
       finished = r.finished;
+      first = r.first;
+      since = r.since;
+      counted_are = r.counted_are;
+      before = r.before;
       parts = r.parts;
       many = r.many;
+      earlier_acts = r.earlier_acts;
       acts = r.acts;
       fits = r.fits;
       joined = r.joined;
       origins = r.origins;
-      calm = r.calm;
+      filled = r.filled;
+      unhomed = r.unhomed;
+      calm = λ still. let k : IsCalm c.table.standard c.table.tally = r.calm still
+          in record { kinds = k.kinds; asked_last = k.asked_last };
     })
     tt h.numbered
 
@@ -580,13 +786,20 @@ connected_holds : (p : Meaning) (plans : Plans) (n : ℕ) (c : Client) → Holds
 connected_holds p plans n c h =
     read_holds p (first_plan c.table.tally.features) (client_connected n c) h.program h.same refl (record {
       finished = [];
+      first = [];
+      since = [];
+      counted_are = refl;
+      before = refl;
       parts = refl;
       many = refl;
+      earlier_acts = tt;
       acts = tt;
       fits = begins_fit c.program c.table.tally.features Start.NewConnection h.program h.ours;
       joined = omega (arith);
       origins = none_behind c.table.tally.features;
-      calm = λ still. refl;
+      filled = tt;
+      unhomed = λ e. absurd (false≢true e);
+      calm = λ still. record { kinds = refl; asked_last = tt };
     }) tt refl
 
 pub resumed_state : (c : Client) (s : State) → may_resume c s ≡ true → s ≡ State.Halted
@@ -601,7 +814,8 @@ resumed_state c State.Faulted e = absurd (false≢true e)
 abbrev resumed_plans : Client → Plans → Plans
 resumed_plans c plans = record {
   features = length c.table.tally.features;
-  earlier = record { features = plans.features; completed = c.table.tally.completed } ∷ plans.earlier;
+  before = length c.table.tally.counted;
+  earlier = begun_now plans c.table.tally ∷ plans.earlier;
 }
 
 resumed_holds : (p : Meaning) (plans : Plans) (c : Client) → c.state ≡ State.Halted → Holds p c plans
@@ -614,16 +828,23 @@ resumed_holds p plans c halted h =
     let steps : List Planned = plan c.program (length c.table.tally.features) Start.SameConnection in
     read_holds p (resumed_plans c plans) (client_resumed c) h.program h.same on (record {
       finished = [];
+      first = c.table.tally.counted;
+      since = [];
+      counted_are = sym (append-nil c.table.tally.counted);
+      before = refl;
       parts = refl;
       many = refl;
-      acts = subst (λ (l : List Does). AreActs c.table.tally.counted l)
-          (sym (append-nil (acts_of_fronts c.program (record { features = plans.features; completed = c.table.tally.completed }
-          ∷ plans.earlier))))
-          (counted_front c.program c.table.tally c.table.standard c.unsent plans.features plans.earlier r);
+      earlier_acts = counted_front c.program c.table.tally c.table.standard plans r;
+      acts = tt;
       fits = begins_fit c.program c.table.tally.features Start.SameConnection h.program h.ours;
       joined = omega (arith);
       origins = none_behind c.table.tally.features;
-      calm = λ still. ap (λ (l : List Kind). l ++ kinds_of steps) none;
+      filled = r.filled;
+      unhomed = λ e. absurd (false≢true e);
+      calm = λ still. record {
+        kinds = ap (λ (l : List Kind). l ++ kinds_of steps) none;
+        asked_last = subst IsAskedLast (sym none) tt;
+      };
     }) tt h.numbered
 
 -- ---- the connection is given up
@@ -655,6 +876,7 @@ left_holds p plans c h = record {
   live = λ e. absurd (false≢true e);
   off = λ e. left_off c.state;
   rests = left_rests c.state c.table.standard;
+  unhomed = h.unhomed;
   numbered = h.numbered;
 }
 
@@ -668,6 +890,7 @@ new_holds p fs window program ours = record {
   live = λ e. absurd (false≢true e);
   off = λ e. tt;
   rests = tt;
+  unhomed = λ e. absurd (false≢true e);
   numbered = refl;
 }
 
@@ -681,6 +904,7 @@ restarted_holds p plans k c h = record {
   live = λ e. absurd (false≢true e);
   off = λ e. tt;
   rests = tt;
+  unhomed = λ e. absurd (false≢true e);
   numbered = refl;
 }
 
@@ -692,7 +916,7 @@ read_on c e = (both c.on _ e).0
 done_holds : (readers : Readers) (p : Meaning) (plans : Plans) (call : Call) (e : ClientEnd) → possible call e ≡ true
     → Holds p e.client plans → Holds p (done_by readers call e).client (plans_by call e plans)
 done_holds readers p plans (Connected n) e may h = connected_holds p plans n e.client h
-done_holds readers p plans Send e may h = sends_holds p plans e.client e.client.unsent
+done_holds readers p plans Send e may h = sends_holds p plans e.client e.client.table.tally.unsent
     (next_number tag.Std e.client.table.standard e.client.drawn) refl (due_running e.client may) h
 done_holds readers p plans (Feed bytes) e may h = h
 done_holds readers p plans ReadOne e may h = front_holds readers p plans e.client (next_of e.input.rest) (read_on e.client may) h
@@ -762,6 +986,16 @@ counted_on_the_last readers p kept window calls program ours =
     behind_holds readers p kept window calls program ours in
     h.numbered
 
+-- of a plan of which it was told that the machine is homed no homing is unsent
+pub told_is_unhomed : (readers : Readers) (p : Meaning) (kept : List Feature) (window : ℕ) (calls : List Call) → IsProgram p
+    → are_ours p.features kept ≡ true
+    → is_told (plans_begun readers calls p kept window) (client_behind readers calls p kept window).table.tally ≡ true
+    → has_homing (client_behind readers calls p kept window).table.tally.unsent ≡ false
+told_is_unhomed readers p kept window calls program ours told =
+    let h : Holds p (client_behind readers calls p kept window) (plans_begun readers calls p kept window) =
+    behind_holds readers p kept window calls program ours in
+    h.unhomed told
+
 -- a counted command is the next of the plan, by its kind
 first_is_next : (todo : List Planned) (k : Kind) (ks : List Kind) → k ∷ ks ≡ kinds_of todo → next_kind todo ≡ Some k
 first_is_next [] k ks e = absurd (no e)
@@ -782,19 +1016,19 @@ counted_is_next readers p kept window calls program ours on n m kind is =
     let c : Client = client_behind readers calls p kept window in
     let h : Holds p c (plans_begun readers calls p kept window) = behind_holds readers p kept window calls program ours in
     let r : Reads c (plans_begun readers calls p kept window) = h.live on in
-    go c.table.standard c.table.tally c.unsent (plans_begun readers calls p kept window) c.program r
+    go c.table.standard c.table.tally (plans_begun readers calls p kept window) c.program r
     (heard_in (not c.table.tally.failed) c.table.standard (tag.Std n) m) refl is
   where
-    go : (hs : List Held) (y : Tally) (unsent : List Planned) (plans : Plans) (program : Meaning)
-        → IsOnPlan program hs y unsent plans.features plans.earlier
+    go : (hs : List Held) (y : Tally) (plans : Plans) (program : Meaning) → IsOnPlan program hs y plans
         → (heard : Heardings) → heard_in (not y.failed) hs (tag.Std n) m ≡ heard → kind_counted heard ≡ Some kind
         → next_kind y.todo ≡ Some kind
-    go hs y unsent plans program r (Ok (gs, Effect.Quiet)) here e = absurd (cc)
-    go hs y unsent plans program r (Ok (gs, Effect.Failure)) here e = absurd (cc)
-    go hs y unsent plans program r (Ok (gs, Effect.Count k given)) here e =
+    go hs y plans program r (Ok (gs, Effect.Quiet)) here e = absurd (cc)
+    go hs y plans program r (Ok (gs, Effect.Failure)) here e = absurd (cc)
+    go hs y plans program r (Ok (gs, Effect.Count k given)) here e =
         let f : Fronted (not y.failed) (live_kinds hs) (live_kinds gs) (Effect.Count k given) =
-        fronted (not y.failed) hs (tag.Std n) m gs (Effect.Count k given) here in
-        first_is_next y.todo k (live_kinds gs ++ kinds_of unsent) (ap (λ (l : List Kind). l ++ kinds_of unsent) (sym f.1)
-        ∙ r.calm (not_true y.failed f.0))
+        fronted (not y.failed) hs (tag.Std n) m gs (Effect.Count k given) here r.filled in
+        let c : IsCalm hs y = r.calm (not_true y.failed f.0) in
+        first_is_next y.todo k (live_kinds gs ++ kinds_of y.unsent) (ap (λ (l : List Kind). l ++ kinds_of y.unsent) (sym f.1)
+        ∙ c.kinds)
         ∙ ap (λ (x : Kind). Some x) (kind_is k kind e)
-    go hs y unsent plans program r (Err cause) here e = absurd (cc)
+    go hs y plans program r (Err cause) here e = absurd (cc)

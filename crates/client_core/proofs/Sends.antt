@@ -36,95 +36,99 @@ standard_tag : (o : Opened) (k : Kind) (answer : Option Tag) → is_event_kind k
     → tagged Std (next_number Std o.standard o.drawn) ≡ answer
 standard_tag o k answer standard is = rw standard at is
 
-first_left : (plan : List Planned) (sent : ℕ) (p : Planned) → sent < length plan → p ≡ slice_index_or plan sent p
+pub first_left : (plan : List Planned) (sent : ℕ) (p : Planned) → sent < length plan → p ≡ slice_index_or plan sent p
     → drop sent plan ≡ p ∷ drop (suc sent) plan
 first_left plan sent p within is = drop-cons plan sent p within ∙ ap (λ (q : Planned). q ∷ drop (suc sent) plan) (sym is)
 
+-- one command more is sent
+abbrev pub sent_one : Progress → Progress
+sent_one y = record y { unsent = suc y.unsent }
+
 -- what is sent: the client after it, and the line
 client_at : (program : Meaning) (window : ℕ) (on : Bool) (state : State) (cause : Option Cause) (o after : Opened) (y : Progress)
-    (sent : ℕ) (abort : Option Tag) (p : Planned) (tag : Tag) (n : ℕ)
-    → drop sent y.plan.items ≡ p ∷ drop (suc sent) y.plan.items → next_number Std o.standard o.drawn ≡ Some n → Std n ≡ tag
+    (abort : Option Tag) (p : Planned) (tag : Tag) (n : ℕ)
+    → drop y.unsent y.plan.items ≡ p ∷ drop (suc y.unsent) y.plan.items → next_number Std o.standard o.drawn ≡ Some n → Std n ≡ tag
     → after ≡ with_drawn o tag (kind_of p.command)
-    → seen program window on state cause after y (suc sent) abort
-    ≡ (client_sent (seen program window on state cause o y sent abort)).client
-client_at program window on state cause o after y sent abort p tag n first number_is tag_is held =
+    → seen program window on state cause after (sent_one y) abort
+    ≡ (client_sent (seen program window on state cause o y abort)).client
+client_at program window on state cause o after y abort p tag n first number_is tag_is held =
     rw (held, ← tag_is, first, number_is) refl
 
 lines_at : (program : Meaning) (window : ℕ) (on : Bool) (state : State) (cause : Option Cause) (o : Opened) (y : Progress)
-    (sent : ℕ) (abort : Option Tag) (p : Planned) (tag : Tag) (n : ℕ)
-    → drop sent y.plan.items ≡ p ∷ drop (suc sent) y.plan.items → next_number Std o.standard o.drawn ≡ Some n → Std n ≡ tag
-    → (client_sent (seen program window on state cause o y sent abort)).lines ≡ record { tag = tag; command = p.command } ∷ []
-lines_at program window on state cause o y sent abort p tag n first number_is tag_is = rw (← tag_is, first, number_is) refl
+    (abort : Option Tag) (p : Planned) (tag : Tag) (n : ℕ)
+    → drop y.unsent y.plan.items ≡ p ∷ drop (suc y.unsent) y.plan.items → next_number Std o.standard o.drawn ≡ Some n → Std n ≡ tag
+    → (client_sent (seen program window on state cause o y abort)).lines ≡ record { tag = tag; command = p.command } ∷ []
+lines_at program window on state cause o y abort p tag n first number_is tag_is = rw (← tag_is, first, number_is) refl
 
 abort_at : (program : Meaning) (window : ℕ) (on : Bool) (state : State) (cause : Option Cause) (o after : Opened) (y : Progress)
-    (sent : ℕ) (abort : Option Tag) (tag : Tag) (n : ℕ)
+    (abort : Option Tag) (tag : Tag) (n : ℕ)
     → next_number Event o.event o.event_drawn ≡ Some n → Event n ≡ tag → after ≡ with_drawn o tag kind.AbortE
-    → seen program window on State.Aborting cause after y sent (Some tag)
-    ≡ (client_aborted (seen program window on state cause o y sent abort)).client
-abort_at program window on state cause o after y sent abort tag n number_is tag_is held = rw (held, ← tag_is, number_is) refl
+    → seen program window on State.Aborting cause after y (Some tag)
+    ≡ (client_aborted (seen program window on state cause o y abort)).client
+abort_at program window on state cause o after y abort tag n number_is tag_is held = rw (held, ← tag_is, number_is) refl
 
 abort_line_at : (program : Meaning) (window : ℕ) (on : Bool) (state : State) (cause : Option Cause) (o : Opened) (y : Progress)
-    (sent : ℕ) (abort : Option Tag) (tag : Tag) (n : ℕ)
+    (abort : Option Tag) (tag : Tag) (n : ℕ)
     → next_number Event o.event o.event_drawn ≡ Some n → Event n ≡ tag
-    → (client_aborted (seen program window on state cause o y sent abort)).lines ≡ record { tag = tag; command = command.AbortE } ∷ []
-abort_line_at program window on state cause o y sent abort tag n number_is tag_is = rw (← tag_is, number_is) refl
+    → (client_aborted (seen program window on state cause o y abort)).lines ≡ record { tag = tag; command = command.AbortE } ∷ []
+abort_line_at program window on state cause o y abort tag n number_is tag_is = rw (← tag_is, number_is) refl
 
 pub sent_client : (program : Meaning) (window : ℕ) (on : Bool) (state : State) (cause : Option Cause) (o after : Opened)
     (y : Progress)
-    (sent : ℕ) (abort : Option Tag) (p : Planned) (tag : Tag)
-    → sent < length y.plan.items → p ≡ slice_index_or y.plan.items sent p → is_event_kind (kind_of p.command) ≡ false
+    (abort : Option Tag) (p : Planned) (tag : Tag)
+    → y.unsent < length y.plan.items → p ≡ slice_index_or y.plan.items y.unsent p → is_event_kind (kind_of p.command) ≡ false
     → next_tag o (kind_of p.command) ≡ Some tag → after ≡ with_drawn o tag (kind_of p.command)
-    → seen program window on state cause after y (suc sent) abort
-    ≡ (client_sent (seen program window on state cause o y sent abort)).client
-sent_client program window on state cause o after y sent abort p tag within is standard next held =
+    → seen program window on state cause after (sent_one y) abort
+    ≡ (client_sent (seen program window on state cause o y abort)).client
+sent_client program window on state cause o after y abort p tag within is standard next held =
     let d : IsDrawn Std (next_number Std o.standard o.drawn) tag =
     drawn_as _ _ _ (standard_tag o (kind_of p.command) (Some tag) standard next) in
-    client_at program window on state cause o after y sent abort p tag d.n (first_left y.plan.items sent p within is) d.number_is
+    client_at program window on state cause o after y abort p tag d.n (first_left y.plan.items y.unsent p within is) d.number_is
     d.tag_is held
 
 pub sent_lines : (program : Meaning) (window : ℕ) (on : Bool) (state : State) (cause : Option Cause) (o : Opened) (y : Progress)
-    (sent : ℕ) (abort : Option Tag) (p : Planned) (tag : Tag)
-    → sent < length y.plan.items → p ≡ slice_index_or y.plan.items sent p → is_event_kind (kind_of p.command) ≡ false
+    (abort : Option Tag) (p : Planned) (tag : Tag)
+    → y.unsent < length y.plan.items → p ≡ slice_index_or y.plan.items y.unsent p → is_event_kind (kind_of p.command) ≡ false
     → next_tag o (kind_of p.command) ≡ Some tag
-    → (client_sent (seen program window on state cause o y sent abort)).lines ≡ record { tag = tag; command = p.command } ∷ []
-sent_lines program window on state cause o y sent abort p tag within is standard next =
+    → (client_sent (seen program window on state cause o y abort)).lines ≡ record { tag = tag; command = p.command } ∷ []
+sent_lines program window on state cause o y abort p tag within is standard next =
     let d : IsDrawn Std (next_number Std o.standard o.drawn) tag =
     drawn_as _ _ _ (standard_tag o (kind_of p.command) (Some tag) standard next) in
-    lines_at program window on state cause o y sent abort p tag d.n (first_left y.plan.items sent p within is) d.number_is d.tag_is
+    lines_at program window on state cause o y abort p tag d.n (first_left y.plan.items y.unsent p within is) d.number_is d.tag_is
 
 -- no tag is free
 pub sent_none : (program : Meaning) (window : ℕ) (on : Bool) (state : State) (cause : Option Cause) (o : Opened) (y : Progress)
-    (sent : ℕ) (abort : Option Tag) (p : Planned)
-    → sent < length y.plan.items → p ≡ slice_index_or y.plan.items sent p → is_event_kind (kind_of p.command) ≡ false
+    (abort : Option Tag) (p : Planned)
+    → y.unsent < length y.plan.items → p ≡ slice_index_or y.plan.items y.unsent p → is_event_kind (kind_of p.command) ≡ false
     → next_tag o (kind_of p.command) ≡ None
-    → client_sent (seen program window on state cause o y sent abort)
-    ≡ record { client = faulted Cause.TagsSpent (seen program window on state cause o y sent abort); lines = [] }
-sent_none program window on state cause o y sent abort p within is standard next =
+    → client_sent (seen program window on state cause o y abort)
+    ≡ record { client = faulted Cause.TagsSpent (seen program window on state cause o y abort); lines = [] }
+sent_none program window on state cause o y abort p within is standard next =
     let d : next_number Std o.standard o.drawn ≡ None = not_drawn _ _ (standard_tag o (kind_of p.command) None standard next) in
-    rw (first_left y.plan.items sent p within is, d) refl
+    rw (first_left y.plan.items y.unsent p within is, d) refl
 
 -- an abort is sent
 pub aborted_client : (program : Meaning) (window : ℕ) (on : Bool) (state : State) (cause : Option Cause) (o after : Opened)
     (y : Progress)
-    (sent : ℕ) (abort : Option Tag) (tag : Tag) → next_tag o kind.AbortE ≡ Some tag → after ≡ with_drawn o tag kind.AbortE
-    → seen program window on State.Aborting cause after y sent (Some tag)
-    ≡ (client_aborted (seen program window on state cause o y sent abort)).client
-aborted_client program window on state cause o after y sent abort tag next held =
+    (abort : Option Tag) (tag : Tag) → next_tag o kind.AbortE ≡ Some tag → after ≡ with_drawn o tag kind.AbortE
+    → seen program window on State.Aborting cause after y (Some tag)
+    ≡ (client_aborted (seen program window on state cause o y abort)).client
+aborted_client program window on state cause o after y abort tag next held =
     let d : IsDrawn Event (next_number Event o.event o.event_drawn) tag = drawn_as _ _ _ next in
-    abort_at program window on state cause o after y sent abort tag d.n d.number_is d.tag_is held
+    abort_at program window on state cause o after y abort tag d.n d.number_is d.tag_is held
 
 pub aborted_lines : (program : Meaning) (window : ℕ) (on : Bool) (state : State) (cause : Option Cause) (o : Opened)
     (y : Progress)
-    (sent : ℕ) (abort : Option Tag) (tag : Tag) → next_tag o kind.AbortE ≡ Some tag
-    → (client_aborted (seen program window on state cause o y sent abort)).lines ≡ record { tag = tag; command = command.AbortE } ∷ []
-aborted_lines program window on state cause o y sent abort tag next =
+    (abort : Option Tag) (tag : Tag) → next_tag o kind.AbortE ≡ Some tag
+    → (client_aborted (seen program window on state cause o y abort)).lines ≡ record { tag = tag; command = command.AbortE } ∷ []
+aborted_lines program window on state cause o y abort tag next =
     let d : IsDrawn Event (next_number Event o.event o.event_drawn) tag = drawn_as _ _ _ next in
-    abort_line_at program window on state cause o y sent abort tag d.n d.number_is d.tag_is
+    abort_line_at program window on state cause o y abort tag d.n d.number_is d.tag_is
 
 pub aborted_none : (program : Meaning) (window : ℕ) (on : Bool) (state : State) (cause : Option Cause) (o : Opened)
     (y : Progress)
-    (sent : ℕ) (abort : Option Tag) → next_tag o kind.AbortE ≡ None
-    → client_aborted (seen program window on state cause o y sent abort)
-    ≡ record { client = faulted Cause.TagsSpent (seen program window on state cause o y sent abort); lines = [] }
-aborted_none program window on state cause o y sent abort next =
+    (abort : Option Tag) → next_tag o kind.AbortE ≡ None
+    → client_aborted (seen program window on state cause o y abort)
+    ≡ record { client = faulted Cause.TagsSpent (seen program window on state cause o y abort); lines = [] }
+aborted_none program window on state cause o y abort next =
     let d : next_number Event o.event o.event_drawn ≡ None = not_drawn _ _ next in rw d refl

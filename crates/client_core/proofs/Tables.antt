@@ -12,7 +12,7 @@ use Rattle.protocol_model.specs.Replies.{Mark}
 use Rattle.protocol_model.specs.Open.{Effect, Heard, heard_in}
 use Rattle.protocol_model.specs.Client as client
 use Rattle.protocol_model.specs.declared.states.Cause.{Cause}
-use Rattle.fixed_um.specs.declared.lengths.Point.{Point}
+use Rattle.protocol_model.specs.declared.held.Datum.{Datum}
 use Rattle.dme_line.specs.declared.commands.Kind.{Kind}
 use Rattle.client_core.specs.declared.progress.Progress.{Progress}
 use Rattle.client_core.specs.Progress.{tally_of, seen}
@@ -126,7 +126,7 @@ uncounted ws o after p (Event n) m effect quiet is =
     ∙ ap (λ (f : Bool). Ok (table_of after (tally_of f p))) (sym (failed_event o after effect (heard_in true o.event (Event n) m) is))
 
 -- a mark that counts one under a standard tag
-pub counted : (ws : List Wanted) (o after : Opened) (p q : Progress) (n : ℕ) (m : Mark) (k : Kind) (given : Option Point)
+pub counted : (ws : List Wanted) (o after : Opened) (p q : Progress) (n : ℕ) (m : Mark) (k : Kind) (given : Option Datum)
     → heard o (Std n) m ≡ Ok (after, Effect.Count k given)
     → ((failed : Bool) → tally_of failed q ≡ client.counted_next ws k given (tally_of failed p).todo (tally_of failed p))
     → client.heard_on ws (table_of o (tally_of o.failed p)) (Std n) m ≡ Ok (table_of after (tally_of after.failed q))
@@ -157,20 +157,20 @@ refused ws o p t m (Some d) cause is same =
 -- the end of a command is read that counts the next one of the plan
 pub counted_read : (program : Meaning) (window : ℕ) (on : Bool) (state : State) (cause : Option Cause) (o after : Opened)
     (p q : Progress)
-    (sent : ℕ) (abort : Option Tag) (t : Tag) (effect : Effect) (k : Kind) (given : Option Point) (ends : Bool)
+    (abort : Option Tag) (t : Tag) (effect : Effect) (k : Kind) (given : Option Datum) (ends : Bool)
     → is_event_tag t ≡ false
     → heard o t Mark.Done ≡ Ok (after, effect)
     → effect_heard (heard o t Mark.Done) ≡ Some (Effect.Count k given)
     → ((failed : Bool) → tally_of failed q ≡ client.counted_next program.features k given (tally_of failed p).todo (tally_of failed p))
-    → q.plan ≡ p.plan → q.connection ≡ p.connection → ends ≡ client.ends_abort abort t Mark.Done
-    → seen program window on (client.state_behind state ends (table_of after (tally_of after.failed q))) cause after q sent abort
-    ≡ client.client_read (seen program window on state cause o p sent abort) t Mark.Done
-counted_read program window on state cause o after p q sent abort (Event n) effect k given ends standard is counts told plan_is
+    → q.connection ≡ p.connection → ends ≡ client.ends_abort abort t Mark.Done
+    → seen program window on (client.state_behind state ends (table_of after (tally_of after.failed q))) cause after q abort
+    ≡ client.client_read (seen program window on state cause o p abort) t Mark.Done
+counted_read program window on state cause o after p q abort (Event n) effect k given ends standard is counts told
     number_is ends_is = absurd (cc standard)
-counted_read program window on state cause o after p q sent abort (Std n) effect k given ends standard is counts told plan_is
+counted_read program window on state cause o after p q abort (Std n) effect k given ends standard is counts told
     number_is ends_is =
     let one : Some effect ≡ Some (Effect.Count k given) = sym (ap effect_heard is) ∙ counts in
     let same : effect ≡ Effect.Count k given = cc one in
     let heard_is : heard o (Std n) Mark.Done ≡ Ok (after, Effect.Count k given) = is ∙ ap (λ (e : Effect). Ok (after, e)) same in
     let d : StaysDrawn o after = stays_drawn o after (Std n) Mark.Done (Effect.Count k given) heard_is in
-    rw (counted program.features o after p q n Mark.Done k given heard_is told, d.drawn, d.event_drawn, plan_is, number_is, ends_is) refl
+    rw (counted program.features o after p q n Mark.Done k given heard_is told, d.drawn, d.event_drawn, number_is, ends_is) refl

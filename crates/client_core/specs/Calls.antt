@@ -1,6 +1,9 @@
 -- Lists of calls of a client, whatever its peer sends, and what is claimed of them (this profile).
-use Rattle.std.specs.Prelude.{◌≡◌, ℕ, suc, ◌+◌, nat_le, Bool, true, false, not, if◌then◌else◌, is_some, Option, Some, None, List, [], ◌∷◌}
+use Rattle.std.specs.Prelude.{◌≡◌, ℕ, suc, ◌+◌, nat_le, Bool, true, false, not, ◌||◌, if◌then◌else◌, is_some, Option, Some, None}
+use Rattle.std.specs.Prelude.{List, [], ◌∷◌}
 use Rattle.std.specs.Prelude.{◌++◌, length, take, drop, Ok, Err}
+use Rattle.contact_ledger.specs.declared.acts.Act.{Act}
+use Rattle.contact_ledger.specs.declared.acts.Act.TheVariants as act
 use Rattle.contact_ledger.specs.declared.features.Origin.{Origin}
 use Rattle.contact_ledger.specs.declared.features.Feature.{Feature}
 use Rattle.dme_line.specs.Kinds.{kind_of}
@@ -11,10 +14,10 @@ use Rattle.protocol_model.specs.Replies.{Mark}
 use Rattle.protocol_model.specs.Open.{Effect, Heard, heard_in}
 use Rattle.protocol_model.specs.Lines.{Readers}
 use Rattle.protocol_model.specs.Plan.{plan}
-use Rattle.protocol_model.specs.Client.{Client, Tally, origin_of, due, may_abort, may_resume}
+use Rattle.protocol_model.specs.Client.{Client, Tally, origin_of, is_homing, due, may_abort, may_resume}
 use Rattle.protocol_model.specs.Ends.{ClientEnd, new_client_end, end_connected, end_sent, end_aborted, end_fed, end_read, end_resumed}
 use Rattle.protocol_model.specs.Ends.{end_left, end_restarted, end_taken}
-use Rattle.protocol_model.specs.Undisturbed.{acts_planned, AreActs}
+use Rattle.protocol_model.specs.Undisturbed.{acts_planned, AreActs, followed}
 use Rattle.protocol_model.specs.declared.plans.Does.{Does}
 use Rattle.protocol_model.specs.declared.plans.Planned.{Planned}
 use Rattle.protocol_model.specs.declared.plans.Start.{Start}
@@ -66,10 +69,22 @@ abbrev pub behind_calls : Readers → List Call → ClientEnd → ClientEnd
 behind_calls readers [] e = e
 behind_calls readers (call ∷ calls) e = behind_calls readers calls (behind_call readers call e)
 
--- a plan that was begun behind so many completed features, and how many of its commands were counted
+-- an act tells that the machine is homed
+abbrev pub tells : Act → Bool
+tells (act.HomedIs homed) = homed
+tells _ = false
+
+-- and one of these does
+abbrev pub told_homed : List Act → Bool
+told_homed [] = false
+told_homed (a ∷ acts) = tells a || told_homed acts
+
+-- a plan that was begun behind so many completed features, how many of its commands were counted, and whether it was told that the
+-- machine is homed
 pub record Begun : Type 0 where
   pub features : ℕ
   pub completed : ℕ
+  pub homed : Bool
 
 -- the first plan of a connection begins a session, each later one goes on in it
 abbrev pub start_behind : List Begun → Start
@@ -79,24 +94,34 @@ start_behind (b ∷ bs) = SameConnection
 -- the acts for which the counted fronts of plans stand, in the order of the plans; the latest plan is the first of the list
 abbrev pub acts_of_fronts : Meaning → List Begun → List Does
 acts_of_fronts p [] = []
-acts_of_fronts p (b ∷ bs) = acts_of_fronts p bs ++ acts_planned (take b.completed (plan p b.features (start_behind bs)))
+acts_of_fronts p (b ∷ bs) = acts_of_fronts p bs ++ acts_planned (take b.completed (followed b.homed (plan p b.features (start_behind bs))))
 
--- the plan that a client is on, by how many features it held when that was begun, and the plans that were begun before it on the
--- connection, the latest first
+-- the plan that a client is on, by how many features it held and how many acts it had counted on the connection when that was begun, and
+-- the plans that were begun before it on the connection, the latest first
 pub record Plans : Type 0 where
   pub features : ℕ
+  pub before : ℕ
   pub earlier : List Begun
+
+-- whether it was told since then that the machine is homed
+abbrev pub is_told : Plans → Tally → Bool
+is_told plans tally = told_homed (drop plans.before tally.counted)
+
+-- the present plan, with what is counted of it
+abbrev pub begun_now : Plans → Tally → Begun
+begun_now plans tally = record { features = plans.features; completed = tally.completed; homed = is_told plans tally }
 
 -- the first plan of a connection, for a client that holds these features
 abbrev pub first_plan : List Feature → Plans
-first_plan features = record { features = length features; earlier = [] }
+first_plan features = record { features = length features; before = 0; earlier = [] }
 
 -- the plans behind a call: a connection begins the first, a resume one more behind the features that are held then, a restart forgets all
 abbrev pub plans_by : Call → ClientEnd → Plans → Plans
 plans_by (Connected n) e plans = first_plan e.client.table.tally.features
 plans_by Resume e plans = record {
   features = length e.client.table.tally.features;
-  earlier = record { features = plans.features; completed = e.client.table.tally.completed } ∷ plans.earlier;
+  before = length e.client.table.tally.counted;
+  earlier = begun_now plans e.client.table.tally ∷ plans.earlier;
 }
 plans_by (Restart k) e plans = first_plan (take k e.client.table.tally.features)
 plans_by Send e plans = plans
@@ -120,9 +145,14 @@ client_behind readers calls p kept window = (behind_calls readers calls (new_cli
 abbrev pub plans_begun : Readers → List Call → Meaning → List Feature → ℕ → Plans
 plans_begun readers calls p kept window = plans_behind readers calls (new_client_end p kept window) (first_plan kept)
 
--- the counted front of the present plan
-abbrev pub front_of : Meaning → Plans → ℕ → List Planned
-front_of p plans completed = take completed (plan p plans.features (start_behind plans.earlier))
+-- the counted front of the present plan, as it is followed
+abbrev pub front_of : Meaning → Plans → Tally → List Planned
+front_of p plans tally = take tally.completed (followed (is_told plans tally) (plan p plans.features (start_behind plans.earlier)))
+
+-- the machine is homed by one of these commands
+abbrev pub has_homing : List Planned → Bool
+has_homing [] = false
+has_homing (p ∷ ps) = is_homing p.command || has_homing ps
 
 -- the last touch of a feature
 abbrev pub is_last : Does → Bool
@@ -154,9 +184,9 @@ origins_ended n (p ∷ ps) = origin_ended n p.does ++ origins_ended n ps
 -- plans before it; and its features are those that it held when that was begun and one for each that ends in the front, with the number of
 -- the connection and the frame of its last touch
 pub record AreCounted (p : Meaning) (plans : Plans) (tally : Tally) : Type 0 where
-  pub acts : AreActs tally.counted (acts_of_fronts p (record { features = plans.features; completed = tally.completed } ∷ plans.earlier))
-  pub joined : length tally.features ≡ plans.features + features_ended (front_of p plans tally.completed)
-  pub origins : drop plans.features (origins_of tally.features) ≡ origins_ended tally.connection (front_of p plans tally.completed)
+  pub acts : AreActs tally.counted (acts_of_fronts p (begun_now plans tally ∷ plans.earlier))
+  pub joined : length tally.features ≡ plans.features + features_ended (front_of p plans tally)
+  pub origins : drop plans.features (origins_of tally.features) ≡ origins_ended tally.connection (front_of p plans tally)
 
 -- the kind of the command that is to be counted next
 abbrev pub next_kind : List Planned → Option Kind

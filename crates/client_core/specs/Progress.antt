@@ -1,6 +1,9 @@
--- What a client has counted, as its code keeps it: a plan with the count of its counted commands in place of what is left of it.
+-- What a client has counted, as its code keeps it: a plan with the indices of its first uncounted and its first unsent command in place
+-- of what is left of it.
 use Rattle.std.specs.Prelude.{ℕ, Bool, List, [], ◌∷◌, Option, Some, None, drop}
+use Rattle.fixed_um.specs.declared.lengths.Point.{Point}
 use Rattle.contact_ledger.specs.declared.acts.Act.{Act}
+use Rattle.contact_ledger.specs.declared.features.Feature.{Feature}
 use Rattle.dme_line.specs.declared.tags.Tag.{Tag}
 use Rattle.dmis_program.specs.Meaning.{Meaning}
 use Rattle.dme_tags.specs.Opened.{Opened}
@@ -16,12 +19,17 @@ tally_of failed p = record {
   connection = p.connection;
   failed = failed;
   session = p.session;
-  todo = drop p.completed p.plan.items;
+  todo = drop p.todo p.plan.items;
+  unsent = drop p.unsent p.plan.items;
   counted = p.counted.items;
   points = p.points;
   features = p.features;
   completed = p.completed;
 }
+
+-- a tally with these points of the unfinished feature and these features, on the connection of this number
+abbrev pub measured_so : ℕ → List Point → List Feature → Tally → Tally
+measured_so connection points features y = record y { connection = connection; points = points; features = features }
 
 -- an act, if there is one
 abbrev pub listed : Option Act → List Act
@@ -29,8 +37,8 @@ listed None = []
 listed (Some act) = act ∷ []
 
 -- what `protocol_model` says of a client whose code keeps these
-abbrev pub seen : Meaning → ℕ → Bool → State → Option Cause → Opened → Progress → ℕ → Option Tag → Client
-seen program window on state cause commands progress sent abort = record {
+abbrev pub seen : Meaning → ℕ → Bool → State → Option Cause → Opened → Progress → Option Tag → Client
+seen program window on state cause commands progress abort = record {
   program = program;
   window = window;
   on = on;
@@ -38,7 +46,6 @@ seen program window on state cause commands progress sent abort = record {
   state = state;
   cause = cause;
   table = table_of commands (tally_of commands.failed progress);
-  unsent = drop sent progress.plan.items;
   drawn = commands.drawn;
   event_drawn = commands.event_drawn;
   abort = abort;

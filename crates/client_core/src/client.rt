@@ -1,12 +1,12 @@
 // The client with the bytes of its connection.
 
-ghost use Rattle.std.specs.Prelude.{◌≡◌, ◌≢◌, ◌↔◌, ◌⊎◌, ◌≤◌, ◌+◌, ◌&&◌, not, nat_le, true, false, None, Some, Ok, Err, length, IsTrue, IsOk, IfOk, IfErr, OnOk, OnErr, IfSome, IsSome, is_some, MatchOption};
+ghost use Rattle.std.specs.Prelude.{◌≡◌, ◌≢◌, ◌↔◌, ◌⊎◌, ◌≤◌, ◌+◌, ◌&&◌, not, nat_le, true, false, None, Some, Ok, Err, length, IsTrue, IsOk, IfOk, IfErr, OnOk, OnErr, IfSome, IsSome, IsNone, is_some, MatchOption};
 ghost use Rattle.std.specs.Result.{IsErrOf};
 ghost use Rattle.fixed_um.specs.Calls.{Leads};
 ghost use Rattle.contact_ledger.specs.Ledgers.{connection_most};
 ghost use Rattle.line_framing.specs.Next.{next_of};
 ghost use Rattle.line_framing.specs.Framing.{IsLineDue};
-ghost use Rattle.protocol_model.specs.Open.{count_open};
+ghost use Rattle.protocol_model.specs.Open.{count_open, is_asking};
 ghost use Rattle.protocol_model.specs.Lines.{Readers, AreReaders};
 ghost use Rattle.protocol_model.specs.Client.{due, may_abort, may_resume};
 ghost use Rattle.protocol_model.specs.Ends.{new_client_end, end_connected, end_sent, end_aborted, end_fed, end_read, end_resumed, end_left, end_restarted, end_taken};
@@ -118,10 +118,12 @@ impl Client {
         Ok(())
     }
 
-    /// The command that is to be sent next, if one is due: while Running, where fewer than `window` standard commands are open, and
-    /// `ClearAllErrors()` only where none is. Takes no memory.
+    /// The command that is to be sent next, if one is due: while Running, where fewer than `window` standard commands are open and none of
+    /// them is an `IsHomed()`, and `ClearAllErrors()` only where none is open. Where the plan's `IsHomed()` was counted with 1, its `Home()`
+    /// is passed over, and never due. Takes no memory.
     pub fn due(&self) -> Option<&Command>
-        ensures { MatchOption result (due self.now.client ≡ None)
+        ensures asked { is_asking self.now.client.table.standard ≡ true → IsNone result }
+        ensures due { MatchOption result (due self.now.client ≡ None)
             (λ command. command_of (due self.now.client) ≡ Some command.now) }
     {
         self.executor.due()
@@ -170,7 +172,9 @@ impl Client {
     }
 
     /// Reads the first whole line, if one is there; true where a line was read. `NotNow` on no connection, `Memory`. `Faulted` from the
-    /// call on that meets a line that is no response, bytes that are no lines, or a mark that has no place.
+    /// call on that meets a line that is no response, bytes that are no lines, a data text that is not what its command asks for (a point
+    /// for a `PtMeas`, whether the machine is homed for an `IsHomed`), or a mark that has no place. What the server tells is believed: one
+    /// that tells that the machine is homed is not asked to home it.
     #[tactic(auto, using(crate::proofs::Reached::read_reached, crate::proofs::Reached::line_reached, crate::proofs::Reached::same_reached))]
     pub fn read_one(&mut self) -> Result<bool, ClientFault>
         ensures ok { OnOk result ((readers : Readers) → AreReaders readers
@@ -337,7 +341,7 @@ impl Client {
         self.executor.counted()
     }
 
-    /// How many commands of the present plan are counted.
+    /// How many commands of the present plan are counted; a `Home()` that is passed over is none of them.
     pub fn completed(&self) -> usize
         ensures { result ≡ self.now.client.table.tally.completed }
     {

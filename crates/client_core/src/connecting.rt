@@ -22,7 +22,6 @@ impl Executor {
         self.progress.restart(completed);
         self.progress.connection = number;
         self.progress.begin_plan(plan);
-        self.sent = 0;
         self.abort = None;
         Ok(())
     }
@@ -36,7 +35,6 @@ impl Executor {
         self.state = State::Running;
         self.commands.begin_plan();
         self.progress.begin_plan(plan);
-        self.sent = 0;
         Ok(())
     }
 }

@@ -18,8 +18,7 @@ use protocol_model::{Cause, State};
 use std::alloc::Global;
 use std::marker::Model;
 
-/// The client without the bytes of its connection: contracts see `protocol_model`'s client. Of its plan the first `sent` commands are
-/// sent, and those that `progress` says are counted.
+/// The client without the bytes of its connection: contracts see `protocol_model`'s client.
 #[derive(Drop)]
 pub(crate) struct Executor {
     pub(crate) alloc: Global,
@@ -30,7 +29,6 @@ pub(crate) struct Executor {
     pub(crate) cause: Option<Cause>,
     pub(crate) commands: Open,
     pub(crate) progress: Progress,
-    pub(crate) sent: usize,
     pub(crate) abort: Option<Tag>,
 }
 
@@ -42,9 +40,9 @@ impl Model for Executor {
     ghost use Rattle.client_core.specs.Progress.{seen};
     ghost use Rattle.client_core.specs.Kept.{IsKept};
 
-    ghost view = { λ c. seen c.program c.window c.on c.state c.cause c.commands c.progress c.sent c.abort };
+    ghost view = { λ c. seen c.program c.window c.on c.state c.cause c.commands c.progress c.abort };
 
-    ghost invariant = { λ c. IsKept c.progress.plan.items c.sent c.progress.completed c.program.features c.progress.features c.state c.cause };
+    ghost invariant = { λ c. IsKept c.progress c.program.features c.state c.cause };
 }
 
 /// The state behind a failure or the end of the abort.
@@ -92,12 +90,13 @@ impl Executor {
                 connection: 0,
                 session: false,
                 plan: Vec::new(alloc),
+                todo: 0,
+                unsent: 0,
                 completed: 0,
                 counted: Vec::new(alloc),
                 points: Points::new(alloc),
                 features,
             },
-            sent: 0,
             abort: None,
         }
     }
@@ -107,7 +106,7 @@ impl Executor {
     fn is_whole(&self) -> bool
         ensures { result ≡ is_whole self.now.table }
     {
-        self.progress.completed >= self.progress.plan.len() && !self.commands.event_open()
+        self.progress.todo >= self.progress.plan.len() && !self.commands.event_open()
     }
 
     /// The state after a reply; `ends`: the reply ends the abort.
@@ -129,15 +128,15 @@ impl Executor {
         self.cause = Some(cause);
     }
 
-    /// The command that is to be sent next, if one is due.
+    /// The command that is to be sent next, if one is due; none is while it is asked whether the machine is homed.
     pub(crate) fn due(&self) -> Option<&Command>
         ensures { MatchOption result (due self.now ≡ None)
             (λ command. command_of (due self.now) ≡ Some command.now) }
     {
-        if !matches!(self.state, State::Running) {
+        if !matches!(self.state, State::Running) || self.commands.is_asking() {
             return None;
         }
-        let planned = self.progress.plan.as_slice().get(self.sent)?;
+        let planned = self.progress.plan.as_slice().get(self.progress.unsent)?;
         let open = self.commands.count();
         if open >= usize::from(self.window) {
             return None;
@@ -170,7 +169,6 @@ impl Executor {
         self.cause = None;
         self.commands.clear();
         self.progress.restart(count);
-        self.sent = 0;
         self.abort = None;
     }
 

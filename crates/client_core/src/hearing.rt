@@ -1,9 +1,10 @@
 // What a client makes of a reply (this profile).
 
-ghost use Rattle.std.specs.Prelude.{◌≡◌, Some, false};
+ghost use Rattle.std.specs.Prelude.{◌≡◌, Some, true, false};
 ghost use Rattle.fixed_um.specs.Calls.{Leads};
 ghost use Rattle.dme_tags.specs.Answers.{cause_of, effect_heard};
-ghost use Rattle.dme_tags.specs.Opened.{heard};
+ghost use Rattle.dme_tags.specs.Data.{may_be_given};
+ghost use Rattle.dme_tags.specs.Opened.{heard, kind_under};
 ghost use Rattle.protocol_model.specs.Replies.{Mark, tag_is};
 ghost use Rattle.protocol_model.specs.Open.{Effect};
 ghost use Rattle.dme_line.specs.Tags.{is_event_tag};
@@ -16,7 +17,7 @@ ghost use Rattle.dme_line.specs.declared.tags.Tag.TheVariants as tags;
 use crate::executor::Executor;
 use dme_line::{Kind, Tag};
 use dme_tags::{Ended, TagFault};
-use fixed_um::Point;
+use protocol_model::Datum;
 use std::alloc::AllocError;
 
 /// Whether a tag marks what a server says unasked.
@@ -63,14 +64,15 @@ impl Executor {
         }
     }
 
-    /// The point of a touch is read under a tag.
-    pub(crate) fn hear_point(&mut self, tag: Tag, point: Point)
-        ensures { self.new ≡ client_read self.old tag (Mark.Given point) }
+    /// What the command that is held under a tag asks for is read.
+    pub(crate) fn hear_datum(&mut self, tag: Tag, datum: Datum)
+        requires { may_be_given (kind_under tag (opened_of self.old)) datum ≡ true }
+        ensures { self.new ≡ client_read self.old tag (Mark.Given datum) }
     {
         if is_unasked(tag) {
             return;
         }
-        match self.commands.data(tag, point) {
+        match self.commands.data(tag, datum) {
             Ok(()) => self.settle(false),
             Err(fault) => self.refuse(fault),
         }
@@ -112,7 +114,7 @@ impl Executor {
         tag: Tag,
         ends: bool,
         kind: Kind,
-        given: &Option<Point>,
+        given: &Option<Datum>,
     ) -> Result<(), AllocError>
         requires standard { is_event_tag tag ≡ false }
         requires connection { IsConnection self.old.last }

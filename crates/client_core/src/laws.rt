@@ -1,27 +1,29 @@
 // What follows from the definitions for a client, whatever its peer sends. Each function has laws for its contract and does nothing.
 
-ghost use Rattle.std.specs.Prelude.{◌≡◌, ℕ, List, Some, true};
+ghost use Rattle.std.specs.Prelude.{◌≡◌, ℕ, List, Some, true, false};
 ghost use Rattle.contact_ledger.specs.declared.features.Feature.{Feature as OneFeature};
 ghost use Rattle.dmis_program.specs.Meaning.{Meaning};
 ghost use Rattle.dmis_program.specs.Programs.{IsProgram};
 ghost use Rattle.dme_line.specs.declared.commands.Kind.{Kind};
 ghost use Rattle.protocol_model.specs.Replies.{Mark};
 ghost use Rattle.protocol_model.specs.Lines.{Readers};
-ghost use Rattle.client_core.specs.Calls.{Call, client_behind, plans_begun, AreCounted, counted_by, next_kind};
+ghost use Rattle.client_core.specs.Calls.{Call, client_behind, plans_begun, is_told, has_homing, AreCounted, counted_by, next_kind};
 ghost use Rattle.client_core.specs.Clients.{are_ours};
 
 /// Behind every list of calls of a client, from any program and any features of it that are kept, whatever bytes are fed:
 ///
 /// - `program`: it keeps the program;
 /// - `features`: the features that it holds are the first of the program, by their labels and their counts of points;
-/// - `counted`: each plan was begun behind the features that were held when it was. The acts that are counted on the connection are
-///   those for which the counted front of the present plan stands, behind those of the plans that were begun before it: a contact with
-///   the target, direction, tool and frame of its touch. And the features are those that were held when the present plan was begun, and
-///   one for each that ends in its counted front, with the number of the connection and the frame of its last touch for an origin;
+/// - `counted`: each plan was begun behind the features that were held when it was, and is followed as it stands, but that its homing is
+///   passed over where it was told since it was begun that the machine is homed. The acts that are counted on the connection are those for
+///   which the counted front of the present plan stands, behind those of the plans that were begun before it: a contact with the target,
+///   direction, tool and frame of its touch. And the features are those that were held when the present plan was begun, and one for each
+///   that ends in its counted front, with the number of the connection and the frame of its last touch for an origin;
+/// - `homed`: where it was told since the present plan was begun that the machine is homed, no homing is unsent, so that none is ever due;
 /// - `numbered`: that number is the one that the client came to last;
 /// - `next`: a mark that counts a command counts one of the kind of the first command of the plan that is not counted.
 ///
-/// A call that is not possible changes nothing. What reads lines and points may be any functions.
+/// A call that is not possible changes nothing. What reads lines and data texts may be any functions.
 pub fn whatever_the_peer_sends()
     ensures program { (readers : Readers) (program : Meaning) (kept : List OneFeature) (window : ℕ)
         (calls : List Call) → IsProgram program → are_ours program.features kept ≡ true
@@ -34,6 +36,12 @@ pub fn whatever_the_peer_sends()
         (calls : List Call) → IsProgram program → are_ours program.features kept ≡ true
         → AreCounted program (plans_begun readers calls program kept window)
         (client_behind readers calls program kept window).table.tally }
+    ensures homed { (readers : Readers) (program : Meaning) (kept : List OneFeature) (window : ℕ)
+        (calls : List Call) → IsProgram program → are_ours program.features kept ≡ true
+        → is_told (plans_begun readers calls program kept window)
+        (client_behind readers calls program kept window).table.tally ≡ true
+        → has_homing (client_behind readers calls program kept
+        window).table.tally.unsent ≡ false }
     ensures numbered { (readers : Readers) (program : Meaning) (kept : List OneFeature) (window : ℕ)
         (calls : List Call) → IsProgram program → are_ours program.features kept ≡ true
         → (client_behind readers calls program kept window).table.tally.connection

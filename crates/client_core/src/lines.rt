@@ -8,13 +8,16 @@ ghost use Rattle.client_core.specs.Reads.{LeadsRead};
 
 use crate::executor::Executor;
 use crate::hearing::is_unasked;
-use dme_line::{Kind, Mark, NotPoint, NotResponse, Response, Tag, read_point, read_response};
-use protocol_model::Cause;
+use dme_line::{
+    Kind, Mark, NotHomedText, NotPoint, NotResponse, Response, Tag, read_homed, read_point,
+    read_response,
+};
+use protocol_model::{Cause, Datum};
 use std::alloc::AllocError;
 
 impl Executor {
-    /// The text of a data line is read: under a held tag it is a point, where the command asks for one.
-    #[tactic(auto, using(crate::proofs::Readings::one_point))]
+    /// The text of a data line is read as what the command under its tag asks for: a point, or whether the machine is homed.
+    #[tactic(auto, using(crate::proofs::Readings::one_point, crate::proofs::Readings::one_homed))]
     fn hear_data(&mut self, tag: Tag, text: &[u8])
         ensures { (readers : Readers) → AreReaders readers
             → self.new ≡ given readers self.old tag text.now }
@@ -25,8 +28,12 @@ impl Executor {
         match self.commands.kind_of(tag) {
             None => self.fault(Cause::UnknownTag),
             Some(Kind::PtMeas) => match read_point(text) {
-                Ok(point) => self.hear_point(tag, point),
+                Ok(point) => self.hear_datum(tag, Datum::Point(point)),
                 Err(NotPoint) => self.fault(Cause::NotResponse),
+            },
+            Some(Kind::IsHomed) => match read_homed(text) {
+                Ok(homed) => self.hear_datum(tag, Datum::Homed(homed)),
+                Err(NotHomedText) => self.fault(Cause::NotResponse),
             },
             Some(_) => self.fault(Cause::OutOfOrder),
         }

@@ -1,49 +1,54 @@
 // What a client counts.
 
-ghost use Rattle.std.specs.Prelude.{◌≡◌, ◌≤◌, [], ◌∷◌, ◌++◌, Bool, false, Some, length, take, OnOk, OnErr, IfOk};
-ghost use Rattle.protocol_model.specs.Client.{act_of, joined, counted_next};
-ghost use Rattle.client_core.specs.Progress.{tally_of, listed};
+ghost use Rattle.std.specs.Prelude.{◌≡◌, ◌≤◌, [], ◌∷◌, ◌++◌, Bool, false, Some, length, take, drop, OnOk, OnErr, IfOk};
+ghost use Rattle.protocol_model.specs.Client.{Tally, act_of, joined, measured, counted_next, passed_over, tells_homed, without_homing};
+ghost use Rattle.client_core.specs.Progress.{tally_of, measured_so, listed};
 ghost use Rattle.contact_ledger.specs.Ledgers.{IsConnection};
 
 use contact_ledger::{Act, Feature, FeatureLedger, Origin, Points};
-use dme_line::Kind;
+use dme_line::{Command, Kind};
 use dmis_program::Wanted;
 use fixed_um::Point;
-use protocol_model::{Does, Planned};
+use protocol_model::{Datum, Does, Planned};
 use std::alloc::{AllocError, Global};
 use std::mem;
 
-/// What a client has counted on its connection, which has this number, 0 before the first: its plan, of which the first `completed`
-/// commands are counted, the acts that they stand for, the points of the unfinished feature, and the features.
+/// What a client has counted on its connection, which has this number, 0 before the first: its plan, of which the first `todo` commands
+/// are counted or passed over and the first `unsent` sent or passed over, how many of them are counted, the acts that those stand for,
+/// the points of the unfinished feature, and the features.
 #[derive(Drop)]
 pub(crate) struct Progress {
     pub connection: u64,
     pub session: bool,
     pub plan: Vec<Planned>,
+    pub todo: usize,
+    pub unsent: usize,
     pub completed: usize,
     pub counted: Vec<Act>,
     pub points: Points,
     pub features: FeatureLedger,
 }
 
-/// The act that a counted command stands for, a contact with the point of its data line.
-fn act_of(alloc: Global, does: &Does, given: &Option<Point>) -> Result<Option<Act>, AllocError>
+/// The act that a counted command stands for, with what its data line told: whether the machine is homed, or the point of a contact.
+fn act_of(alloc: Global, does: &Does, given: &Option<Datum>) -> Result<Option<Act>, AllocError>
     ensures { IfOk result (λ act. listed act ≡ act_of does.now given.now) }
 {
     match (does, given) {
         (Does::Nothing, _) => Ok(None),
+        (Does::AsksHomed, Some(Datum::Homed(homed))) => Ok(Some(Act::HomedIs(*homed))),
+        (Does::AsksHomed, _) => Ok(None),
         (Does::Homes, _) => Ok(Some(Act::Homed)),
         (Does::Moves(target, frame), _) => Ok(Some(Act::Moved(*target, *frame))),
         (Does::Changes(tool), _) => Ok(Some(Act::Changed(tool.copy(alloc)?))),
         (Does::Frames(frame), _) => Ok(Some(Act::Framed(*frame))),
-        (Does::Touches { .. }, None) => Ok(None),
-        (Does::Touches { touch, .. }, Some(point)) => Ok(Some(Act::Contact {
+        (Does::Touches { touch, .. }, Some(Datum::Point(point))) => Ok(Some(Act::Contact {
             target: touch.target,
             dir: touch.dir,
             tool: touch.tool.copy(alloc)?,
             frame: touch.frame,
             point: *point,
         })),
+        (Does::Touches { .. }, _) => Ok(None),
     }
 }
 
@@ -86,55 +91,132 @@ fn join(
     }
 }
 
+/// What is measured by a counted command: a touch adds its point to the unfinished feature, and the last of a feature ends it, on the
+/// connection of this number. Only want of memory is an `Err`.
+#[tactic(auto, using(crate::proofs::Joining::joined_within))]
+fn measure(
+    alloc: Global,
+    wanted: &[Wanted],
+    connection: u64,
+    points: &mut Points,
+    features: &mut FeatureLedger,
+    does: &Does,
+    given: &Option<Datum>,
+) -> Result<(), AllocError>
+    requires connection { IsConnection connection }
+    ensures measured { OnOk result ((y : Tally) → measured wanted.now does.now given.now
+        (measured_so connection points.old features.old y)
+        ≡ measured_so connection points.new features.new y) }
+    ensures features { length features.old ≤ length wanted.now
+        → length features.new ≤ length wanted.now }
+    ensures features_err { OnErr result (features.new ≡ features.old) }
+    ensures points_err { OnErr result (points.new ≡ points.old) }
+{
+    match (does, given) {
+        (Does::Touches { touch, last: true }, Some(Datum::Point(point))) => {
+            let origin = Origin {
+                connection,
+                frame: touch.frame,
+            };
+            join(alloc, wanted, points, features, *point, origin)
+        }
+        (Does::Touches { last: false, .. }, Some(Datum::Point(point))) => points.push(*point),
+        _ => Ok(()),
+    }
+}
+
+/// Whether a counted command told that the machine is homed.
+fn tells_homed(kind: Kind, given: &Option<Datum>) -> bool
+    ensures { result ≡ tells_homed kind given.now }
+{
+    matches!((kind, given), (Kind::IsHomed, Some(Datum::Homed(true))))
+}
+
+/// Where the commands of a plan from this index on go on: behind the homing, where that is the first of them.
+fn behind_homing(plan: &[Planned], index: usize) -> usize
+    requires { index ≤ length plan.now }
+    ensures rest { drop result plan.now ≡ without_homing (drop index plan.now) }
+    ensures onward { index ≤ result }
+    ensures within { result ≤ length plan.now }
+{
+    match plan.get(index) {
+        Some(planned) if matches!(planned.command, Command::Home) => index + 1,
+        _ => index,
+    }
+}
+
 impl Progress {
-    /// The next command of the plan is counted; behind the whole plan nothing is. Only want of memory is an `Err`.
-    #[tactic(auto, using(crate::proofs::Joining::joined_within))]
+    /// Where the machine is told to be homed, the homing that is next is passed over: it is neither to be counted nor to be sent.
+    fn pass_over(&mut self, told: bool)
+        requires todo { self.old.todo ≤ length self.old.plan.items }
+        requires unsent { self.old.unsent ≤ length self.old.plan.items }
+        ensures todo { drop self.new.todo self.old.plan.items
+            ≡ passed_over told (drop self.old.todo self.old.plan.items) }
+        ensures unsent { drop self.new.unsent self.old.plan.items
+            ≡ passed_over told (drop self.old.unsent self.old.plan.items) }
+        ensures plan { self.new.plan ≡ self.old.plan }
+        ensures connection { self.new.connection ≡ self.old.connection }
+        ensures session { self.new.session ≡ self.old.session }
+        ensures completed { self.new.completed ≡ self.old.completed }
+        ensures counted { self.new.counted ≡ self.old.counted }
+        ensures points { self.new.points ≡ self.old.points }
+        ensures features { self.new.features ≡ self.old.features }
+        ensures onward { self.old.todo ≤ self.new.todo }
+        ensures todo_within { self.new.todo ≤ length self.old.plan.items }
+        ensures unsent_within { self.new.unsent ≤ length self.old.plan.items }
+    {
+        if told {
+            self.todo = behind_homing(self.plan.as_slice(), self.todo);
+            self.unsent = behind_homing(self.plan.as_slice(), self.unsent);
+        }
+    }
+
+    /// The next command of the plan is counted, and where it told that the machine is homed, the homing behind it is passed over; behind
+    /// the whole plan nothing is counted. Only want of memory is an `Err`.
+    #[tactic(auto, using(crate::proofs::Counting::counted_is, crate::proofs::Counting::none_counted))]
     pub(crate) fn count(
         &mut self,
         alloc: Global,
         wanted: &[Wanted],
         kind: Kind,
-        given: &Option<Point>,
+        given: &Option<Datum>,
     ) -> Result<(), AllocError>
-        requires completed { self.old.completed ≤ length self.old.plan.items }
+        requires completed { self.old.completed ≤ self.old.todo }
+        requires todo { self.old.todo ≤ length self.old.plan.items }
+        requires unsent { self.old.unsent ≤ length self.old.plan.items }
         requires connection { IsConnection self.old.connection }
         ensures ok { OnOk result ((failed : Bool) → tally_of failed self.new
             ≡ counted_next wanted.now kind given.now (tally_of failed self.old).todo
             (tally_of failed self.old)) }
         ensures plan { self.new.plan ≡ self.old.plan }
         ensures connection { self.new.connection ≡ self.old.connection }
-        ensures within { self.new.completed ≤ length self.old.plan.items }
+        ensures completed { self.new.completed ≤ self.new.todo }
+        ensures todo { self.new.todo ≤ length self.old.plan.items }
+        ensures unsent { self.new.unsent ≤ length self.old.plan.items }
         ensures features { length self.old.features ≤ length wanted.now
             → length self.new.features ≤ length wanted.now }
         ensures session_err { OnErr result (self.new.session ≡ self.old.session) }
+        ensures todo_err { OnErr result (self.new.todo ≡ self.old.todo) }
+        ensures unsent_err { OnErr result (self.new.unsent ≡ self.old.unsent) }
         ensures completed_err { OnErr result (self.new.completed ≡ self.old.completed) }
         ensures counted_err { OnErr result (self.new.counted.items ≡ self.old.counted.items) }
         ensures points_err { OnErr result (self.new.points ≡ self.old.points) }
         ensures features_err { OnErr result (self.new.features ≡ self.old.features) }
     {
-        let Some(planned) = self.plan.as_slice().get(self.completed) else {
+        let Some(planned) = self.plan.as_slice().get(self.todo) else {
             return Ok(());
         };
         let act = act_of(alloc, &planned.does, given)?;
         self.counted.reserve(1)?;
-        match (&planned.does, given) {
-            (Does::Touches { touch, last: true }, Some(point)) => {
-                let origin = Origin {
-                    connection: self.connection,
-                    frame: touch.frame,
-                };
-                join(
-                    alloc,
-                    wanted,
-                    &mut self.points,
-                    &mut self.features,
-                    *point,
-                    origin,
-                )?;
-            }
-            (Does::Touches { last: false, .. }, Some(point)) => self.points.push(*point)?,
-            _ => {}
-        }
+        measure(
+            alloc,
+            wanted,
+            self.connection,
+            &mut self.points,
+            &mut self.features,
+            &planned.does,
+            given,
+        )?;
         if let Some(act) = act {
             self.counted.push_reserved(act);
         }
@@ -142,6 +224,8 @@ impl Progress {
             self.session = true;
         }
         self.completed += 1;
+        self.todo += 1;
+        self.pass_over(tells_homed(kind, given));
         Ok(())
     }
 
@@ -153,11 +237,15 @@ impl Progress {
         ensures counted { self.new.counted.items ≡ [] }
         ensures points { self.new.points ≡ [] }
         ensures plan { self.new.plan.items ≡ [] }
+        ensures todo { self.new.todo ≡ 0 }
+        ensures unsent { self.new.unsent ≡ 0 }
         ensures completed { self.new.completed ≡ 0 }
         ensures features { self.new.features ≡ take count self.old.features }
     {
         self.session = false;
         self.plan.clear();
+        self.todo = 0;
+        self.unsent = 0;
         self.completed = 0;
         self.counted.clear();
         self.points.clear();
@@ -168,6 +256,8 @@ impl Progress {
     pub(crate) fn begin_plan(&mut self, plan: Vec<Planned>)
         ensures connection { self.new.connection ≡ self.old.connection }
         ensures plan { self.new.plan ≡ plan }
+        ensures todo { self.new.todo ≡ 0 }
+        ensures unsent { self.new.unsent ≡ 0 }
         ensures completed { self.new.completed ≡ 0 }
         ensures session { self.new.session ≡ self.old.session }
         ensures counted { self.new.counted.items ≡ self.old.counted.items }
@@ -175,6 +265,8 @@ impl Progress {
         ensures features { self.new.features ≡ self.old.features }
     {
         self.plan = plan;
+        self.todo = 0;
+        self.unsent = 0;
         self.completed = 0;
         self.points.clear();
     }

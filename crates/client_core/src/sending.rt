@@ -24,14 +24,14 @@ impl Executor {
         ensures text { Writes result out.old out.new (command_bytes (client_sent self.old).lines) }
         ensures grows { Grows out.old out.new LINE_MAX }
     {
-        let Some(planned) = self.progress.plan.as_slice().get(self.sent) else {
+        let Some(planned) = self.progress.plan.as_slice().get(self.progress.unsent) else {
             unreachable!();
         };
         match self.commands.draw(planned.command.kind()) {
             Ok(tag) => {
                 write_command_reserved(out, tag, &planned.command);
                 write_line_end_reserved(out);
-                self.sent += 1;
+                self.progress.unsent += 1;
                 Ok(())
             }
             Err(TagFault::Memory) => Err(AllocError),

@@ -7,6 +7,7 @@ use Rattle.contact_ledger.specs.declared.features.Feature.{Feature}
 
 -- an act is a contact (this profile)
 abbrev pub is_contact : Act → Bool
+is_contact (act.HomedIs homed) = false
 is_contact act.Homed = false
 is_contact (act.Moved target frame) = false
 is_contact (act.Changed tool) = false

@@ -6,6 +6,8 @@ use fixed_um::{Dir, Frame, Name, Point};
 /// Points are in the frame beside them.
 #[derive(Debug, Drop)]
 pub enum Act {
+    /// It was told whether the machine is homed.
+    HomedIs(bool),
     /// The machine is at its home position.
     Homed,
     /// The probe stands at a target.

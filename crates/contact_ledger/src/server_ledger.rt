@@ -35,7 +35,7 @@ fn is_contact(act: &Act) -> bool
     ensures { result ≡ is_contact act.now }
 {
     match act {
-        Act::Homed | Act::Moved(_, _) | Act::Changed(_) | Act::Framed(_) => false,
+        Act::HomedIs(_) | Act::Homed | Act::Moved(_, _) | Act::Changed(_) | Act::Framed(_) => false,
         Act::Contact { .. } => true,
     }
 }

@@ -86,11 +86,14 @@ impl Peer {
         self.answers.extend_from_slice(text)
     }
 
-    /// A command is received and done; a touch has a point.
+    /// A command is received and done; a touch has a point, and the machine is not homed where it is asked.
     fn hear(&mut self, line: &[u8]) -> Result<(), AllocError> {
         self.sum = summed_bytes(self.sum, line);
         let (tag, command) = line.split_at(line.len().min(5));
         self.push(tag, b" &\r\n")?;
+        if command.starts_with(b" IsHomed") {
+            self.push(tag, b" # IsHomed(0)\r\n")?;
+        }
         if command.starts_with(b" PtMeas") {
             self.push(tag, b" # ")?;
             write_point(&mut self.answers, place(self.touches))?;

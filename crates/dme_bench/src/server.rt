@@ -32,13 +32,14 @@ fn begin(server: &mut Server, line: &[u8]) -> Result<(), Stop> {
     Ok(())
 }
 
-/// Opens a session, homes the machine, and changes to a tool.
+/// Opens a session, asks whether the machine is homed and homes it, and changes to a tool.
 fn make_ready(server: &mut Server) -> Result<(), Stop> {
     server.accept(1)?;
     begin(server, b"00001 StartSession()")?;
-    begin(server, b"00002 Home()")?;
+    begin(server, b"00002 IsHomed()")?;
+    begin(server, b"00003 Home()")?;
     server.machine(Outcome::Done)?;
-    begin(server, b"00003 ChangeTool(\"P1\")")?;
+    begin(server, b"00004 ChangeTool(\"P1\")")?;
     server.machine(Outcome::Done)?;
     Ok(())
 }

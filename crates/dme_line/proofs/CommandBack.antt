@@ -26,8 +26,8 @@ use Rattle.dme_line.specs.declared.commands.Csy.TheVariants.{MachineCsy, PartCsy
 use Rattle.dme_line.specs.declared.commands.Kind.{Kind}
 use Rattle.dme_line.specs.declared.commands.Kind.TheVariants as kind
 use Rattle.dme_line.specs.declared.commands.Command.{Command}
-use Rattle.dme_line.specs.declared.commands.Command.TheVariants.{StartSession, EndSession, ClearAllErrors, Home, OnPtMeasReport, GoTo}
-use Rattle.dme_line.specs.declared.commands.Command.TheVariants.{PtMeas, ChangeTool, SetCsyTransformation, SetCoordSystem, AbortE}
+use Rattle.dme_line.specs.declared.commands.Command.TheVariants.{StartSession, EndSession, ClearAllErrors, IsHomed, Home, OnPtMeasReport}
+use Rattle.dme_line.specs.declared.commands.Command.TheVariants.{GoTo, PtMeas, ChangeTool, SetCsyTransformation, SetCoordSystem, AbortE}
 use Rattle.dme_line.proofs.TokenLemmas.{tokens-word}
 use Rattle.dme_line.proofs.WireTexts.{IsPlainWord, word_bytes, written-word, component-word, name-word}
 
@@ -225,6 +225,7 @@ arguments_say : (c : Command) → HasArguments c → Says (kind_of c) (written_t
 arguments_say StartSession h = (refl, refl)
 arguments_say EndSession h = (refl, refl)
 arguments_say ClearAllErrors h = (refl, refl)
+arguments_say IsHomed h = (refl, refl)
 arguments_say Home h = (refl, refl)
 arguments_say OnPtMeasReport h = (
   record {
@@ -259,6 +260,7 @@ name_whole : (k : Kind) → list_all is_name_part (kind_name k) ≡ true
 name_whole kind.StartSession = refl
 name_whole kind.EndSession = refl
 name_whole kind.ClearAllErrors = refl
+name_whole kind.IsHomed = refl
 name_whole kind.Home = refl
 name_whole kind.OnPtMeasReport = refl
 name_whole kind.GoTo = refl

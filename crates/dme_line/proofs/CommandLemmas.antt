@@ -11,8 +11,8 @@ use Rattle.dme_line.specs.CommandText.{Begins, IsCommandText, is_name_part}
 use Rattle.dme_line.specs.Arguments.{Says}
 use Rattle.dme_line.specs.declared.tags.Tag.{Tag}
 use Rattle.dme_line.specs.declared.commands.Kind.{Kind}
-use Rattle.dme_line.specs.declared.commands.Kind.TheVariants.{StartSession, EndSession, ClearAllErrors, Home, OnPtMeasReport, GoTo, PtMeas}
-use Rattle.dme_line.specs.declared.commands.Kind.TheVariants.{ChangeTool, SetCsyTransformation, SetCoordSystem, AbortE}
+use Rattle.dme_line.specs.declared.commands.Kind.TheVariants.{StartSession, EndSession, ClearAllErrors, IsHomed, Home, OnPtMeasReport, GoTo}
+use Rattle.dme_line.specs.declared.commands.Kind.TheVariants.{PtMeas, ChangeTool, SetCsyTransformation, SetCoordSystem, AbortE}
 use Rattle.dme_line.specs.declared.commands.Command.{Command}
 use Rattle.dme_line.proofs.TagLemmas.{one_tag, tag_numbered}
 use Rattle.dme_line.proofs.NameCutLemmas.{one_cut}
@@ -32,19 +32,21 @@ kind_by n =
     if n == 11511 then StartSession else
     (if n == 10109 then EndSession else
     (if n == 9913 then ClearAllErrors else
+    (if n == 10506 then IsHomed else
     (if n == 10403 then Home else
     (if n == 11113 then OnPtMeasReport else
     (if n == 10303 then GoTo else
     (if n == 11205 then PtMeas else
     (if n == 9909 then ChangeTool else
     (if n == 11519 then SetCsyTransformation else
-    (if n == 11513 then SetCoordSystem else AbortE)))))))))
+    (if n == 11513 then SetCoordSystem else AbortE))))))))))
 
 kind_again : (k : Kind) → kind_by (mark_of (map to_ascii_lowercase (kind_name k))) ≡ k
 unfolding kind_by mark_of
 kind_again StartSession = refl
 kind_again EndSession = refl
 kind_again ClearAllErrors = refl
+kind_again IsHomed = refl
 kind_again Home = refl
 kind_again OnPtMeasReport = refl
 kind_again GoTo = refl

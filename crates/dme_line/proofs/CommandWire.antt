@@ -14,8 +14,8 @@ use Rattle.dme_line.specs.declared.commands.Csy.TheVariants.{MachineCsy, PartCsy
 use Rattle.dme_line.specs.declared.commands.Kind.{Kind}
 use Rattle.dme_line.specs.declared.commands.Kind.TheVariants as kind
 use Rattle.dme_line.specs.declared.commands.Command.{Command}
-use Rattle.dme_line.specs.declared.commands.Command.TheVariants.{StartSession, EndSession, ClearAllErrors, Home, OnPtMeasReport, GoTo}
-use Rattle.dme_line.specs.declared.commands.Command.TheVariants.{PtMeas, ChangeTool, SetCsyTransformation, SetCoordSystem, AbortE}
+use Rattle.dme_line.specs.declared.commands.Command.TheVariants.{StartSession, EndSession, ClearAllErrors, IsHomed, Home, OnPtMeasReport}
+use Rattle.dme_line.specs.declared.commands.Command.TheVariants.{GoTo, PtMeas, ChangeTool, SetCsyTransformation, SetCoordSystem, AbortE}
 use Rattle.dme_line.proofs.WireTexts.{wire_append, word_wire, written-word, component-word, tag-wire, point-wire, name-word}
 use Rattle.dme_line.proofs.CommandBack.{volume_on_wire}
 
@@ -26,6 +26,7 @@ pub name-wire : (k : Kind) → IsWireText 20 (kind_name k)
 name-wire kind.StartSession = record { free = refl; short = omega arith }
 name-wire kind.EndSession = record { free = refl; short = omega arith }
 name-wire kind.ClearAllErrors = record { free = refl; short = omega arith }
+name-wire kind.IsHomed = record { free = refl; short = omega arith }
 name-wire kind.Home = record { free = refl; short = omega arith }
 name-wire kind.OnPtMeasReport = record { free = refl; short = omega arith }
 name-wire kind.GoTo = record { free = refl; short = omega arith }
@@ -83,6 +84,7 @@ arguments-wire : (c : Command) → HasArguments c → IsWireText 105 (written_ar
 arguments-wire StartSession h = record { free = refl; short = omega arith }
 arguments-wire EndSession h = record { free = refl; short = omega arith }
 arguments-wire ClearAllErrors h = record { free = refl; short = omega arith }
+arguments-wire IsHomed h = record { free = refl; short = omega arith }
 arguments-wire Home h = record { free = refl; short = omega arith }
 arguments-wire OnPtMeasReport h = record { free = refl; short = omega arith }
 arguments-wire (GoTo p) h = wire_weaker 49 105 (written_point p) (omega arith) (point-wire p h)

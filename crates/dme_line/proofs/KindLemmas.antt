@@ -2,8 +2,8 @@
 use Rattle.std.proofs.Common.{◌≡◌, Bool, true, false, List, [], ◌∷◌, Option, Some, None, MatchOption, cond, refl, sym, ◌∙◌, find, subst}
 use Rattle.std.proofs.lemmas.Bool.{false≢true}
 use Rattle.dme_line.specs.declared.commands.Kind.{Kind}
-use Rattle.dme_line.specs.declared.commands.Kind.TheVariants.{StartSession, EndSession, ClearAllErrors, Home, OnPtMeasReport, GoTo, PtMeas}
-use Rattle.dme_line.specs.declared.commands.Kind.TheVariants.{ChangeTool, SetCsyTransformation, SetCoordSystem, AbortE}
+use Rattle.dme_line.specs.declared.commands.Kind.TheVariants.{StartSession, EndSession, ClearAllErrors, IsHomed, Home, OnPtMeasReport, GoTo}
+use Rattle.dme_line.specs.declared.commands.Kind.TheVariants.{PtMeas, ChangeTool, SetCsyTransformation, SetCoordSystem, AbortE}
 use Rattle.dme_line.specs.declared.reading.TheConstants.{KINDS}
 
 abbrev NoneOf : (Kind → Bool) → List Kind → Type 0
@@ -28,14 +28,15 @@ each_kind : (p : Kind → Bool) → NoneOf p KINDS → (k : Kind) → p k ≡ tr
 each_kind p h StartSession = not_so (p StartSession) h.0
 each_kind p h EndSession = not_so (p EndSession) h.1.0
 each_kind p h ClearAllErrors = not_so (p ClearAllErrors) h.1.1.0
-each_kind p h Home = not_so (p Home) h.1.1.1.0
-each_kind p h OnPtMeasReport = not_so (p OnPtMeasReport) h.1.1.1.1.0
-each_kind p h GoTo = not_so (p GoTo) h.1.1.1.1.1.0
-each_kind p h PtMeas = not_so (p PtMeas) h.1.1.1.1.1.1.0
-each_kind p h ChangeTool = not_so (p ChangeTool) h.1.1.1.1.1.1.1.0
-each_kind p h SetCsyTransformation = not_so (p SetCsyTransformation) h.1.1.1.1.1.1.1.1.0
-each_kind p h SetCoordSystem = not_so (p SetCoordSystem) h.1.1.1.1.1.1.1.1.1.0
-each_kind p h AbortE = not_so (p AbortE) h.1.1.1.1.1.1.1.1.1.1.0
+each_kind p h IsHomed = not_so (p IsHomed) h.1.1.1.0
+each_kind p h Home = not_so (p Home) h.1.1.1.1.0
+each_kind p h OnPtMeasReport = not_so (p OnPtMeasReport) h.1.1.1.1.1.0
+each_kind p h GoTo = not_so (p GoTo) h.1.1.1.1.1.1.0
+each_kind p h PtMeas = not_so (p PtMeas) h.1.1.1.1.1.1.1.0
+each_kind p h ChangeTool = not_so (p ChangeTool) h.1.1.1.1.1.1.1.1.0
+each_kind p h SetCsyTransformation = not_so (p SetCsyTransformation) h.1.1.1.1.1.1.1.1.1.0
+each_kind p h SetCoordSystem = not_so (p SetCoordSystem) h.1.1.1.1.1.1.1.1.1.1.0
+each_kind p h AbortE = not_so (p AbortE) h.1.1.1.1.1.1.1.1.1.1.1.0
 
 none_of_kinds : (p : Kind → Bool) (o : Option Kind) → MatchOption o (NoneOf p KINDS) (λ k. p k ≡ true)
     → MatchOption o ((k : Kind) → p k ≡ true → ⊥) (λ k. p k ≡ true)

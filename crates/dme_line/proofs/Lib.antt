@@ -8,6 +8,7 @@ pub mod TagLemmas
 pub mod KindLemmas
 pub mod CommandLemmas
 pub mod PointLemmas
+pub mod HomedLemmas
 pub mod ErrorLemmas
 pub mod WireTexts
 pub mod CommandBack

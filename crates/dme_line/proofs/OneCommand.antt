@@ -59,6 +59,7 @@ one_saying : (k : Kind) (ts : List Token) (c d : Command) → Says k ts c → Sa
 one_saying kind.StartSession ts c d f g = f.1 ∙ sym g.1
 one_saying kind.EndSession ts c d f g = f.1 ∙ sym g.1
 one_saying kind.ClearAllErrors ts c d f g = f.1 ∙ sym g.1
+one_saying kind.IsHomed ts c d f g = f.1 ∙ sym g.1
 one_saying kind.Home ts c d f g = f.1 ∙ sym g.1
 one_saying kind.OnPtMeasReport ts c d f g = f.1 ∙ sym g.1
 one_saying kind.GoTo ts c d f g = f.2 ∙ ap (λ (p : Point). GoTo p) (one_place ts f.0 g.0 None None f.1 g.1).target ∙ sym g.2

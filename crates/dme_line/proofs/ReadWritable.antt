@@ -38,6 +38,7 @@ said : (k : Kind) (ts : List Token) (c : Command) → Says k ts c → IsSaid k c
 said kind.StartSession ts c h = subst (λ (d : Command). IsSaid kind.StartSession d) (sym h.1) (record { same = refl; arguments = tt })
 said kind.EndSession ts c h = subst (λ (d : Command). IsSaid kind.EndSession d) (sym h.1) (record { same = refl; arguments = tt })
 said kind.ClearAllErrors ts c h = subst (λ (d : Command). IsSaid kind.ClearAllErrors d) (sym h.1) (record { same = refl; arguments = tt })
+said kind.IsHomed ts c h = subst (λ (d : Command). IsSaid kind.IsHomed d) (sym h.1) (record { same = refl; arguments = tt })
 said kind.Home ts c h = subst (λ (d : Command). IsSaid kind.Home d) (sym h.1) (record { same = refl; arguments = tt })
 said kind.OnPtMeasReport ts c h = subst (λ (d : Command). IsSaid kind.OnPtMeasReport d) (sym h.1) (record { same = refl; arguments = tt })
 said kind.GoTo ts c h = subst (λ (d : Command). IsSaid kind.GoTo d) (sym h.2)

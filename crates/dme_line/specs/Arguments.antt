@@ -154,6 +154,7 @@ abbrev pub Says : Kind → List Token → Command → Type 0
 Says kind.StartSession ts c = (ts ≡ enclosed []) × (c ≡ command.StartSession)
 Says kind.EndSession ts c = (ts ≡ enclosed []) × (c ≡ command.EndSession)
 Says kind.ClearAllErrors ts c = (ts ≡ enclosed []) × (c ≡ command.ClearAllErrors)
+Says kind.IsHomed ts c = (ts ≡ enclosed []) × (c ≡ command.IsHomed)
 Says kind.Home ts c = (ts ≡ enclosed []) × (c ≡ command.Home)
 Says kind.OnPtMeasReport ts c = IsReport ts × (c ≡ command.OnPtMeasReport)
 Says kind.GoTo ts c = (p : Point) × IsPlace ts p None × (c ≡ command.GoTo p)

@@ -14,6 +14,7 @@ abbrev pub kind_of : Command → Kind
 kind_of command.StartSession = kind.StartSession
 kind_of command.EndSession = kind.EndSession
 kind_of command.ClearAllErrors = kind.ClearAllErrors
+kind_of command.IsHomed = kind.IsHomed
 kind_of command.Home = kind.Home
 kind_of command.OnPtMeasReport = kind.OnPtMeasReport
 kind_of (command.GoTo p) = kind.GoTo
@@ -28,6 +29,7 @@ abbrev pub kind_name : Kind → List ℕ
 kind_name kind.StartSession = codes "StartSession"
 kind_name kind.EndSession = codes "EndSession"
 kind_name kind.ClearAllErrors = codes "ClearAllErrors"
+kind_name kind.IsHomed = codes "IsHomed"
 kind_name kind.Home = codes "Home"
 kind_name kind.OnPtMeasReport = codes "OnPtMeasReport"
 kind_name kind.GoTo = codes "GoTo"

@@ -8,5 +8,6 @@ pub mod Taken
 pub mod Points
 pub mod Written
 pub mod CommandText
+pub mod Homed
 pub mod Responses
 pub mod Errors

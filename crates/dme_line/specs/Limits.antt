@@ -21,6 +21,10 @@ bare_most = 7
 abbrev pub data_most : ℕ
 data_most = 57
 
+-- the line of the answer to IsHomed
+abbrev pub homed_data_most : ℕ
+homed_data_most = 18
+
 -- the line of an error
 abbrev pub error_most : ℕ
 error_most = 68
@@ -28,6 +32,10 @@ error_most = 68
 -- the text of a point
 abbrev pub point_most : ℕ
 point_most = 49
+
+-- the answer to IsHomed
+abbrev pub homed_most : ℕ
+homed_most = 10
 
 -- the end of a line
 abbrev pub line_end_length : ℕ

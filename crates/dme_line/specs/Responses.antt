@@ -5,6 +5,7 @@ use Rattle.dme_line.specs.Words.{IsWireText}
 use Rattle.dme_line.specs.Limits.{text_most}
 use Rattle.fixed_um.specs.declared.lengths.Point.{Point}
 use Rattle.dme_line.specs.Points.{written_point}
+use Rattle.dme_line.specs.Homed.{written_homed}
 use Rattle.dme_line.specs.Tags.{written_tag, IsTag}
 use Rattle.dme_line.specs.declared.tags.Tag.{Tag}
 use Rattle.dme_line.specs.declared.responses.Mark.{Mark}
@@ -71,3 +72,7 @@ ReadsResponse line (Err fault) = (r : Response) → IsResponseLine line r → �
 -- the response that carries a point
 abbrev pub data_response : Tag → Point → Response
 data_response tag p = record { tag = tag; mark = Given (written_point p) }
+
+-- the response that carries the answer to IsHomed
+abbrev pub homed_response : Tag → Bool → Response
+homed_response tag homed = record { tag = tag; mark = Given (written_homed homed) }

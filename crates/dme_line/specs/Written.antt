@@ -7,8 +7,8 @@ use Rattle.fixed_um.specs.Written.{written, written_direction}
 use Rattle.fixed_um.specs.declared.lengths.Point.{Point}
 use Rattle.dme_line.specs.declared.tags.Tag.{Tag}
 use Rattle.dme_line.specs.declared.commands.Command.{Command}
-use Rattle.dme_line.specs.declared.commands.Command.TheVariants.{StartSession, EndSession, ClearAllErrors, Home, OnPtMeasReport, GoTo}
-use Rattle.dme_line.specs.declared.commands.Command.TheVariants.{PtMeas, ChangeTool, SetCsyTransformation, SetCoordSystem, AbortE}
+use Rattle.dme_line.specs.declared.commands.Command.TheVariants.{StartSession, EndSession, ClearAllErrors, IsHomed, Home, OnPtMeasReport}
+use Rattle.dme_line.specs.declared.commands.Command.TheVariants.{GoTo, PtMeas, ChangeTool, SetCsyTransformation, SetCoordSystem, AbortE}
 use Rattle.dme_line.specs.Tags.{written_tag}
 use Rattle.dme_line.specs.Kinds.{kind_of, kind_name, csy_name, IsTagOf}
 use Rattle.dme_line.specs.Words.{quoted}
@@ -29,6 +29,7 @@ abbrev pub written_arguments : Command → List ℕ
 written_arguments StartSession = []
 written_arguments EndSession = []
 written_arguments ClearAllErrors = []
+written_arguments IsHomed = []
 written_arguments Home = []
 written_arguments OnPtMeasReport = codes "X(), Y(), Z()"
 written_arguments (GoTo p) = written_point p

@@ -31,6 +31,8 @@ pub enum Command {
     StartSession,
     EndSession,
     ClearAllErrors,
+    /// Asks whether the machine is homed, with the answer as its data.
+    IsHomed,
     Home,
     /// Asks for the three coordinates as the data of each touch.
     OnPtMeasReport,
@@ -51,6 +53,7 @@ pub enum Kind {
     StartSession,
     EndSession,
     ClearAllErrors,
+    IsHomed,
     Home,
     OnPtMeasReport,
     GoTo,
@@ -70,6 +73,7 @@ impl Command {
             Command::StartSession => Kind::StartSession,
             Command::EndSession => Kind::EndSession,
             Command::ClearAllErrors => Kind::ClearAllErrors,
+            Command::IsHomed => Kind::IsHomed,
             Command::Home => Kind::Home,
             Command::OnPtMeasReport => Kind::OnPtMeasReport,
             Command::GoTo(_) => Kind::GoTo,
@@ -99,6 +103,7 @@ impl Kind {
             Kind::StartSession => b"StartSession",
             Kind::EndSession => b"EndSession",
             Kind::ClearAllErrors => b"ClearAllErrors",
+            Kind::IsHomed => b"IsHomed",
             Kind::Home => b"Home",
             Kind::OnPtMeasReport => b"OnPtMeasReport",
             Kind::GoTo => b"GoTo",

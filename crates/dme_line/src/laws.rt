@@ -1,22 +1,25 @@
 // What holds of the texts of this crate, whoever writes and reads them. These functions do nothing: their contracts are the laws.
 
-ghost use Rattle.std.specs.Prelude.{◌≡◌, ℕ, List, length, Option, Result, Ok};
-ghost use Rattle.dme_line.specs.Limits.{command_most, data_most, error_most, line_end_length, point_most, response_most};
+ghost use Rattle.std.specs.Prelude.{◌≡◌, ℕ, Bool, List, length, Option, Result, Ok};
+ghost use Rattle.dme_line.specs.Limits.{command_most, data_most, error_most, homed_data_most, homed_most, line_end_length, point_most, response_most};
 ghost use Rattle.dme_line.specs.Words.{IsWireText, line_end};
 ghost use Rattle.dme_line.specs.Tags.{IsTag};
 ghost use Rattle.dme_line.specs.Points.{written_point, IsOnWire, ReadsPoint};
+ghost use Rattle.dme_line.specs.Homed.{homed_digit, written_homed, ReadsHomed};
 ghost use Rattle.dme_line.specs.Written.{written_command, IsWritable};
 ghost use Rattle.dme_line.specs.CommandText.{IsCommandText, ReadsCommand};
-ghost use Rattle.dme_line.specs.Responses.{written_response, IsWritableResponse, IsResponseLine, ReadsResponse, data_response};
+ghost use Rattle.dme_line.specs.Responses.{written_response, IsWritableResponse, IsResponseLine, ReadsResponse, data_response, homed_response};
 ghost use Rattle.dme_line.specs.Errors.{error_response, written_error};
 ghost use Rattle.fixed_um.specs.declared.lengths.Point.{Point};
 ghost use Rattle.dme_line.specs.declared.points.NotPoint.{NotPoint};
+ghost use Rattle.dme_line.specs.declared.homed.NotHomedText.{NotHomedText};
 
 use crate::commands::{Command, Kind};
 use crate::errors::ERROR_MAX;
+use crate::homed::HOMED_MAX;
 use crate::points::POINT_MAX;
 use crate::reading::LineFault;
-use crate::responses::{DATA_MAX, NotResponse, RESPONSE_MAX, Response};
+use crate::responses::{DATA_MAX, HOMED_DATA_MAX, NotResponse, RESPONSE_MAX, Response};
 use crate::tags::Tag;
 use crate::writing::{COMMAND_MAX, LINE_END_LENGTH};
 
@@ -25,8 +28,10 @@ pub fn rooms_are_the_limits()
     ensures command { COMMAND_MAX ≡ command_most }
     ensures response { RESPONSE_MAX ≡ response_most }
     ensures data { DATA_MAX ≡ data_most }
+    ensures homed_data { HOMED_DATA_MAX ≡ homed_data_most }
     ensures error { ERROR_MAX ≡ error_most }
     ensures point { POINT_MAX ≡ point_most }
+    ensures homed { HOMED_MAX ≡ homed_most }
     ensures end { LINE_END_LENGTH ≡ line_end_length }
     ensures line_end { length line_end ≡ line_end_length }
 {}
@@ -81,6 +86,22 @@ pub fn point_reads_back()
     ensures back { (p : Point) → IsOnWire p → ReadsPoint (written_point p) (Ok p) }
     ensures response { (tag : Tag) (p : Point) → IsTag tag → IsOnWire p
         → IsWritableResponse (data_response tag p) }
+{}
+
+/// A text is read as an answer to `IsHomed` in one way.
+pub fn one_homed_reading()
+    ensures { (text : List ℕ) (x y : Result Bool NotHomedText)
+        → ReadsHomed text x → ReadsHomed text y → x ≡ y }
+{}
+
+/// What is written of an answer to `IsHomed` has at most ten bytes, none of them CR or LF, reads back as this answer, as its digit
+/// alone does, and can be the text of a response.
+pub fn homed_reads_back()
+    ensures text { (homed : Bool) → IsWireText homed_most (written_homed homed) }
+    ensures back { (homed : Bool) → ReadsHomed (written_homed homed) (Ok homed) }
+    ensures digit { (homed : Bool) → ReadsHomed (homed_digit homed) (Ok homed) }
+    ensures response { (tag : Tag) (homed : Bool) → IsTag tag
+        → IsWritableResponse (homed_response tag homed) }
 {}
 
 /// An error line is the line of a response that can be written, has at most 80 bytes, and reads back as this response.

@@ -4,7 +4,7 @@
 //! - `tags`, `commands`: `Tag`; `Command`, its `Kind`, `Csy`
 //! - `writing`, `reading`: `write_command` and the end of a line; `read_command` and `LineFault`
 //! - `responses`, `text`: `Response`, `Mark`, `Text`, and their lines
-//! - `points`: the text of a data line; `errors`: `ErrorNumber` and the line of an error
+//! - `points`, `homed`: the texts of data lines; `errors`: `ErrorNumber` and the line of an error
 //! - `tokens`, `arguments`, `places`, `settings`, `lengths`: the steps by which arguments are read
 //! - `appending`: texts where there is room for them
 //! - `laws`: what holds of these texts: each is read in one way, and what is written reads back
@@ -14,6 +14,7 @@ mod appending;
 mod arguments;
 pub mod commands;
 pub mod errors;
+pub mod homed;
 pub mod laws;
 mod lengths;
 mod places;
@@ -28,12 +29,13 @@ pub mod writing;
 
 pub use commands::{Command, Csy, Kind};
 pub use errors::{ERROR_MAX, ErrorNumber, write_error, write_error_reserved};
+pub use homed::{HOMED_MAX, NotHomedText, read_homed, write_homed, write_homed_reserved};
 pub use points::{NotPoint, POINT_MAX, read_point, write_point, write_point_reserved};
 pub use reading::{LineFault, read_command};
 pub use responses::{
-    DATA_MAX, Mark, NotResponse, RESPONSE_MAX, Response, read_response, write_complete_reserved,
-    write_data, write_data_reserved, write_received_reserved, write_response,
-    write_response_reserved,
+    DATA_MAX, HOMED_DATA_MAX, Mark, NotResponse, RESPONSE_MAX, Response, read_response,
+    write_complete_reserved, write_data, write_data_reserved, write_homed_data,
+    write_homed_data_reserved, write_received_reserved, write_response, write_response_reserved,
 };
 pub use tags::Tag;
 pub use text::Text;

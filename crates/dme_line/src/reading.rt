@@ -51,16 +51,17 @@ fn name_len(text: &[u8]) -> usize
 }
 
 /// A command's name and what stands behind it.
-fn cut_name(text: &[u8]) -> (&[u8], &[u8])
+pub(crate) fn cut_name(text: &[u8]) -> (&[u8], &[u8])
     ensures { IsNamed text.now result.0.now result.1.now }
 {
     text.split_at(name_len(text))
 }
 
-const KINDS: [Kind; 11] = [
+const KINDS: [Kind; 12] = [
     Kind::StartSession,
     Kind::EndSession,
     Kind::ClearAllErrors,
+    Kind::IsHomed,
     Kind::Home,
     Kind::OnPtMeasReport,
     Kind::GoTo,
@@ -135,6 +136,7 @@ fn read_arguments(alloc: Global, kind: Kind, bytes: &[u8]) -> Result<Option<Comm
         Kind::StartSession => Ok(is_empty_list(bytes).then_some(Command::StartSession)),
         Kind::EndSession => Ok(is_empty_list(bytes).then_some(Command::EndSession)),
         Kind::ClearAllErrors => Ok(is_empty_list(bytes).then_some(Command::ClearAllErrors)),
+        Kind::IsHomed => Ok(is_empty_list(bytes).then_some(Command::IsHomed)),
         Kind::Home => Ok(is_empty_list(bytes).then_some(Command::Home)),
         Kind::OnPtMeasReport => Ok(read_report(bytes).map(|_| Command::OnPtMeasReport)),
         Kind::GoTo => Ok(read_go_to(bytes)),

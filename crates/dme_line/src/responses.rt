@@ -1,15 +1,16 @@
 // Responses, and the lines that carry them.
 
-ghost use Rattle.std.specs.Prelude.{◌≡◌, ◌+◌, ◌++◌, [], OnOk, OnErr, IfOk, MatchOption, Option};
+ghost use Rattle.std.specs.Prelude.{◌≡◌, ◌+◌, ◌++◌, [], codes, OnOk, OnErr, IfOk, MatchOption, Option};
 ghost use Rattle.fixed_um.specs.Calls.{Grows, HasRoom, Writes};
-ghost use Rattle.dme_line.specs.Limits.{bare_most, data_most, response_most, text_most};
-ghost use Rattle.dme_line.specs.Tags.{HasRoomUnder, IsTag};
+ghost use Rattle.dme_line.specs.Limits.{bare_most, data_most, homed_data_most, response_most, text_most};
+ghost use Rattle.dme_line.specs.Tags.{written_tag, HasRoomUnder, IsTag};
 ghost use Rattle.dme_line.specs.declared.responses.Mark.TheVariants as mark;
 ghost use Rattle.dme_line.specs.Taken.{the_mark};
-ghost use Rattle.dme_line.specs.Responses.{written_mark, written_response, IsWritableResponse, HasText, are_spaces, IsMarkText, HoldsText, HoldsResponseText, ReadsResponse, data_response};
+ghost use Rattle.dme_line.specs.Responses.{written_mark, written_response, IsWritableResponse, HasText, are_spaces, IsMarkText, HoldsText, HoldsResponseText, ReadsResponse, data_response, homed_response};
 ghost use Rattle.dme_line.specs.Points.{IsOnWire};
 
 use crate::appending::append_reserved;
+use crate::homed::write_homed_reserved;
 use crate::points::write_point_reserved;
 use crate::tags::{Tag, cut_tag, write_tag_reserved};
 use crate::text::Text;
@@ -21,6 +22,9 @@ pub const RESPONSE_MAX: usize = 200;
 
 /// The most bytes that the line of a data response has, without its end.
 pub const DATA_MAX: usize = 57;
+
+/// The most bytes that the line of the answer to `IsHomed` has, without its end.
+pub const HOMED_DATA_MAX: usize = 18;
 
 /// What a response says of its command (I++ DME Interface version 1).
 #[derive(Debug, Drop)]
@@ -120,6 +124,16 @@ pub fn write_complete_reserved(out: &mut Vec<u8>, tag: Tag)
     append_reserved(out, b" %");
 }
 
+/// Appends the front of a data line, its tag and mark, where the caller has made room for its eight bytes.
+fn write_data_front_reserved(out: &mut Vec<u8>, tag: Tag)
+    requires { HasRoomUnder tag out.old 8 }
+    ensures text { out.new.items ≡ out.old.items ++ (written_tag tag ++ codes " # ") }
+    ensures grows { Grows out.old out.new 8 }
+{
+    write_tag_reserved(out, tag);
+    append_reserved(out, b" # ");
+}
+
 /// Appends the line of a data response without its end, as `00008 # X(1.000), Y(2.000), Z(3.000)`, at most 57 bytes,
 /// where the caller has made room for them. It is what `write_response_reserved` appends of `Mark::Given` with the text of the point.
 ///
@@ -130,8 +144,7 @@ pub fn write_data_reserved(out: &mut Vec<u8>, tag: Tag, point: Point)
     ensures grows { Grows out.old out.new data_most }
     ensures on_wire { IsOnWire point }
 {
-    write_tag_reserved(out, tag);
-    append_reserved(out, b" # ");
+    write_data_front_reserved(out, tag);
     write_point_reserved(out, point);
 }
 
@@ -146,6 +159,33 @@ pub fn write_data(out: &mut Vec<u8>, tag: Tag, point: Point) -> Result<(), Alloc
 {
     out.reserve(DATA_MAX)?;
     write_data_reserved(out, tag, point);
+    Ok(())
+}
+
+/// Appends the line of the answer to `IsHomed` without its end, as `00003 # IsHomed(1)` where the machine is homed and
+/// `00003 # IsHomed(0)` where it is not, of 18 bytes, where the caller has made room for them.
+/// It is what `write_response_reserved` appends of `Mark::Given` with the text of the answer.
+///
+/// The caller owes a tag whose number has room in its digits.
+pub fn write_homed_data_reserved(out: &mut Vec<u8>, tag: Tag, homed: bool)
+    requires { HasRoomUnder tag out.old homed_data_most }
+    ensures text { out.new.items ≡ out.old.items ++ written_response (homed_response tag homed) }
+    ensures grows { Grows out.old out.new homed_data_most }
+{
+    write_data_front_reserved(out, tag);
+    write_homed_reserved(out, homed);
+}
+
+/// Appends the line of the answer to `IsHomed` without its end, as `00003 # IsHomed(1)` where the machine is homed and
+/// `00003 # IsHomed(0)` where it is not. Only want of memory is an `Err`, and then nothing is appended.
+///
+/// The caller owes what `write_homed_data_reserved` says, but for the room.
+pub fn write_homed_data(out: &mut Vec<u8>, tag: Tag, homed: bool) -> Result<(), AllocError>
+    requires { IsTag tag }
+    ensures { Writes result out.old out.new (written_response (homed_response tag homed)) }
+{
+    out.reserve(HOMED_DATA_MAX)?;
+    write_homed_data_reserved(out, tag, homed);
     Ok(())
 }
 

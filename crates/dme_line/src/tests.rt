@@ -5,8 +5,9 @@ ghost use Rattle.dme_line.specs.Kinds.{kind_of, IsTagOf};
 ghost use Rattle.dme_line.specs.Written.{HasVolumeLengths};
 
 use crate::{
-    Command, Csy, Kind, LineFault, Mark, NotPoint, NotResponse, Response, Tag, Text, read_command,
-    read_point, read_response, write_command, write_data, write_error, write_point, write_response,
+    Command, Csy, Kind, LineFault, Mark, NotHomedText, NotPoint, NotResponse, Response, Tag, Text,
+    read_command, read_homed, read_point, read_response, write_command, write_data, write_error,
+    write_homed, write_homed_data, write_point, write_response,
 };
 use fixed_um::{Dir, Name, Point, Um, read_dir, read_um};
 use std::alloc::{AllocError, Global};
@@ -19,6 +20,9 @@ const COMMAND_LINES: &str = "\
 00002 ENDSESSION()   => 00002 EndSession()
 00003 ClearAllErrors() => 00003 ClearAllErrors()
 00003 clearallerrors (  )  => 00003 ClearAllErrors()
+00001 IsHomed() => 00001 IsHomed()
+00003 ishomed ( ) => 00003 IsHomed()
+99999 ISHOMED()   => 99999 IsHomed()
 00004 Home() => 00004 Home()
 00004 hOmE ( ) => 00004 Home()
 00005 OnPtMeasReport(X(), Y(), Z()) => 00005 OnPtMeasReport(X(), Y(), Z())
@@ -60,7 +64,8 @@ E000x AbortE() => NoTag
 xyz => NoTag
 00001  => UnknownCommand(Std(1))
 00001  Home() => UnknownCommand(Std(1))
-00001 IsHomed() => UnknownCommand(Std(1))
+00001 IsHome() => UnknownCommand(Std(1))
+00001 Is Homed() => UnknownCommand(Std(1))
 00001 Hom() => UnknownCommand(Std(1))
 00001 Homes() => UnknownCommand(Std(1))
 00001 (Home) => UnknownCommand(Std(1))
@@ -69,6 +74,9 @@ xyz => NoTag
 00001 Get(X(), Y(), Z()) => UnknownCommand(Std(1))
 E0001 Nonsense() => UnknownCommand(Event(1))
 E0001 Home() => BadArguments(Event(1), Home)
+E0001 IsHomed() => BadArguments(Event(1), IsHomed)
+00001 IsHomed(1) => BadArguments(Std(1), IsHomed)
+00001 IsHomed => BadArguments(Std(1), IsHomed)
 00001 AbortE() => BadArguments(Std(1), AbortE)
 00001 Home => BadArguments(Std(1), Home)
 00001 Home( => BadArguments(Std(1), Home)
@@ -117,6 +125,8 @@ const RESPONSE_LINES: &str = "\
 00008 % => Std(8) %
 00008 %   => Std(8) %
 00008 # X(10.002), Y(20.000), Z(25.000) => Std(8) #X(10.002), Y(20.000), Z(25.000)
+00003 # IsHomed(0) => Std(3) #IsHomed(0)
+00003 # 1 => Std(3) #1
 00008 #  => Std(8) #
 00008 #  x  => Std(8) # x 
 00008 # & => Std(8) #&
@@ -203,8 +213,8 @@ enum Lines {
 #[test]
 fn lines_are_read_or_refused(rt: HostRuntime) -> Result<(), Fail> {
     let tables = [
-        (COMMAND_LINES, Lines::Commands, 97u64),
-        (RESPONSE_LINES, Lines::Responses, 44),
+        (COMMAND_LINES, Lines::Commands, 104u64),
+        (RESPONSE_LINES, Lines::Responses, 46),
     ];
     for (table, lines, count) in tables {
         let mut rows = 0u64;
@@ -277,7 +287,7 @@ fn arguments_stand_in_their_places(rt: HostRuntime) -> Result<(), Fail> {
 
 #[test]
 fn points_are_read_or_refused(rt: HostRuntime) -> Result<(), Fail> {
-    let cases: [(&str, Result<&str, NotPoint>); 12] = [
+    let cases: [(&str, Result<&str, NotPoint>); 14] = [
         (
             "X(10.002), Y(20.000), Z(25.000)",
             Ok("X(10.002), Y(20.000), Z(25.000)"),
@@ -292,6 +302,8 @@ fn points_are_read_or_refused(rt: HostRuntime) -> Result<(), Fail> {
         ("X(1), Y(2), Z(4000000.001)", Err(NotPoint)),
         ("X(1) Y(2) Z(3)", Err(NotPoint)),
         ("X(), Y(), Z()", Err(NotPoint)),
+        ("IsHomed(1)", Err(NotPoint)),
+        ("1", Err(NotPoint)),
         ("", Err(NotPoint)),
     ];
     for (text, wanted) in cases {
@@ -305,6 +317,57 @@ fn points_are_read_or_refused(rt: HostRuntime) -> Result<(), Fail> {
             _ => assert!(rt; false, "{text}"),
         }
     }
+    Ok(())
+}
+
+#[test]
+fn answers_to_is_homed_are_read_or_refused(rt: HostRuntime) -> Result<(), Fail> {
+    let cases: [(&str, Result<bool, NotHomedText>); 32] = [
+        ("IsHomed(1)", Ok(true)),
+        ("IsHomed(0)", Ok(false)),
+        ("ishomed ( 1 ) ", Ok(true)),
+        ("ISHOMED( 0)   ", Ok(false)),
+        ("1", Ok(true)),
+        ("0", Ok(false)),
+        (" IsHomed(1)", Err(NotHomedText)),
+        ("IsHomed(2)", Err(NotHomedText)),
+        ("IsHomed()", Err(NotHomedText)),
+        ("IsHomed(01)", Err(NotHomedText)),
+        ("IsHomed(1)x", Err(NotHomedText)),
+        ("IsHomed(1)(1)", Err(NotHomedText)),
+        ("IsHomed((1))", Err(NotHomedText)),
+        ("IsHomed(1, 1)", Err(NotHomedText)),
+        ("IsHomed(1", Err(NotHomedText)),
+        ("IsHomed(true)", Err(NotHomedText)),
+        ("IsHomed 1", Err(NotHomedText)),
+        ("IsHomed", Err(NotHomedText)),
+        ("Is Homed(1)", Err(NotHomedText)),
+        ("Home(1)", Err(NotHomedText)),
+        ("(1)", Err(NotHomedText)),
+        ("X(0), Y(0), Z(0)", Err(NotHomedText)),
+        ("", Err(NotHomedText)),
+        ("1 ", Err(NotHomedText)),
+        (" 1", Err(NotHomedText)),
+        ("0 ", Err(NotHomedText)),
+        (" 0", Err(NotHomedText)),
+        ("2", Err(NotHomedText)),
+        ("10", Err(NotHomedText)),
+        ("00", Err(NotHomedText)),
+        ("-1", Err(NotHomedText)),
+        ("true", Err(NotHomedText)),
+    ];
+    for (text, wanted) in cases {
+        assert_eq!(rt; read_homed(text.as_bytes()), wanted, "{text}");
+    }
+    Ok(())
+}
+
+#[test]
+fn answers_to_is_homed_are_written(rt: HostRuntime) -> Result<(), Fail> {
+    let mut out = Vec::new(rt.alloc());
+    write_homed(&mut out, true)?;
+    write_homed(&mut out, false)?;
+    assert_eq!(rt; out.as_slice(), b"IsHomed(1)IsHomed(0)".as_slice());
     Ok(())
 }
 
@@ -329,6 +392,7 @@ fn commands_are_written(rt: HostRuntime) -> Result<(), Fail> {
     };
     write_command(&mut out, Tag::Std(1), &Command::StartSession)?;
     write_command(&mut out, Tag::Std(2), &Command::ClearAllErrors)?;
+    write_command(&mut out, Tag::Std(3), &Command::IsHomed)?;
     write_command(&mut out, Tag::Std(3), &Command::Home)?;
     write_command(&mut out, Tag::Std(4), &Command::OnPtMeasReport)?;
     write_command(
@@ -365,6 +429,7 @@ fn commands_are_written(rt: HostRuntime) -> Result<(), Fail> {
     }
     let wanted = "00001 StartSession()\
         00002 ClearAllErrors()\
+        00003 IsHomed()\
         00003 Home()\
         00004 OnPtMeasReport(X(), Y(), Z())\
         00005 SetCoordSystem(MachineCsy)\
@@ -410,12 +475,19 @@ fn data_are_written(rt: HostRuntime) -> Result<(), Fail> {
         out.as_slice(),
         b"00008 # X(10.002), Y(20.000), Z(-25.000)".as_slice()
     );
+    let mut answers = Vec::new(rt.alloc());
+    write_homed_data(&mut answers, Tag::Std(3), false)?;
+    write_homed_data(&mut answers, Tag::Event(1), true)?;
+    assert_eq!(rt;
+        answers.as_slice(),
+        b"00003 # IsHomed(0)E0001 # IsHomed(1)".as_slice()
+    );
     Ok(())
 }
 
 #[test]
 fn errors_are_written(rt: HostRuntime) -> Result<(), Fail> {
-    let cases: [(Tag, u16, Option<Kind>, &str); 15] = [
+    let cases: [(Tag, u16, Option<Kind>, &str); 16] = [
         (
             Tag::Event(0),
             9001,
@@ -445,6 +517,12 @@ fn errors_are_written(rt: HostRuntime) -> Result<(), Fail> {
             9005,
             Some(Kind::OnPtMeasReport),
             "00003 ! Error(3, 9005, \"OnPtMeasReport\", \"No session\")",
+        ),
+        (
+            Tag::Std(3),
+            9005,
+            Some(Kind::IsHomed),
+            "00003 ! Error(3, 9005, \"IsHomed\", \"No session\")",
         ),
         (
             Tag::Std(4),

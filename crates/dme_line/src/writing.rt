@@ -78,6 +78,7 @@ fn write_arguments_reserved(out: &mut Vec<u8>, command: &Command)
         Command::StartSession
         | Command::EndSession
         | Command::ClearAllErrors
+        | Command::IsHomed
         | Command::Home
         | Command::AbortE => {}
     }

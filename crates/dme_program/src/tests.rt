@@ -15,33 +15,36 @@ const ONE: &str =
 
 const ONE_LINES: &str = "00001 StartSession()
 00002 ClearAllErrors()
-00003 Home()
-00004 OnPtMeasReport(X(), Y(), Z())
-00005 SetCoordSystem(MachineCsy)
-00006 ChangeTool(\"P1\")
-00007 GoTo(X(10.000), Y(20.000), Z(30.000))
-00008 PtMeas(X(10.000), Y(20.000), Z(25.000), IJK(0.000000, 0.000000, 1.000000))
-00009 EndSession()
+00003 IsHomed()
+00004 Home()
+00005 OnPtMeasReport(X(), Y(), Z())
+00006 SetCoordSystem(MachineCsy)
+00007 ChangeTool(\"P1\")
+00008 GoTo(X(10.000), Y(20.000), Z(30.000))
+00009 PtMeas(X(10.000), Y(20.000), Z(25.000), IJK(0.000000, 0.000000, 1.000000))
+00010 EndSession()
 ";
 
 const EMPTY_LINES: &str = "00001 StartSession()
 00002 ClearAllErrors()
-00003 Home()
-00004 OnPtMeasReport(X(), Y(), Z())
-00005 SetCoordSystem(MachineCsy)
-00006 EndSession()
+00003 IsHomed()
+00004 Home()
+00005 OnPtMeasReport(X(), Y(), Z())
+00006 SetCoordSystem(MachineCsy)
+00007 EndSession()
 ";
 
 const CONTINUED: &str = "$$ head\ndmismn/'t',05.2\nsnslct/s(p1)\ngoto/1,$\n 2, 3 $$ end\nENDFIL\n";
 
 const CONTINUED_LINES: &str = "00001 StartSession()
 00002 ClearAllErrors()
-00003 Home()
-00004 OnPtMeasReport(X(), Y(), Z())
-00005 SetCoordSystem(MachineCsy)
-00006 ChangeTool(\"P1\")
-00007 GoTo(X(1.000), Y(2.000), Z(3.000))
-00008 EndSession()
+00003 IsHomed()
+00004 Home()
+00005 OnPtMeasReport(X(), Y(), Z())
+00006 SetCoordSystem(MachineCsy)
+00007 ChangeTool(\"P1\")
+00008 GoTo(X(1.000), Y(2.000), Z(3.000))
+00009 EndSession()
 ";
 
 #[test]
@@ -74,16 +77,17 @@ const FRAMES: &str =
 
 const FRAMES_LINES: &str = "00001 StartSession()
 00002 ClearAllErrors()
-00003 Home()
-00004 OnPtMeasReport(X(), Y(), Z())
-00005 SetCoordSystem(MachineCsy)
-00006 ChangeTool(\"P1\")
-00007 PtMeas(X(10.000), Y(0.000), Z(0.000), IJK(0.000000, 0.000000, 1.000000))
-00008 PtMeas(X(20.000), Y(0.000), Z(0.000), IJK(0.000000, 0.000000, 1.000000))
-00009 SetCsyTransformation(PartCsy, -100.000, 0.000, 0.000, 0, 0, 0)
-00010 SetCoordSystem(PartCsy)
-00011 PtMeas(X(30.000), Y(0.000), Z(0.000), IJK(0.000000, 0.000000, 1.000000))
-00012 EndSession()
+00003 IsHomed()
+00004 Home()
+00005 OnPtMeasReport(X(), Y(), Z())
+00006 SetCoordSystem(MachineCsy)
+00007 ChangeTool(\"P1\")
+00008 PtMeas(X(10.000), Y(0.000), Z(0.000), IJK(0.000000, 0.000000, 1.000000))
+00009 PtMeas(X(20.000), Y(0.000), Z(0.000), IJK(0.000000, 0.000000, 1.000000))
+00010 SetCsyTransformation(PartCsy, -100.000, 0.000, 0.000, 0, 0, 0)
+00011 SetCoordSystem(PartCsy)
+00012 PtMeas(X(30.000), Y(0.000), Z(0.000), IJK(0.000000, 0.000000, 1.000000))
+00013 EndSession()
 ";
 
 #[test]

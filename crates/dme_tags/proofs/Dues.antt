@@ -3,15 +3,15 @@ use Rattle.std.proofs.Common.{◌≡◌, ◌↔◌, ◌⊎◌, inl, inr, Bool, t
 use Rattle.std.proofs.Common.{Err, refl, sym, ◌∙◌, ap, subst}
 use Rattle.std.specs.Prelude.{IsOk, IsErrOf, IfOk, IfErr}
 use Rattle.std.proofs.lemmas.Bool.{false≢true, and_parts}
-use Rattle.fixed_um.specs.declared.lengths.Point.{Point}
 use Rattle.dme_line.specs.declared.tags.Tag.{Tag}
 use Rattle.dme_line.specs.declared.tags.Tag.TheVariants.{Std, Event}
 use Rattle.dme_line.specs.declared.commands.Kind.{Kind}
-use Rattle.dme_line.specs.declared.commands.Kind.TheVariants as kind
 use Rattle.protocol_model.specs.Replies.{Mark, tag_is}
-use Rattle.protocol_model.specs.Open.{Verdict, Becomes, Breaks, Closes, Counts, Refused, Effect, Heard, asks_data, is_failed, heard_in}
+use Rattle.protocol_model.specs.Open.{Verdict, Becomes, Breaks, Closes, Counts, Refused, Effect, Heard}
+use Rattle.protocol_model.specs.Open.{asks_data, fits, is_failed, heard_in}
 use Rattle.protocol_model.specs.Open.{judged, judged_ack, judged_given, judged_done, judged_error, put_before, settled}
 use Rattle.protocol_model.specs.Ends.{held_kind}
+use Rattle.protocol_model.specs.declared.held.Datum.{Datum}
 use Rattle.protocol_model.specs.declared.held.Held.{Held}
 use Rattle.protocol_model.specs.declared.held.Stage.{Stage}
 use Rattle.protocol_model.specs.declared.states.Cause.{Cause}
@@ -19,8 +19,11 @@ use Rattle.protocol_model.specs.declared.states.Cause.TheVariants as cause
 use Rattle.dme_tags.specs.Answers.{cause_of, IsRefused}
 use Rattle.dme_tags.specs.Opened.{Opened, Answer, heard, heard_standard, heard_event, kind_under, is_next, IsNext}
 use Rattle.dme_tags.specs.Places.{ahead_of, all_failed}
+use Rattle.protocol_model.proofs.table.Speaking.{fits_asks}
+use Rattle.dme_tags.proofs.Fitting.{asked}
 use Rattle.dme_tags.proofs.Refusals.{refused_standard, refused_event}
-use Rattle.dme_tags.specs.Standing.{standing_in, standing, AwaitsPoint, HasPoint}
+use Rattle.dme_tags.specs.Data.{may_be_given}
+use Rattle.dme_tags.specs.Standing.{standing_in, standing, AwaitsData, HasData}
 use Rattle.dme_tags.specs.declared.faults.TagFault.{TagFault}
 use Rattle.dme_tags.specs.declared.faults.TagFault.TheVariants as fault
 
@@ -131,34 +134,18 @@ pub fits_ok : (T : Type 0) (o n : Opened) (t : Tag) (m : Mark) (e : Effect) (x :
     → Fits {T = T} (Ok x) (refusal_under (standing t o) (is_next t o) m)
 fits_ok T o n t m e x h = sym (refusal_due o t m) ∙ ap refusal_heard h
 
--- ---- points
+-- ---- data
 
-abbrev pub OfTouch : Stage → Standing
-OfTouch s = Some (kind.PtMeas, s)
-
-pub touch_only : (k : Kind) → asks_data k ≡ true → k ≡ kind.PtMeas
-touch_only kind.StartSession e = absurd (false≢true e)
-touch_only kind.EndSession e = absurd (false≢true e)
-touch_only kind.ClearAllErrors e = absurd (false≢true e)
-touch_only kind.Home e = absurd (false≢true e)
-touch_only kind.OnPtMeasReport e = absurd (false≢true e)
-touch_only kind.GoTo e = absurd (false≢true e)
-touch_only kind.PtMeas e = refl
-touch_only kind.ChangeTool e = absurd (false≢true e)
-touch_only kind.SetCsyTransformation e = absurd (false≢true e)
-touch_only kind.SetCoordSystem e = absurd (false≢true e)
-touch_only kind.AbortE e = absurd (false≢true e)
-
--- what a touch at the front, and what any other command is told of a point
-data_none : (d : Bool) (s : Stage) (p : Point) → refusal_of (judged_given d s p) ≡ None → (d ≡ true) × (s ≡ Stage.Received)
+-- what a command that is given data at the front, and what any other is told
+data_none : (d : Bool) (s : Stage) (p : Datum) → refusal_of (judged_given d s p) ≡ None → (d ≡ true) × (s ≡ Stage.Received)
 data_none true Stage.Sent p e = absurd (cc)
 data_none true Stage.Received p e = (refl, refl)
 data_none true (Stage.Given q) p e = absurd (cc)
 data_none true Stage.Failed p e = absurd (cc)
 data_none false s p e = absurd (cc)
 
-data_second : (d : Bool) (s : Stage) (p : Point) → refusal_of (judged_given d s p) ≡ Some cause.SecondData → (d ≡ true)
-    × ((q : Point) × (s ≡ Stage.Given q))
+data_second : (d : Bool) (s : Stage) (p : Datum) → refusal_of (judged_given d s p) ≡ Some cause.SecondData → (d ≡ true)
+    × ((q : Datum) × (s ≡ Stage.Given q))
 data_second true Stage.Sent p e = absurd (cc)
 data_second true Stage.Received p e = absurd (cc)
 data_second true (Stage.Given q) p e = (refl, (q, refl))
@@ -262,7 +249,7 @@ ack_causes Stage.Received why e = cc
 ack_causes (Stage.Given q) why e = cc
 ack_causes Stage.Failed why e = cc
 
-data_causes : (d : Bool) (s : Stage) (p : Point) (why : Cause) → refusal_of (judged_given d s p) ≡ Some why
+data_causes : (d : Bool) (s : Stage) (p : Datum) (why : Cause) → refusal_of (judged_given d s p) ≡ Some why
     → (why ≡ cause.OutOfOrder) ⊎ (why ≡ cause.SecondData)
 data_causes true Stage.Sent p why e = inl (cc)
 data_causes true Stage.Received p why e = absurd (cc)
@@ -306,7 +293,7 @@ unknown_judged front k s Mark.Ack e = go (ack_causes s cause.UnknownTag e)
   where
     go : cause.UnknownTag ≡ cause.OutOfOrder → ⊥
     go e = cc
-unknown_judged front k s (Mark.Given p) e = unknown_two _ go (data_causes (front && asks_data k) s p cause.UnknownTag e)
+unknown_judged front k s (Mark.Given p) e = unknown_two _ go (data_causes (front && fits k p) s p cause.UnknownTag e)
   where
     go : cause.UnknownTag ≡ cause.SecondData → ⊥
     go e = cc
@@ -325,47 +312,73 @@ unknown_kind : (o : Opened) (t : Tag) (m : Mark) → (refusal_under (standing t 
 unknown_kind o t m = compose (unknown_due (standing t o) (is_next t o) m)
     (λ e. kind_under_is t o ∙ ap kind_part e, λ e. nothing_stands (standing t o) (sym (kind_under_is t o) ∙ e))
 
--- points
-awaits_due : (s : Standing) (b : Bool) (p : Point) → (refusal_under s b (Mark.Given p) ≡ None) ↔ ((s ≡ OfTouch Stage.Received) × (b ≡ true))
-awaits_due None b p = (λ e. absurd (cc), λ e. absurd (go e.0))
-  where
-    go : ◌≡◌ {A = Standing} None (OfTouch Stage.Received) → ⊥
-    go e = cc
-awaits_due (Some (k, s)) b p = (only, all)
-  where
-    only : refusal_of (judged_given (b && asks_data k) s p) ≡ None → (◌≡◌ {A = Standing} (Some (k, s)) (OfTouch Stage.Received))
-        × (b ≡ true)
-    only e = let both = data_none (b && asks_data k) s p e in let parts = and_parts b (asks_data k) both.0 in
-        (ap (λ (x : Stage). Some (k, x)) both.1 ∙ ap (λ (x : Kind). Some (x, Stage.Received)) (touch_only k parts.1), parts.0)
+-- what stands under a tag, in its parts
+abbrev kind_or : Standing → Kind → Kind
+kind_or None d = d
+kind_or (Some (k, s)) d = k
 
-    all : (◌≡◌ {A = Standing} (Some (k, s)) (OfTouch Stage.Received)) × (b ≡ true) → refusal_of (judged_given (b && asks_data k) s p) ≡ None
-    all e = ap (λ (x : Standing). refusal_under x b (Mark.Given p)) e.0
-        ∙ ap (λ (x : Bool). refusal_under (OfTouch Stage.Received) x (Mark.Given p)) e.1
+abbrev stage_or : Standing → Stage → Stage
+stage_or None d = d
+stage_or (Some (k, s)) d = s
 
-second_due : (s : Standing) (b : Bool) (p : Point) → (refusal_under s b (Mark.Given p) ≡ Some cause.SecondData)
-    ↔ (((q : Point) × (s ≡ OfTouch (Stage.Given q))) × (b ≡ true))
-second_due None b p = (λ e. absurd (cc), λ e. absurd (go e.0.0 e.0.1))
+pub kinds_same : (j k : Kind) (s r : Stage) → ◌≡◌ {A = Standing} (Some (j, s)) (Some (k, r)) → j ≡ k
+kinds_same j k s r e = ap (λ (x : Standing). kind_or x j) e
+
+pub stages_same : (j k : Kind) (s r : Stage) → ◌≡◌ {A = Standing} (Some (j, s)) (Some (k, r)) → s ≡ r
+stages_same j k s r e = ap (λ (x : Standing). stage_or x s) e
+
+-- a command that asks for data is at this stage
+abbrev pub Asks : Standing → Stage → Type 0
+Asks st s = (k : Kind) × (asks_data k ≡ true) × (st ≡ Some (k, s))
+
+-- what is asked of a command that asks for data, by what is given to it
+asked_of : (j k : Kind) (s r : Stage) (b : Bool) (d : Datum) → may_be_given (Some j) d ≡ true → asks_data k ≡ true
+    → ◌≡◌ {A = Standing} (Some (j, s)) (Some (k, r)) → b ≡ true
+    → refusal_of (judged_given (b && fits j d) s d) ≡ refusal_of (judged_given true r d)
+asked_of j k s r b d may asks is front =
+    let fit : fits j d ≡ true = asked j d may ∙ (ap asks_data (kinds_same j k s r is) ∙ asks) in
+    ap (λ (x : Bool). refusal_of (judged_given (x && fits j d) s d)) front
+    ∙ (ap (λ (x : Bool). refusal_of (judged_given x s d)) fit
+    ∙ ap (λ (x : Stage). refusal_of (judged_given true x d)) (stages_same j k s r is))
+
+awaits_due : (s : Standing) (b : Bool) (d : Datum) → may_be_given (kind_part s) d ≡ true → (refusal_under s b (Mark.Given d) ≡ None)
+    ↔ (Asks s Stage.Received × (b ≡ true))
+awaits_due None b d may = (λ e. absurd (cc), λ e. absurd (go e.0.0 e.0.2))
   where
-    go : (q : Point) → ◌≡◌ {A = Standing} None (OfTouch (Stage.Given q)) → ⊥
-    go q e = cc
-second_due (Some (k, s)) b p = (only, all)
+    go : (k : Kind) → ◌≡◌ {A = Standing} None (Some (k, Stage.Received)) → ⊥
+    go k e = cc
+awaits_due (Some (k, s)) b d may = (only, all)
   where
-    only : refusal_of (judged_given (b && asks_data k) s p) ≡ Some cause.SecondData
-        → ((q : Point) × (◌≡◌ {A = Standing} (Some (k, s)) (OfTouch (Stage.Given q)))) × (b ≡ true)
-    only e = let both = data_second (b && asks_data k) s p e in let parts = and_parts b (asks_data k) both.0 in (
-      (both.1.0, ap (λ (x : Stage). Some (k, x)) both.1.1 ∙ ap (λ (x : Kind). Some (x, Stage.Given both.1.0)) (touch_only k parts.1)),
-      parts.0,
-    )
+    only : refusal_of (judged_given (b && fits k d) s d) ≡ None → Asks (Some (k, s)) Stage.Received × (b ≡ true)
+    only e = let both = data_none (b && fits k d) s d e in let parts = and_parts b (fits k d) both.0 in
+        ((k, fits_asks k d parts.1, ap (λ (x : Stage). Some (k, x)) both.1), parts.0)
 
-    all : ((q : Point) × (◌≡◌ {A = Standing} (Some (k, s)) (OfTouch (Stage.Given q)))) × (b ≡ true)
-        → refusal_of (judged_given (b && asks_data k) s p) ≡ Some cause.SecondData
-    all e = ap (λ (x : Standing). refusal_under x b (Mark.Given p)) e.0.1
-        ∙ ap (λ (x : Bool). refusal_under (OfTouch (Stage.Given e.0.0)) x (Mark.Given p)) e.1
+    all : Asks (Some (k, s)) Stage.Received × (b ≡ true) → refusal_of (judged_given (b && fits k d) s d) ≡ None
+    all e = asked_of k e.0.0 s Stage.Received b d may e.0.1 e.0.2 e.1
 
-data_named : (s : Standing) (b : Bool) (p : Point) (why : Cause) → refusal_under s b (Mark.Given p) ≡ Some why
+-- a command that asks for data has them
+abbrev pub HasAsked : Standing → Type 0
+HasAsked st = (k : Kind) × (asks_data k ≡ true) × ((q : Datum) × (st ≡ Some (k, Stage.Given q)))
+
+second_due : (s : Standing) (b : Bool) (d : Datum) → may_be_given (kind_part s) d ≡ true
+    → (refusal_under s b (Mark.Given d) ≡ Some cause.SecondData) ↔ (HasAsked s × (b ≡ true))
+second_due None b d may = (λ e. absurd (cc), λ e. absurd (go e.0.0 e.0.2.0 e.0.2.1))
+  where
+    go : (k : Kind) (q : Datum) → ◌≡◌ {A = Standing} None (Some (k, Stage.Given q)) → ⊥
+    go k q e = cc
+second_due (Some (k, s)) b d may = (only, all)
+  where
+    only : refusal_of (judged_given (b && fits k d) s d) ≡ Some cause.SecondData → HasAsked (Some (k, s)) × (b ≡ true)
+    only e = let both = data_second (b && fits k d) s d e in let parts = and_parts b (fits k d) both.0 in
+        ((k, fits_asks k d parts.1, (both.1.0, ap (λ (x : Stage). Some (k, x)) both.1.1)), parts.0)
+
+    all : HasAsked (Some (k, s)) × (b ≡ true) → refusal_of (judged_given (b && fits k d) s d) ≡ Some cause.SecondData
+    all e = asked_of k e.0.0 s (Stage.Given e.0.2.0) b d may e.0.1 e.0.2.1 e.1
+
+data_named : (s : Standing) (b : Bool) (p : Datum) (why : Cause) → refusal_under s b (Mark.Given p) ≡ Some why
     → (fault_for (Some why) ≡ fault.UnknownTag) ⊎ (fault_for (Some why) ≡ fault.OutOfOrder) ⊎ (fault_for (Some why) ≡ fault.SecondData)
 data_named None b p why e = inl (ap fault_for (sym e))
-data_named (Some (k, s)) b p why e = named_two why _ _ (data_causes (b && asks_data k) s p why e)
+data_named (Some (k, s)) b p why e = named_two why _ _ (data_causes (b && fits k p) s p why e)
 
 -- ---- what a call knows of its answer
 
@@ -376,19 +389,22 @@ pub unknown_exactly : {T : Type 0} (o : Opened) (t : Tag) (m : Mark) (r : Result
     ↔ (kind_under t o ≡ None)
 unknown_exactly o t m r h = compose (err_exactly r _ cause.UnknownTag fault.UnknownTag refl h) (unknown_kind o t m)
 
-pub point_exactly : {T : Type 0} (o : Opened) (t : Tag) (p : Point) (r : Result T TagFault) → Agrees o t (Mark.Given p) r → IsOk r
-    ↔ AwaitsPoint t o
-point_exactly o t p r h = compose (ok_exactly r _ h) (compose (awaits_due (standing t o) (is_next t o) p)
-    (next_iff t o (standing t o ≡ OfTouch Stage.Received)))
+may_under : (o : Opened) (t : Tag) (d : Datum) → may_be_given (kind_under t o) d ≡ true → may_be_given (kind_part (standing t o)) d ≡ true
+may_under o t d may = ap (λ (k : Option Kind). may_be_given k d) (sym (kind_under_is t o)) ∙ may
 
-pub second_exactly : {T : Type 0} (o : Opened) (t : Tag) (p : Point) (r : Result T TagFault) → Agrees o t (Mark.Given p) r
-    → IsErrOf r fault.SecondData ↔ HasPoint t o
-second_exactly o t p r h = compose (err_exactly r _ cause.SecondData fault.SecondData refl h)
-    (compose (second_due (standing t o) (is_next t o) p) (next_iff t o ((q : Point) × (standing t o ≡ OfTouch (Stage.Given q)))))
+pub data_exactly : {T : Type 0} (o : Opened) (t : Tag) (d : Datum) (r : Result T TagFault) → may_be_given (kind_under t o) d ≡ true
+    → Agrees o t (Mark.Given d) r → IsOk r ↔ AwaitsData t o
+data_exactly o t d r may h = compose (ok_exactly r _ h) (compose (awaits_due (standing t o) (is_next t o) d (may_under o t d may))
+    (next_iff t o (Asks (standing t o) Stage.Received)))
 
-pub point_named : {T : Type 0} (o : Opened) (t : Tag) (p : Point) (r : Result T TagFault) → Agrees o t (Mark.Given p) r
+pub second_exactly : {T : Type 0} (o : Opened) (t : Tag) (d : Datum) (r : Result T TagFault) → may_be_given (kind_under t o) d ≡ true
+    → Agrees o t (Mark.Given d) r → IsErrOf r fault.SecondData ↔ HasData t o
+second_exactly o t d r may h = compose (err_exactly r _ cause.SecondData fault.SecondData refl h)
+    (compose (second_due (standing t o) (is_next t o) d (may_under o t d may)) (next_iff t o (HasAsked (standing t o))))
+
+pub data_told : {T : Type 0} (o : Opened) (t : Tag) (p : Datum) (r : Result T TagFault) → Agrees o t (Mark.Given p) r
     → IfErr r (λ f. (f ≡ fault.UnknownTag) ⊎ (f ≡ fault.OutOfOrder) ⊎ (f ≡ fault.SecondData))
-point_named o t p r h = named_by r _ (λ f. (f ≡ fault.UnknownTag) ⊎ (f ≡ fault.OutOfOrder)
+data_told o t p r h = named_by r _ (λ f. (f ≡ fault.UnknownTag) ⊎ (f ≡ fault.OutOfOrder)
     ⊎ (f ≡ fault.SecondData)) h (data_named (standing t o) (is_next t o) p)
 
 agrees : (T : Type 0) (o n : Opened) (t : Tag) (m : Mark) (e : T → Effect) (r : Result T TagFault) → IfOk r (λ x. heard o t m ≡ Ok (n, e x))

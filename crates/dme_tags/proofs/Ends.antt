@@ -2,13 +2,13 @@
 use Rattle.std.proofs.Common.{◌≡◌, ◌↔◌, ◌⊎◌, inl, inr, ℕ, Bool, true, false, cond, not, ◌&&◌, List, [], ◌∷◌, Option, Some, None, Result, Ok}
 use Rattle.std.proofs.Common.{Err, refl, sym, ◌∙◌, ap, subst}
 use Rattle.std.specs.Prelude.{IsOk, IsErrOf, IfOk, IfErr}
-use Rattle.fixed_um.specs.declared.lengths.Point.{Point}
 use Rattle.dme_line.specs.declared.tags.Tag.{Tag}
 use Rattle.dme_line.specs.declared.tags.Tag.TheVariants.{Std, Event}
 use Rattle.dme_line.specs.declared.commands.Kind.{Kind}
 use Rattle.protocol_model.specs.Replies.{Mark, tag_is}
 use Rattle.protocol_model.specs.Open.{Verdict, Becomes, Breaks, Closes, Counts, Refused, Effect, Heard, asks_data, is_failed, heard_in}
 use Rattle.protocol_model.specs.Open.{judged, judged_done, put_before, settled}
+use Rattle.protocol_model.specs.declared.held.Datum.{Datum}
 use Rattle.protocol_model.specs.declared.held.Held.{Held}
 use Rattle.protocol_model.specs.declared.held.Stage.{Stage}
 use Rattle.protocol_model.specs.declared.states.Cause.{Cause}
@@ -17,15 +17,15 @@ use Rattle.dme_tags.specs.Answers.{cause_of, effect_of, effect_heard, IsRefused}
 use Rattle.dme_tags.specs.Endings.{IsEnding}
 use Rattle.dme_tags.specs.Opened.{Opened, heard, kind_under, is_next}
 use Rattle.dme_tags.specs.Places.{ahead_of, all_failed}
-use Rattle.dme_tags.specs.Standing.{standing_in, standing, IsUnread, HasFailed, AwaitsPoint, CountsAs}
+use Rattle.dme_tags.specs.Standing.{standing_in, standing, IsUnread, HasFailed, AwaitsData, CountsAs}
 use Rattle.dme_tags.specs.declared.faults.TagFault.{TagFault}
 use Rattle.dme_tags.specs.declared.faults.TagFault.TheVariants as fault
 use Rattle.dme_tags.specs.declared.endings.Ended.{Ended}
 use Rattle.dme_tags.specs.declared.endings.Ended.TheVariants as ended
 use Rattle.dme_tags.proofs.Refusals.{refused_standard, refused_event}
 use Rattle.dme_tags.proofs.Effects.{standard_effect, event_effect}
-use Rattle.dme_tags.proofs.Dues.{Standing, OfTouch, Agrees, IsSaid, and_assoc, and_true, compose, err_exactly, fault_for, fits_err}
-use Rattle.dme_tags.proofs.Dues.{named_by, next_all, next_iff, next_only, none_some, ok_exactly, refusal_of, refusal_under, touch_only}
+use Rattle.dme_tags.proofs.Dues.{Standing, Asks, Agrees, IsSaid, and_assoc, and_true, compose, err_exactly, fault_for, fits_err}
+use Rattle.dme_tags.proofs.Dues.{named_by, next_all, next_iff, next_only, none_some, ok_exactly, refusal_of, refusal_under}
 use Rattle.dme_tags.proofs.Dues.{ack_causes, agrees_event, agrees_standard, done_causes, error_causes, named_two, unknown_exactly}
 
 -- ---- the effect of a mark
@@ -114,8 +114,8 @@ plain_all s b k h = ap (λ (x : Standing). effect_under x b Mark.Done) h.0
     ∙ (ap (λ (a : Bool). effect_of_verdict k (judged_done b a Stage.Received)) h.1
     ∙ ap (λ (x : Bool). effect_of_verdict k (judged_done x false Stage.Received)) h.2)
 
--- a command with its point
-given_only : (s : Standing) (b : Bool) (k : Kind) (p : Point) → effect_under s b Mark.Done ≡ Some (Effect.Count k (Some p))
+-- a command with its data
+given_only : (s : Standing) (b : Bool) (k : Kind) (p : Datum) → effect_under s b Mark.Done ≡ Some (Effect.Count k (Some p))
     → (s ≡ Some (k, Stage.Given p)) × (b ≡ true)
 given_only None b k p e = absurd (cc)
 given_only (Some (j, s)) b k p e = go b (asks_data j) s e
@@ -125,19 +125,19 @@ given_only (Some (j, s)) b k p e = go b (asks_data j) s e
     go true true Stage.Sent e = absurd (cc)
     go true true Stage.Received e = absurd (cc)
     go true true (Stage.Given q) e = let same : j ≡ k = cc in let at : q ≡ p = cc
-        in (ap (λ (x : Kind). Some (x, Stage.Given q)) same ∙ ap (λ (x : Point). Some (k, Stage.Given x)) at, refl)
+        in (ap (λ (x : Kind). Some (x, Stage.Given q)) same ∙ ap (λ (x : Datum). Some (k, Stage.Given x)) at, refl)
     go true true Stage.Failed e = absurd (cc)
     go true false Stage.Sent e = absurd (cc)
     go true false Stage.Received e = absurd (cc)
     go true false (Stage.Given q) e = let same : j ≡ k = cc in let at : q ≡ p = cc
-        in (ap (λ (x : Kind). Some (x, Stage.Given q)) same ∙ ap (λ (x : Point). Some (k, Stage.Given x)) at, refl)
+        in (ap (λ (x : Kind). Some (x, Stage.Given q)) same ∙ ap (λ (x : Datum). Some (k, Stage.Given x)) at, refl)
     go true false Stage.Failed e = absurd (cc)
     go false a Stage.Sent e = absurd (cc)
     go false a Stage.Received e = absurd (cc)
     go false a (Stage.Given q) e = absurd (cc)
     go false a Stage.Failed e = absurd (cc)
 
-given_all : (s : Standing) (b : Bool) (k : Kind) (p : Point) → (s ≡ Some (k, Stage.Given p)) × (b ≡ true)
+given_all : (s : Standing) (b : Bool) (k : Kind) (p : Datum) → (s ≡ Some (k, Stage.Given p)) × (b ≡ true)
     → effect_under s b Mark.Done ≡ Some (Effect.Count k (Some p))
 given_all s b k p h = ap (λ (x : Standing). effect_under x b Mark.Done) h.0
     ∙ (ap (λ (x : Bool). effect_under (Some (k, Stage.Given p)) x Mark.Done) h.1 ∙ go (asks_data k))
@@ -174,18 +174,18 @@ closed_all s b h = ap (λ (x : Standing). effect_under x b Mark.Done) h.1 ∙ go
     go true false = refl
     go false a = refl
 
--- a touch without its point
-pointless_due : (s : Standing) (b : Bool) → (refusal_under s b Mark.Done ≡ Some cause.NoData) ↔ ((s ≡ OfTouch Stage.Received) × (b ≡ true))
-pointless_due s b = (only s, all)
+-- a command without its data
+unanswered_due : (s : Standing) (b : Bool) → (refusal_under s b Mark.Done ≡ Some cause.NoData) ↔ (Asks s Stage.Received × (b ≡ true))
+unanswered_due s b = (only s, all)
   where
-    only : (s : Standing) → refusal_under s b Mark.Done ≡ Some cause.NoData → (s ≡ OfTouch Stage.Received) × (b ≡ true)
+    only : (s : Standing) → refusal_under s b Mark.Done ≡ Some cause.NoData → Asks s Stage.Received × (b ≡ true)
     only None e = absurd (cc)
     only (Some (k, s)) e = go b (asks_data k) refl s e
       where
         go : (b a : Bool) → asks_data k ≡ a → (s : Stage) → refusal_of (judged_done b a s) ≡ Some cause.NoData
-            → (◌≡◌ {A = Standing} (Some (k, s)) (OfTouch Stage.Received)) × (b ≡ true)
+            → Asks (Some (k, s)) Stage.Received × (b ≡ true)
         go true true is Stage.Sent e = absurd (cc)
-        go true true is Stage.Received e = (ap (λ (x : Kind). Some (x, Stage.Received)) (touch_only k is), refl)
+        go true true is Stage.Received e = ((k, is, refl), refl)
         go true true is (Stage.Given q) e = absurd (cc)
         go true true is Stage.Failed e = absurd (cc)
         go true false is Stage.Sent e = absurd (cc)
@@ -197,9 +197,10 @@ pointless_due s b = (only s, all)
         go false a is (Stage.Given q) e = absurd (cc)
         go false a is Stage.Failed e = absurd (cc)
 
-    all : (s ≡ OfTouch Stage.Received) × (b ≡ true) → refusal_under s b Mark.Done ≡ Some cause.NoData
-    all h = ap (λ (x : Standing). refusal_under x b Mark.Done) h.0
-        ∙ ap (λ (x : Bool). refusal_under (OfTouch Stage.Received) x Mark.Done) h.1
+    all : Asks s Stage.Received × (b ≡ true) → refusal_under s b Mark.Done ≡ Some cause.NoData
+    all h = ap (λ (x : Standing). refusal_under x b Mark.Done) h.0.2
+        ∙ (ap (λ (x : Bool). refusal_of (judged_done b x Stage.Received)) h.0.1
+        ∙ ap (λ (x : Bool). refusal_of (judged_done x true Stage.Received)) h.1)
 
 done_named : (s : Standing) (b : Bool) (why : Cause) → refusal_under s b Mark.Done ≡ Some why
     → (fault_for (Some why) ≡ fault.UnknownTag) ⊎ (fault_for (Some why) ≡ fault.OutOfOrder) ⊎ (fault_for (Some why) ≡ fault.NoData)
@@ -216,10 +217,10 @@ ends_agrees : (o : Opened) (t : Tag) (r : Result Ended TagFault) → Ends o t r 
 ends_agrees o t (Ok x) h = effect_taken (standing t o) (is_next t o) Mark.Done (effect_of x) h
 ends_agrees o t (Err f) h = h
 
-ended_is : (x : Ended) (k : Kind) (given : Option Point) → effect_of x ≡ Effect.Count k given → x ≡ ended.Counted k given
+ended_is : (x : Ended) (k : Kind) (given : Option Datum) → effect_of x ≡ Effect.Count k given → x ≡ ended.Counted k given
 ended_is (ended.Counted j other) k given e =
     let same : j ≡ k = cc in let at : other ≡ given = cc in ap (λ (i : Kind). ended.Counted i other) same
-    ∙ ap (λ (q : Option Point). ended.Counted k q) at
+    ∙ ap (λ (q : Option Datum). ended.Counted k q) at
 ended_is ended.Closed k given e = absurd (cc)
 
 closed_is : (x : Ended) → effect_of x ≡ Effect.Quiet → x ≡ ended.Closed
@@ -253,7 +254,7 @@ end_exactly o t (Err f) x only h = (
     apart : ◌≡◌ {A = Result Ended TagFault} (Err f) (Ok x) → ⊥
     apart e = cc
 
-counted_exactly : (o : Opened) (t : Tag) (r : Result Ended TagFault) → Ends o t r → (k : Kind) (given : Option Point)
+counted_exactly : (o : Opened) (t : Tag) (r : Result Ended TagFault) → Ends o t r → (k : Kind) (given : Option Datum)
     → (r ≡ Ok (ended.Counted k given)) ↔ CountsAs t o k given
 counted_exactly o t r h k None = compose (end_exactly o t r (ended.Counted k None) (λ y. ended_is y k None) h) (
   λ e. let c = plain_only (standing t o) (is_next t o) k e in (c.0, c.1, next_only t o c.2),
@@ -268,9 +269,9 @@ closed_exactly : (o : Opened) (t : Tag) (r : Result Ended TagFault) → Ends o t
 closed_exactly o t r h = compose (end_exactly o t r ended.Closed closed_is h)
     (λ e. closed_only (standing t o) (is_next t o) e, λ e. closed_all (standing t o) (is_next t o) e)
 
-no_data_exactly : (o : Opened) (t : Tag) (r : Result Ended TagFault) → Ends o t r → IsErrOf r fault.NoData ↔ AwaitsPoint t o
+no_data_exactly : (o : Opened) (t : Tag) (r : Result Ended TagFault) → Ends o t r → IsErrOf r fault.NoData ↔ AwaitsData t o
 no_data_exactly o t r h = compose (err_exactly r _ cause.NoData fault.NoData refl (ends_agrees o t r h))
-    (compose (pointless_due (standing t o) (is_next t o)) (next_iff t o (standing t o ≡ OfTouch Stage.Received)))
+    (compose (unanswered_due (standing t o) (is_next t o)) (next_iff t o (Asks (standing t o) Stage.Received)))
 
 end_named : (o : Opened) (t : Tag) (r : Result Ended TagFault) → Ends o t r
     → IfErr r (λ f. (f ≡ fault.UnknownTag) ⊎ (f ≡ fault.OutOfOrder) ⊎ (f ≡ fault.NoData))

@@ -2,16 +2,17 @@
 use Rattle.std.proofs.Common.{◌≡◌, ℕ, ◌-◌, Bool, true, false, cond, not, ◌&&◌, List, [], ◌∷◌, ◌++◌, Option, Some, None, Ok, Err, refl, sym}
 use Rattle.std.proofs.Common.{◌∙◌, ap, subst}
 use Rattle.std.proofs.lemmas.Bool.{true≢false}
-use Rattle.fixed_um.specs.declared.lengths.Point.{Point}
 use Rattle.dme_line.specs.Kinds.{is_event_kind}
 use Rattle.dme_line.specs.declared.tags.Tag.{Tag}
 use Rattle.dme_line.specs.declared.tags.Tag.TheVariants.{Std, Event}
 use Rattle.dme_line.specs.declared.commands.Kind.{Kind}
 use Rattle.protocol_model.specs.Replies.{Mark, tag_is}
-use Rattle.protocol_model.specs.Open.{Verdict, Becomes, Breaks, Closes, Counts, Refused, Effect, Heard, asks_data, heard_in, is_failed}
+use Rattle.protocol_model.specs.Open.{Verdict, Becomes, Breaks, Closes, Counts, Refused, Effect, Heard}
+use Rattle.protocol_model.specs.Open.{asks_data, fits, heard_in, is_failed}
 use Rattle.protocol_model.specs.Open.{is_held, judged, judged_ack, judged_given, judged_done, judged_error}
 use Rattle.protocol_model.specs.Client.{held_now, next_number}
 use Rattle.protocol_model.specs.Language.{Placed, marks_of, IsRepliesFront, AreAtFront, Goes, Accepts}
+use Rattle.protocol_model.specs.declared.held.Datum.{Datum}
 use Rattle.protocol_model.specs.declared.held.Held.{Held}
 use Rattle.protocol_model.specs.declared.held.Stage.{Stage}
 use Rattle.protocol_model.proofs.table.Basics.{if_true, if_false, tag_is-refl, tag_is-true}
@@ -23,7 +24,7 @@ use Rattle.dme_tags.specs.Calls.{taken_under, until_end}
 use Rattle.dme_tags.specs.Opened.{Opened, Answer, heard, heard_standard, heard_event, failed_behind, is_next, next_tag, tagged, with_drawn}
 use Rattle.dme_tags.specs.Places.{ahead_of, all_failed}
 use Rattle.dme_tags.specs.Standing.{standing_in, standing}
-use Rattle.dme_tags.proofs.Dues.{Standing, and_assoc, and_true}
+use Rattle.dme_tags.proofs.Dues.{Standing, and_assoc, and_true, kinds_same, stages_same}
 
 -- ---- what becomes of a command
 
@@ -37,20 +38,6 @@ Stays (Refused why) k st = ⊥
 
 stays_by : (v w : Verdict) (k : Kind) (x y : Standing) → v ≡ w → x ≡ y → Stays w k y → Stays v k x
 stays_by v w k x y e f h = subst (λ (z : Verdict). Stays z k x) (sym e) (subst (λ (z : Standing). Stays w k z) (sym f) h)
-
-abbrev kind_or : Standing → Kind → Kind
-kind_or None d = d
-kind_or (Some (k, s)) d = k
-
-abbrev stage_or : Standing → Stage → Stage
-stage_or None d = d
-stage_or (Some (k, s)) d = s
-
-kinds_same : (j k : Kind) (s r : Stage) → ◌≡◌ {A = Standing} (Some (j, s)) (Some (k, r)) → j ≡ k
-kinds_same j k s r e = ap (λ (x : Standing). kind_or x j) e
-
-stages_same : (j k : Kind) (s r : Stage) → ◌≡◌ {A = Standing} (Some (j, s)) (Some (k, r)) → s ≡ r
-stages_same j k s r e = ap (λ (x : Standing). stage_or x s) e
 
 moved : (front : Bool) (hs gs : List Held) (t : Tag) (m : Mark) (e : Effect) (k : Kind) (s : Stage) → heard_in front hs t m ≡ two gs e
     → standing_in t hs ≡ Some (k, s)
@@ -225,7 +212,7 @@ further_ack Stage.Received = tt
 further_ack (Stage.Given p) = tt
 further_ack Stage.Failed = tt
 
-further_data : (b : Bool) (s : Stage) (p : Point) → Goes_further (judged_given b s p)
+further_data : (b : Bool) (s : Stage) (p : Datum) → Goes_further (judged_given b s p)
 further_data true Stage.Sent p = tt
 further_data true Stage.Received p = tt
 further_data true (Stage.Given q) p = tt
@@ -257,8 +244,8 @@ accepted : (k : Kind) (st : Standing) (s : Stage) (front : Bool) (m : Mark) (lat
     → ((r : Stage) → st ≡ Some (k, r) → Accepts k r later)
     → Stays (judged front k s m) k st → Accepts k s ((front, m) ∷ until_end m later)
 accepted k st s front Mark.Ack later ih stays = goes_further k st later (judged_ack s) ih (further_ack s) stays
-accepted k st s front (Mark.Given p) later ih stays = goes_further k st later (judged_given (front && asks_data k) s p) ih
-    (further_data (front && asks_data k) s p) stays
+accepted k st s front (Mark.Given p) later ih stays = goes_further k st later (judged_given (front && fits k p) s p) ih
+    (further_data (front && fits k p) s p) stays
 accepted k st s front Mark.Error later ih stays = goes_further k st later (judged_error s) ih (further_error s) stays
 accepted k st s front Mark.Done later ih stays = goes_to_end k st (judged_done front (asks_data k) s) stays
 
@@ -291,7 +278,7 @@ follows k s t o [] e = tt
 follows k s t o (Draw kind ∷ calls) e = follows k s t (behind_draw o kind (next_tag o kind)) calls
     (drawn_keeps o t kind (k, s) (next_tag o kind) e)
 follows k s t o (Received u ∷ calls) e = marked k s t u Mark.Ack o (λ p. taken_under t p calls) (λ r p f. follows k r t p calls f) e
-follows k s t o (Data u point ∷ calls) e = marked k s t u (Mark.Given point) o (λ p. taken_under t p calls)
+follows k s t o (Data u datum ∷ calls) e = marked k s t u (Mark.Given datum) o (λ p. taken_under t p calls)
     (λ r p f. follows k r t p calls f) e
 follows k s t o (Failed u ∷ calls) e = marked k s t u Mark.Error o (λ p. taken_under t p calls) (λ r p f. follows k r t p calls f) e
 follows k s t o (Complete u ∷ calls) e = marked k s t u Mark.Done o (λ p. taken_under t p calls) (λ r p f. follows k r t p calls f) e
@@ -335,7 +322,7 @@ begun o kind t is = go (is_event_kind kind) is
         (tag_drawn Std o.standard o.drawn t is)))
 
 pub in_language : (o : Opened) (kind : Kind) (t : Tag) (calls : List Call) → next_tag o kind ≡ Some t
-    → IsRepliesFront (asks_data kind) (marks_of (taken_under t (with_drawn o t kind) calls))
+    → IsRepliesFront (asks_data kind) (fits kind) (marks_of (taken_under t (with_drawn o t kind) calls))
 in_language o kind t calls is = (accepts_only kind (taken_under t (with_drawn o t kind) calls)
     (follows kind Stage.Sent t (with_drawn o t kind) calls (begun o kind t is))).0
 

@@ -2,6 +2,7 @@ pub mod Numbers
 pub mod Places
 pub mod Drawn
 pub mod Refusals
+pub mod Fitting
 pub mod Tables
 pub mod Effects
 pub mod Dues

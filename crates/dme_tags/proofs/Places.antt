@@ -1,12 +1,14 @@
 -- What a mark does at the place of its command.
-use Rattle.std.proofs.Common.{◌≡◌, ℕ, suc, ◌<◌, Bool, true, false, cond, ◌&&◌, not, Option, Some, None, List, [], ◌∷◌, ◌++◌, length, get_or}
+use Rattle.std.proofs.Common.{◌≡◌, ℕ, suc, ◌<◌, Bool, true, false, cond, ◌&&◌, ◌||◌, not, Option, Some, None, List, []}
+use Rattle.std.proofs.Common.{◌∷◌, ◌++◌, length, get_or}
 use Rattle.std.proofs.Common.{take, drop, set, Ok, Err, ◌+◌, refl, sym, ◌∙◌, ap, arith, add-one}
-use Rattle.std.specs.List.{count_by, remove}
+use Rattle.std.specs.List.{count_by, list_any, remove}
 use Rattle.std.proofs.lemmas.Bool.{true≢false}
 use Rattle.std.proofs.lemmas.List.Recursion.{is_count_by}
 use Rattle.dme_line.specs.declared.tags.Tag.{Tag}
 use Rattle.protocol_model.specs.Replies.{Mark, tag_is}
-use Rattle.protocol_model.specs.Open.{Effect, Heard, count_open, is_held, is_failed, heard_in, settled, judged, put_before}
+use Rattle.protocol_model.specs.Open.{Effect, Heard, asks_homed, count_open, is_asking, is_held, is_failed}
+use Rattle.protocol_model.specs.Open.{heard_in, settled, judged, put_before}
 use Rattle.protocol_model.specs.Ends.{held_kind}
 use Rattle.protocol_model.specs.declared.held.Held.{Held}
 use Rattle.protocol_model.specs.declared.held.Stage.{Stage}
@@ -79,6 +81,11 @@ count_open_by hs = is_count_by count_open (λ h. not (is_failed h.stage)) refl (
     turned : (b : Bool) (n : ℕ) → cond b n (suc n) ≡ cond (not b) (1 + n) n
     turned true n = refl
     turned false n = omega arith
+
+-- an open IsHomed by std's search
+pub is_asking_by : (hs : List Held) → is_asking hs ≡ list_any (λ h. asks_homed h.kind && not (is_failed h.stage)) hs
+is_asking_by [] = refl
+is_asking_by (h ∷ hs) = ap (λ (b : Bool). (asks_homed h.kind && not (is_failed h.stage)) || b) (is_asking_by hs)
 
 -- ---- at the place of a command
 

@@ -1,6 +1,5 @@
 -- A client's table changes as its open commands do.
 use Rattle.std.proofs.Common.{◌≡◌, ℕ, Bool, true, false, not, cond, List, [], ◌∷◌, Option, Some, None, Result, Ok, Err, refl, sym, ◌∙◌, ap}
-use Rattle.fixed_um.specs.declared.lengths.Point.{Point}
 use Rattle.dme_line.specs.Kinds.{is_event_kind}
 use Rattle.dme_line.specs.declared.tags.Tag.{Tag}
 use Rattle.dme_line.specs.declared.tags.Tag.TheVariants.{Std, Event}
@@ -10,6 +9,8 @@ use Rattle.protocol_model.specs.Replies.{Mark}
 use Rattle.protocol_model.specs.Open.{Effect, Heard, heard_in}
 use Rattle.protocol_model.specs.Client as client
 use Rattle.protocol_model.specs.Client.{Client, Table, Tally, tallied, measured, counted_next, heard_on, next_number}
+use Rattle.protocol_model.specs.declared.held.Datum.{Datum}
+use Rattle.protocol_model.specs.declared.held.Datum.TheVariants as datum
 use Rattle.protocol_model.specs.declared.held.Held.{Held}
 use Rattle.protocol_model.specs.declared.plans.Planned.{Planned}
 use Rattle.protocol_model.specs.declared.plans.Does.{Does}
@@ -25,17 +26,20 @@ Answered = Result (Opened × Effect) Cause
 ok_same : (a b : Opened × Effect) → ◌≡◌ {A = Answered} (Ok a) (Ok b) → a ≡ b
 ok_same a b is = cc
 
-measured_failed : (c : Client) (does : Does) (given : Option Point) (y : Tally)
+measured_failed : (c : Client) (does : Does) (given : Option Datum) (y : Tally)
     → (measured c.program.features does given y).failed ≡ y.failed
 measured_failed c Does.Nothing given y = refl
+measured_failed c Does.AsksHomed given y = refl
 measured_failed c Does.Homes given y = refl
 measured_failed c (Does.Moves p f) given y = refl
 measured_failed c (Does.Changes n) given y = refl
 measured_failed c (Does.Frames f) given y = refl
 measured_failed c (Does.Touches t true) None y = refl
-measured_failed c (Does.Touches t true) (Some p) y = refl
+measured_failed c (Does.Touches t true) (Some (datum.Point p)) y = refl
 measured_failed c (Does.Touches t false) None y = refl
-measured_failed c (Does.Touches t false) (Some p) y = refl
+measured_failed c (Does.Touches t false) (Some (datum.Point p)) y = refl
+measured_failed c (Does.Touches t true) (Some (datum.Homed homed)) y = refl
+measured_failed c (Does.Touches t false) (Some (datum.Homed homed)) y = refl
 
 tallied_failed : (c : Client) (effect : Effect) (y : Tally) → (tallied c.program.features effect y).failed ≡ failed_behind effect y.failed
 tallied_failed c Effect.Quiet y = refl

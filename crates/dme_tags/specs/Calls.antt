@@ -1,18 +1,18 @@
 -- Lists of calls on the open commands of a client, in any order (this profile).
 use Rattle.std.specs.Prelude.{Bool, false, if◌then◌else◌, Option, Some, None, List, [], ◌∷◌, Ok, Err}
-use Rattle.fixed_um.specs.declared.lengths.Point.{Point}
 use Rattle.dme_line.specs.declared.tags.Tag.{Tag}
 use Rattle.dme_line.specs.declared.commands.Kind.{Kind}
 use Rattle.protocol_model.specs.Replies.{Mark, tag_is}
 use Rattle.protocol_model.specs.Language.{Placed}
+use Rattle.protocol_model.specs.declared.held.Datum.{Datum}
 use Rattle.dme_tags.specs.Opened.{Opened, Answer, heard, is_next, next_tag, with_drawn}
 
--- a call that did not want for memory: a tag is drawn for a command of this kind; `&`, a point, `!` or `%` is read under a tag; a plan
+-- a call that did not want for memory: a tag is drawn for a command of this kind; `&`, data, `!` or `%` is read under a tag; a plan
 -- begins
 pub data Call : Type 0 where
   Draw : Kind → Call
   Received : Tag → Call
-  Data : Tag → Point → Call
+  Data : Tag → Datum → Call
   Failed : Tag → Call
   Complete : Tag → Call
   BeginPlan : Call
@@ -31,7 +31,7 @@ behind_answer o (Err cause) = o
 abbrev pub behind_call : Opened → Call → Opened
 behind_call o (Draw kind) = behind_draw o kind (next_tag o kind)
 behind_call o (Received t) = behind_answer o (heard o t Mark.Ack)
-behind_call o (Data t point) = behind_answer o (heard o t (Mark.Given point))
+behind_call o (Data t datum) = behind_answer o (heard o t (Mark.Given datum))
 behind_call o (Failed t) = behind_answer o (heard o t Mark.Error)
 behind_call o (Complete t) = behind_answer o (heard o t Mark.Done)
 behind_call o BeginPlan = record o { failed = false }
@@ -44,7 +44,7 @@ behind_calls o (call ∷ calls) = behind_calls (behind_call o call) calls
 -- the marks behind one that was taken in: `%` is the last
 abbrev pub until_end : Mark → List Placed → List Placed
 until_end Mark.Ack later = later
-until_end (Mark.Given point) later = later
+until_end (Mark.Given datum) later = later
 until_end Mark.Error later = later
 until_end Mark.Done later = []
 
@@ -61,7 +61,7 @@ placed t o u m later = if tag_is u t then answered (is_next t o) m (heard o u m)
 abbrev pub placed_by : Tag → Opened → Call → List Placed → List Placed
 placed_by t o (Draw kind) later = later
 placed_by t o (Received u) later = placed t o u Mark.Ack later
-placed_by t o (Data u point) later = placed t o u (Mark.Given point) later
+placed_by t o (Data u datum) later = placed t o u (Mark.Given datum) later
 placed_by t o (Failed u) later = placed t o u Mark.Error later
 placed_by t o (Complete u) later = placed t o u Mark.Done later
 placed_by t o BeginPlan later = later

@@ -1,6 +1,7 @@
 pub mod Limits
 pub mod Opened
 pub mod Answers
+pub mod Data
 pub mod Standing
 pub mod Endings
 pub mod Calls

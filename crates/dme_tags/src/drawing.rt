@@ -34,6 +34,7 @@ impl Sort {
             Kind::StartSession
             | Kind::EndSession
             | Kind::ClearAllErrors
+            | Kind::IsHomed
             | Kind::Home
             | Kind::OnPtMeasReport
             | Kind::GoTo

@@ -13,9 +13,9 @@ pub enum TagFault {
     UnknownTag,
     /// G2: the mark may not come for the command now.
     OutOfOrder,
-    /// G3: a touch is complete without its point.
+    /// G3: a `PtMeas` or `IsHomed` is complete without its data.
     NoData,
-    /// G4: a touch is given a second point.
+    /// G4: a `PtMeas` or `IsHomed` is given a second data line.
     SecondData,
     /// G5: all tags are held.
     TagsSpent,

@@ -4,7 +4,7 @@ ghost use Rattle.std.specs.Prelude.{◌≡◌, false, List, Some, None, Ok, Err}
 ghost use Rattle.dme_line.specs.Kinds.{is_event_kind};
 ghost use Rattle.dme_line.specs.declared.tags.Tag.TheVariants.{Std, Event};
 ghost use Rattle.protocol_model.specs.Replies.{Mark};
-ghost use Rattle.protocol_model.specs.Open.{Effect, asks_data};
+ghost use Rattle.protocol_model.specs.Open.{Effect, asks_data, fits};
 ghost use Rattle.protocol_model.specs.Language.{marks_of, IsRepliesFront, AreAtFront};
 ghost use Rattle.protocol_model.specs.Client.{Client, heard_on, next_number};
 ghost use Rattle.protocol_model.specs.declared.states.Cause.{Cause};
@@ -55,7 +55,7 @@ pub fn client_draws_the_same()
 pub fn marks_of_a_command_are_its_replies()
     ensures in_language { (o : Opened) (kind : Kind) (tag : Tag) (calls : List Call)
         → next_tag o kind ≡ Some tag
-        → IsRepliesFront (asks_data kind) (marks_of
+        → IsRepliesFront (asks_data kind) (fits kind) (marks_of
         (taken_under tag (with_drawn o tag kind) calls)) }
     ensures at_front { (o : Opened) (kind : Kind) (tag : Tag) (calls : List Call)
         → next_tag o kind ≡ Some tag

@@ -19,3 +19,4 @@ mod open_commands;
 pub use endings::Ended;
 pub use faults::TagFault;
 pub use open_commands::Open;
+pub use protocol_model::Datum;

@@ -1,23 +1,24 @@
 // What each mark does to the open commands of one sort of tags.
 
 ghost use Rattle.std.specs.Prelude.{◌≡◌, ◌≤◌, Bool, true, false, not, ◌&&◌, List, ◌∷◌, length, take, count_by, Some, IfOk, IfErr, OnOk, OnErr};
+ghost use Rattle.std.specs.List.{list_any};
 ghost use Rattle.protocol_model.specs.Replies.{Mark, tag_is};
-ghost use Rattle.protocol_model.specs.Open.{Effect, asks_data, count_open, heard_in, is_failed, is_held, judged, settled};
+ghost use Rattle.protocol_model.specs.Open.{Effect, asks_data, asks_homed, count_open, heard_in, is_asking, is_failed, is_held, judged, settled};
 ghost use Rattle.protocol_model.specs.Ends.{held_kind};
+ghost use Rattle.dme_tags.specs.Data.{has_its_data, may_be_given, AreFit};
 ghost use Rattle.dme_tags.specs.Answers.{cause_of, effect_of, effect_heard, failure_of, is_counted, IsRefused};
 ghost use Rattle.dme_tags.specs.Places.{IsAt, ahead_of, all_failed};
 
 use crate::endings::Ended;
 use crate::faults::TagFault;
 use dme_line::{Kind, Tag};
-use fixed_um::Point;
-use protocol_model::{Held, Stage};
+use protocol_model::{Datum, Held, Stage};
 
-/// Whether a command asks for data: a touch does.
+/// Whether a command asks for data: a touch asks for its point, and `IsHomed` whether the machine is homed.
 fn asks_data(kind: Kind) -> bool
     ensures { result ≡ asks_data kind }
 {
-    matches!(kind, Kind::PtMeas)
+    matches!(kind, Kind::PtMeas | Kind::IsHomed)
 }
 
 /// Whether two tags are one.
@@ -57,13 +58,14 @@ fn acknowledged(held: Held) -> Result<Held, TagFault>
     }
 }
 
-/// What a command becomes under whose tag a point is read.
-fn given(held: Held, front: bool, point: Point) -> Result<Held, TagFault>
+/// What a command becomes under whose tag data are read.
+fn given(held: Held, front: bool, datum: Datum) -> Result<Held, TagFault>
+    requires { may_be_given (Some held.kind) datum ≡ true }
     ensures ok { IfOk result (λ h. (hs : List Held)
-        → settled held hs (judged front held.kind held.stage (Mark.Given point))
+        → settled held hs (judged front held.kind held.stage (Mark.Given datum))
         ≡ Ok (h ∷ hs, Effect.Quiet)) }
     ensures refused { IfErr result (λ fault. (hs : List Held)
-        → IsRefused (settled held hs (judged front held.kind held.stage (Mark.Given point)))
+        → IsRefused (settled held hs (judged front held.kind held.stage (Mark.Given datum)))
         (cause_of fault)) }
 {
     if !front || !asks_data(held.kind) {
@@ -71,7 +73,7 @@ fn given(held: Held, front: bool, point: Point) -> Result<Held, TagFault>
     }
     match held.stage {
         Stage::Received => Ok(Held {
-            stage: Stage::Given(point),
+            stage: Stage::Given(datum),
             ..held
         }),
         Stage::Given(_) => Err(TagFault::SecondData),
@@ -94,7 +96,7 @@ fn ended(held: Held, front: bool) -> Result<Ended, TagFault>
         Stage::Failed => Ok(Ended::Closed),
         Stage::Received if front && !asks_data(kind) => Ok(Ended::Counted(kind, None)),
         Stage::Received if front => Err(TagFault::NoData),
-        Stage::Given(point) if front => Ok(Ended::Counted(kind, Some(point))),
+        Stage::Given(datum) if front => Ok(Ended::Counted(kind, Some(datum))),
         Stage::Sent | Stage::Received | Stage::Given(_) => Err(TagFault::OutOfOrder),
     }
 }
@@ -139,6 +141,7 @@ pub(crate) fn receive(commands: &mut Vec<Held>, tag: Tag) -> Result<(), TagFault
     ensures refused { IfErr result (λ fault. (front : Bool)
         → IsRefused (heard_in front commands.old.items tag Mark.Ack) (cause_of fault)) }
     ensures err { OnErr result (commands.new.items ≡ commands.old.items) }
+    ensures fit { AreFit commands.old.items → AreFit commands.new.items }
 {
     let (index, held) = find(commands, tag)?;
     let next = acknowledged(held)?;
@@ -146,21 +149,23 @@ pub(crate) fn receive(commands: &mut Vec<Held>, tag: Tag) -> Result<(), TagFault
     Ok(())
 }
 
-/// A point is read. `front`: nothing but an earlier command of the list keeps one back.
+/// Data are read. `front`: nothing but an earlier command of the list keeps them back.
 pub(crate) fn give(
     commands: &mut Vec<Held>,
     front: bool,
     tag: Tag,
-    point: Point,
+    datum: Datum,
 ) -> Result<(), TagFault>
-    ensures ok { OnOk result (heard_in front commands.old.items tag (Mark.Given point)
+    requires { may_be_given (held_kind tag commands.old.items) datum ≡ true }
+    ensures ok { OnOk result (heard_in front commands.old.items tag (Mark.Given datum)
         ≡ Ok (commands.new.items, Effect.Quiet)) }
     ensures refused { IfErr result (λ fault.
-        IsRefused (heard_in front commands.old.items tag (Mark.Given point)) (cause_of fault)) }
+        IsRefused (heard_in front commands.old.items tag (Mark.Given datum)) (cause_of fault)) }
     ensures err { OnErr result (commands.new.items ≡ commands.old.items) }
+    ensures fit { AreFit commands.old.items → AreFit commands.new.items }
 {
     let (index, held) = find(commands, tag)?;
-    let next = given(held, is_front(front, commands, index), point)?;
+    let next = given(held, is_front(front, commands, index), datum)?;
     commands[index] = next;
     Ok(())
 }
@@ -173,6 +178,7 @@ pub(crate) fn fail(commands: &mut Vec<Held>, tag: Tag) -> Result<bool, TagFault>
     ensures refused { IfErr result (λ fault. (front : Bool)
         → IsRefused (heard_in front commands.old.items tag Mark.Error) (cause_of fault)) }
     ensures err { OnErr result (commands.new.items ≡ commands.old.items) }
+    ensures fit { AreFit commands.old.items → AreFit commands.new.items }
 {
     let (index, held) = find(commands, tag)?;
     commands[index] = Held {
@@ -188,13 +194,14 @@ pub(crate) fn end_of(commands: &[Held], front: bool, tag: Tag) -> Result<Ended, 
         ≡ Some (effect_of ended)) }
     ensures refused { IfErr result (λ fault.
         IsRefused (heard_in front commands.now tag Mark.Done) (cause_of fault)) }
+    ensures data { IfOk result (λ ended. AreFit commands.now → has_its_data ended ≡ true) }
 {
     let (index, held) = find(commands, tag)?;
     let ended = ended(held, is_front(front, commands, index))?;
     Ok(ended)
 }
 
-/// `%` is read: the command is no longer held. `front` as for a point.
+/// `%` is read: the command is no longer held. `front` as for data.
 pub(crate) fn end(commands: &mut Vec<Held>, front: bool, tag: Tag) -> Result<Ended, TagFault>
     ensures ok { IfOk result (λ ended.
         heard_in front commands.old.items tag Mark.Done
@@ -203,7 +210,9 @@ pub(crate) fn end(commands: &mut Vec<Held>, front: bool, tag: Tag) -> Result<End
         IsRefused (heard_in front commands.old.items tag Mark.Done) (cause_of fault)) }
     ensures in_order { IfOk result (λ ended. is_counted ended ≡ true
         → (front ≡ true) × (all_failed (ahead_of tag commands.old.items) ≡ true)) }
+    ensures data { IfOk result (λ ended. AreFit commands.old.items → has_its_data ended ≡ true) }
     ensures err { OnErr result (commands.new.items ≡ commands.old.items) }
+    ensures fit { AreFit commands.old.items → AreFit commands.new.items }
 {
     let (index, held) = find(commands, tag)?;
     let ended = ended(held, is_front(front, commands, index))?;
@@ -247,4 +256,19 @@ pub(crate) fn count_open(commands: &[Held]) -> usize
     ensures { result ≡ count_open commands.now }
 {
     count_unfailed(commands)
+}
+
+/// Whether one of the commands is an `IsHomed` that has neither failed nor ended.
+fn is_any_asking(commands: &[Held]) -> bool
+    ensures { result ≡ list_any (λ h. asks_homed h.kind && not (is_failed h.stage)) commands.now }
+{
+    commands.iter().any(|held| held.kind == Kind::IsHomed && !is_failed(held.stage))
+}
+
+/// Whether one of the commands is an `IsHomed` that has neither failed nor ended.
+#[tactic(auto, using(crate::proofs::Places::is_asking_by))]
+pub(crate) fn is_asking(commands: &[Held]) -> bool
+    ensures { result ≡ is_asking commands.now }
+{
+    is_any_asking(commands)
 }

@@ -3,20 +3,20 @@
 ghost use Rattle.std.specs.Prelude.{◌≡◌, ◌↔◌, Option, Ok, Some, None, ◌≤◌, ◌⊎◌, ◌==◌, true, false, not, IsErrOf, IsOk, IfOk, IfErr, OnOk, OnErr};
 ghost use Rattle.dme_line.specs.Kinds.{IsTagOf};
 ghost use Rattle.protocol_model.specs.Replies.{Mark};
-ghost use Rattle.protocol_model.specs.Open.{Effect, count_open, is_held};
+ghost use Rattle.protocol_model.specs.Open.{Effect, count_open, is_asking, is_held};
 ghost use Rattle.dme_tags.specs.Answers.{cause_of, effect_of, effect_heard, is_counted, Draws, IsRefused, Refuses};
+ghost use Rattle.dme_tags.specs.Data.{has_its_data, may_be_given};
 ghost use Rattle.dme_tags.specs.Endings.{IsEnding};
 ghost use Rattle.dme_tags.specs.Limits.{last_number};
 ghost use Rattle.dme_tags.specs.Opened.{heard, held_beside, kind_under, next_tag, none_open, number_of, with_drawn, ArePassedOver, IsNext, IsSpentFor};
-ghost use Rattle.dme_tags.specs.Standing.{AwaitsPoint, HasPoint, IsUnread};
+ghost use Rattle.dme_tags.specs.Standing.{AwaitsData, HasData, IsUnread};
 
 use crate::drawing::{Sort, next_tag};
 use crate::endings::Ended;
 use crate::faults::TagFault;
-use crate::marks::{count_open, end, end_of, fail, give, kind_of, receive};
+use crate::marks::{count_open, end, end_of, fail, give, is_asking, kind_of, receive};
 use dme_line::{Kind, Tag};
-use fixed_um::Point;
-use protocol_model::{Held, Stage};
+use protocol_model::{Datum, Held, Stage};
 use std::alloc::Global;
 use std::marker::Model;
 
@@ -42,6 +42,8 @@ impl Model for Open {
 
     ghost Value = { Opened };
 
+    ghost use Rattle.dme_tags.specs.Data.{AreFit};
+
     ghost view = { λ o. record {
       standard = o.standard.items;
       event = o.event.items;
@@ -50,7 +52,8 @@ impl Model for Open {
       event_drawn = o.event_drawn;
     } };
 
-    ghost invariant = { λ o. (o.drawn ≤ last_number) × (o.event_drawn ≤ last_number) };
+    ghost invariant = { λ o. (o.drawn ≤ last_number) × (o.event_drawn ≤ last_number)
+        × AreFit o.standard.items × AreFit o.event.items };
 }
 
 impl Open {
@@ -159,24 +162,26 @@ impl Open {
         }
     }
 
-    /// Takes in that this point was read under a tag. Takes no memory.
+    /// Takes in that these data were read under a tag. Where a `PtMeas` is held under it the caller owes a point, and where an `IsHomed`
+    /// is, whether the machine is homed. Takes no memory.
     ///
-    /// `UnknownTag` (G1) where none is held under it; `SecondData` (G4) where the command, a touch at the front, has a point already;
-    /// `OutOfOrder` (G2) where it is no touch, not at the front, not yet received, or failed.
-    pub fn data(&mut self, tag: Tag, point: Point) -> Result<(), TagFault>
-        ensures due { IsOk result ↔ AwaitsPoint tag self.old }
+    /// `UnknownTag` (G1) where none is held under it; `SecondData` (G4) where the command, a `PtMeas` or `IsHomed` at the front, has data
+    /// already; `OutOfOrder` (G2) where it asks for no data, is not at the front, not yet received, or failed.
+    pub fn data(&mut self, tag: Tag, datum: Datum) -> Result<(), TagFault>
+        requires { may_be_given (kind_under tag self.old) datum ≡ true }
+        ensures due { IsOk result ↔ AwaitsData tag self.old }
         ensures unknown { IsErrOf result TagFault.UnknownTag ↔ (kind_under tag self.old ≡ None) }
-        ensures second { IsErrOf result TagFault.SecondData ↔ HasPoint tag self.old }
+        ensures second { IsErrOf result TagFault.SecondData ↔ HasData tag self.old }
         ensures named { IfErr result (λ fault. (fault ≡ TagFault.UnknownTag)
             ⊎ (fault ≡ TagFault.OutOfOrder)
             ⊎ (fault ≡ TagFault.SecondData)) }
-        ensures ok { OnOk result (heard self.old tag (Mark.Given point)
+        ensures ok { OnOk result (heard self.old tag (Mark.Given datum)
             ≡ Ok (self.new, Effect.Quiet)) }
-        ensures refused { Refuses result self.old self.new (heard self.old tag (Mark.Given point)) }
+        ensures refused { Refuses result self.old self.new (heard self.old tag (Mark.Given datum)) }
     {
         match tag {
-            Tag::Std(_) => give(&mut self.standard, !self.failed, tag, point),
-            Tag::Event(_) => give(&mut self.event, true, tag, point),
+            Tag::Std(_) => give(&mut self.standard, !self.failed, tag, datum),
+            Tag::Event(_) => give(&mut self.event, true, tag, datum),
         }
     }
 
@@ -209,6 +214,7 @@ impl Open {
         ensures ending { IsEnding tag self.now result }
         ensures ok { IfOk result (λ ended. effect_heard (heard self.now tag Mark.Done)
             ≡ Some (effect_of ended)) }
+        ensures data { IfOk result (λ ended. has_its_data ended ≡ true) }
         ensures refused { IfErr result (λ fault. IsRefused (heard self.now tag Mark.Done)
             (cause_of fault)) }
     {
@@ -218,16 +224,17 @@ impl Open {
         }
     }
 
-    /// Takes in that `%` was read under a tag, which is free from now on: the command counts, a touch with its point, or is closed
-    /// where it had failed. Takes no memory.
+    /// Takes in that `%` was read under a tag, which is free from now on: the command counts, a `PtMeas` with its point and an `IsHomed`
+    /// with whether the machine is homed, or is closed where it had failed. Takes no memory.
     ///
-    /// `UnknownTag` (G1) where none is held under it; `NoData` (G3) where a touch at the front was received and has no point;
-    /// `OutOfOrder` (G2) where the command has not failed and is not at the front, or was not received. So commands count in sending
+    /// `UnknownTag` (G1) where none is held under it; `NoData` (G3) where a `PtMeas` or `IsHomed` at the front was received and has no
+    /// data; `OutOfOrder` (G2) where the command has not failed and is not at the front, or was not received. So commands count in sending
     /// order, standard ones and event ones each.
     pub fn complete(&mut self, tag: Tag) -> Result<Ended, TagFault>
         ensures ending { IsEnding tag self.old result }
         ensures ok { IfOk result (λ ended. heard self.old tag Mark.Done
             ≡ Ok (self.new, effect_of ended)) }
+        ensures data { IfOk result (λ ended. has_its_data ended ≡ true) }
         ensures refused { Refuses result self.old self.new (heard self.old tag Mark.Done) }
         ensures in_order { IfOk result (λ ended. is_counted ended ≡ true → IsNext tag self.old) }
     {
@@ -242,6 +249,13 @@ impl Open {
         ensures { result ≡ count_open self.now.standard }
     {
         count_open(&self.standard)
+    }
+
+    /// Whether an `IsHomed` is open: neither its `!` nor its `%` was read. No command is due meanwhile. Takes no memory.
+    pub fn is_asking(&self) -> bool
+        ensures { result ≡ is_asking self.now.standard }
+    {
+        is_asking(&self.standard)
     }
 
     /// Whether an event command is open. Takes no memory.

@@ -10,3 +10,4 @@ pub mod Running
 pub mod Undisturbed
 pub mod SameKind
 pub mod Events
+pub mod HomedOff

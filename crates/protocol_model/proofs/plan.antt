@@ -2,5 +2,6 @@
 pub mod Blocks
 pub mod Fitting
 pub mod Marks
+pub mod PassedOver
 pub mod PlanLaws
 pub mod Splitting

@@ -3,6 +3,7 @@ pub mod Basics
 pub mod Walks
 pub mod Counts
 pub mod Replying
+pub mod Asking
 pub mod Drawing
 pub mod NextNumber
 pub mod Speaking

@@ -23,6 +23,7 @@ abbrev pub contacts : List (ℕ × Act) → List Made
 contacts [] = []
 contacts ((n, act.Contact target dir tool frame point) ∷ acts) =
     record { connection = n; target = target; dir = dir; tool = tool; frame = frame; point = point } ∷ contacts acts
+contacts ((n, act.HomedIs homed) ∷ acts) = contacts acts
 contacts ((n, act.Homed) ∷ acts) = contacts acts
 contacts ((n, act.Moved p f) ∷ acts) = contacts acts
 contacts ((n, act.Changed m) ∷ acts) = contacts acts

@@ -17,11 +17,13 @@ use Rattle.contact_ledger.specs.declared.features.Feature.{Feature}
 use Rattle.dmis_program.specs.declared.features.Wanted.{Wanted}
 use Rattle.dmis_program.specs.Meaning.{Meaning as Program}
 use Rattle.protocol_model.specs.Replies.{Mark, tag_is}
-use Rattle.protocol_model.specs.Open.{Effect, Heard, heard_in, count_open, is_held}
+use Rattle.protocol_model.specs.Open.{Effect, Heard, heard_in, count_open, is_asking, is_held}
 use Rattle.protocol_model.specs.Plan.{plan, is_empty}
 use Rattle.protocol_model.specs.declared.states.State.{State}
 use Rattle.protocol_model.specs.declared.lines.Line.{Line}
 use Rattle.protocol_model.specs.declared.states.Cause.{Cause}
+use Rattle.protocol_model.specs.declared.held.Datum.{Datum}
+use Rattle.protocol_model.specs.declared.held.Datum.TheVariants as datum
 use Rattle.protocol_model.specs.declared.held.Stage.{Stage}
 use Rattle.protocol_model.specs.declared.held.Held.{Held}
 use Rattle.protocol_model.specs.declared.plans.Planned.{Planned}
@@ -29,13 +31,14 @@ use Rattle.protocol_model.specs.declared.plans.Does.{Does}
 use Rattle.protocol_model.specs.declared.plans.Start.{Start}
 
 -- what a client has counted: the client's own number of the connection (0 before the first), whether a standard command has failed since
--- the plan began, whether a session was begun on the connection, the plan from its first uncounted command on, the acts of the connection,
--- the points of the unfinished feature, the features, and how many commands of the plan are counted
+-- the plan began, whether a session was begun on the connection, the plan from its first uncounted command on and from its first unsent one
+-- on, the acts of the connection, the points of the unfinished feature, the features, and how many commands of the plan are counted
 pub record Tally : Type 0 where
   pub connection : ℕ
   pub failed : Bool
   pub session : Bool
   pub todo : List Planned
+  pub unsent : List Planned
   pub counted : List Act
   pub points : List Point
   pub features : List Feature
@@ -47,15 +50,17 @@ pub record Table : Type 0 where
   pub event : List Held
   pub tally : Tally
 
--- the act that a counted command stands for, a contact with the point of its data line
-abbrev pub act_of : Does → Option Point → List Act
+-- the act that a counted command stands for, with what its data line told: whether the machine is homed, or the point of a contact
+abbrev pub act_of : Does → Option Datum → List Act
 act_of Does.Nothing given = []
+act_of Does.AsksHomed (Some (datum.Homed homed)) = act.HomedIs homed ∷ []
+act_of Does.AsksHomed _ = []
 act_of Does.Homes given = act.Homed ∷ []
 act_of (Does.Moves p f) given = act.Moved p f ∷ []
 act_of (Does.Changes n) given = act.Changed n ∷ []
 act_of (Does.Frames f) given = act.Framed f ∷ []
-act_of (Does.Touches t last) None = []
-act_of (Does.Touches t last) (Some p) = act.Contact t.target t.dir t.tool t.frame p ∷ []
+act_of (Does.Touches t last) (Some (datum.Point p)) = act.Contact t.target t.dir t.tool t.frame p ∷ []
+act_of (Does.Touches t last) _ = []
 
 -- where a feature comes from whose last touch is counted: the number of that connection, and the frame of that touch
 abbrev pub origin_of : ℕ → Frame → Option Origin
@@ -68,12 +73,13 @@ joined (w ∷ ws) [] points origin = record { label = w.label; points = points; 
 joined (w ∷ ws) (f ∷ fs) points origin = f ∷ joined ws fs points origin
 
 -- a counted touch adds its point to the unfinished feature, and the last of a feature ends it
-abbrev pub measured : List Wanted → Does → Option Point → Tally → Tally
-measured ws (Does.Touches t false) (Some p) y = record y { points = y.points ++ p ∷ [] }
-measured ws (Does.Touches t true) (Some p) y =
+abbrev pub measured : List Wanted → Does → Option Datum → Tally → Tally
+measured ws (Does.Touches t false) (Some (datum.Point p)) y = record y { points = y.points ++ p ∷ [] }
+measured ws (Does.Touches t true) (Some (datum.Point p)) y =
     record y { points = []; features = joined ws y.features (y.points ++ p ∷ []) (origin_of y.connection t.frame) }
-measured ws (Does.Touches t last) None y = y
+measured ws (Does.Touches t last) _ y = y
 measured ws Does.Nothing given y = y
+measured ws Does.AsksHomed given y = y
 measured ws Does.Homes given y = y
 measured ws (Does.Moves p f) given y = y
 measured ws (Does.Changes n) given y = y
@@ -84,13 +90,34 @@ abbrev pub begins_session : Kind → Bool
 begins_session kind.StartSession = true
 begins_session _ = false
 
--- the next command of the plan is counted
-abbrev pub counted_next : List Wanted → Kind → Option Point → List Planned → Tally → Tally
+-- a counted command told that the machine is homed
+abbrev pub tells_homed : Kind → Option Datum → Bool
+tells_homed kind.IsHomed (Some (datum.Homed true)) = true
+tells_homed _ _ = false
+
+-- the command that homes the machine
+abbrev pub is_homing : Command → Bool
+is_homing command.Home = true
+is_homing _ = false
+
+-- commands without the homing that is next
+abbrev pub without_homing : List Planned → List Planned
+without_homing [] = []
+without_homing (p ∷ ps) = if is_homing p.command then ps else p ∷ ps
+
+-- what is left of a plan: where the machine is told to be homed, the homing that is next is passed over
+abbrev pub passed_over : Bool → List Planned → List Planned
+passed_over true ps = without_homing ps
+passed_over false ps = ps
+
+-- the next command of the plan is counted, and where it told that the machine is homed, the homing behind it is passed over
+abbrev pub counted_next : List Wanted → Kind → Option Datum → List Planned → Tally → Tally
 counted_next ws k given [] y = y
 counted_next ws k given (p ∷ todo) y =
     measured ws p.does given (record y {
       session = y.session || begins_session k;
-      todo = todo;
+      todo = passed_over (tells_homed k given) todo;
+      unsent = passed_over (tells_homed k given) y.unsent;
       counted = y.counted ++ act_of p.does given;
       completed = suc y.completed;
     })
@@ -121,9 +148,7 @@ abbrev pub heard : List Wanted → Table → Tag → Mark → Result Table Cause
 heard ws b t m = if tag_is t (Event 0) then Ok b else heard_on ws b t m
 
 -- a client: its program, how many commands may be open, whether it is on a connection and the number of the last one, its state and why it
--- is Faulted,
--- what replies change, the plan from its first unsent command on, the numbers of the tags drawn last, and the tag of the abort that was
--- sent last
+-- is Faulted, what replies change, the numbers of the tags drawn last, and the tag of the abort that was sent last
 pub record Client : Type 0 where
   pub program : Program
   pub window : ℕ
@@ -132,7 +157,6 @@ pub record Client : Type 0 where
   pub state : State
   pub cause : Option Cause
   pub table : Table
-  pub unsent : List Planned
   pub drawn : ℕ
   pub event_drawn : ℕ
   pub abort : Option Tag
@@ -140,7 +164,17 @@ pub record Client : Type 0 where
 -- nothing counted on the connection of this number; these features are held
 abbrev pub no_tally : ℕ → List Feature → Tally
 no_tally n fs =
-    record { connection = n; failed = false; session = false; todo = []; counted = []; points = []; features = fs; completed = 0 }
+    record {
+      connection = n;
+      failed = false;
+      session = false;
+      todo = [];
+      unsent = [];
+      counted = [];
+      points = [];
+      features = fs;
+      completed = 0;
+    }
 
 -- a client that was never on a connection
 abbrev pub new_client : Program → List Feature → ℕ → Client
@@ -152,7 +186,6 @@ new_client p fs window = record {
   state = State.Apart;
   cause = None;
   table = record { standard = []; event = []; tally = no_tally 0 fs };
-  unsent = [];
   drawn = 0;
   event_drawn = 0;
   abort = None;
@@ -178,8 +211,7 @@ client_connected n c =
       last = n;
       state = State.Running;
       cause = None;
-      table = record { standard = []; event = []; tally = record (no_tally n c.table.tally.features) { todo = steps } };
-      unsent = steps;
+      table = record { standard = []; event = []; tally = record (no_tally n c.table.tally.features) { todo = steps; unsent = steps } };
       drawn = 0;
       event_drawn = 0;
       abort = None;
@@ -218,9 +250,11 @@ abbrev pub is_running : State → Bool
 is_running State.Running = true
 is_running _ = false
 
--- the command that is to be sent next, if one is due
+-- the command that is to be sent next, if one is due; none is while it is asked whether the machine is homed
 abbrev pub due : Client → Option Planned
-due c = if is_running c.state then first_due c.window (count_open c.table.standard) c.unsent else None
+due c =
+    if is_running c.state && not (is_asking c.table.standard) then first_due c.window (count_open c.table.standard) c.table.tally.unsent
+    else None
 
 -- a client and the lines that it writes
 pub record Sends : Type 0 where
@@ -237,8 +271,10 @@ sends_next c [] number = record { client = c; lines = [] }
 sends_next c (p ∷ ps) None = record { client = faulted Cause.TagsSpent c; lines = [] }
 sends_next c (p ∷ ps) (Some n) = record {
   client = record c {
-    table = record (c.table) { standard = c.table.standard ++ held_now (Std n) (kind_of p.command) ∷ [] };
-    unsent = ps;
+    table = record (c.table) {
+      standard = c.table.standard ++ held_now (Std n) (kind_of p.command) ∷ [];
+      tally = record (c.table.tally) { unsent = ps };
+    };
     drawn = n;
   };
   lines = record { tag = Std n; command = p.command } ∷ [];
@@ -246,7 +282,7 @@ sends_next c (p ∷ ps) (Some n) = record {
 
 -- the command that is due goes out under a new tag
 abbrev pub client_sent : Client → Sends
-client_sent c = sends_next c c.unsent (next_number Std c.table.standard c.drawn)
+client_sent c = sends_next c c.table.tally.unsent (next_number Std c.table.standard c.drawn)
 
 -- an abort goes out under this number; without one the client is Faulted
 abbrev pub sends_abort : Client → Option ℕ → Sends
@@ -279,7 +315,7 @@ is_whole b = is_empty b.tally.todo && (count_open b.event == 0)
 abbrev pub ends_abort : Option Tag → Tag → Mark → Bool
 ends_abort None t m = false
 ends_abort (Some a) t Mark.Ack = false
-ends_abort (Some a) t (Mark.Given p) = false
+ends_abort (Some a) t (Mark.Given d) = false
 ends_abort (Some a) t Mark.Done = tag_is a t
 ends_abort (Some a) t Mark.Error = tag_is a t
 
@@ -329,8 +365,10 @@ client_resumed c =
     let steps : List Planned = plan c.program (length c.table.tally.features) Start.SameConnection in
     record c {
       state = State.Running;
-      table = record (c.table) { tally = record (c.table.tally) { failed = false; todo = steps; points = []; completed = 0 } };
-      unsent = steps;
+      table = record (c.table) {
+        tally = record
+            (c.table.tally) { failed = false; todo = steps; unsent = steps; points = []; completed = 0 };
+      };
     }
 
 -- what has been measured whole stays Done; all else is begun again

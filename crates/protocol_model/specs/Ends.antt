@@ -1,28 +1,30 @@
 -- A client and a server with the bytes that they were fed and the bytes that are to be sent (this profile; lines as the I++ DME Interface
 -- version 1 forms them).
-use Rattle.std.specs.Prelude.{ℕ, if◌then◌else◌, Option, Some, None, List, [], ◌∷◌, ◌++◌, drop, Result, Ok, Err}
+use Rattle.std.specs.Prelude.{ℕ, Bool, if◌then◌else◌, Option, Some, None, List, [], ◌∷◌, ◌++◌, drop, Result, Ok, Err}
 use Rattle.fixed_um.specs.declared.lengths.Point.{Point}
 use Rattle.dmis_program.specs.Meaning.{Meaning}
 use Rattle.dme_line.specs.declared.tags.Tag.{Tag}
 use Rattle.dme_line.specs.declared.tags.Tag.TheVariants.{Std, Event}
 use Rattle.dme_line.specs.declared.commands.Kind.{Kind}
+use Rattle.dme_line.specs.declared.commands.Kind.TheVariants as kind
 use Rattle.dme_line.specs.declared.responses.Mark.{Mark as Marked}
 use Rattle.dme_line.specs.declared.responses.Mark.TheVariants as mark
 use Rattle.dme_line.specs.declared.responses.Response.{Response}
 use Rattle.dme_line.specs.declared.responses.NotResponse.{NotResponse}
 use Rattle.dme_line.specs.declared.points.NotPoint.{NotPoint}
+use Rattle.dme_line.specs.declared.homed.NotHomedText.{NotHomedText}
 use Rattle.contact_ledger.specs.declared.features.Feature.{Feature}
 use Rattle.line_framing.specs.Next.{Front, next_of}
 use Rattle.line_framing.specs.Framing.{Framing, no_bytes, fed, left_by}
 use Rattle.line_framing.specs.declared.faults.FramingFault.TheVariants as framing
 use Rattle.protocol_model.specs.Replies.{Mark, tag_is}
 use Rattle.protocol_model.specs.Lines.{Readers, command_bytes, reply_bytes, reading_of}
-use Rattle.protocol_model.specs.Open.{asks_data}
 use Rattle.protocol_model.specs.Client.{Client, Sends, new_client, faulted, client_connected, client_sent, client_aborted, client_resumed}
 use Rattle.protocol_model.specs.Client.{client_read, client_left, client_restarted}
 use Rattle.protocol_model.specs.Server.{Server, Answer, new_server, server_accepted, server_read, server_turned, server_machined}
 use Rattle.protocol_model.specs.Server.{server_left, server_restarted}
 use Rattle.protocol_model.specs.declared.states.Cause.{Cause}
+use Rattle.protocol_model.specs.declared.held.Datum.TheVariants as datum
 use Rattle.protocol_model.specs.declared.held.Held.{Held}
 use Rattle.protocol_model.specs.declared.machine.Outcome.{Outcome}
 
@@ -68,15 +70,26 @@ abbrev pub held_under : Tag → Client → Option Kind
 held_under (Std n) c = held_kind (Std n) c.table.standard
 held_under (Event n) c = held_kind (Event n) c.table.event
 
--- a data text under a held tag: it is read as a point where the command asks for one
+-- a data text under the tag of a touch: it is read as a point
 abbrev pub given_point : Client → Tag → Result Point NotPoint → Client
-given_point c t (Ok p) = client_read c t (Mark.Given p)
+given_point c t (Ok p) = client_read c t (Mark.Given (datum.Point p))
 given_point c t (Err why) = faulted Cause.NotResponse c
 
--- a data text for a command of this kind: it has a place for a touch alone
+-- a data text under the tag of an IsHomed: it is read as what that asks
+abbrev pub given_homed : Client → Tag → Result Bool NotHomedText → Client
+given_homed c t (Ok homed) = client_read c t (Mark.Given (datum.Homed homed))
+given_homed c t (Err why) = faulted Cause.NotResponse c
+
+-- a data text for a command of this kind: it has no place where the command asks for no data
+abbrev pub given_for : Readers → Client → Tag → List ℕ → Kind → Client
+given_for readers c t text kind.PtMeas = given_point c t (readers.point text)
+given_for readers c t text kind.IsHomed = given_homed c t (readers.homed text)
+given_for readers c t text _ = faulted Cause.OutOfOrder c
+
+-- a data text for the command that is held under its tag, if one is
 abbrev pub given_under : Readers → Client → Tag → List ℕ → Option Kind → Client
 given_under readers c t text None = faulted Cause.UnknownTag c
-given_under readers c t text (Some kind) = if asks_data kind then given_point c t (readers.point text) else faulted Cause.OutOfOrder c
+given_under readers c t text (Some kind) = given_for readers c t text kind
 
 -- a data text under a tag; what comes on the event tag number 0 changes nothing
 abbrev pub given : Readers → Client → Tag → List ℕ → Client

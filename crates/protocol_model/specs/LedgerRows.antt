@@ -1,7 +1,7 @@
 -- Worked rows of what is claimed: features and counted acts beside ledgers that are written out
 -- (this profile).
 -- No theorem cites these definitions: they show what the claim allows, and what it refuses.
-use Rattle.std.specs.Prelude.{ℕ, pos, Option, List, [], ◌∷◌, codes}
+use Rattle.std.specs.Prelude.{ℕ, pos, true, false, Option, List, [], ◌∷◌, codes}
 use Rattle.fixed_um.specs.Shapes.{Direction}
 use Rattle.fixed_um.specs.declared.lengths.Point.{Point}
 use Rattle.fixed_um.specs.declared.frames.Frame.{Frame}
@@ -71,3 +71,10 @@ measured_as label = feature label (first_point ∷ second_point ∷ [])
 abbrev pub two_connections : List (ℕ × Act)
 two_connections =
     (1, act.Homed) ∷ (1, act.Changed tool) ∷ (2, act.Homed) ∷ (2, act.Framed frame.Machine) ∷ []
+
+-- acts on two connections: the machine was asked on each whether it is homed, and went home on the
+-- first alone
+abbrev pub asked_twice : List (ℕ × Act)
+asked_twice =
+    (1, act.HomedIs false) ∷ (1, act.Homed) ∷ (2, act.HomedIs true) ∷ (2, act.Framed frame.Machine)
+    ∷ []

@@ -13,6 +13,7 @@ pub mod Language
 pub mod Rows
 pub mod LedgerRows
 pub mod TurnRows
+pub mod HomingRows
 pub mod PlanReading
 pub mod Positions
 pub mod Undisturbed

@@ -1,8 +1,9 @@
 -- Lines as bytes: what is written of commands and replies, and how they are read (I++ DME Interface version 1; the texts of errors are this
 -- profile's).
-use Rattle.std.specs.Prelude.{ℕ, List, [], ◌∷◌, Result, Ok, Err}
+use Rattle.std.specs.Prelude.{ℕ, Bool, List, [], ◌∷◌, Result, Ok, Err}
 use Rattle.fixed_um.specs.declared.lengths.Point.{Point}
 use Rattle.dme_line.specs.Points.{written_point, ReadsPoint}
+use Rattle.dme_line.specs.Homed.{written_homed, ReadsHomed}
 use Rattle.dme_line.specs.Written.{written_command}
 use Rattle.dme_line.specs.CommandText.{ReadsCommand}
 use Rattle.dme_line.specs.Responses.{written_response, ReadsResponse}
@@ -14,18 +15,26 @@ use Rattle.dme_line.specs.declared.responses.Mark.TheVariants as mark
 use Rattle.dme_line.specs.declared.responses.Response.{Response}
 use Rattle.dme_line.specs.declared.responses.NotResponse.{NotResponse}
 use Rattle.dme_line.specs.declared.points.NotPoint.{NotPoint}
+use Rattle.dme_line.specs.declared.homed.NotHomedText.{NotHomedText}
 use Rattle.line_framing.specs.Content.{line_bytes}
 use Rattle.protocol_model.specs.Replies.{Reading, Reply}
+use Rattle.protocol_model.specs.declared.held.Datum.{Datum}
+use Rattle.protocol_model.specs.declared.held.Datum.TheVariants as datum
 use Rattle.protocol_model.specs.declared.lines.Line.{Line}
 
 -- the line of a command, without its end
 abbrev pub command_text : Line → List ℕ
 command_text l = written_command l.tag l.command
 
+-- the text of a data line
+abbrev pub written_datum : Datum → List ℕ
+written_datum (datum.Point p) = written_point p
+written_datum (datum.Homed homed) = written_homed homed
+
 -- the line of a reply, without its end
 abbrev pub reply_text : Reply → List ℕ
 reply_text (Reply.Ack t) = written_response (record { tag = t; mark = mark.Ack })
-reply_text (Reply.Given t p) = written_response (record { tag = t; mark = mark.Given (written_point p) })
+reply_text (Reply.Given t d) = written_response (record { tag = t; mark = mark.Given (written_datum d) })
 reply_text (Reply.Done t) = written_response (record { tag = t; mark = mark.Done })
 reply_text (Reply.Error t code name) = written_error t code name
 
@@ -47,11 +56,12 @@ command_bytes ls = line_bytes (command_texts ls)
 abbrev pub reply_bytes : List Reply → List ℕ
 reply_bytes rs = line_bytes (reply_texts rs)
 
--- functions that read the lines of commands and of responses, and the texts of points
+-- functions that read the lines of commands and of responses, and the texts of data lines: points, and whether the machine is homed
 pub record Readers : Type 0 where
   pub command : List ℕ → Result (Tag × Command) LineFault
   pub response : List ℕ → Result Response NotResponse
   pub point : List ℕ → Result Point NotPoint
+  pub homed : List ℕ → Result Bool NotHomedText
 
 -- they read as the interface says
 pub record AreReaders (r : Readers) : Type 0 where
@@ -59,6 +69,7 @@ pub record AreReaders (r : Readers) : Type 0 where
   -- a line of no response is told to be none
   pub response : (line : List ℕ) → ReadsResponse line (r.response line)
   pub point : (text : List ℕ) → ReadsPoint text (r.point text)
+  pub homed : (text : List ℕ) → ReadsHomed text (r.homed text)
 
 -- what the server reads of a line
 abbrev pub reading_of : Result (Tag × Command) LineFault → Reading

@@ -11,7 +11,7 @@ use Rattle.dmis_program.specs.Meaning.{Meaning as Program, block_touches}
 use Rattle.dmis_program.specs.declared.steps.Step.{Step}
 use Rattle.dmis_program.specs.declared.steps.Step.TheVariants as step
 use Rattle.protocol_model.specs.declared.plans.Does.{Does}
-use Rattle.protocol_model.specs.declared.plans.Does.TheVariants.{Nothing, Homes, Moves, Changes, Frames, Touches}
+use Rattle.protocol_model.specs.declared.plans.Does.TheVariants.{Nothing, AsksHomed, Homes, Moves, Changes, Frames, Touches}
 use Rattle.protocol_model.specs.declared.plans.Start.{Start}
 use Rattle.protocol_model.specs.declared.plans.Start.TheVariants.{NewConnection, SameConnection}
 use Rattle.protocol_model.specs.declared.plans.Planned.{Planned}
@@ -94,7 +94,8 @@ measuring tool frame ss = tooling tool ++ (framing frame ++ (stepping frame ss +
 
 -- the preamble of every plan
 abbrev pub clearing : List Planned → List Planned
-clearing ps = planned command.ClearAllErrors Nothing ∷ planned command.Home Homes ∷ planned command.OnPtMeasReport Nothing ∷ ps
+clearing ps = planned command.ClearAllErrors Nothing ∷ planned command.IsHomed AsksHomed ∷ planned command.Home Homes
+    ∷ planned command.OnPtMeasReport Nothing ∷ ps
 
 -- a session is begun on a new connection, and goes on on the same
 abbrev pub starting : Start → List Planned → List Planned

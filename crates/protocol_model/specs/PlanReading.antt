@@ -104,6 +104,7 @@ abbrev pub read_as : Selected → Bool → Command → Option Does
 read_as s last command.StartSession = Some Does.Nothing
 read_as s last command.EndSession = Some Does.Nothing
 read_as s last command.ClearAllErrors = Some Does.Nothing
+read_as s last command.IsHomed = Some Does.AsksHomed
 read_as s last command.Home = Some Does.Homes
 read_as s last command.OnPtMeasReport = Some Does.Nothing
 read_as s last (command.GoTo p) = read_move p s.frame
@@ -146,10 +147,11 @@ all_known (t ∷ ts) = Some t ∷ all_known ts
 
 -- ---- the order of a plan
 
--- a session is begun on a new connection alone; then errors are cleared, the machine goes home, and points are to be reported
+-- a session is begun on a new connection alone; then errors are cleared, the machine is asked whether it is homed and goes home, and points
+-- are to be reported
 abbrev pub opening : Start → List Command
-opening NewConnection = command.StartSession ∷ command.ClearAllErrors ∷ command.Home ∷ command.OnPtMeasReport ∷ []
-opening SameConnection = command.ClearAllErrors ∷ command.Home ∷ command.OnPtMeasReport ∷ []
+opening NewConnection = command.StartSession ∷ command.ClearAllErrors ∷ command.IsHomed ∷ command.Home ∷ command.OnPtMeasReport ∷ []
+opening SameConnection = command.ClearAllErrors ∷ command.IsHomed ∷ command.Home ∷ command.OnPtMeasReport ∷ []
 
 -- a command that measures: it moves, touches, changes the tool, stores an offset or selects a frame
 abbrev pub is_measuring : Command → Bool

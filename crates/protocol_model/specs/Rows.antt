@@ -273,15 +273,12 @@ at_its_turn n = connect ∷ accept 1 ∷ quiet n ∷ client_sends ∷ server_rea
 
 -- with a window of three: a tool change runs, and two touches wait behind it
 abbrev pub change_while_two_wait : List Cue
-change_while_two_wait = connect ∷ accept 1 ∷ quiet 2 ∷ client_sends ∷ client_sends ∷ client_sends ∷ server_reads_all ∷ server_turn
-    ∷ client_reads_all
-    ∷ client_sends ∷ server_reads_all ∷ server_turn ∷ []
+change_while_two_wait = connect ∷ accept 1 ∷ quiet 3 ∷ client_sends ∷ client_sends ∷ client_sends ∷ server_reads_all ∷ server_turn ∷ []
 
 -- with a window of four: the second touch runs, the third waits, and the end of the session is on its way
 abbrev pub touch_while_one_waits : List Cue
-touch_while_one_waits = connect ∷ accept 1 ∷ quiet 2 ∷ client_sends ∷ client_sends ∷ client_sends ∷ client_sends ∷ server_reads_all
-    ∷ server_turn ∷ auto
-    ∷ server_turn ∷ auto ∷ server_turn ∷ client_reads_all ∷ client_sends ∷ []
+touch_while_one_waits = connect ∷ accept 1 ∷ quiet 3 ∷ client_sends ∷ client_sends ∷ client_sends ∷ server_reads_all ∷ server_turn ∷ auto
+    ∷ server_turn ∷ client_reads_all ∷ client_sends ∷ []
 
 -- ---- reports
 

@@ -20,6 +20,7 @@ use Rattle.contact_ledger.specs.declared.acts.Act.{Act}
 use Rattle.contact_ledger.specs.declared.acts.Act.TheVariants as act
 use Rattle.protocol_model.specs.Replies.{Reading, Reply, tag_is}
 use Rattle.dme_line.specs.declared.reading.LineFault.TheVariants as fault
+use Rattle.protocol_model.specs.declared.held.Datum.TheVariants as datum
 use Rattle.protocol_model.specs.declared.machine.Job.{Job}
 use Rattle.protocol_model.specs.declared.machine.Outcome.{Outcome}
 use Rattle.protocol_model.specs.declared.lines.Misread.{Misread}
@@ -258,6 +259,7 @@ carried_out s t command.StartSession = answers (record s { session = true }) (Re
 carried_out s t command.EndSession = answers (record s { session = false }) (Reply.Done t ∷ [])
 carried_out s t command.ClearAllErrors = answers s (Reply.Done t ∷ [])
 carried_out s t command.OnPtMeasReport = answers s (Reply.Done t ∷ [])
+carried_out s t command.IsHomed = answers (acted (act.HomedIs s.homed) s) (Reply.Given t (datum.Homed s.homed) ∷ Reply.Done t ∷ [])
 carried_out s t (command.SetCsyTransformation p) = answers (record s { stored = point_opposite p }) (Reply.Done t ∷ [])
 carried_out s t (command.SetCoordSystem system) =
     answers (acted (act.Framed (frame_of system s.stored)) (record s { frame = frame_of system s.stored })) (Reply.Done t ∷ [])
@@ -308,7 +310,7 @@ finished s t _ = answers s []
 abbrev pub touched : Server → Tag → Command → Point → Option (List ℕ) → Answer
 touched s t (command.PtMeas p d) at (Some tool) =
     let point : Point = point_difference at (offset s.frame) in
-    answers (acted (act.Contact p d tool s.frame point) (idle s)) (Reply.Given t point ∷ Reply.Done t ∷ [])
+    answers (acted (act.Contact p d tool s.frame point) (idle s)) (Reply.Given t (datum.Point point) ∷ Reply.Done t ∷ [])
 touched s t c at tool = answers s []
 
 -- how what runs ends: done, touched, without a surface (9014), or by a fault of the machine (9015)

@@ -1,9 +1,13 @@
 -- Undisturbed runs: nobody leaves, aborts or restarts, and the machine does what it is asked; and what is claimed of them (this profile).
-use Rattle.std.specs.Prelude.{◌≡◌, ℕ, suc, ◌+◌, ◌%◌, List, [], ◌∷◌, ◌++◌}
+use Rattle.std.specs.Prelude.{◌≡◌, ℕ, suc, ◌+◌, ◌%◌, ◌≤◌, length, Bool, true, false, if◌then◌else◌, List, [], ◌∷◌, ◌++◌}
 use Rattle.contact_ledger.specs.declared.acts.Act.{Act}
 use Rattle.contact_ledger.specs.declared.acts.Act.TheVariants as act
 use Rattle.dme_line.specs.declared.tags.Tag.{Tag}
 use Rattle.dme_line.specs.declared.tags.Tag.TheVariants.{Std}
+use Rattle.dmis_program.specs.Meaning.{Meaning}
+use Rattle.protocol_model.specs.Client.{is_homing, new_client}
+use Rattle.protocol_model.specs.Ends.{ServerEnd, new_client_end, serving_left}
+use Rattle.protocol_model.specs.World.{Link, World}
 use Rattle.protocol_model.specs.Lines.{command_bytes}
 use Rattle.protocol_model.specs.declared.events.Event.{Event}
 use Rattle.protocol_model.specs.declared.events.Event.TheVariants.{Connect, Accept, ClientSends, Up, ServerReads, ServerTurn, Machine, Down}
@@ -46,6 +50,16 @@ AreUndisturbed (e ∷ es) = IsUndisturbed e × AreUndisturbed es
 abbrev pub tag_at : ℕ → Tag
 tag_at place = Std (place % 9999 + 1)
 
+-- commands without those that home the machine
+abbrev pub without_homings : List Planned → List Planned
+without_homings [] = []
+without_homings (p ∷ ps) = if is_homing p.command then without_homings ps else p ∷ without_homings ps
+
+-- a plan as it is followed by a client that is told that the machine is homed, without its homing, or that it is not
+abbrev pub followed : Bool → List Planned → List Planned
+followed true ps = without_homings ps
+followed false ps = ps
+
 -- the lines of commands, each under the tag of its place, the first at this place
 abbrev pub lines_from : ℕ → List Planned → List Line
 lines_from place [] = []
@@ -63,6 +77,7 @@ pub record AreFirstLines (written : List ℕ) (steps : List Planned) : Type 0 wh
 -- what a command is planned for, where it is an act
 abbrev pub act_in : Does → List Does
 act_in Does.Nothing = []
+act_in Does.AsksHomed = Does.AsksHomed ∷ []
 act_in Does.Homes = Does.Homes ∷ []
 act_in (Does.Moves p f) = Does.Moves p f ∷ []
 act_in (Does.Changes n) = Does.Changes n ∷ []
@@ -74,8 +89,10 @@ abbrev pub acts_planned : List Planned → List Does
 acts_planned [] = []
 acts_planned (p ∷ ps) = act_in p.does ++ acts_planned ps
 
--- an act is what a command is planned for; a touch is made by a contact with its target, direction, tool and frame, and any point
+-- an act is what a command is planned for; the question whether the machine is homed has either answer; a touch is made by a contact with
+-- its target, direction, tool and frame, and any point
 abbrev pub StandsFor : Act → Does → Type 0
+StandsFor (act.HomedIs homed) Does.AsksHomed = Unit {0}
 StandsFor act.Homed Does.Homes = Unit {0}
 StandsFor (act.Moved p f) (Does.Moves q g) = (p ≡ q) × (f ≡ g)
 StandsFor (act.Changed n) (Does.Changes m) = n ≡ m
@@ -106,3 +123,31 @@ acts_in ((n, a) ∷ acts) = a ∷ acts_in acts
 pub record AreFirstOf (acts others : List Act) : Type 0 where
   pub more : List Act
   pub parts : acts ++ more ≡ others
+
+-- ---- a server that its machine has homed
+
+-- no act is on a connection above this one
+abbrev pub AreUpTo : ℕ → List (ℕ × Act) → Type 0
+AreUpTo n [] = Unit {0}
+AreUpTo n ((m, a) ∷ l) = (m ≤ n) × AreUpTo n l
+
+-- a new client by whose number these connections were made, whatever is left on them, and a server that has left the last of them and keeps
+-- what it keeps: its homing, its tool, and its acts
+abbrev pub met : Meaning → ℕ → ServerEnd → List Link → World
+met p window s links = record {
+  client = record (new_client_end p [] window) { client = record (new_client p [] window) { last = s.server.last } };
+  server = serving_left s;
+  links = links;
+  written = [];
+}
+
+-- the machine is homed, the server has left the last of these connections, and no act was done on a later one
+pub record IsHomedOff (s : ServerEnd) (links : List Link) : Type 0 where
+  pub homed : s.server.homed ≡ true
+  pub made : length links ≡ s.server.last
+  pub ledger : AreUpTo s.server.last s.server.ledger
+
+-- those of planned commands that home the machine
+abbrev pub homings_of : List Planned → List Planned
+homings_of [] = []
+homings_of (p ∷ ps) = if is_homing p.command then p ∷ homings_of ps else homings_of ps

@@ -3,6 +3,13 @@
 use dme_line::{Kind, Tag};
 use fixed_um::Point;
 
+/// What a data line gives: the point of a touch, or whether the machine is homed (this profile).
+#[derive(Clone, Copy, Debug, PartialEq, Eq)]
+pub enum Datum {
+    Point(Point),
+    Homed(bool),
+}
+
 /// How far an open command is, by the marks that were read for it (this profile).
 #[derive(Clone, Copy, Debug, PartialEq, Eq)]
 pub enum Stage {
@@ -10,8 +17,8 @@ pub enum Stage {
     Sent,
     /// `&` was read.
     Received,
-    /// A touch that was received, and its point.
-    Given(Point),
+    /// A command that asks for data was received, and its data.
+    Given(Datum),
     /// `!` was read.
     Failed,
 }

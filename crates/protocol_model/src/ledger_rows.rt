@@ -1,7 +1,7 @@
 // Worked rows: what is claimed of features and of counted acts, beside ledgers that are written
 // out. Lengths are in micrometres.
 
-ghost use Rattle.std.specs.Prelude.{ℕ, pos, [], ◌∷◌, codes, None};
+ghost use Rattle.std.specs.Prelude.{ℕ, pos, true, false, [], ◌∷◌, codes, None};
 ghost use Rattle.fixed_um.specs.declared.frames.Frame.TheVariants as frame;
 ghost use Rattle.contact_ledger.specs.declared.acts.Act.TheVariants as act;
 ghost use Rattle.protocol_model.specs.Claims.{Sound, Told};
@@ -18,6 +18,7 @@ ghost use Rattle.protocol_model.specs.LedgerRows.{
   right_ledger,
   measured_as,
   two_connections,
+  asked_twice,
 };
 
 /// A feature of two touches, and ledgers with two contacts: the right one, and those in which one
@@ -85,4 +86,9 @@ pub fn counted_rows()
     // What was done on another connection counts for nothing.
     ensures other_connection { Told (act.Homed ∷ act.Changed tool ∷ []) two_connections 2 → ⊥ }
     ensures no_connection { Told (act.Homed ∷ []) two_connections 3 → ⊥ }
+    // The machine was told to be homed on the second connection, and did not go home there.
+    ensures asked_and_homed { Told (act.HomedIs false ∷ act.Homed ∷ []) asked_twice 1 }
+    ensures asked_again { Told (act.HomedIs true ∷ act.Framed frame.Machine ∷ []) asked_twice 2 }
+    ensures other_answer { Told (act.HomedIs false ∷ []) asked_twice 2 → ⊥ }
+    ensures passed_over { Told (act.HomedIs true ∷ act.Homed ∷ []) asked_twice 2 → ⊥ }
 {}

@@ -16,12 +16,14 @@
 //! - `undisturbed`: what is written, done and counted in a run that nothing disturbs
 //! - `rows`: worked rows, as examples that the definitions compute
 //! - `origins`: worked rows of where features come from
+//! - `homing`: worked rows of the question whether the machine is homed
 //! - `ledger_rows`: worked rows of what is claimed, beside ledgers that are written out
 //! - `turn_rows`: worked rows of the order of checks, and of when a client is done
 #![tactic(auto)]
 
 pub mod events;
 pub mod held;
+pub mod homing;
 pub mod ledger_rows;
 pub mod lines;
 pub mod machine;
@@ -41,7 +43,7 @@ pub mod typed;
 pub mod undisturbed;
 
 pub use events::Event;
-pub use held::{Held, Stage};
+pub use held::{Datum, Held, Stage};
 pub use lines::{Line, Misread, Waiting};
 pub use machine::{Job, Outcome};
 pub use plan_laws::plans_measure_what_is_left;
@@ -54,4 +56,4 @@ pub use streams::{commands_come_in_order, responses_come_in_order};
 pub use tags::numbers_that_are_held_are_passed_over;
 pub use theorem::every_run;
 pub use typed::every_typed_run;
-pub use undisturbed::undisturbed_prefixes;
+pub use undisturbed::{homed_machines_are_not_homed_again, undisturbed_prefixes};

@@ -17,13 +17,13 @@ pub fn origin_rows()
     ensures third_connection { reported one_point 1
         (opened ++ client_leaves ∷ server_leaves ∷ connect ∷ accept 2
         ∷ client_leaves ∷ server_leaves ∷ connect ∷ accept 3 ∷ quiet_to_the_end ∷ [])
-        ≡ report State.Done 5
+        ≡ report State.Done 6
         (feature_on 3 Machine (codes "A") (at (pos 10002) (pos 20000) (pos 25000) ∷ []) ∷ [])
         (contact 0 3 (at (pos 10002) (pos 20000) (pos 25000)) ∷ []) }
     // The first feature was counted before the connection was left, the second behind it; its last
     // touch is in the part's frame.
     ensures two_connections { (play two_frames 1
-        (opened ++ quiet 7 ∷ client_leaves ∷ server_leaves ∷ connect ∷ accept 2
+        (opened ++ quiet 8 ∷ client_leaves ∷ server_leaves ∷ connect ∷ accept 2
         ∷ quiet_to_the_end ∷ [])).world.client.table.tally.features
         ≡ feature_on 1 Machine (codes "A") (at (pos 10002) (pos 0) (pos 0) ∷ [])
         ∷ feature_on 2 (Part part) (codes "B")

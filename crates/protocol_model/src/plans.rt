@@ -8,6 +8,8 @@ use fixed_um::{Frame, Name, Point};
 #[derive(Debug, Drop)]
 pub enum Does {
     Nothing,
+    /// It is told whether the machine is homed.
+    AsksHomed,
     /// The machine is homed.
     Homes,
     /// The probe stands at a target in a frame.

@@ -46,8 +46,8 @@ pub fn position_rows()
         ++ codes "PTMEAS/CART,4,5,6,0,0,1\nENDMES\nENDFIL")
         ≡ Ok moved_between }
     ensures from_the_start { commands_of (plan moved_between 0 NewConnection)
-        ≡ command.StartSession ∷ command.ClearAllErrors ∷ command.Home ∷ command.OnPtMeasReport
-        ∷ command.SetCoordSystem MachineCsy ∷ command.ChangeTool (codes "P1")
+        ≡ command.StartSession ∷ command.ClearAllErrors ∷ command.IsHomed ∷ command.Home
+        ∷ command.OnPtMeasReport ∷ command.SetCoordSystem MachineCsy ∷ command.ChangeTool (codes "P1")
         ∷ command.PtMeas (at (pos 1000) (pos 2000) (pos 3000)) from_above
         ∷ command.GoTo (at (pos 1000) (pos 2000) (pos 10000)) ∷ command.ChangeTool (codes "P2")
         ∷ command.GoTo (at (pos 4000) (pos 5000) (pos 10000))
@@ -55,14 +55,14 @@ pub fn position_rows()
         ∷ command.EndSession ∷ [] }
     // Behind the first feature both moves are made; the tool is that of the touch, then the other.
     ensures behind_the_first { commands_of (plan moved_between 1 SameConnection)
-        ≡ command.ClearAllErrors ∷ command.Home ∷ command.OnPtMeasReport
+        ≡ command.ClearAllErrors ∷ command.IsHomed ∷ command.Home ∷ command.OnPtMeasReport
         ∷ command.ChangeTool (codes "P1") ∷ command.SetCoordSystem MachineCsy
         ∷ command.GoTo (at (pos 1000) (pos 2000) (pos 10000)) ∷ command.ChangeTool (codes "P2")
         ∷ command.GoTo (at (pos 4000) (pos 5000) (pos 10000))
         ∷ command.PtMeas (at (pos 4000) (pos 5000) (pos 6000)) from_above
         ∷ command.EndSession ∷ [] }
     ensures behind_both { commands_of (plan moved_between 2 SameConnection)
-        ≡ command.ClearAllErrors ∷ command.Home ∷ command.OnPtMeasReport
+        ≡ command.ClearAllErrors ∷ command.IsHomed ∷ command.Home ∷ command.OnPtMeasReport
         ∷ command.ChangeTool (codes "P2") ∷ command.SetCoordSystem MachineCsy
         ∷ command.EndSession ∷ [] }
 {}

@@ -3,7 +3,7 @@
 ghost use Rattle.std.specs.Prelude.{List, false};
 ghost use Rattle.dme_line.specs.declared.commands.Kind.{Kind};
 ghost use Rattle.protocol_model.specs.declared.held.Stage.TheVariants as Stage;
-ghost use Rattle.protocol_model.specs.Open.{asks_data};
+ghost use Rattle.protocol_model.specs.Open.{asks_data, fits};
 ghost use Rattle.protocol_model.specs.Language.{Placed, marks_of, IsRepliesFront, AreAtFront, Accepts};
 
 /// The table of marks against stages accepts exactly the fronts of the language of replies: a counted command is received and
@@ -12,8 +12,8 @@ ghost use Rattle.protocol_model.specs.Language.{Placed, marks_of, IsRepliesFront
 #[tactic(auto, using(crate::proofs::table::Speaking::accepts_only, crate::proofs::table::Speaking::accepts_all))]
 pub fn table_accepts_the_language()
     ensures only { (kind : Kind) (marks : List Placed) → Accepts kind Stage.Sent marks
-        → IsRepliesFront (asks_data kind) (marks_of marks) × AreAtFront false marks }
+        → IsRepliesFront (asks_data kind) (fits kind) (marks_of marks) × AreAtFront false marks }
     ensures all { (kind : Kind) (marks : List Placed)
-        → IsRepliesFront (asks_data kind) (marks_of marks) → AreAtFront false marks
+        → IsRepliesFront (asks_data kind) (fits kind) (marks_of marks) → AreAtFront false marks
         → Accepts kind Stage.Sent marks }
 {}

@@ -1,6 +1,6 @@
 // Worked rows: what short scripts give, computed by the definitions. Lengths are in micrometres.
 
-ghost use Rattle.std.specs.Prelude.{◌≡◌, ℕ, List, pos, true, false, [], ◌∷◌, ◌++◌, take, codes, Some, None, Ok, Err};
+ghost use Rattle.std.specs.Prelude.{◌≡◌, ℕ, List, pos, true, false, [], ◌∷◌, ◌++◌, codes, Some, None, Ok, Err};
 ghost use Rattle.fixed_um.specs.declared.frames.Frame.TheVariants.{Machine, Part};
 ghost use Rattle.dme_line.specs.declared.tags.Tag.TheVariants.{Std, Event as OnEvent};
 ghost use Rattle.dme_line.specs.declared.commands.Csy.TheVariants.{MachineCsy, PartCsy};
@@ -8,6 +8,7 @@ ghost use Rattle.dme_line.specs.declared.commands.Kind.TheVariants as kind;
 ghost use Rattle.dme_line.specs.declared.commands.Command.TheVariants as command;
 ghost use Rattle.dme_line.specs.declared.reading.LineFault.TheVariants.{NoTag, BadArguments};
 ghost use Rattle.dmis_program.specs.Meaning.{program_of};
+ghost use Rattle.protocol_model.specs.declared.held.Datum.TheVariants as datum;
 ghost use Rattle.protocol_model.specs.declared.held.Stage.TheVariants as stage;
 ghost use Rattle.protocol_model.specs.declared.machine.Outcome.TheVariants.{Done, Touched, Missed, Fault};
 ghost use Rattle.protocol_model.specs.declared.states.State.TheVariants as State;
@@ -101,31 +102,33 @@ pub fn text_rows()
 /// Runs that nothing disturbs.
 pub fn undisturbed_rows()
     ensures empty_program { (play empty 1 (opened ++ quiet_to_the_end ∷ [])).wrote
-        ≡ line 1 command.StartSession ∷ line 2 command.ClearAllErrors ∷ line 3 command.Home
-        ∷ line 4 command.OnPtMeasReport
-        ∷ line 5 (command.SetCoordSystem MachineCsy) ∷ line 6 command.EndSession ∷ [] }
+        ≡ line 1 command.StartSession ∷ line 2 command.ClearAllErrors ∷ line 3 command.IsHomed
+        ∷ line 4 command.Home ∷ line 5 command.OnPtMeasReport
+        ∷ line 6 (command.SetCoordSystem MachineCsy) ∷ line 7 command.EndSession ∷ [] }
     ensures empty_report { reported empty 1 (opened ++ quiet_to_the_end ∷ [])
-        ≡ report State.Done 2 [] [] }
+        ≡ report State.Done 3 [] [] }
     ensures one_point_program { (play one_point 1 (opened ++ quiet_to_the_end ∷ [])).wrote
-        ≡ line 1 command.StartSession ∷ line 2 command.ClearAllErrors ∷ line 3 command.Home
-        ∷ line 4 command.OnPtMeasReport
-        ∷ line 5 (command.SetCoordSystem MachineCsy) ∷ line 6 (command.ChangeTool (codes "P1"))
-        ∷ line 7 (command.GoTo (at (pos 10000) (pos 20000) (pos 30000)))
-        ∷ line 8 (command.PtMeas (at (pos 10000) (pos 20000) (pos 25000))
+        ≡ line 1 command.StartSession ∷ line 2 command.ClearAllErrors ∷ line 3 command.IsHomed
+        ∷ line 4 command.Home ∷ line 5 command.OnPtMeasReport
+        ∷ line 6 (command.SetCoordSystem MachineCsy) ∷ line 7 (command.ChangeTool (codes "P1"))
+        ∷ line 8 (command.GoTo (at (pos 10000) (pos 20000) (pos 30000)))
+        ∷ line 9 (command.PtMeas (at (pos 10000) (pos 20000) (pos 25000))
         (along (pos 0) (pos 0) (pos 1000000)))
-        ∷ line 9 command.EndSession ∷ [] }
+        ∷ line 10 command.EndSession ∷ [] }
     ensures one_point_report { reported one_point 1 (opened ++ quiet_to_the_end ∷ [])
-        ≡ report State.Done 5
+        ≡ report State.Done 6
         (feature_on 1 Machine (codes "A") (at (pos 10002) (pos 20000) (pos 25000) ∷ []) ∷ [])
         (contact 0 1 (at (pos 10002) (pos 20000) (pos 25000)) ∷ []) }
-    ensures nine_rounds { (play one_point 1 (opened ++ quiet 8 ∷ [])).world.client.state
+    ensures nine_rounds { (play one_point 1 (opened ++ quiet 9 ∷ [])).world.client.state
         ≡ State.Running }
-    ensures widest_window { reported one_point 16 (opened ++ quiet 2 ∷ [])
-        ≡ report State.Done 5
+    ensures ten_rounds { (play one_point 1 (opened ++ quiet 10 ∷ [])).world.client.state
+        ≡ State.Done }
+    ensures widest_window { reported one_point 16 (opened ++ quiet 3 ∷ [])
+        ≡ report State.Done 6
         (feature_on 1 Machine (codes "A") (at (pos 10002) (pos 20000) (pos 25000) ∷ []) ∷ [])
         (contact 0 1 (at (pos 10002) (pos 20000) (pos 25000)) ∷ []) }
     ensures two_frames_report { reported two_frames 1 (opened ++ quiet_to_the_end ∷ [])
-        ≡ report State.Done 7
+        ≡ report State.Done 8
         (feature_on 1 Machine (codes "A") (at (pos 10002) (pos 0) (pos 0) ∷ [])
         ∷ feature_on 1 (Part part) (codes "B")
         (at (pos 20000) (pos 0) (pos 4) ∷ at (pos 29999) (pos 1) (pos 0) ∷ [])
@@ -134,10 +137,10 @@ pub fn undisturbed_rows()
         ∷ contact 2 1 (at (pos 29999) (pos 1) (pos 0)) ∷ []) }
     // Two touches that are alike are served by two contacts.
     ensures same_twice_report { reported same_twice 1
-        (at_its_turn 6 ++ machine (Touched (at (pos 10002) (pos 0) (pos 0))) ∷ client_reads_all
+        (at_its_turn 7 ++ machine (Touched (at (pos 10002) (pos 0) (pos 0))) ∷ client_reads_all
         ∷ client_sends ∷ server_reads ∷ server_turn
         ∷ machine (Touched (at (pos 10004) (pos 0) (pos 0))) ∷ quiet_to_the_end ∷ [])
-        ≡ report State.Done 5 (feature_on 1 Machine (codes "A")
+        ≡ report State.Done 6 (feature_on 1 Machine (codes "A")
         (at (pos 10002) (pos 0) (pos 0) ∷ at (pos 10004) (pos 0) (pos 0) ∷ []) ∷ [])
         (contact 0 1 (at (pos 10002) (pos 0) (pos 0)) ∷ contact 1 1 (at (pos 10004) (pos 0) (pos 0))
         ∷ []) }
@@ -149,12 +152,12 @@ pub fn broken_rows()
     ensures left_at_once { reported one_point 1
         (opened ++ client_sends ∷ client_leaves ∷ connect ∷ server_reads ∷ server_leaves ∷ accept 2
         ∷ quiet_to_the_end ∷ [])
-        ≡ report State.Done 5
+        ≡ report State.Done 6
         (feature_on 2 Machine (codes "A") (at (pos 10002) (pos 20000) (pos 25000) ∷ []) ∷ [])
         (contact 0 2 (at (pos 10002) (pos 20000) (pos 25000)) ∷ []) }
     // A point was counted before the break: the feature is measured again from its first touch on.
     ensures left_inside_a_feature { reported circle 1 (opened
-        ++ quiet 7 ∷ client_leaves ∷ server_leaves ∷ connect ∷ accept 2 ∷ quiet_to_the_end ∷ [])
+        ++ quiet 8 ∷ client_leaves ∷ server_leaves ∷ connect ∷ accept 2 ∷ quiet_to_the_end ∷ [])
         ≡ report State.Done 6
         (feature_on 2 Machine (codes "C") (at (pos 1000) (pos 0) (pos 4)
         ∷ at (neg 1) (pos 1001) (pos 0) ∷ at (neg 998) (pos 0) (pos 0) ∷ []) ∷ [])
@@ -163,7 +166,7 @@ pub fn broken_rows()
         ∷ []) }
     // The point was read, and not the end of its touch.
     ensures left_inside_a_touch { reported circle 1
-        (at_its_turn 6 ++ auto ∷ client_reads ∷ client_reads ∷ client_leaves ∷ server_leaves
+        (at_its_turn 7 ++ auto ∷ client_reads ∷ client_reads ∷ client_leaves ∷ server_leaves
         ∷ connect ∷ accept 2 ∷ quiet_to_the_end ∷ [])
         ≡ report State.Done 6
         (feature_on 2 Machine (codes "C") (at (pos 1000) (pos 0) (pos 4)
@@ -171,8 +174,8 @@ pub fn broken_rows()
         (contact 0 1 (at (pos 1002) (pos 0) (pos 0)) ∷ contact 1 2 (at (pos 1000) (pos 0) (pos 4))
         ∷ contact 2 2 (at (neg 1) (pos 1001) (pos 0)) ∷ contact 3 2 (at (neg 998) (pos 0) (pos 0))
         ∷ []) }
-    ensures left_unread { reported circle 1 (at_its_turn 6 ++ auto ∷ client_leaves ∷ [])
-        ≡ report State.Apart 3 [] (contact 0 1 (at (pos 1002) (pos 0) (pos 0)) ∷ []) }
+    ensures left_unread { reported circle 1 (at_its_turn 7 ++ auto ∷ client_leaves ∷ [])
+        ≡ report State.Apart 4 [] (contact 0 1 (at (pos 1002) (pos 0) (pos 0)) ∷ []) }
     // Two touches wait when the server leaves, and a tool change runs: none of them is left.
     ensures nothing_waits { (play circle 3 (change_while_two_wait
         ++ server_leaves ∷ [])).world.server.waiting ≡ [] }
@@ -180,7 +183,7 @@ pub fn broken_rows()
         ++ server_leaves ∷ [])).world.server.running ≡ None }
     // The server makes the contact while the client is already on the next connection.
     ensures left_by_the_client_first { reported circle 1
-        (at_its_turn 6 ++ client_leaves ∷ connect ∷ client_sends ∷ auto ∷ server_leaves ∷ accept 2
+        (at_its_turn 7 ++ client_leaves ∷ connect ∷ client_sends ∷ auto ∷ server_leaves ∷ accept 2
         ∷ quiet_to_the_end ∷ [])
         ≡ report State.Done 6
         (feature_on 2 Machine (codes "C") (at (pos 1000) (pos 0) (pos 4)
@@ -192,7 +195,7 @@ pub fn broken_rows()
     ensures both_restarted { reported two_points 1
         (opened ++ quiet_to_the_end ∷ client_restart 1 ∷ server_restart ∷ connect ∷ accept 2
         ∷ quiet_to_the_end ∷ [])
-        ≡ report State.Done 4
+        ≡ report State.Done 5
         (feature_on 1 Machine (codes "A") (at (pos 1002) (pos 2000) (pos 3000) ∷ [])
         ∷ feature_on 2 Machine (codes "B") (at (pos 3999) (pos 5001) (pos 6000) ∷ []) ∷ [])
         (contact 0 1 (at (pos 1002) (pos 2000) (pos 3000))
@@ -203,14 +206,14 @@ pub fn broken_rows()
 /// Aborts, and what is begun again behind them.
 pub fn aborted_rows()
     // A tool change is running.
-    ensures change_answered { said_behind (play circle 1 (at_its_turn 5 ++ abort ∷ []))
+    ensures change_answered { said_behind (play circle 1 (at_its_turn 6 ++ abort ∷ []))
         (server_reads ∷ [])
-        ≡ Reply.Ack (OnEvent 1) ∷ failed 6 9007 kind.ChangeTool ++ Reply.Done (OnEvent 1) ∷ [] }
-    ensures change_aborted { reported circle 1 (at_its_turn 5
-        ++ abort ∷ server_reads ∷ client_reads_all ∷ []) ≡ report State.Halted 2 [] [] }
-    ensures change_resumed { reported circle 1 (at_its_turn 5
+        ≡ Reply.Ack (OnEvent 1) ∷ failed 7 9007 kind.ChangeTool ++ Reply.Done (OnEvent 1) ∷ [] }
+    ensures change_aborted { reported circle 1 (at_its_turn 6
+        ++ abort ∷ server_reads ∷ client_reads_all ∷ []) ≡ report State.Halted 3 [] [] }
+    ensures change_resumed { reported circle 1 (at_its_turn 6
         ++ abort ∷ server_reads ∷ client_reads_all ∷ resume ∷ quiet_to_the_end ∷ [])
-        ≡ report State.Done 8
+        ≡ report State.Done 9
         (feature_on 1 Machine (codes "C") (at (pos 1002) (pos 0) (pos 0)
         ∷ at (pos 0) (pos 1000) (pos 4) ∷ at (neg 1001) (pos 1) (pos 0) ∷ []) ∷ [])
         (contact 0 1 (at (pos 1002) (pos 0) (pos 0)) ∷ contact 1 1 (at (pos 0) (pos 1000) (pos 4))
@@ -218,34 +221,36 @@ pub fn aborted_rows()
     // A tool change is running, and two touches wait.
     ensures waiting_answered { said_behind (play circle 3 (change_while_two_wait ++ abort ∷ []))
         (server_reads ∷ [])
-        ≡ Reply.Ack (OnEvent 1) ∷ failed 6 9007 kind.ChangeTool
-        ++ (failed 7 9007 kind.PtMeas ++ (failed 8 9007 kind.PtMeas
+        ≡ Reply.Ack (OnEvent 1) ∷ failed 7 9007 kind.ChangeTool
+        ++ (failed 8 9007 kind.PtMeas ++ (failed 9 9007 kind.PtMeas
         ++ Reply.Done (OnEvent 1) ∷ [])) }
     ensures waiting_aborted { reported circle 3 (change_while_two_wait
-        ++ abort ∷ server_reads ∷ client_reads_all ∷ []) ≡ report State.Halted 2 [] [] }
+        ++ abort ∷ server_reads ∷ client_reads_all ∷ []) ≡ report State.Halted 3 [] [] }
     ensures waiting_without_tool { (play circle 3 (change_while_two_wait
         ++ abort ∷ server_reads ∷ [])).world.server.tool ≡ None }
-    ensures waiting_resumed { take 5
-        (wrote_behind (play circle 3 (change_while_two_wait
-        ++ abort ∷ server_reads ∷ client_reads_all ∷ resume ∷ [])) (quiet 2 ∷ []))
-        ≡ line 9 command.ClearAllErrors ∷ line 10 command.Home ∷ line 11 command.OnPtMeasReport
-        ∷ line 12 (command.SetCoordSystem MachineCsy)
-        ∷ line 13 (command.ChangeTool (codes "P1")) ∷ [] }
+    // The machine is homed: the client is told so, and Home has no line and no tag.
+    ensures waiting_resumed { wrote_behind (play circle 3 (change_while_two_wait
+        ++ abort ∷ server_reads ∷ client_reads_all ∷ resume ∷ [])) (quiet 2 ∷ [])
+        ≡ line 10 command.ClearAllErrors ∷ line 11 command.IsHomed
+        ∷ line 12 command.OnPtMeasReport
+        ∷ line 13 (command.SetCoordSystem MachineCsy)
+        ∷ line 14 (command.ChangeTool (codes "P1")) ∷ [] }
     // The last touch runs, in the part's frame: its feature is measured again, and the contact that was made for it before serves nobody.
     ensures frame_resumed { wrote_behind
-        (play two_frames 1 (at_its_turn 10 ++ abort ∷ server_reads ∷ client_reads_all ∷ resume
+        (play two_frames 1 (at_its_turn 11 ++ abort ∷ server_reads ∷ client_reads_all ∷ resume
         ∷ [])) (quiet_to_the_end ∷ [])
-        ≡ line 12 command.ClearAllErrors ∷ line 13 command.Home ∷ line 14 command.OnPtMeasReport
-        ∷ line 15 (command.ChangeTool (codes "P1"))
-        ∷ line 16 (command.SetCoordSystem MachineCsy)
-        ∷ line 17 (command.PtMeas (at (pos 20000) (pos 0) (pos 0)) from_above)
-        ∷ line 18 (command.SetCsyTransformation (at (neg 100000) (pos 0) (pos 0)))
-        ∷ line 19 (command.SetCoordSystem PartCsy)
-        ∷ line 20 (command.PtMeas (at (pos 30000) (pos 0) (pos 0)) from_above)
-        ∷ line 21 command.EndSession ∷ [] }
+        ≡ line 13 command.ClearAllErrors ∷ line 14 command.IsHomed
+        ∷ line 15 command.OnPtMeasReport
+        ∷ line 16 (command.ChangeTool (codes "P1"))
+        ∷ line 17 (command.SetCoordSystem MachineCsy)
+        ∷ line 18 (command.PtMeas (at (pos 20000) (pos 0) (pos 0)) from_above)
+        ∷ line 19 (command.SetCsyTransformation (at (neg 100000) (pos 0) (pos 0)))
+        ∷ line 20 (command.SetCoordSystem PartCsy)
+        ∷ line 21 (command.PtMeas (at (pos 30000) (pos 0) (pos 0)) from_above)
+        ∷ line 22 command.EndSession ∷ [] }
     ensures frame_report { reported two_frames 1
-        (at_its_turn 10 ++ abort ∷ server_reads ∷ client_reads_all ∷ resume ∷ quiet_to_the_end ∷ [])
-        ≡ report State.Done 12
+        (at_its_turn 11 ++ abort ∷ server_reads ∷ client_reads_all ∷ resume ∷ quiet_to_the_end ∷ [])
+        ≡ report State.Done 13
         (feature_on 1 Machine (codes "A") (at (pos 10002) (pos 0) (pos 0) ∷ [])
         ∷ feature_on 1 (Part part) (codes "B")
         (at (pos 19999) (pos 1) (pos 0) ∷ at (pos 30002) (pos 0) (pos 0) ∷ [])
@@ -253,9 +258,9 @@ pub fn aborted_rows()
         (contact 0 1 (at (pos 10002) (pos 0) (pos 0)) ∷ contact 1 1 (at (pos 20000) (pos 0) (pos 4))
         ∷ contact 2 1 (at (pos 19999) (pos 1) (pos 0))
         ∷ contact 3 1 (at (pos 30002) (pos 0) (pos 0)) ∷ []) }
-    ensures not_aborted_twice { can Event.Abort (play circle 1 (at_its_turn 5 ++ abort ∷ [])).world
+    ensures not_aborted_twice { can Event.Abort (play circle 1 (at_its_turn 6 ++ abort ∷ [])).world
         ≡ false }
-    ensures not_resumed_while_running { can Event.Resume (play circle 1 (at_its_turn 5)).world
+    ensures not_resumed_while_running { can Event.Resume (play circle 1 (at_its_turn 6)).world
         ≡ false }
     ensures not_resumed_without_a_session { can Event.Resume
         (play circle 1 (opened ++ abort ∷ server_reads ∷ client_reads_all ∷ [])).world ≡ false }
@@ -263,14 +268,14 @@ pub fn aborted_rows()
 
 /// Touches that meet no surface, and other failures.
 pub fn failed_rows()
-    ensures missed_answered { said_behind (play circle 1 (at_its_turn 7)) (machine Missed ∷ [])
-        ≡ failed 8 9014 kind.PtMeas }
-    ensures missed_halted { reported circle 1 (at_its_turn 7
+    ensures missed_answered { said_behind (play circle 1 (at_its_turn 8)) (machine Missed ∷ [])
+        ≡ failed 9 9014 kind.PtMeas }
+    ensures missed_halted { reported circle 1 (at_its_turn 8
         ++ machine Missed ∷ client_reads_all ∷ [])
-        ≡ report State.Halted 4 [] (contact 0 1 (at (pos 1002) (pos 0) (pos 0)) ∷ []) }
-    ensures missed { reported circle 1 (at_its_turn 7
+        ≡ report State.Halted 5 [] (contact 0 1 (at (pos 1002) (pos 0) (pos 0)) ∷ []) }
+    ensures missed { reported circle 1 (at_its_turn 8
         ++ machine Missed ∷ client_reads_all ∷ resume ∷ quiet_to_the_end ∷ [])
-        ≡ report State.Done 10
+        ≡ report State.Done 11
         (feature_on 1 Machine (codes "C") (at (pos 1000) (pos 0) (pos 4)
         ∷ at (neg 1) (pos 1001) (pos 0) ∷ at (neg 998) (pos 0) (pos 0) ∷ []) ∷ [])
         (contact 0 1 (at (pos 1002) (pos 0) (pos 0)) ∷ contact 1 1 (at (pos 1000) (pos 0) (pos 4))
@@ -279,29 +284,29 @@ pub fn failed_rows()
     // The second touch runs, the third waits, and the end of the session is on its way.
     ensures waiting_answered { said_behind (play circle 4 touch_while_one_waits)
         (machine Missed ∷ [])
-        ≡ failed 8 9014 kind.PtMeas ++ failed 9 9007 kind.PtMeas }
+        ≡ failed 9 9014 kind.PtMeas ++ failed 10 9007 kind.PtMeas }
     ensures later_answered { said_behind (play circle 4 (touch_while_one_waits
         ++ machine Missed ∷ [])) (server_reads ∷ [])
-        ≡ Reply.Ack (Std 10) ∷ failed 10 9008 kind.EndSession }
+        ≡ Reply.Ack (Std 11) ∷ failed 11 9008 kind.EndSession }
     ensures waiting_resumed { reported circle 4
         (touch_while_one_waits ++ machine Missed ∷ server_reads ∷ client_reads_all ∷ resume
         ∷ quiet_to_the_end ∷ [])
-        ≡ report State.Done 10
+        ≡ report State.Done 11
         (feature_on 1 Machine (codes "C") (at (pos 1000) (pos 0) (pos 4)
         ∷ at (neg 1) (pos 1001) (pos 0) ∷ at (neg 998) (pos 0) (pos 0) ∷ []) ∷ [])
         (contact 0 1 (at (pos 1002) (pos 0) (pos 0)) ∷ contact 1 1 (at (pos 1000) (pos 0) (pos 4))
         ∷ contact 2 1 (at (neg 1) (pos 1001) (pos 0)) ∷ contact 3 1 (at (neg 998) (pos 0) (pos 0))
         ∷ []) }
     // No command may end as another does, and no touch outside the volume.
-    ensures nothing_runs { can (Event.Machine Done) (play circle 1 (opened ++ quiet 6 ∷ [])).world
+    ensures nothing_runs { can (Event.Machine Done) (play circle 1 (opened ++ quiet 7 ∷ [])).world
         ≡ false }
-    ensures touch_is_not_done { can (Event.Machine Done) (play circle 1 (at_its_turn 6)).world
+    ensures touch_is_not_done { can (Event.Machine Done) (play circle 1 (at_its_turn 7)).world
         ≡ false }
     ensures touch_in_the_volume { can (Event.Machine
-        (Touched (at (pos 1000000000) (pos 0) (pos 0)))) (play circle 1 (at_its_turn 6)).world
+        (Touched (at (pos 1000000000) (pos 0) (pos 0)))) (play circle 1 (at_its_turn 7)).world
         ≡ true }
     ensures touch_outside_the_volume { can (Event.Machine
-        (Touched (at (pos 1000000001) (pos 0) (pos 0)))) (play circle 1 (at_its_turn 6)).world
+        (Touched (at (pos 1000000001) (pos 0) (pos 0)))) (play circle 1 (at_its_turn 7)).world
         ≡ false }
 {}
 
@@ -315,7 +320,7 @@ pub fn server_rows()
         ≡ Reply.Ack (Std 1) ∷ Reply.Done (Std 1) ∷ Reply.Ack (Std 2) ∷ failed 2 9010 kind.GoTo }
     ensures unknown_tool { called (Call.Reads (Ok (line 8 (command.ChangeTool (codes "P9"))))
         ∷ Call.Turns ∷ [])
-        (play circle 1 (opened ++ quiet 6 ∷ [])).world.server
+        (play circle 1 (opened ++ quiet 7 ∷ [])).world.server
         ≡ Reply.Ack (Std 8) ∷ failed 8 9012 kind.ChangeTool }
     ensures queue_full { called (read_under command.Home 1 65) (server_accepted 1 (new_server []))
         ≡ acks_under 1 65 ++ (failed 65 9009 kind.Home ++ failed_under kind.Home 1 64) }
@@ -326,9 +331,9 @@ pub fn server_rows()
         ∷ Call.Reads (Ok (line 9 (command.PtMeas (at (pos 30000) (pos 0) (pos 0)) None)))
         ∷ Call.Turns
         ∷ Call.Ends (Touched (at (pos 30002) (pos 0) (pos 0))) ∷ [])
-        (play circle 1 (opened ++ quiet 6 ∷ [])).world.server
+        (play circle 1 (opened ++ quiet 7 ∷ [])).world.server
         ≡ Reply.Ack (Std 8) ∷ Reply.Done (Std 8)
-        ∷ Reply.Ack (Std 9) ∷ Reply.Given (Std 9) (at (pos 30002) (pos 0) (pos 0))
+        ∷ Reply.Ack (Std 9) ∷ Reply.Given (Std 9) (datum.Point (at (pos 30002) (pos 0) (pos 0)))
         ∷ Reply.Done (Std 9) ∷ [] }
     ensures selected_frame { called
         (Call.Reads (Ok (line 8 (command.SetCsyTransformation (at (neg 100000) (pos 0) (pos 0)))))
@@ -337,25 +342,25 @@ pub fn server_rows()
         ∷ Call.Reads (Ok (line 10 (command.PtMeas (at (pos 30000) (pos 0) (pos 0)) None)))
         ∷ Call.Turns
         ∷ Call.Ends (Touched (at (pos 130002) (pos 0) (pos 0))) ∷ [])
-        (play circle 1 (opened ++ quiet 6 ∷ [])).world.server
+        (play circle 1 (opened ++ quiet 7 ∷ [])).world.server
         ≡ Reply.Ack (Std 8) ∷ Reply.Done (Std 8) ∷ Reply.Ack (Std 9) ∷ Reply.Done (Std 9)
-        ∷ Reply.Ack (Std 10) ∷ Reply.Given (Std 10) (at (pos 30002) (pos 0) (pos 0))
+        ∷ Reply.Ack (Std 10) ∷ Reply.Given (Std 10) (datum.Point (at (pos 30002) (pos 0) (pos 0)))
         ∷ Reply.Done (Std 10) ∷ [] }
     ensures restarted_without_tool { (server_restarted
         (play one_point 1 (opened ++ quiet_to_the_end ∷ [])).world.server).tool ≡ None }
     // In the error state: a faulty line on a standard tag, one on an event tag, and a move behind the command that ends it.
     ensures error_state { called
-        (Call.Reads (Err (BadArguments (Std 8) kind.GoTo))
+        (Call.Reads (Err (BadArguments (Std 9) kind.GoTo))
         ∷ Call.Reads (Err (BadArguments (OnEvent 1) kind.GoTo))
-        ∷ Call.Reads (Ok (line 9 command.ClearAllErrors)) ∷ Call.Turns
-        ∷ Call.Reads (Ok (line 10 command.Home)) ∷ Call.Turns ∷ Call.Ends Done ∷ [])
-        (play circle 1 (at_its_turn 6 ++ machine Fault ∷ [])).world.server
-        ≡ Reply.Ack (Std 8) ∷ failed 8 9008 kind.GoTo
+        ∷ Call.Reads (Ok (line 10 command.ClearAllErrors)) ∷ Call.Turns
+        ∷ Call.Reads (Ok (line 11 command.Home)) ∷ Call.Turns ∷ Call.Ends Done ∷ [])
+        (play circle 1 (at_its_turn 7 ++ machine Fault ∷ [])).world.server
+        ≡ Reply.Ack (Std 9) ∷ failed 9 9008 kind.GoTo
         ++ Reply.Ack (OnEvent 1) ∷ Reply.Error (OnEvent 1) 9004 (Some kind.GoTo)
-        ∷ Reply.Done (OnEvent 1)
-        ∷ Reply.Ack (Std 9) ∷ Reply.Done (Std 9) ∷ Reply.Ack (Std 10) ∷ Reply.Done (Std 10) ∷ [] }
-    ensures machine_fault { said_behind (play circle 1 (at_its_turn 6)) (machine Fault ∷ [])
-        ≡ failed 7 9015 kind.PtMeas }
+        ∷ Reply.Done (OnEvent 1) ∷ Reply.Ack (Std 10) ∷ Reply.Done (Std 10)
+        ∷ Reply.Ack (Std 11) ∷ Reply.Done (Std 11) ∷ [] }
+    ensures machine_fault { said_behind (play circle 1 (at_its_turn 7)) (machine Fault ∷ [])
+        ≡ failed 8 9015 kind.PtMeas }
     ensures tag_in_use { called (read_under command.Home 1 1 ++ read_under command.Home 1 1)
         (server_accepted 1 (new_server []))
         ≡ Reply.Ack (Std 1) ∷ Reply.Error (OnEvent 0) 9002 None ∷ [] }
@@ -368,14 +373,14 @@ pub fn client_rows()
     ensures unknown_tag { (client_read (play circle 1 (opened ++ client_sends ∷ [])).world.client
         (Std 8) Mark.Done).cause ≡ Some Cause.UnknownTag }
     ensures no_data { (client_read (client_read
-        (play one_point 1 (opened ++ quiet 7 ∷ client_sends ∷ [])).world.client (Std 8) Mark.Ack)
-        (Std 8) Mark.Done).cause
+        (play one_point 1 (opened ++ quiet 8 ∷ client_sends ∷ [])).world.client (Std 9) Mark.Ack)
+        (Std 9) Mark.Done).cause
         ≡ Some Cause.NoData }
     ensures second_data { (client_read
         (client_read (client_read (play one_point 1 (opened
-        ++ quiet 7 ∷ client_sends ∷ [])).world.client (Std 8) Mark.Ack) (Std 8)
-        (Mark.Given (at (pos 0) (pos 0) (pos 0))))
-        (Std 8) (Mark.Given (at (pos 0) (pos 0) (pos 0)))).cause
+        ++ quiet 8 ∷ client_sends ∷ [])).world.client (Std 9) Mark.Ack) (Std 9)
+        (Mark.Given (datum.Point (at (pos 0) (pos 0) (pos 0)))))
+        (Std 9) (Mark.Given (datum.Point (at (pos 0) (pos 0) (pos 0))))).cause
         ≡ Some Cause.SecondData }
     ensures out_of_order { (client_read (play circle 1 (opened ++ client_sends ∷ [])).world.client
         (Std 1) Mark.Done).cause ≡ Some Cause.OutOfOrder }
@@ -387,12 +392,12 @@ pub fn client_rows()
     ensures clearing_waits { can Event.ClientSends
         (play circle 3 (opened ++ client_sends ∷ [])).world ≡ false }
     ensures two_of_three { can Event.ClientSends
-        (play circle 3 (opened ++ quiet 1 ∷ client_sends ∷ client_sends ∷ [])).world ≡ true }
+        (play circle 3 (opened ++ quiet 2 ∷ client_sends ∷ client_sends ∷ [])).world ≡ true }
     ensures three_of_three { can Event.ClientSends
-        (play circle 3 (opened ++ quiet 1 ∷ client_sends ∷ client_sends ∷ client_sends ∷ [])).world
+        (play circle 3 (opened ++ quiet 2 ∷ client_sends ∷ client_sends ∷ client_sends ∷ [])).world
         ≡ false }
     ensures nothing_due_behind_a_failure { can Event.ClientSends
-        (play circle 1 (at_its_turn 7 ++ machine Missed ∷ client_reads_all ∷ [])).world ≡ false }
+        (play circle 1 (at_its_turn 8 ++ machine Missed ∷ client_reads_all ∷ [])).world ≡ false }
     // After the last number the first follows, and the next one where it is still held.
     ensures tags_come_round { next_number Std [] 9999 ≡ Some 1 }
     ensures held_tag_is_passed_over { next_number Std

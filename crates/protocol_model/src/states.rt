@@ -22,7 +22,7 @@ pub enum State {
 /// Why a client gives a connection up (this profile).
 #[derive(Clone, Copy, Debug, PartialEq, Eq)]
 pub enum Cause {
-    /// A line is no response, or the text of a touch's data is no point.
+    /// A line is no response, or a data text is none that the command asks for.
     NotResponse,
     /// A line is longer than 65,536 bytes.
     LineTooLong,
@@ -32,9 +32,9 @@ pub enum Cause {
     UnknownTag,
     /// A mark came where none of its kind may.
     OutOfOrder,
-    /// A touch was complete without its point.
+    /// A command that asks for data was complete without them.
     NoData,
-    /// A touch was given a second point.
+    /// A command was given data for the second time.
     SecondData,
     /// All tags are held.
     TagsSpent,

@@ -91,27 +91,27 @@ pub fn check_rows()
 /// When a client is done, what it leaves, and what it cannot begin again with.
 pub fn done_rows()
     // The end of the session is counted while an abort is open: the client is done with its end.
-    ensures counted_while_aborting { (play one_point 1 (at_its_turn 8 ++ abort ∷ server_reads
+    ensures counted_while_aborting { (play one_point 1 (at_its_turn 9 ++ abort ∷ server_reads
         ∷ client_reads ∷ client_reads ∷ [])).world.client.table.tally.todo ≡ [] }
-    ensures still_aborting { (play one_point 1 (at_its_turn 8 ++ abort ∷ server_reads
+    ensures still_aborting { (play one_point 1 (at_its_turn 9 ++ abort ∷ server_reads
         ∷ client_reads ∷ client_reads ∷ [])).world.client.state ≡ State.Aborting }
-    ensures abort_received { (play one_point 1 (at_its_turn 8 ++ abort ∷ server_reads
+    ensures abort_received { (play one_point 1 (at_its_turn 9 ++ abort ∷ server_reads
         ∷ client_reads ∷ client_reads ∷ client_reads ∷ [])).world.client.state ≡ State.Aborting }
-    ensures abort_ended { reported one_point 1 (at_its_turn 8 ++ abort ∷ server_reads
+    ensures abort_ended { reported one_point 1 (at_its_turn 9 ++ abort ∷ server_reads
         ∷ client_reads ∷ client_reads ∷ client_reads ∷ client_reads ∷ [])
-        ≡ report State.Done 5
+        ≡ report State.Done 6
         (feature_on 1 frame.Machine (codes "A") (at (pos 10002) (pos 20000) (pos 25000) ∷ []) ∷ [])
         (contact 0 1 (at (pos 10002) (pos 20000) (pos 25000)) ∷ []) }
     // The last command ends: the client is not done while an event command is open.
     ensures last_command_ends { (client_read
-        (play one_point 1 (at_its_turn 8 ++ client_reads ∷ [])).world.client
-        (Std 9) Mark.Done).state ≡ State.Done }
+        (play one_point 1 (at_its_turn 9 ++ client_reads ∷ [])).world.client
+        (Std 10) Mark.Done).state ≡ State.Done }
     ensures event_command_is_open { (client_read (with_abort stage.Received
-        (play one_point 1 (at_its_turn 8 ++ client_reads ∷ [])).world.client)
-        (Std 9) Mark.Done).state ≡ State.Running }
+        (play one_point 1 (at_its_turn 9 ++ client_reads ∷ [])).world.client)
+        (Std 10) Mark.Done).state ≡ State.Running }
     ensures event_command_has_failed { (client_read (with_abort stage.Failed
-        (play one_point 1 (at_its_turn 8 ++ client_reads ∷ [])).world.client)
-        (Std 9) Mark.Done).state ≡ State.Done }
+        (play one_point 1 (at_its_turn 9 ++ client_reads ∷ [])).world.client)
+        (Std 10) Mark.Done).state ≡ State.Done }
     // Where all is counted an abort goes on to its end; a failed client is done, or halted.
     ensures aborting_stays { last_state State.Aborting true 0 ≡ State.Aborting }
     ensures failing_is_done { last_state State.Failing true 0 ≡ State.Done }
@@ -119,12 +119,12 @@ pub fn done_rows()
     ensures failing_waits { last_state State.Failing false 1 ≡ State.Failing }
     // What has been measured whole stays so when the connection is left.
     ensures done_and_left { reported one_point 1 (opened ++ quiet_to_the_end ∷ client_leaves ∷ [])
-        ≡ report State.Done 5
+        ≡ report State.Done 6
         (feature_on 1 frame.Machine (codes "A") (at (pos 10002) (pos 20000) (pos 25000) ∷ []) ∷ [])
         (contact 0 1 (at (pos 10002) (pos 20000) (pos 25000)) ∷ []) }
     ensures not_connected_again { can Event.Connect
         (play one_point 1 (opened ++ quiet_to_the_end ∷ client_leaves ∷ [])).world ≡ false }
-    ensures halted_and_left { (play circle 1 (at_its_turn 7 ++ machine Missed ∷ client_reads_all
+    ensures halted_and_left { (play circle 1 (at_its_turn 8 ++ machine Missed ∷ client_reads_all
         ∷ client_leaves ∷ [])).world.client.state ≡ State.Apart }
     // One feature is held: the client cannot be restarted with two, and nothing changes.
     ensures restart_with_one { can (Event.ClientRestart 1)

@@ -1,13 +1,17 @@
 // What is written, done and counted in a run that nothing disturbs.
 
-ghost use Rattle.std.specs.Prelude.{◌≤◌, ℕ, List};
+ghost use Rattle.std.specs.Prelude.{◌≡◌, ◌≤◌, ℕ, List, [], false, true};
 ghost use Rattle.dmis_program.specs.Meaning.{Meaning};
 ghost use Rattle.dmis_program.specs.Programs.{IsProgram};
 ghost use Rattle.protocol_model.specs.Lines.{Readers, AreReaders};
 ghost use Rattle.protocol_model.specs.Plan.{plan};
-ghost use Rattle.protocol_model.specs.World.{start, run_of};
+ghost use Rattle.protocol_model.specs.Ends.{ServerEnd};
+ghost use Rattle.protocol_model.specs.World.{Link, start, run_of};
 ghost use Rattle.protocol_model.specs.declared.events.Event.{Event};
 ghost use Rattle.protocol_model.specs.Undisturbed.{AreUndisturbed, AreFirstLines, acts_planned, AreFirstActs, acts_in, AreFirstOf};
+ghost use Rattle.protocol_model.specs.Undisturbed.{followed, homings_of, met, IsHomedOff};
+ghost use Rattle.protocol_model.specs.declared.plans.Start.{Start as Begin};
+ghost use Rattle.protocol_model.specs.declared.plans.Planned.{Planned};
 ghost use Rattle.protocol_model.specs.declared.plans.Start.TheVariants as Start;
 
 /// After every list of events in which the two sides only connect, write, read and work, bytes move, and the machine is done with what it
@@ -39,4 +43,23 @@ pub fn undisturbed_prefixes()
         → AreFirstOf (run_of readers events (start program rack
         window)).client.client.table.tally.counted
         (acts_in (run_of readers events (start program rack window)).server.server.ledger) }
+{}
+
+/// A machine that is homed is not homed again. After every such list of events from a new client and a server that is on no connection
+/// and is homed, whatever its rack, its tool, its ledger and the connections that were left, for any program and any window up to 16:
+///
+/// - `lines`: the bytes that the client wrote are the first lines of the plan of the whole program without its homing, each whole with
+///   its CR LF, under the tags from 1 on, after 9,999 again from 1 on;
+/// - `no_homing`: no command of that plan homes the machine;
+/// - `whole`: where the machine is not homed, a plan is followed whole.
+pub fn homed_machines_are_not_homed_again()
+    ensures lines { (readers : Readers) → AreReaders readers
+        → (program : Meaning) (window : ℕ) (server : ServerEnd) (links : List Link)
+        (events : List Event) → IsProgram program → window ≤ 16 → IsHomedOff server links
+        → AreUndisturbed events
+        → AreFirstLines (run_of readers events (met program window server links)).written
+        (followed true (plan program 0 Start.NewConnection)) }
+    ensures no_homing { (program : Meaning) (completed : ℕ) (start : Begin)
+        → homings_of (followed true (plan program completed start)) ≡ [] }
+    ensures whole { (steps : List Planned) → followed false steps ≡ steps }
 {}

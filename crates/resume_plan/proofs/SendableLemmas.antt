@@ -109,7 +109,10 @@ sendable_measuring tool f ss is h =
 sendable_clearing : (ps : List Planned) → AllByRecursion IsSendable ps → AllByRecursion IsSendable (clearing ps)
 sendable_clearing ps h = (
   record { standard = refl; lengths = tt },
-  (record { standard = refl; lengths = tt }, (record { standard = refl; lengths = tt }, h)),
+  (
+    record { standard = refl; lengths = tt },
+    (record { standard = refl; lengths = tt }, (record { standard = refl; lengths = tt }, h)),
+  ),
 )
 
 sendable_starting : (start : Start) (ps : List Planned) → AllByRecursion IsSendable ps → AllByRecursion IsSendable (starting start ps)

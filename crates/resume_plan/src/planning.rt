@@ -124,6 +124,7 @@ impl Commands {
             Start::SameConnection => {}
         }
         self.push(Command::ClearAllErrors, Does::Nothing)?;
+        self.push(Command::IsHomed, Does::AsksHomed)?;
         self.push(Command::Home, Does::Homes)?;
         self.push(Command::OnPtMeasReport, Does::Nothing)
     }
@@ -146,9 +147,10 @@ impl Commands {
 /// The commands that measure what is left of a program of which the first `completed` features are measured, each with what it stands
 /// for once it is counted (this profile).
 ///
-/// The plan begins a session on a new connection, clears errors, homes the machine and asks for the points of touches. It selects the
-/// tool and the frame again that are selected behind the last touch of the last completed feature, goes on with the steps from there,
-/// and ends the session. A frame is selected by the machine's zero point in its axes: its offset with each sign turned.
+/// The plan begins a session on a new connection, clears errors, asks whether the machine is homed, homes it and asks for the points of
+/// touches. It selects the tool and the frame again that are selected behind the last touch of the last completed feature, goes on with
+/// the steps from there, and ends the session. A frame is selected by the machine's zero point in its axes: its offset with each sign
+/// turned. Who follows the plan passes the homing over where the question is answered with yes.
 ///
 /// The caller owes that the program has so many features. Only want of memory is an `Err`.
 pub fn plan(

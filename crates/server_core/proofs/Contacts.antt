@@ -5,7 +5,6 @@ use Rattle.std.proofs.lemmas.List.{append_cancel_left}
 use Rattle.fixed_um.specs.Points.{point_difference}
 use Rattle.fixed_um.specs.Shapes.{Direction}
 use Rattle.fixed_um.specs.declared.lengths.Point.{Point}
-use Rattle.fixed_um.specs.declared.frames.Frame.{Frame}
 use Rattle.dme_line.specs.declared.tags.Tag.{Tag}
 use Rattle.dme_line.specs.declared.commands.Command.{Command}
 use Rattle.dme_line.specs.declared.commands.Command.TheVariants as command
@@ -20,18 +19,19 @@ use Rattle.protocol_model.specs.declared.machine.Outcome.{Outcome}
 use Rattle.protocol_model.specs.declared.machine.Outcome.TheVariants as outcome
 use Rattle.protocol_model.proofs.invariant.Served.{contacts_more}
 use Rattle.server_core.specs.Acting.{with_act, IsCommanded}
-use Rattle.server_core.proofs.Ledgers.{framed, Frames, turned_frames}
+use Rattle.server_core.proofs.Ledgers.{IsNoContact, AddsNoContact, turned_adds}
 
 -- ---- no turn makes a contact
 
-frame_no_contact : (n : ℕ) (acts : List (ℕ × Act)) (frame : Option Frame) → contacts (with_act n (framed frame) acts) ≡ contacts acts
-frame_no_contact n acts None = refl
-frame_no_contact n acts (Some f) = contacts_more acts ((n, act.Framed f) ∷ []) ∙ append-nil (contacts acts)
+added_no_contact : (n : ℕ) (acts : List (ℕ × Act)) (made : Option Act) → IsNoContact made → contacts (with_act n made acts) ≡ contacts acts
+added_no_contact n acts None none = refl
+added_no_contact n acts (Some a) none =
+    contacts_more acts ((n, a) ∷ []) ∙ (ap (λ (ms : List Made). contacts acts ++ ms) (none n) ∙ append-nil (contacts acts))
 
 pub turned_no_contact : (s : Server) → contacts (server_turned s).server.ledger ≡ contacts s.ledger
 turned_no_contact s =
-    let f : Frames s (server_turned s) = turned_frames s in
-    ap contacts f.1 ∙ frame_no_contact s.last s.ledger f.0
+    let f : AddsNoContact s (server_turned s) = turned_adds s in
+    ap contacts f.2 ∙ added_no_contact s.last s.ledger f.0 f.1
 
 -- ---- which ends of what runs make one
 
@@ -91,6 +91,7 @@ finished_made : (e : ServerEnd) (made : Made) (t : Tag) (c : Command)
 finished_made e made t command.StartSession longer = same e outcome.Done made longer
 finished_made e made t command.EndSession longer = same e outcome.Done made longer
 finished_made e made t command.ClearAllErrors longer = same e outcome.Done made longer
+finished_made e made t command.IsHomed longer = same e outcome.Done made longer
 finished_made e made t command.Home longer = absurd (no_more e.server.last e.server.ledger act.Homed made refl longer)
 finished_made e made t command.OnPtMeasReport longer = same e outcome.Done made longer
 finished_made e made t (command.GoTo p) longer = absurd (no_more e.server.last e.server.ledger (act.Moved p e.server.frame) made refl
@@ -108,6 +109,7 @@ touched_made : (e : ServerEnd) (made : Made) (at : Point) (t : Tag) (c : Command
 touched_made e made at t command.StartSession tool ran head longer = same e (outcome.Touched at) made longer
 touched_made e made at t command.EndSession tool ran head longer = same e (outcome.Touched at) made longer
 touched_made e made at t command.ClearAllErrors tool ran head longer = same e (outcome.Touched at) made longer
+touched_made e made at t command.IsHomed tool ran head longer = same e (outcome.Touched at) made longer
 touched_made e made at t command.Home tool ran head longer = same e (outcome.Touched at) made longer
 touched_made e made at t command.OnPtMeasReport tool ran head longer = same e (outcome.Touched at) made longer
 touched_made e made at t (command.GoTo p) tool ran head longer = same e (outcome.Touched at) made longer

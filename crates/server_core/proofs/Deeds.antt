@@ -25,7 +25,7 @@ use Rattle.server_core.specs.Serving.{may_turn, ok_of, command_in, refusal_in}
 use Rattle.server_core.specs.Acting.{IsCommanded}
 use Rattle.server_core.specs.Steady.{IsSteady}
 use Rattle.server_core.specs.Calls.{Call, Accept, Feed, ReadOne, Turn, Machine, Leave, Restart, Sent, possible, done_by, behind_call}
-use Rattle.server_core.specs.Calls.{selects_frame, completes_act, Deed, done_deed, touch_deed, end_deed, frame_deed, turn_deed, deed_of}
+use Rattle.server_core.specs.Calls.{acts_at_once, completes_act, Deed, done_deed, touch_deed, end_deed, deed_at_once, turn_deed, deed_of}
 use Rattle.server_core.specs.Calls.{IsDone, IsContactOf}
 use Rattle.server_core.proofs.Ledgers.{read_keeps}
 use Rattle.server_core.proofs.Contacts.{not_longer, turned_no_contact, machined_as_commanded}
@@ -56,10 +56,11 @@ with_bytes (Some deed) e a h = record {
 }
 
 carried_done : (s : Server) (ws : List Waiting) (t : Tag) (c : Command) → s.running ≡ None
-    → DoneBy (frame_deed s t (Some c)) s (carried_out (record s { waiting = ws }) t c)
+    → DoneBy (deed_at_once s t (Some c)) s (carried_out (record s { waiting = ws }) t c)
 carried_done s ws t command.StartSession idle = refl
 carried_done s ws t command.EndSession idle = refl
 carried_done s ws t command.ClearAllErrors idle = refl
+carried_done s ws t command.IsHomed idle = record { ledger = refl; said = refl; idle = idle }
 carried_done s ws t command.Home idle = refl
 carried_done s ws t command.OnPtMeasReport idle = refl
 carried_done s ws t (command.GoTo p) idle = refl
@@ -70,11 +71,11 @@ carried_done s ws t (command.SetCoordSystem system) idle = record { ledger = ref
 carried_done s ws t command.AbortE idle = refl
 
 taken_done : (s : Server) (w : Waiting) (ws : List Waiting) (number : Option ℕ) → s.running ≡ None
-    → DoneBy (cond (is_none number) (frame_deed s w.tag (ok_of w.reading)) None) s (taken s w ws number)
+    → DoneBy (cond (is_none number) (deed_at_once s w.tag (ok_of w.reading)) None) s (taken s w ws number)
 taken_done s w ws (Some number) idle = refl
 taken_done s w ws None idle = go w.reading
   where
-    go : (reading : Result Command Misread) → DoneBy (frame_deed s w.tag (ok_of reading)) s
+    go : (reading : Result Command Misread) → DoneBy (deed_at_once s w.tag (ok_of reading)) s
         (carried (record s { waiting = ws }) w.tag reading)
     go (Ok c) = carried_done s ws w.tag c idle
     go (Err refused) = refl
@@ -94,6 +95,7 @@ finished_done : (s : Server) (t : Tag) (c : Command) → DoneBy (done_deed s t c
 finished_done s t command.StartSession = refl
 finished_done s t command.EndSession = refl
 finished_done s t command.ClearAllErrors = refl
+finished_done s t command.IsHomed = refl
 finished_done s t command.Home = record { ledger = refl; said = refl; idle = refl }
 finished_done s t command.OnPtMeasReport = refl
 finished_done s t (command.GoTo p) = record { ledger = refl; said = refl; idle = refl }
@@ -108,6 +110,7 @@ touched_done : (s : Server) (t : Tag) (c : Command) (at : Point) (tool : Option 
 touched_done s t command.StartSession at tool = refl
 touched_done s t command.EndSession at tool = refl
 touched_done s t command.ClearAllErrors at tool = refl
+touched_done s t command.IsHomed at tool = refl
 touched_done s t command.Home at tool = refl
 touched_done s t command.OnPtMeasReport at tool = refl
 touched_done s t (command.GoTo p) at tool = refl
@@ -174,31 +177,32 @@ not_false : (b : Bool) → not b ≡ false → b ≡ true
 not_false true e = refl
 not_false false e = absurd (false≢true (sym e))
 
-framed_due : (s : Server) (t : Tag) (c : Option Command) → is_some (frame_deed s t c) ≡ selects_frame c
-framed_due s t None = refl
-framed_due s t (Some command.StartSession) = refl
-framed_due s t (Some command.EndSession) = refl
-framed_due s t (Some command.ClearAllErrors) = refl
-framed_due s t (Some command.Home) = refl
-framed_due s t (Some command.OnPtMeasReport) = refl
-framed_due s t (Some (command.GoTo p)) = refl
-framed_due s t (Some (command.PtMeas p d)) = refl
-framed_due s t (Some (command.ChangeTool n)) = refl
-framed_due s t (Some (command.SetCsyTransformation p)) = refl
-framed_due s t (Some (command.SetCoordSystem system)) = refl
-framed_due s t (Some command.AbortE) = refl
+at_once_due : (s : Server) (t : Tag) (c : Option Command) → is_some (deed_at_once s t c) ≡ acts_at_once c
+at_once_due s t None = refl
+at_once_due s t (Some command.StartSession) = refl
+at_once_due s t (Some command.EndSession) = refl
+at_once_due s t (Some command.ClearAllErrors) = refl
+at_once_due s t (Some command.IsHomed) = refl
+at_once_due s t (Some command.Home) = refl
+at_once_due s t (Some command.OnPtMeasReport) = refl
+at_once_due s t (Some (command.GoTo p)) = refl
+at_once_due s t (Some (command.PtMeas p d)) = refl
+at_once_due s t (Some (command.ChangeTool n)) = refl
+at_once_due s t (Some (command.SetCsyTransformation p)) = refl
+at_once_due s t (Some (command.SetCoordSystem system)) = refl
+at_once_due s t (Some command.AbortE) = refl
 
 taken_due : (s : Server) (t : Tag) (c : Option Command) (number : Option ℕ)
-    → is_some (cond (is_none number) (frame_deed s t c) None) ≡ (is_none number && selects_frame c)
+    → is_some (cond (is_none number) (deed_at_once s t c) None) ≡ (is_none number && acts_at_once c)
 taken_due s t c (Some number) = refl
-taken_due s t c None = framed_due s t c
+taken_due s t c None = at_once_due s t c
 
-waiting_due : (s : Server) (ws : List Waiting) → is_some (turn_deed s ws) ≡ (is_none (refusal_in s ws) && selects_frame (command_in ws))
+waiting_due : (s : Server) (ws : List Waiting) → is_some (turn_deed s ws) ≡ (is_none (refusal_in s ws) && acts_at_once (command_in ws))
 waiting_due s [] = refl
 waiting_due s (w ∷ ws) = taken_due s w.tag (ok_of w.reading) (refusal s w.reading)
 
 turn_due : (s : Server) (may : Bool) → is_some (cond may (turn_deed s s.waiting) None)
-    ≡ (may && (is_none (refusal_in s s.waiting) && selects_frame (command_in s.waiting)))
+    ≡ (may && (is_none (refusal_in s s.waiting) && acts_at_once (command_in s.waiting)))
 turn_due s true = waiting_due s s.waiting
 turn_due s false = refl
 
@@ -212,6 +216,7 @@ done_due s (Some line) = go line.command
     go command.StartSession = refl
     go command.EndSession = refl
     go command.ClearAllErrors = refl
+    go command.IsHomed = refl
     go command.Home = refl
     go command.OnPtMeasReport = refl
     go (command.GoTo p) = refl
@@ -242,6 +247,7 @@ touch_due s at (Some line) passed = go line.command (passed line refl)
     go command.StartSession e = refl
     go command.EndSession e = refl
     go command.ClearAllErrors e = refl
+    go command.IsHomed e = refl
     go command.Home e = refl
     go command.OnPtMeasReport e = refl
     go (command.GoTo p) e = refl

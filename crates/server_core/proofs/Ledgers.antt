@@ -1,7 +1,6 @@
 -- What each call of a server appends to its ledger.
 use Rattle.std.proofs.Common.{◌≡◌, ℕ, List, [], ◌∷◌, refl, ap, ◌∙◌, Option, Some, None, Result, Ok, Err, append-nil}
 use Rattle.fixed_um.specs.declared.lengths.Point.{Point}
-use Rattle.fixed_um.specs.declared.frames.Frame.{Frame}
 use Rattle.dme_line.specs.declared.tags.Tag.{Tag}
 use Rattle.dme_line.specs.declared.commands.Command.{Command}
 use Rattle.dme_line.specs.declared.commands.Command.TheVariants as command
@@ -9,6 +8,7 @@ use Rattle.contact_ledger.specs.declared.acts.Act.{Act}
 use Rattle.contact_ledger.specs.declared.acts.Act.TheVariants as act
 use Rattle.line_framing.specs.Next.{Front, next_of}
 use Rattle.protocol_model.specs.Lines.{Readers, reading_of}
+use Rattle.protocol_model.specs.Claims.{contacts}
 use Rattle.protocol_model.specs.Server.{Server, Answer, frame_of, refusal, carried_out, carried, taken, turned_to, server_turned, finished}
 use Rattle.protocol_model.specs.Server.{touched, machined}
 use Rattle.protocol_model.specs.Ends.{ServerEnd, front_served, serving_read, serving_turned, serving_machined}
@@ -30,45 +30,46 @@ front_keeps readers e (Err why) = refl
 pub read_keeps : (readers : Readers) (e : ServerEnd) → (serving_read readers e).server.ledger ≡ e.server.ledger
 read_keeps readers e = front_keeps readers e (next_of e.input.rest)
 
--- ---- a turn appends the choice of a frame, or nothing
+-- ---- a turn appends the choice of a frame, whether the machine is homed, or nothing
 
-abbrev pub framed : Option Frame → Option Act
-framed None = None
-framed (Some f) = Some (act.Framed f)
+-- what is appended is no contact
+abbrev pub IsNoContact : Option Act → Type 0
+IsNoContact made = (n : ℕ) → contacts (with_act n made []) ≡ []
 
-abbrev pub Frames : Server → Answer → Type 0
-Frames s a = (frame : Option Frame) × (a.server.ledger ≡ with_act s.last (framed frame) s.ledger)
+abbrev pub AddsNoContact : Server → Answer → Type 0
+AddsNoContact s a = (made : Option Act) × IsNoContact made × (a.server.ledger ≡ with_act s.last made s.ledger)
 
-carried_frames : (s : Server) (t : Tag) (c : Command) → Frames s (carried_out s t c)
-carried_frames s t command.StartSession = (None, refl)
-carried_frames s t command.EndSession = (None, refl)
-carried_frames s t command.ClearAllErrors = (None, refl)
-carried_frames s t command.Home = (None, refl)
-carried_frames s t command.OnPtMeasReport = (None, refl)
-carried_frames s t (command.GoTo p) = (None, refl)
-carried_frames s t (command.PtMeas p d) = (None, refl)
-carried_frames s t (command.ChangeTool n) = (None, refl)
-carried_frames s t (command.SetCsyTransformation p) = (None, refl)
-carried_frames s t (command.SetCoordSystem system) = (Some (frame_of system s.stored), refl)
-carried_frames s t command.AbortE = (None, refl)
+carried_adds : (s : Server) (t : Tag) (c : Command) → AddsNoContact s (carried_out s t c)
+carried_adds s t command.StartSession = (None, λ n. refl, refl)
+carried_adds s t command.EndSession = (None, λ n. refl, refl)
+carried_adds s t command.ClearAllErrors = (None, λ n. refl, refl)
+carried_adds s t command.IsHomed = (Some (act.HomedIs s.homed), λ n. refl, refl)
+carried_adds s t command.Home = (None, λ n. refl, refl)
+carried_adds s t command.OnPtMeasReport = (None, λ n. refl, refl)
+carried_adds s t (command.GoTo p) = (None, λ n. refl, refl)
+carried_adds s t (command.PtMeas p d) = (None, λ n. refl, refl)
+carried_adds s t (command.ChangeTool n) = (None, λ n. refl, refl)
+carried_adds s t (command.SetCsyTransformation p) = (None, λ n. refl, refl)
+carried_adds s t (command.SetCoordSystem system) = (Some (act.Framed (frame_of system s.stored)), λ n. refl, refl)
+carried_adds s t command.AbortE = (None, λ n. refl, refl)
 
-taken_frames : (s : Server) (w : Waiting) (ws : List Waiting) (number : Option ℕ) → Frames s (taken s w ws number)
-taken_frames s w ws (Some number) = (None, refl)
-taken_frames s w ws None = go w.reading
+taken_adds : (s : Server) (w : Waiting) (ws : List Waiting) (number : Option ℕ) → AddsNoContact s (taken s w ws number)
+taken_adds s w ws (Some number) = (None, λ n. refl, refl)
+taken_adds s w ws None = go w.reading
   where
-    go : (reading : Result Command Misread) → Frames s (carried (record s { waiting = ws }) w.tag reading)
-    go (Ok c) = let f = carried_frames (record s { waiting = ws }) w.tag c in (f.0, f.1)
-    go (Err refused) = (None, refl)
+    go : (reading : Result Command Misread) → AddsNoContact s (carried (record s { waiting = ws }) w.tag reading)
+    go (Ok c) = let f = carried_adds (record s { waiting = ws }) w.tag c in (f.0, f.1, f.2)
+    go (Err refused) = (None, λ n. refl, refl)
 
-turned_to_frames : (s : Server) (ws : List Waiting) → Frames s (turned_to s ws)
-turned_to_frames s [] = (None, refl)
-turned_to_frames s (w ∷ ws) = taken_frames s w ws (refusal s w.reading)
+turned_to_adds : (s : Server) (ws : List Waiting) → AddsNoContact s (turned_to s ws)
+turned_to_adds s [] = (None, λ n. refl, refl)
+turned_to_adds s (w ∷ ws) = taken_adds s w ws (refusal s w.reading)
 
-pub turned_frames : (s : Server) → Frames s (server_turned s)
-turned_frames s = turned_to_frames s s.waiting
+pub turned_adds : (s : Server) → AddsNoContact s (server_turned s)
+turned_adds s = turned_to_adds s s.waiting
 
 pub turned_one_more : (e : ServerEnd) → IsOneMore e.server.last e.server.ledger (serving_turned e).server.ledger
-turned_one_more e = let f = turned_frames e.server in record { act = framed f.0; whole = f.1 }
+turned_one_more e = let f = turned_adds e.server in record { act = f.0; whole = f.2 }
 
 -- ---- the end of what runs appends its act, or nothing
 
@@ -79,6 +80,7 @@ finished_adds : (s : Server) (t : Tag) (c : Command) → Adds s (finished s t c)
 finished_adds s t command.StartSession = (None, refl)
 finished_adds s t command.EndSession = (None, refl)
 finished_adds s t command.ClearAllErrors = (None, refl)
+finished_adds s t command.IsHomed = (None, refl)
 finished_adds s t command.Home = (Some act.Homed, refl)
 finished_adds s t command.OnPtMeasReport = (None, refl)
 finished_adds s t (command.GoTo p) = (Some (act.Moved p s.frame), refl)
@@ -92,6 +94,7 @@ touched_adds : (s : Server) (t : Tag) (c : Command) (at : Point) (tool : Option 
 touched_adds s t command.StartSession at tool = (None, refl)
 touched_adds s t command.EndSession at tool = (None, refl)
 touched_adds s t command.ClearAllErrors at tool = (None, refl)
+touched_adds s t command.IsHomed at tool = (None, refl)
 touched_adds s t command.Home at tool = (None, refl)
 touched_adds s t command.OnPtMeasReport at tool = (None, refl)
 touched_adds s t (command.GoTo p) at tool = (None, refl)

@@ -6,4 +6,5 @@ pub mod Steadies
 pub mod Standards
 pub mod Servings
 pub mod Deeds
+pub mod Homings
 pub mod Reached

@@ -158,6 +158,7 @@ carried_error : (s : Server) (t : Tag) (c : Command) → (carried_out s t c).ser
 carried_error s t command.StartSession = refl
 carried_error s t command.EndSession = refl
 carried_error s t command.ClearAllErrors = refl
+carried_error s t command.IsHomed = refl
 carried_error s t command.Home = refl
 carried_error s t command.OnPtMeasReport = refl
 carried_error s t (command.GoTo p) = refl
@@ -187,6 +188,7 @@ finished_came : (line : Line) (s : Server) (t : Tag) (c : Command) → Stayed li
 finished_came line s t command.StartSession = still_ran line s
 finished_came line s t command.EndSession = still_ran line s
 finished_came line s t command.ClearAllErrors = still_ran line s
+finished_came line s t command.IsHomed = still_ran line s
 finished_came line s t command.Home = λ error runs. absurd (none_some None line refl runs)
 finished_came line s t command.OnPtMeasReport = still_ran line s
 finished_came line s t (command.GoTo p) = λ error runs. absurd (none_some None line refl runs)
@@ -201,6 +203,7 @@ touched_came : (line : Line) (s : Server) (t : Tag) (c : Command) (at : Point) (
 touched_came line s t command.StartSession at tool = still_ran line s
 touched_came line s t command.EndSession at tool = still_ran line s
 touched_came line s t command.ClearAllErrors at tool = still_ran line s
+touched_came line s t command.IsHomed at tool = still_ran line s
 touched_came line s t command.Home at tool = still_ran line s
 touched_came line s t command.OnPtMeasReport at tool = still_ran line s
 touched_came line s t (command.GoTo p) at tool = still_ran line s

@@ -81,6 +81,7 @@ carried_standard : (s : Server) (t : Tag) (c : Command) → AreStandard s.waitin
 carried_standard s t command.StartSession h = h
 carried_standard s t command.EndSession h = h
 carried_standard s t command.ClearAllErrors h = h
+carried_standard s t command.IsHomed h = h
 carried_standard s t command.Home h = h
 carried_standard s t command.OnPtMeasReport h = h
 carried_standard s t (command.GoTo p) h = h
@@ -109,6 +110,7 @@ finished_standard : (s : Server) (t : Tag) (c : Command) → AreStandard s.waiti
 finished_standard s t command.StartSession h = h
 finished_standard s t command.EndSession h = h
 finished_standard s t command.ClearAllErrors h = h
+finished_standard s t command.IsHomed h = h
 finished_standard s t command.Home h = h
 finished_standard s t command.OnPtMeasReport h = h
 finished_standard s t (command.GoTo p) h = h
@@ -123,6 +125,7 @@ touched_standard : (s : Server) (t : Tag) (c : Command) (at : Point) (tool : Opt
 touched_standard s t command.StartSession at tool h = h
 touched_standard s t command.EndSession at tool h = h
 touched_standard s t command.ClearAllErrors at tool h = h
+touched_standard s t command.IsHomed at tool h = h
 touched_standard s t command.Home at tool h = h
 touched_standard s t command.OnPtMeasReport at tool h = h
 touched_standard s t (command.GoTo p) at tool h = h

@@ -124,6 +124,7 @@ carried_orderly : (s : Server) (t : Tag) (c : Command) → s.running ≡ None �
 carried_orderly s t command.StartSession idle quiet few passed = still _ idle quiet few
 carried_orderly s t command.EndSession idle quiet few passed = still _ idle quiet few
 carried_orderly s t command.ClearAllErrors idle quiet few passed = still _ idle quiet few
+carried_orderly s t command.IsHomed idle quiet few passed = still _ idle quiet few
 carried_orderly s t command.Home idle quiet few passed = starts _ _ refl quiet few (refl, passed)
 carried_orderly s t command.OnPtMeasReport idle quiet few passed = still _ idle quiet few
 carried_orderly s t (command.GoTo p) idle quiet few passed = starts _ _ refl quiet few (refl, passed)
@@ -164,6 +165,7 @@ finished_orderly : (s : Server) (t : Tag) (c : Command) → IsOrderly s → IsOr
 finished_orderly s t command.StartSession h = h
 finished_orderly s t command.EndSession h = h
 finished_orderly s t command.ClearAllErrors h = h
+finished_orderly s t command.IsHomed h = h
 finished_orderly s t command.Home h = still _ refl h.quiet h.few
 finished_orderly s t command.OnPtMeasReport h = h
 finished_orderly s t (command.GoTo p) h = still _ refl h.quiet h.few
@@ -178,6 +180,7 @@ touched_orderly : (s : Server) (t : Tag) (c : Command) (at : Point) (tool : Opti
 touched_orderly s t command.StartSession at tool h = h
 touched_orderly s t command.EndSession at tool h = h
 touched_orderly s t command.ClearAllErrors at tool h = h
+touched_orderly s t command.IsHomed at tool h = h
 touched_orderly s t command.Home at tool h = h
 touched_orderly s t command.OnPtMeasReport at tool h = h
 touched_orderly s t (command.GoTo p) at tool h = h

@@ -10,6 +10,7 @@ use Rattle.protocol_model.specs.Lines.{reply_bytes}
 use Rattle.protocol_model.specs.Claims.{Made}
 use Rattle.protocol_model.specs.Server.{offset}
 use Rattle.protocol_model.specs.Ends.{ServerEnd, serving_machined}
+use Rattle.protocol_model.specs.declared.held.Datum.TheVariants as datum
 use Rattle.protocol_model.specs.declared.machine.Outcome.{Outcome}
 use Rattle.protocol_model.specs.declared.machine.Outcome.TheVariants as outcome
 
@@ -37,4 +38,4 @@ pub record IsCommanded (e : ServerEnd) (ended : Outcome) (made : Made) : Type 0 
   pub tool : e.server.tool ≡ Some made.tool
   pub frame : made.frame ≡ e.server.frame
   pub point : made.point ≡ point_difference at (offset made.frame)
-  pub said : (serving_machined ended e).out ≡ e.out ++ reply_bytes (Reply.Given tag made.point ∷ Reply.Done tag ∷ [])
+  pub said : (serving_machined ended e).out ≡ e.out ++ reply_bytes (Reply.Given tag (datum.Point made.point) ∷ Reply.Done tag ∷ [])

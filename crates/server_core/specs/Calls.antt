@@ -1,5 +1,6 @@
 -- Lists of calls of a server from a new one, and the act that a call completes (this profile).
-use Rattle.std.specs.Prelude.{◌≡◌, ℕ, nat_le, Bool, true, false, ◌&&◌, if◌then◌else◌, Option, Some, None, is_none, List, [], ◌∷◌, ◌++◌}
+use Rattle.std.specs.Prelude.{◌≡◌, ℕ, nat_le, Bool, true, false, ◌&&◌, ◌||◌, not, if◌then◌else◌, Option, Some, None, is_none}
+use Rattle.std.specs.Prelude.{List, [], ◌∷◌, ◌++◌}
 use Rattle.std.specs.Prelude.{length}
 use Rattle.fixed_um.specs.Points.{point_sum, point_difference}
 use Rattle.fixed_um.specs.declared.lengths.Point.{Point}
@@ -14,6 +15,7 @@ use Rattle.protocol_model.specs.Claims.{Made}
 use Rattle.protocol_model.specs.Server.{Server, offset, in_volume, frame_of, may_end, refusal}
 use Rattle.protocol_model.specs.Ends.{ServerEnd, new_server_end, serving_accepted, serving_fed, serving_read, serving_turned}
 use Rattle.protocol_model.specs.Ends.{serving_machined, serving_left, serving_restarted, serving_taken}
+use Rattle.protocol_model.specs.declared.held.Datum.TheVariants as datum
 use Rattle.protocol_model.specs.declared.lines.Line.{Line}
 use Rattle.protocol_model.specs.declared.lines.Waiting.{Waiting}
 use Rattle.protocol_model.specs.declared.machine.Outcome.{Outcome}
@@ -78,15 +80,16 @@ gives_up _ = false
 
 -- ---- the act that a call completes
 
--- a choice of frame
-abbrev pub selects_frame : Option Command → Bool
-selects_frame (Some (command.SetCoordSystem system)) = true
-selects_frame _ = false
+-- a command that is complete at its turn and an act: a choice of frame, and the question whether the machine is homed
+abbrev pub acts_at_once : Option Command → Bool
+acts_at_once (Some (command.SetCoordSystem system)) = true
+acts_at_once (Some command.IsHomed) = true
+acts_at_once _ = false
 
--- the calls that complete an act: the machine is done or has touched, where what runs can end so, and the turn of a choice of frame that is
--- not refused
+-- the calls that complete an act: the machine is done or has touched, where what runs can end so, and the turn of a choice of frame or of
+-- IsHomed that is not refused
 abbrev pub completes_act : Call → ServerEnd → Bool
-completes_act Turn e = may_turn e.server && (is_none (first_refusal e.server) && selects_frame (first_command e.server))
+completes_act Turn e = may_turn e.server && (is_none (first_refusal e.server) && acts_at_once (first_command e.server))
 completes_act (Machine outcome.Done) e = may_end e.server.running outcome.Done
 completes_act (Machine (outcome.Touched at)) e = may_end e.server.running (outcome.Touched at)
 completes_act _ e = false
@@ -112,7 +115,7 @@ done_deed s t _ = None
 abbrev pub touch_deed : Server → Tag → Command → Point → Option (List ℕ) → Option Deed
 touch_deed s t (command.PtMeas target dir) at (Some tool) =
     let point : Point = point_difference at (offset s.frame) in
-    Some (record { tag = t; act = act.Contact target dir tool s.frame point; lines = Reply.Given t point ∷ [] })
+    Some (record { tag = t; act = act.Contact target dir tool s.frame point; lines = Reply.Given t (datum.Point point) ∷ [] })
 touch_deed s t c at tool = None
 
 -- what was done when what runs has ended
@@ -121,15 +124,17 @@ end_deed s outcome.Done (Some line) = done_deed s line.tag line.command
 end_deed s (outcome.Touched at) (Some line) = touch_deed s line.tag line.command at s.tool
 end_deed s _ _ = None
 
--- what is done at the turn of a choice of frame
-abbrev pub frame_deed : Server → Tag → Option Command → Option Deed
-frame_deed s t (Some (command.SetCoordSystem system)) = plain_deed t (act.Framed (frame_of system s.stored))
-frame_deed s t _ = None
+-- what is done at the turn of a choice of frame, and of IsHomed: whether the machine is homed then is in the line before its end
+abbrev pub deed_at_once : Server → Tag → Option Command → Option Deed
+deed_at_once s t (Some (command.SetCoordSystem system)) = plain_deed t (act.Framed (frame_of system s.stored))
+deed_at_once s t (Some command.IsHomed) =
+    Some (record { tag = t; act = act.HomedIs s.homed; lines = Reply.Given t (datum.Homed s.homed) ∷ [] })
+deed_at_once s t _ = None
 
 -- what is done at the turn of the first waiting command, unless it is refused
 abbrev pub turn_deed : Server → List Waiting → Option Deed
 turn_deed s [] = None
-turn_deed s (w ∷ ws) = if is_none (refusal s w.reading) then frame_deed s w.tag (ok_of w.reading) else None
+turn_deed s (w ∷ ws) = if is_none (refusal s w.reading) then deed_at_once s w.tag (ok_of w.reading) else None
 
 -- the act that a call completes, if any
 abbrev pub deed_of : Call → ServerEnd → Option Deed
@@ -155,6 +160,30 @@ pub record IsContactOf (e : ServerEnd) (call : Call) (made : Made) : Type 0 wher
   pub is_end : call ≡ Machine ended
   pub commanded : IsCommanded e ended made
   pub target : in_volume (point_sum made.target (offset made.frame)) ≡ true
+
+-- ---- homing
+
+-- the command that homes the machine
+abbrev pub is_home : Option Command → Bool
+is_home (Some command.Home) = true
+is_home _ = false
+
+-- the turn of a Home that is not refused
+abbrev pub begins_homing : Server → Bool
+begins_homing s = may_turn s && (is_none (first_refusal s) && is_home (first_command s))
+
+-- what runs is a Home
+abbrev pub runs_home : Option Line → Bool
+runs_home None = false
+runs_home (Some line) = is_home (Some line.command)
+
+-- whether the machine is homed behind a call: it is where it is done with a Home, it is not behind the turn of a Home that is not refused
+-- nor behind a restart, and each other call leaves it as it was
+abbrev pub homed_behind : Call → ServerEnd → Bool
+homed_behind Turn e = not (begins_homing e.server) && e.server.homed
+homed_behind (Machine outcome.Done) e = runs_home e.server.running || e.server.homed
+homed_behind Restart e = false
+homed_behind _ e = e.server.homed
 
 -- ---- acts in the error state
 

@@ -73,6 +73,7 @@ runs _ = false
 
 -- a command that is complete at once, and no act
 abbrev pub IsAtOnce : Option Command → Type 0
+IsAtOnce (Some command.IsHomed) = ⊥
 IsAtOnce (Some (command.SetCoordSystem system)) = ⊥
 IsAtOnce c = runs c ≡ false
 

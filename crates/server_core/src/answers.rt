@@ -8,13 +8,15 @@ ghost use Rattle.dme_line.specs.Errors.{number_of};
 ghost use Rattle.protocol_model.specs.Replies.{Reply};
 ghost use Rattle.protocol_model.specs.Lines.{reply_bytes};
 ghost use Rattle.protocol_model.specs.Server.{fails, all_fail, kind_in};
+ghost use Rattle.protocol_model.specs.declared.held.Datum.TheVariants as datum;
 ghost use Rattle.server_core.specs.Answering.{answer_line_most, failure_most, HasRoomFor, Says};
 ghost use Rattle.server_core.specs.Kept.{IsFit};
 
 use command_queue::Queue;
 use dme_line::{
     Command, ErrorNumber, Kind, Tag, write_complete_reserved, write_data_reserved,
-    write_error_reserved, write_line_end_reserved, write_received_reserved,
+    write_error_reserved, write_homed_data_reserved, write_line_end_reserved,
+    write_received_reserved,
 };
 use fixed_um::Point;
 use protocol_model::Misread;
@@ -44,9 +46,18 @@ pub(crate) fn write_complete(out: &mut Vec<u8>, tag: Tag)
 /// The point of a touch.
 pub(crate) fn write_point(out: &mut Vec<u8>, tag: Tag, point: Point)
     requires { HasRoomFor tag out.old answer_line_most }
-    ensures { Says out.old out.new (Reply.Given tag point ∷ []) answer_line_most }
+    ensures { Says out.old out.new (Reply.Given tag (datum.Point point) ∷ []) answer_line_most }
 {
     write_data_reserved(out, tag, point);
+    write_line_end_reserved(out);
+}
+
+/// The answer to `IsHomed`.
+pub(crate) fn write_homed(out: &mut Vec<u8>, tag: Tag, homed: bool)
+    requires { HasRoomFor tag out.old answer_line_most }
+    ensures { Says out.old out.new (Reply.Given tag (datum.Homed homed) ∷ []) answer_line_most }
+{
+    write_homed_data_reserved(out, tag, homed);
     write_line_end_reserved(out);
 }
 

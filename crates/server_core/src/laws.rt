@@ -1,17 +1,18 @@
 // What follows from the definitions for the ledger of a server. Each function has laws for its contract and does nothing.
 
-ghost use Rattle.std.specs.Prelude.{◌≡◌, ℕ, List, [], ◌∷◌, ◌++◌, ◌*◌, None, Some, Err, is_some, true, false};
+ghost use Rattle.std.specs.Prelude.{◌≡◌, ℕ, Bool, List, [], ◌∷◌, ◌++◌, ◌*◌, None, Some, Err, is_some, true, false};
 ghost use Rattle.protocol_model.specs.Lines.{Readers, AreReaders};
 ghost use Rattle.protocol_model.specs.Claims.{Made, contacts};
-ghost use Rattle.protocol_model.specs.Ends.{ServerEnd, serving_accepted, serving_fed, serving_read, serving_turned, serving_machined, serving_left, serving_restarted, serving_taken};
+ghost use Rattle.protocol_model.specs.Ends.{ServerEnd, new_server_end, serving_accepted, serving_fed, serving_read, serving_turned, serving_machined, serving_left, serving_restarted, serving_taken};
 ghost use Rattle.protocol_model.specs.declared.machine.Outcome.{Outcome as OneOutcome};
 ghost use Rattle.server_core.specs.Answering.{answer_line_most, answer_most};
 ghost use Rattle.server_core.specs.Acting.{IsOneMore, IsCommanded};
 ghost use Rattle.line_framing.specs.Next.{next_of};
 ghost use Rattle.line_framing.specs.declared.faults.FramingFault.{FramingFault as OneFault};
 ghost use Rattle.protocol_model.specs.declared.lines.Line.{Line as OneLine};
+ghost use Rattle.contact_ledger.specs.declared.acts.Act.TheVariants as act;
 ghost use Rattle.server_core.specs.Steady.{IsSteady, IsServing};
-ghost use Rattle.server_core.specs.Calls.{Call, reached, behind_call, gives_up, completes_act, deed_of, IsDone, IsContactOf, RanBefore, IsEndOfEarlier};
+ghost use Rattle.server_core.specs.Calls.{Call, Deed, reached, behind_call, gives_up, completes_act, deed_of, homed_behind, IsDone, IsContactOf, RanBefore, IsEndOfEarlier};
 
 use crate::answers::ANSWER_MAX;
 
@@ -58,9 +59,9 @@ pub fn one_call_answers_at_most()
 /// lines, and for each further call (a call that is not possible changes nothing):
 ///
 /// - `acts`: a call that completes an act appends just this act, on the present connection, and answers the lines of its command and its
-///   completion, nothing else; for a touch the data line stands before it. Behind it nothing runs. No other call changes the ledger;
+///   completion, nothing else; for a touch and for `IsHomed` the data line stands before it. Behind it nothing runs. No other call changes the ledger;
 /// - `due`: the calls that complete an act are those at which the machine is done or has touched and what runs can end so, and the turn of a
-///   choice of frame that is not refused. So a touch that runs has a tool;
+///   choice of frame or of an `IsHomed` that is not refused. So a touch that runs has a tool;
 /// - `contacts`: each contact is made by a call of the machine, as the running command asked;
 /// - `error`: in the error state an act is only the end of a command that ran already when the state was entered, by a line that was read
 ///   while 64 commands waited, and that has run since. No turn makes one there;
@@ -86,6 +87,18 @@ pub fn one_act_at_its_completing_call()
         → (reached readers tools calls).server.error ≡ true
         → (reached readers tools calls).server.running ≡ Some line
         → RanBefore readers tools calls line }
+{}
+
+/// The machine is homed where it is done with a `Home`, and by nothing else. It stays so until the turn of a `Home` that is not refused, or
+/// until a restart: a connection that is left, an error and an abort leave it homed. A new server's machine is not homed. Each
+/// `IsHomed` that is answered is told just this, at its turn (this profile).
+#[tactic(auto, using(crate::proofs::Homings::call_homed, crate::proofs::Homings::homed_is_told))]
+pub fn homed_by_home_alone()
+    ensures new { (tools : List (List ℕ)) → (new_server_end tools).server.homed ≡ false }
+    ensures each { (readers : Readers) (call : Call) (e : ServerEnd)
+        → (behind_call readers call e).server.homed ≡ homed_behind call e }
+    ensures told { (call : Call) (e : ServerEnd) (deed : Deed) (told : Bool)
+        → deed_of call e ≡ Some deed → deed.act ≡ act.HomedIs told → told ≡ e.server.homed }
 {}
 
 /// What `view` says to hold at any time holds behind every list of calls from a new server: `steady` whatever functions read the lines, and

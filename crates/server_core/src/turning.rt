@@ -10,7 +10,7 @@ ghost use Rattle.fixed_um.specs.Calls.{Leads};
 ghost use Rattle.server_core.specs.Answering.{HasAnswerRoom, MayTurn, Answers, AnswersIfOk};
 ghost use Rattle.server_core.specs.Serving.{with_answered, first_refusal, first_command, runs, IsAtOnce};
 
-use crate::answers::{kind_in, write_all_aborted, write_complete, write_failure};
+use crate::answers::{kind_in, write_all_aborted, write_complete, write_failure, write_homed};
 use crate::checks::offset;
 use crate::controller::{Controller, Running};
 use crate::machining::record;
@@ -127,6 +127,22 @@ impl Controller {
         Ok(())
     }
 
+    /// The first waiting command asks whether the machine is homed: it is answered, and is complete. Only want of memory is an `Err`.
+    fn answer_homed(&mut self, out: &mut Vec<u8>) -> Result<(), AllocError>
+        requires passed { first_refusal self.old.server ≡ None }
+        requires asks { first_command self.old.server ≡ Some command.IsHomed }
+        requires room { HasAnswerRoom out.old }
+        ensures { AnswersIfOk result self.old self.new out.old out.new
+            (server.server_turned self.old.server) }
+    {
+        record(&mut self.ledger, self.last, Act::HomedIs(self.homed))?;
+        if let Some(question) = self.waiting.take() {
+            write_homed(out, question.tag, self.homed);
+            write_complete(out, question.tag);
+        }
+        Ok(())
+    }
+
     /// The first waiting command is one that is complete at once and no act.
     fn complete_first(&mut self, out: &mut Vec<u8>)
         requires passed { first_refusal self.old.server ≡ None }
@@ -169,6 +185,7 @@ impl Controller {
                 let system = *system;
                 self.select_frame(out, system)
             }
+            Ok(Command::IsHomed) => self.answer_homed(out),
             Ok(Command::Home | Command::ChangeTool(_) | Command::GoTo(_) | Command::PtMeas(_, _)) =>
                 self.start(),
             _ => {

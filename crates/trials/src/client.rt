@@ -2,14 +2,15 @@
 // line. In a row an action stands before ` => `: a line that is fed and read, or a word for another call. Behind it stand the lines that
 // are written, each with `;` for its end, and the state, or why the call is refused; behind a reader's word what it answers.
 //
-// `ended` sends the command that is due and reads that it is received and done, `touched` with the point of its data between them;
-// `ended n` and `sends n` do so with more commands and show no line. `letters n` feeds so many letters A, `bare` a line that ends with LF
-// alone.
+// `ended` sends the command that is due and reads that it is received and done, `touched` and `told` with the text of its data between
+// them; `IsHomed(0)` is that of the question whether the machine is homed where no other text stands there. `ended n` and `sends n` do so
+// with more commands and show no line. `letters n` feeds so many letters A, `bare` a line that ends with LF alone.
 
+use crate::shown::{push_act, push_features, push_lines, push_text};
 use client_core::{Cause, Client, ClientFault, NewFault, State};
-use contact_ledger::{Act, Feature, FeatureLedger, Origin, Points};
+use contact_ledger::{Act, Feature, FeatureLedger, Points};
 use dmis_program::{Frames, Program};
-use fixed_um::{Dir, Frame, Name, Point, Um, write_dir, write_um};
+use fixed_um::{Name, Point, Um};
 use std::alloc::{AllocError, Global};
 use std::test::Fail;
 
@@ -54,41 +55,50 @@ send => 00002 ClearAllErrors();Running
 00002 & => Running
 00002 % => Running
 counted => nothing
-send => 00003 Home();Running
+send => 00003 IsHomed();Running
 00003 & => Running
+due => nothing
+00003 # IsHomed(0) => Running
 counted => nothing
+due => nothing
 00003 % => Running
-counted => HOMED;
-send => 00004 OnPtMeasReport(X(), Y(), Z());Running
+counted => HOMEDIS 0;
+due => Home
+send => 00004 Home();Running
 00004 & => Running
+counted => HOMEDIS 0;
 00004 % => Running
-counted => HOMED;
-send => 00005 SetCoordSystem(MachineCsy);Running
+counted => HOMEDIS 0;HOMED;
+send => 00005 OnPtMeasReport(X(), Y(), Z());Running
 00005 & => Running
 00005 % => Running
-counted => HOMED;FRAMED M;
-send => 00006 ChangeTool(\"P1\");Running
+counted => HOMEDIS 0;HOMED;
+send => 00006 SetCoordSystem(MachineCsy);Running
 00006 & => Running
 00006 % => Running
-counted => HOMED;FRAMED M;CHANGED P1;
-send => 00007 GoTo(X(10.000), Y(20.000), Z(30.000));Running
+counted => HOMEDIS 0;HOMED;FRAMED M;
+send => 00007 ChangeTool(\"P1\");Running
 00007 & => Running
 00007 % => Running
-counted => HOMED;FRAMED M;CHANGED P1;MOVED 10.000 20.000 30.000 M;
-send => 00008 PtMeas(X(10.000), Y(20.000), Z(25.000), IJK(0.000000, 0.000000, 1.000000));Running
+counted => HOMEDIS 0;HOMED;FRAMED M;CHANGED P1;
+send => 00008 GoTo(X(10.000), Y(20.000), Z(30.000));Running
 00008 & => Running
-00008 # X(10.002), Y(20.000), Z(25.000) => Running
-completed => 7
-features => nothing
 00008 % => Running
-features => A 1 M 10.002 20.000 25.000;
-counted => HOMED;FRAMED M;CHANGED P1;MOVED 10.000 20.000 30.000 M;\
-CONTACT 10.000 20.000 25.000 D 0.000000 0.000000 1.000000 P1 M 10.002 20.000 25.000;
-send => 00009 EndSession();Running
-completed => 8
+counted => HOMEDIS 0;HOMED;FRAMED M;CHANGED P1;MOVED 10.000 20.000 30.000 M;
+send => 00009 PtMeas(X(10.000), Y(20.000), Z(25.000), IJK(0.000000, 0.000000, 1.000000));Running
 00009 & => Running
-00009 % => Done
+00009 # X(10.002), Y(20.000), Z(25.000) => Running
+completed => 8
+features => nothing
+00009 % => Running
+features => A 1 M 10.002 20.000 25.000;
+counted => HOMEDIS 0;HOMED;FRAMED M;CHANGED P1;MOVED 10.000 20.000 30.000 M;\
+CONTACT 10.000 20.000 25.000 D 0.000000 0.000000 1.000000 P1 M 10.002 20.000 25.000;
+send => 00010 EndSession();Running
 completed => 9
+00010 & => Running
+00010 % => Done
+completed => 10
 open => 0
 due => nothing
 send => NotNow
@@ -97,7 +107,7 @@ resume => NotNow
 connected 2 => NotNow
 read => no line
 E0000 ! Error(3, 9001, \"\", \"No tag\") => Done
-00009 % => Faulted(UnknownTag)
+00010 % => Faulted(UnknownTag)
 features => A 1 M 10.002 20.000 25.000;
 leave => Apart
 connected 2 => Running
@@ -166,18 +176,18 @@ read => NotNow
 open => 1
 connected 2 => Running
 open => 0
-ended 6 => Running
-touched X(1.002), Y(0.000), Z(0.000) => 00007 PtMeas(X(1.000), Y(0.000), Z(0.000), IJK(-1.000000, 0.000000, 0.000000));Running
-send => 00008 PtMeas(X(0.000), Y(1.000), Z(0.000), IJK(0.000000, -1.000000, 0.000000));Running
-00008 & => Running
-00008 % => Faulted(NoData)
-completed => 7
-counted => HOMED;FRAMED M;CHANGED P1;CONTACT 1.000 0.000 0.000 D -1.000000 0.000000 0.000000 P1 M 1.002 0.000 0.000;
-00008 & => Faulted(NoData)
+ended 7 => Running
+touched X(1.002), Y(0.000), Z(0.000) => 00008 PtMeas(X(1.000), Y(0.000), Z(0.000), IJK(-1.000000, 0.000000, 0.000000));Running
+send => 00009 PtMeas(X(0.000), Y(1.000), Z(0.000), IJK(0.000000, -1.000000, 0.000000));Running
+00009 & => Running
+00009 % => Faulted(NoData)
+completed => 8
+counted => HOMEDIS 0;HOMED;FRAMED M;CHANGED P1;CONTACT 1.000 0.000 0.000 D -1.000000 0.000000 0.000000 P1 M 1.002 0.000 0.000;
+00009 & => Faulted(NoData)
 send => Faulted(NoData)
 leave => Apart
-completed => 7
-counted => HOMED;FRAMED M;CHANGED P1;CONTACT 1.000 0.000 0.000 D -1.000000 0.000000 0.000000 P1 M 1.002 0.000 0.000;
+completed => 8
+counted => HOMEDIS 0;HOMED;FRAMED M;CHANGED P1;CONTACT 1.000 0.000 0.000 D -1.000000 0.000000 0.000000 P1 M 1.002 0.000 0.000;
 connected 3 => Running
 counted => nothing
 letters 65536 => Running
@@ -201,18 +211,18 @@ leave => Apart
 /// Three touches, broken off behind the first: the plan begins again, and the feature has points of the second connection only.
 const BROKEN: &str = "\
 connected 1 => Running
-ended 6 => Running
-touched X(1.002), Y(0.000), Z(0.000) => 00007 PtMeas(X(1.000), Y(0.000), Z(0.000), IJK(-1.000000, 0.000000, 0.000000));Running
-completed => 7
+ended 7 => Running
+touched X(1.002), Y(0.000), Z(0.000) => 00008 PtMeas(X(1.000), Y(0.000), Z(0.000), IJK(-1.000000, 0.000000, 0.000000));Running
+completed => 8
 features => nothing
 leave => Apart
-counted => HOMED;FRAMED M;CHANGED P1;CONTACT 1.000 0.000 0.000 D -1.000000 0.000000 0.000000 P1 M 1.002 0.000 0.000;
+counted => HOMEDIS 0;HOMED;FRAMED M;CHANGED P1;CONTACT 1.000 0.000 0.000 D -1.000000 0.000000 0.000000 P1 M 1.002 0.000 0.000;
 connected 2 => Running
 counted => nothing
 completed => 0
 ended => 00001 StartSession();Running
 ended => 00002 ClearAllErrors();Running
-ended => 00003 Home();Running
+told IsHomed(1) => 00003 IsHomed();Running
 ended => 00004 OnPtMeasReport(X(), Y(), Z());Running
 ended => 00005 SetCoordSystem(MachineCsy);Running
 ended => 00006 ChangeTool(\"P1\");Running
@@ -223,7 +233,7 @@ touched X(-0.998), Y(0.000), Z(0.000) => 00009 PtMeas(X(-1.000), Y(0.000), Z(0.0
 features => C 2 M 1.000 0.000 0.004 -0.001 1.001 0.000 -0.998 0.000 0.000;
 ended => 00010 EndSession();Done
 completed => 10
-counted => HOMED;FRAMED M;CHANGED P1;\
+counted => HOMEDIS 1;FRAMED M;CHANGED P1;\
 CONTACT 1.000 0.000 0.000 D -1.000000 0.000000 0.000000 P1 M 1.000 0.000 0.004;\
 CONTACT 0.000 1.000 0.000 D 0.000000 -1.000000 0.000000 P1 M -0.001 1.001 0.000;\
 CONTACT -1.000 0.000 0.000 D 1.000000 0.000000 0.000000 P1 M -0.998 0.000 0.000;
@@ -240,20 +250,20 @@ connected 3 => Running
 /// Two features, broken off behind the first: the plan begins behind it, with its tool and its frame.
 const KEPT: &str = "\
 connected 1 => Running
-ended 6 => Running
-touched X(1.002), Y(2.000), Z(3.000) => 00007 PtMeas(X(1.000), Y(2.000), Z(3.000), IJK(0.000000, 0.000000, 1.000000));Running
+ended 7 => Running
+touched X(1.002), Y(2.000), Z(3.000) => 00008 PtMeas(X(1.000), Y(2.000), Z(3.000), IJK(0.000000, 0.000000, 1.000000));Running
 features => A 1 M 1.002 2.000 3.000;
-send => 00008 PtMeas(X(4.000), Y(5.000), Z(6.000), IJK(0.000000, 0.000000, 1.000000));Running
-00008 & => Running
-00008 # X(4.000), Y(5.000), Z(6.004) => Running
-00008 $ => Faulted(NotResponse)
+send => 00009 PtMeas(X(4.000), Y(5.000), Z(6.000), IJK(0.000000, 0.000000, 1.000000));Running
+00009 & => Running
+00009 # X(4.000), Y(5.000), Z(6.004) => Running
+00009 $ => Faulted(NotResponse)
 features => A 1 M 1.002 2.000 3.000;
 leave => Apart
 features => A 1 M 1.002 2.000 3.000;
 connected 2 => Running
 ended => 00001 StartSession();Running
 ended => 00002 ClearAllErrors();Running
-ended => 00003 Home();Running
+told IsHomed(1) => 00003 IsHomed();Running
 ended => 00004 OnPtMeasReport(X(), Y(), Z());Running
 ended => 00005 ChangeTool(\"P1\");Running
 ended => 00006 SetCoordSystem(MachineCsy);Running
@@ -261,7 +271,7 @@ touched X(3.999), Y(5.001), Z(6.000) => 00007 PtMeas(X(4.000), Y(5.000), Z(6.000
 features => A 1 M 1.002 2.000 3.000;B 2 M 3.999 5.001 6.000;
 ended => 00008 EndSession();Done
 completed => 8
-counted => HOMED;CHANGED P1;FRAMED M;CONTACT 4.000 5.000 6.000 D 0.000000 0.000000 1.000000 P1 M 3.999 5.001 6.000;
+counted => HOMEDIS 1;CHANGED P1;FRAMED M;CONTACT 4.000 5.000 6.000 D 0.000000 0.000000 1.000000 P1 M 3.999 5.001 6.000;
 restart 3 => NotNow
 state => Done
 restart 1 => Apart
@@ -270,59 +280,68 @@ counted => nothing
 completed => 0
 connected 2 => NotNow
 connected 3 => Running
-ended 6 => Running
-touched X(4.001), Y(5.000), Z(6.000) => 00007 PtMeas(X(4.000), Y(5.000), Z(6.000), IJK(0.000000, 0.000000, 1.000000));Running
-ended => 00008 EndSession();Done
+ended 7 => Running
+touched X(4.001), Y(5.000), Z(6.000) => 00008 PtMeas(X(4.000), Y(5.000), Z(6.000), IJK(0.000000, 0.000000, 1.000000));Running
+ended => 00009 EndSession();Done
 features => A 1 M 1.002 2.000 3.000;B 3 M 4.001 5.000 6.000;
 restart 2 => Apart
 connected 4 => Running
-ended 6 => Running
-ended => 00007 EndSession();Done
-counted => HOMED;CHANGED P1;FRAMED M;
+ended 7 => Running
+ended => 00008 EndSession();Done
+counted => HOMEDIS 0;HOMED;CHANGED P1;FRAMED M;
 features => A 1 M 1.002 2.000 3.000;B 3 M 4.001 5.000 6.000;
+completed => 8
+restart 2 => Apart
+connected 5 => Running
+ended 2 => Running
+told IsHomed(1) => 00003 IsHomed();Running
+ended 3 => Running
+ended => 00007 EndSession();Done
+completed => 7
+counted => HOMEDIS 1;CHANGED P1;FRAMED M;
 ";
 
 /// An abort while a touch runs: measuring goes on behind the first feature, and the touch that served nobody stays counted.
 const RESUMED: &str = "\
 connected 1 => Running
-ended 6 => Running
-touched X(10.002), Y(0.000), Z(0.000) => 00007 PtMeas(X(10.000), Y(0.000), Z(0.000), IJK(0.000000, 0.000000, 1.000000));Running
-touched X(20.000), Y(0.000), Z(0.004) => 00008 PtMeas(X(20.000), Y(0.000), Z(0.000), IJK(0.000000, 0.000000, 1.000000));Running
-ended => 00009 SetCsyTransformation(PartCsy, -100.000, 0.000, 0.000, 0, 0, 0);Running
-ended => 00010 SetCoordSystem(PartCsy);Running
-send => 00011 PtMeas(X(30.000), Y(0.000), Z(0.000), IJK(0.000000, 0.000000, 1.000000));Running
+ended 7 => Running
+touched X(10.002), Y(0.000), Z(0.000) => 00008 PtMeas(X(10.000), Y(0.000), Z(0.000), IJK(0.000000, 0.000000, 1.000000));Running
+touched X(20.000), Y(0.000), Z(0.004) => 00009 PtMeas(X(20.000), Y(0.000), Z(0.000), IJK(0.000000, 0.000000, 1.000000));Running
+ended => 00010 SetCsyTransformation(PartCsy, -100.000, 0.000, 0.000, 0, 0, 0);Running
+ended => 00011 SetCoordSystem(PartCsy);Running
+send => 00012 PtMeas(X(30.000), Y(0.000), Z(0.000), IJK(0.000000, 0.000000, 1.000000));Running
 abort => E0001 AbortE();Aborting
-00011 & => Aborting
+00012 & => Aborting
 E0001 & => Aborting
-00011 ! Error(3, 9007, \"PtMeas\", \"Aborted\") => Aborting
-00011 % => Aborting
+00012 ! Error(3, 9007, \"PtMeas\", \"Aborted\") => Aborting
+00012 % => Aborting
 E0001 % => Halted
-completed => 10
+completed => 11
 features => A 1 M 10.002 0.000 0.000;
 due => nothing
 send => NotNow
 resume => Running
 completed => 0
 features => A 1 M 10.002 0.000 0.000;
-counted => HOMED;FRAMED M;CHANGED P1;\
+counted => HOMEDIS 0;HOMED;FRAMED M;CHANGED P1;\
 CONTACT 10.000 0.000 0.000 D 0.000000 0.000000 1.000000 P1 M 10.002 0.000 0.000;\
 CONTACT 20.000 0.000 0.000 D 0.000000 0.000000 1.000000 P1 M 20.000 0.000 0.004;FRAMED P 100.000 0.000 0.000;
-ended => 00012 ClearAllErrors();Running
-ended => 00013 Home();Running
-ended => 00014 OnPtMeasReport(X(), Y(), Z());Running
-ended => 00015 ChangeTool(\"P1\");Running
-ended => 00016 SetCoordSystem(MachineCsy);Running
-touched X(19.999), Y(0.001), Z(0.000) => 00017 PtMeas(X(20.000), Y(0.000), Z(0.000), IJK(0.000000, 0.000000, 1.000000));Running
-ended => 00018 SetCsyTransformation(PartCsy, -100.000, 0.000, 0.000, 0, 0, 0);Running
-ended => 00019 SetCoordSystem(PartCsy);Running
-touched X(30.002), Y(0.000), Z(0.000) => 00020 PtMeas(X(30.000), Y(0.000), Z(0.000), IJK(0.000000, 0.000000, 1.000000));Running
-ended => 00021 EndSession();Done
+ended => 00013 ClearAllErrors();Running
+told IsHomed(1) => 00014 IsHomed();Running
+ended => 00015 OnPtMeasReport(X(), Y(), Z());Running
+ended => 00016 ChangeTool(\"P1\");Running
+ended => 00017 SetCoordSystem(MachineCsy);Running
+touched X(19.999), Y(0.001), Z(0.000) => 00018 PtMeas(X(20.000), Y(0.000), Z(0.000), IJK(0.000000, 0.000000, 1.000000));Running
+ended => 00019 SetCsyTransformation(PartCsy, -100.000, 0.000, 0.000, 0, 0, 0);Running
+ended => 00020 SetCoordSystem(PartCsy);Running
+touched X(30.002), Y(0.000), Z(0.000) => 00021 PtMeas(X(30.000), Y(0.000), Z(0.000), IJK(0.000000, 0.000000, 1.000000));Running
+ended => 00022 EndSession();Done
 completed => 10
 features => A 1 M 10.002 0.000 0.000;B 1 P 100.000 0.000 0.000 19.999 0.001 0.000 30.002 0.000 0.000;
-counted => HOMED;FRAMED M;CHANGED P1;\
+counted => HOMEDIS 0;HOMED;FRAMED M;CHANGED P1;\
 CONTACT 10.000 0.000 0.000 D 0.000000 0.000000 1.000000 P1 M 10.002 0.000 0.000;\
 CONTACT 20.000 0.000 0.000 D 0.000000 0.000000 1.000000 P1 M 20.000 0.000 0.004;FRAMED P 100.000 0.000 0.000;\
-HOMED;CHANGED P1;FRAMED M;\
+HOMEDIS 1;CHANGED P1;FRAMED M;\
 CONTACT 20.000 0.000 0.000 D 0.000000 0.000000 1.000000 P1 M 19.999 0.001 0.000;FRAMED P 100.000 0.000 0.000;\
 CONTACT 30.000 0.000 0.000 D 0.000000 0.000000 1.000000 P1 P 100.000 0.000 0.000 30.002 0.000 0.000;
 ";
@@ -330,90 +349,96 @@ CONTACT 30.000 0.000 0.000 D 0.000000 0.000000 1.000000 P1 P 100.000 0.000 0.000
 /// An abort with three commands open: each fails, and the plan begins again.
 const ABORTED: &str = "\
 connected 1 => Running
-ended 4 => Running
-send => 00005 SetCoordSystem(MachineCsy);Running
-send => 00006 ChangeTool(\"P1\");Running
-send => 00007 PtMeas(X(1.000), Y(0.000), Z(0.000), IJK(-1.000000, 0.000000, 0.000000));Running
+ended 5 => Running
+send => 00006 SetCoordSystem(MachineCsy);Running
+send => 00007 ChangeTool(\"P1\");Running
+send => 00008 PtMeas(X(1.000), Y(0.000), Z(0.000), IJK(-1.000000, 0.000000, 0.000000));Running
 open => 3
 due => nothing
 send => NotNow
-00005 & => Running
 00006 & => Running
 00007 & => Running
-00005 % => Running
-counted => HOMED;FRAMED M;
+00008 & => Running
+00006 % => Running
+counted => HOMEDIS 0;HOMED;FRAMED M;
 due => PtMeas
-send => 00008 PtMeas(X(0.000), Y(1.000), Z(0.000), IJK(0.000000, -1.000000, 0.000000));Running
+send => 00009 PtMeas(X(0.000), Y(1.000), Z(0.000), IJK(0.000000, -1.000000, 0.000000));Running
 abort => E0001 AbortE();Aborting
-00008 & => Aborting
+00009 & => Aborting
 E0001 & => Aborting
-00006 ! Error(3, 9007, \"ChangeTool\", \"Aborted\") => Aborting
-00006 % => Aborting
-00007 ! Error(3, 9007, \"PtMeas\", \"Aborted\") => Aborting
+00007 ! Error(3, 9007, \"ChangeTool\", \"Aborted\") => Aborting
 00007 % => Aborting
 00008 ! Error(3, 9007, \"PtMeas\", \"Aborted\") => Aborting
+00008 % => Aborting
+00009 ! Error(3, 9007, \"PtMeas\", \"Aborted\") => Aborting
 open => 0
 resume => NotNow
-00008 % => Aborting
+00009 % => Aborting
 E0001 % => Halted
-completed => 5
-counted => HOMED;FRAMED M;
+completed => 6
+counted => HOMEDIS 0;HOMED;FRAMED M;
 resume => Running
 due => ClearAllErrors
-send => 00009 ClearAllErrors();Running
-send => 00010 Home();Running
-send => 00011 OnPtMeasReport(X(), Y(), Z());Running
+send => 00010 ClearAllErrors();Running
+send => 00011 IsHomed();Running
+open => 2
+due => nothing
 send => NotNow
-00009 & => Running
-00009 % => Running
-send => 00012 SetCoordSystem(MachineCsy);Running
 00010 & => Running
 00010 % => Running
-send => 00013 ChangeTool(\"P1\");Running
-counted => HOMED;FRAMED M;HOMED;
+due => nothing
+00011 & => Running
+00011 # IsHomed(1) => Running
+due => nothing
+00011 % => Running
+send => 00012 OnPtMeasReport(X(), Y(), Z());Running
+send => 00013 SetCoordSystem(MachineCsy);Running
+send => 00014 ChangeTool(\"P1\");Running
+send => NotNow
+counted => HOMEDIS 0;HOMED;FRAMED M;HOMEDIS 1;
 ";
 
 /// A touch meets no surface: what was sent behind it fails too. A mark of the old plan changes nothing of the new one.
 const FAILED: &str = "\
 connected 1 => Running
-ended 6 => Running
-touched X(1.002), Y(0.000), Z(0.000) => 00007 PtMeas(X(1.000), Y(0.000), Z(0.000), IJK(-1.000000, 0.000000, 0.000000));Running
-send => 00008 PtMeas(X(0.000), Y(1.000), Z(0.000), IJK(0.000000, -1.000000, 0.000000));Running
-send => 00009 PtMeas(X(-1.000), Y(0.000), Z(0.000), IJK(1.000000, 0.000000, 0.000000));Running
-send => 00010 EndSession();Running
-00008 & => Running
+ended 7 => Running
+touched X(1.002), Y(0.000), Z(0.000) => 00008 PtMeas(X(1.000), Y(0.000), Z(0.000), IJK(-1.000000, 0.000000, 0.000000));Running
+send => 00009 PtMeas(X(0.000), Y(1.000), Z(0.000), IJK(0.000000, -1.000000, 0.000000));Running
+send => 00010 PtMeas(X(-1.000), Y(0.000), Z(0.000), IJK(1.000000, 0.000000, 0.000000));Running
+send => 00011 EndSession();Running
 00009 & => Running
-00008 ! Error(3, 9014, \"PtMeas\", \"No surface\") => Failing
+00010 & => Running
+00009 ! Error(3, 9014, \"PtMeas\", \"No surface\") => Failing
 due => nothing
 send => NotNow
 resume => NotNow
-00008 % => Failing
-00009 ! Error(3, 9007, \"PtMeas\", \"Aborted\") => Failing
 00009 % => Failing
+00010 ! Error(3, 9007, \"PtMeas\", \"Aborted\") => Failing
+00010 % => Failing
 open => 1
-00010 & => Failing
-00010 ! Error(3, 9008, \"EndSession\", \"Error state\") => Halted
+00011 & => Failing
+00011 ! Error(3, 9008, \"EndSession\", \"Error state\") => Halted
 due => nothing
 abort => NotNow
 resume => Running
 due => ClearAllErrors
-00010 ! => Running
-00010 % => Running
+00011 ! => Running
+00011 % => Running
 open => 0
 completed => 0
-ended => 00011 ClearAllErrors();Running
-ended => 00012 Home();Running
-ended => 00013 OnPtMeasReport(X(), Y(), Z());Running
-ended => 00014 SetCoordSystem(MachineCsy);Running
-ended => 00015 ChangeTool(\"P1\");Running
-touched X(1.000), Y(0.000), Z(0.004) => 00016 PtMeas(X(1.000), Y(0.000), Z(0.000), IJK(-1.000000, 0.000000, 0.000000));Running
-touched X(-0.001), Y(1.001), Z(0.000) => 00017 PtMeas(X(0.000), Y(1.000), Z(0.000), IJK(0.000000, -1.000000, 0.000000));Running
-touched X(-0.998), Y(0.000), Z(0.000) => 00018 PtMeas(X(-1.000), Y(0.000), Z(0.000), IJK(1.000000, 0.000000, 0.000000));Running
-ended => 00019 EndSession();Done
+ended => 00012 ClearAllErrors();Running
+told IsHomed(1) => 00013 IsHomed();Running
+ended => 00014 OnPtMeasReport(X(), Y(), Z());Running
+ended => 00015 SetCoordSystem(MachineCsy);Running
+ended => 00016 ChangeTool(\"P1\");Running
+touched X(1.000), Y(0.000), Z(0.004) => 00017 PtMeas(X(1.000), Y(0.000), Z(0.000), IJK(-1.000000, 0.000000, 0.000000));Running
+touched X(-0.001), Y(1.001), Z(0.000) => 00018 PtMeas(X(0.000), Y(1.000), Z(0.000), IJK(0.000000, -1.000000, 0.000000));Running
+touched X(-0.998), Y(0.000), Z(0.000) => 00019 PtMeas(X(-1.000), Y(0.000), Z(0.000), IJK(1.000000, 0.000000, 0.000000));Running
+ended => 00020 EndSession();Done
 features => C 1 M 1.000 0.000 0.004 -0.001 1.001 0.000 -0.998 0.000 0.000;
-counted => HOMED;FRAMED M;CHANGED P1;\
+counted => HOMEDIS 0;HOMED;FRAMED M;CHANGED P1;\
 CONTACT 1.000 0.000 0.000 D -1.000000 0.000000 0.000000 P1 M 1.002 0.000 0.000;\
-HOMED;FRAMED M;CHANGED P1;\
+HOMEDIS 1;FRAMED M;CHANGED P1;\
 CONTACT 1.000 0.000 0.000 D -1.000000 0.000000 0.000000 P1 M 1.000 0.000 0.004;\
 CONTACT 0.000 1.000 0.000 D 0.000000 -1.000000 0.000000 P1 M -0.001 1.001 0.000;\
 CONTACT -1.000 0.000 0.000 D 1.000000 0.000000 0.000000 P1 M -0.998 0.000 0.000;
@@ -423,52 +448,52 @@ CONTACT -1.000 0.000 0.000 D 1.000000 0.000000 0.000000 P1 M -0.998 0.000 0.000;
 /// was not begun is not resumed.
 const ENDED: &str = "\
 connected 1 => Running
-ended 7 => Running
+ended 8 => Running
 touched X(10.002), Y(20.000), Z(25.000) => \
-00008 PtMeas(X(10.000), Y(20.000), Z(25.000), IJK(0.000000, 0.000000, 1.000000));Running
-send => 00009 EndSession();Running
-00009 & => Running
+00009 PtMeas(X(10.000), Y(20.000), Z(25.000), IJK(0.000000, 0.000000, 1.000000));Running
+send => 00010 EndSession();Running
+00010 & => Running
 abort => E0001 AbortE();Aborting
-00009 % => Aborting
-completed => 9
+00010 % => Aborting
+completed => 10
 open => 0
 E0001 & => Aborting
 E0001 % => Done
 restart 0 => Apart
 connected 2 => Running
-ended 7 => Running
+ended 8 => Running
 touched X(10.002), Y(20.000), Z(25.000) => \
-00008 PtMeas(X(10.000), Y(20.000), Z(25.000), IJK(0.000000, 0.000000, 1.000000));Running
-send => 00009 EndSession();Running
+00009 PtMeas(X(10.000), Y(20.000), Z(25.000), IJK(0.000000, 0.000000, 1.000000));Running
+send => 00010 EndSession();Running
 abort => E0001 AbortE();Aborting
-00009 & => Aborting
-00009 % => Aborting
+00010 & => Aborting
+00010 % => Aborting
 E0001 ! Error(3, 9004, \"AbortE\", \"Bad arguments\") => Done
 E0001 % => Done
 restart 0 => Apart
 connected 3 => Running
-ended 6 => Running
-send => 00007 GoTo(X(10.000), Y(20.000), Z(30.000));Running
+ended 7 => Running
+send => 00008 GoTo(X(10.000), Y(20.000), Z(30.000));Running
 abort => E0001 AbortE();Aborting
 E0001 ! Error(3, 9003, \"\", \"Unknown command\") => Failing
 due => nothing
 resume => NotNow
 abort => E0002 AbortE();Aborting
 E0001 % => Aborting
-00007 & => Aborting
+00008 & => Aborting
 E0002 & => Aborting
 E0002 % => Failing
-00007 % => Halted
-completed => 7
-counted => HOMED;FRAMED M;CHANGED P1;MOVED 10.000 20.000 30.000 M;
+00008 % => Halted
+completed => 8
+counted => HOMEDIS 0;HOMED;FRAMED M;CHANGED P1;MOVED 10.000 20.000 30.000 M;
 resume => Running
 completed => 0
-ended => 00008 ClearAllErrors();Running
+ended => 00009 ClearAllErrors();Running
 abort => E0003 AbortE();Aborting
 E0003 & => Aborting
 E0003 % => Halted
 resume => Running
-ended => 00009 ClearAllErrors();Running
+ended => 00010 ClearAllErrors();Running
 leave => Apart
 connected 4 => Running
 send => 00001 StartSession();Running
@@ -487,7 +512,7 @@ resume => NotNow
 leave => Apart
 ";
 
-/// Sixteen commands open, and the one that waits for all others to end.
+/// Sixteen commands open, the one that waits for all others to end, and the question behind which all others wait.
 const WINDOW: &str = "\
 connected 1 => Running
 send => 00001 StartSession();Running
@@ -496,6 +521,23 @@ due => nothing
 send => NotNow
 00001 % => Running
 due => ClearAllErrors
+sends 2 => Running
+open => 2
+due => nothing
+send => NotNow
+00002 & => Running
+00002 % => Running
+open => 1
+due => nothing
+00003 & => Running
+due => nothing
+00003 # IsHomed(0) => Running
+open => 1
+due => nothing
+send => NotNow
+00003 % => Running
+open => 0
+due => Home
 sends 15 => Running
 open => 15
 due => GoTo
@@ -503,84 +545,217 @@ sends 1 => Running
 open => 16
 due => nothing
 send => NotNow
-00002 & => Running
+00004 & => Running
 due => nothing
-00002 % => Running
+00004 % => Running
 open => 15
-send => 00018 GoTo(X(13.000), Y(0.000), Z(0.000));Running
+send => 00020 GoTo(X(14.000), Y(0.000), Z(0.000));Running
 due => nothing
-00003 ! Error(3, 9015, \"Home\", \"Machine fault\") => Failing
+00005 ! Error(3, 9005, \"OnPtMeasReport\", \"No session\") => Failing
 open => 15
 due => nothing
 ";
 
-/// What `&`, `#` with a point, `!` and `%` do to the command of a tag, behind the actions that bring it to its stage: the state and how
-/// many commands of the plan are counted, or why the client is Faulted. Up to three commands are open, of which 00003 is `Home`, 00007 the
-/// move and 00008 the touch.
+/// Nothing is due until the question whether the machine is homed is answered, whatever the window. Where the machine is homed, the command
+/// that homes it is never sent, and the whole plan counts without it.
+const TOLD: &str = "\
+connected 1 => Running
+ended 1 => Running
+sends 2 => Running
+00002 & => Running
+00002 % => Running
+00003 & => Running
+due => nothing
+00003 # 1 => Running
+open => 1
+due => nothing
+send => NotNow
+counted => nothing
+completed => 2
+00003 % => Running
+counted => HOMEDIS 1;
+completed => 3
+open => 0
+due => OnPtMeasReport
+send => 00004 OnPtMeasReport(X(), Y(), Z());Running
+send => 00005 SetCoordSystem(MachineCsy);Running
+send => 00006 ChangeTool(\"P1\");Running
+send => 00007 GoTo(X(10.000), Y(20.000), Z(30.000));Running
+send => 00008 PtMeas(X(10.000), Y(20.000), Z(25.000), IJK(0.000000, 0.000000, 1.000000));Running
+send => 00009 EndSession();Running
+open => 6
+due => nothing
+00004 & => Running
+00004 % => Running
+00005 & => Running
+00005 % => Running
+00006 & => Running
+00006 % => Running
+00007 & => Running
+00007 % => Running
+00008 & => Running
+00008 # X(10.002), Y(20.000), Z(25.000) => Running
+00008 % => Running
+00009 & => Running
+completed => 8
+00009 % => Done
+completed => 9
+features => A 1 M 10.002 20.000 25.000;
+counted => HOMEDIS 1;FRAMED M;CHANGED P1;MOVED 10.000 20.000 30.000 M;\
+CONTACT 10.000 20.000 25.000 D 0.000000 0.000000 1.000000 P1 M 10.002 20.000 25.000;
+restart 0 => Apart
+connected 2 => Running
+ended 2 => Running
+told 0 => 00003 IsHomed();Running
+counted => HOMEDIS 0;
+completed => 3
+due => Home
+send => 00004 Home();Running
+due => OnPtMeasReport
+leave => Apart
+connected 3 => Running
+ended 2 => Running
+told ishomed ( 0 ) => 00003 IsHomed();Running
+due => Home
+leave => Apart
+connected 4 => Running
+ended 2 => Running
+told ISHOMED(1)  => 00003 IsHomed();Running
+due => OnPtMeasReport
+leave => Apart
+connected 5 => Running
+ended 2 => Running
+send => 00003 IsHomed();Running
+00003 & => Running
+00003 ! Error(3, 9005, \"IsHomed\", \"No session\") => Halted
+counted => nothing
+due => nothing
+resume => Running
+due => ClearAllErrors
+ended => 00004 ClearAllErrors();Running
+send => 00005 IsHomed();Running
+00003 % => Running
+due => nothing
+00005 & => Running
+00005 # IsHomed(1) => Running
+00005 % => Running
+counted => HOMEDIS 1;
+completed => 2
+due => OnPtMeasReport
+leave => Apart
+connected 6 => Running
+ended 2 => Running
+send => 00003 IsHomed();Running
+00003 & => Running
+00003 # 1 => Running
+abort => E0001 AbortE();Aborting
+E0001 & => Aborting
+00003 % => Aborting
+counted => HOMEDIS 1;
+E0001 % => Halted
+resume => Running
+ended => 00004 ClearAllErrors();Running
+told 0 => 00005 IsHomed();Running
+due => Home
+counted => HOMEDIS 1;HOMEDIS 0;
+";
+
+/// What `&`, `#` with a point or with the text that stands behind the tag, `!` and `%` do to the command of a tag, behind the actions that
+/// bring it to its stage: the state and how many commands of the plan are counted, or why the client is Faulted. Up to three commands are
+/// open, of which 00003 asks whether the machine is homed, 00004 is `Home`, 00008 the move and 00009 the touch.
 const MARKS: &str = "\
+00009 | ended 8 / send => Running 8, OutOfOrder, Halted 8, OutOfOrder
+00009 | ended 8 / send / 00009 & => OutOfOrder, Running 8, Halted 8, NoData
+00009 | ended 8 / send / 00009 & / 00009 # X(1), Y(2), Z(3) => OutOfOrder, SecondData, Halted 8, Running 9
+00009 | ended 8 / send / 00009 ! => OutOfOrder, OutOfOrder, Halted 8, Halted 8
+00009 | ended 8 / send / 00009 & / 00009 ! => OutOfOrder, OutOfOrder, Halted 8, Halted 8
+00009 | ended 7 / sends 2 => Running 7, OutOfOrder, Failing 7, OutOfOrder
+00009 | ended 7 / sends 2 / 00009 & => OutOfOrder, OutOfOrder, Failing 7, OutOfOrder
+00009 | ended 7 / sends 2 / 00008 & / 00009 & => OutOfOrder, OutOfOrder, Failing 7, OutOfOrder
+00009 | ended 7 / sends 2 / 00009 ! => OutOfOrder, OutOfOrder, Failing 7, Failing 7
+00009 | ended 8 / sends 2 / 00010 ! => Failing 8, OutOfOrder, Halted 8, OutOfOrder
+00009 | ended 8 / sends 2 / 00009 & / 00010 ! => OutOfOrder, OutOfOrder, Halted 8, OutOfOrder
+00009 | ended 8 / sends 2 / 00009 & / 00009 # X(1), Y(2), Z(3) / 00010 ! => OutOfOrder, OutOfOrder, Halted 8, OutOfOrder
+00009 | ended 8 / sends 2 / 00009 ! / 00010 ! => OutOfOrder, OutOfOrder, Halted 8, Halted 8
+00009 | ended 7 / sends 2 / 00008 ! / 00008 % / 00009 & => OutOfOrder, OutOfOrder, Halted 7, OutOfOrder
 00008 | ended 7 / send => Running 7, OutOfOrder, Halted 7, OutOfOrder
-00008 | ended 7 / send / 00008 & => OutOfOrder, Running 7, Halted 7, NoData
-00008 | ended 7 / send / 00008 & / 00008 # X(1), Y(2), Z(3) => OutOfOrder, SecondData, Halted 7, Running 8
+00008 | ended 7 / send / 00008 & => OutOfOrder, OutOfOrder, Halted 7, Running 8
 00008 | ended 7 / send / 00008 ! => OutOfOrder, OutOfOrder, Halted 7, Halted 7
-00008 | ended 7 / send / 00008 & / 00008 ! => OutOfOrder, OutOfOrder, Halted 7, Halted 7
 00008 | ended 6 / sends 2 => Running 6, OutOfOrder, Failing 6, OutOfOrder
 00008 | ended 6 / sends 2 / 00008 & => OutOfOrder, OutOfOrder, Failing 6, OutOfOrder
-00008 | ended 6 / sends 2 / 00007 & / 00008 & => OutOfOrder, OutOfOrder, Failing 6, OutOfOrder
 00008 | ended 6 / sends 2 / 00008 ! => OutOfOrder, OutOfOrder, Failing 6, Failing 6
 00008 | ended 7 / sends 2 / 00009 ! => Failing 7, OutOfOrder, Halted 7, OutOfOrder
 00008 | ended 7 / sends 2 / 00008 & / 00009 ! => OutOfOrder, OutOfOrder, Halted 7, OutOfOrder
-00008 | ended 7 / sends 2 / 00008 & / 00008 # X(1), Y(2), Z(3) / 00009 ! => OutOfOrder, OutOfOrder, Halted 7, OutOfOrder
-00008 | ended 7 / sends 2 / 00008 ! / 00009 ! => OutOfOrder, OutOfOrder, Halted 7, Halted 7
-00008 | ended 6 / sends 2 / 00007 ! / 00007 % / 00008 & => OutOfOrder, OutOfOrder, Halted 6, OutOfOrder
-00007 | ended 6 / send => Running 6, OutOfOrder, Halted 6, OutOfOrder
-00007 | ended 6 / send / 00007 & => OutOfOrder, OutOfOrder, Halted 6, Running 7
-00007 | ended 6 / send / 00007 ! => OutOfOrder, OutOfOrder, Halted 6, Halted 6
-00007 | ended 5 / sends 2 => Running 5, OutOfOrder, Failing 5, OutOfOrder
-00007 | ended 5 / sends 2 / 00007 & => OutOfOrder, OutOfOrder, Failing 5, OutOfOrder
-00007 | ended 5 / sends 2 / 00007 ! => OutOfOrder, OutOfOrder, Failing 5, Failing 5
-00007 | ended 6 / sends 2 / 00008 ! => Failing 6, OutOfOrder, Halted 6, OutOfOrder
-00007 | ended 6 / sends 2 / 00007 & / 00008 ! => OutOfOrder, OutOfOrder, Halted 6, OutOfOrder
-00003 | ended 2 / send => Running 2, OutOfOrder, Halted 2, OutOfOrder
-00003 | ended 2 / send / 00003 & => OutOfOrder, OutOfOrder, Halted 2, Running 3
-00003 | ended 2 / send / 00003 ! => OutOfOrder, OutOfOrder, Halted 2, Halted 2
-E0001 | ended 7 / send / abort => Aborting 7, OutOfOrder, Failing 7, OutOfOrder
-E0001 | ended 7 / send / abort / E0001 & => OutOfOrder, OutOfOrder, Failing 7, Failing 7
-E0001 | ended 7 / send / abort / E0001 ! => OutOfOrder, OutOfOrder, Failing 7, Failing 7
-E0001 | ended 7 / abort / E0001 & => OutOfOrder, OutOfOrder, Halted 7, Halted 7
-E0001 | ended 7 / send / 00008 ! / resume / abort / E0001 & => OutOfOrder, OutOfOrder, Halted 0, Halted 0
-E0002 | ended 7 / send / abort / E0001 ! / abort => Aborting 7, OutOfOrder, Failing 7, OutOfOrder
-E0002 | ended 7 / send / abort / E0001 ! / abort / E0002 & => OutOfOrder, OutOfOrder, Failing 7, Failing 7
-00008 | ended 7 / send / 00008 ! / resume => OutOfOrder, OutOfOrder, Running 0, Running 0
-00009 | ended 7 / send / 00008 ! / resume / send / 00009 & => OutOfOrder, OutOfOrder, Halted 0, Running 1
-E0000 | ended 7 / send => Running 7, Running 7, Running 7, Running 7
-00009 | ended 7 / send => UnknownTag, UnknownTag, UnknownTag, UnknownTag
-00007 | ended 7 / send => UnknownTag, UnknownTag, UnknownTag, UnknownTag
-00000 | ended 7 / send => UnknownTag, UnknownTag, UnknownTag, UnknownTag
-E0001 | ended 7 / send => UnknownTag, UnknownTag, UnknownTag, UnknownTag
-E0002 | ended 7 / send / abort => UnknownTag, UnknownTag, UnknownTag, UnknownTag
+00003 # IsHomed(1) | ended 2 / send => Running 2, OutOfOrder, Halted 2, OutOfOrder
+00003 # IsHomed(1) | ended 2 / send / 00003 & => OutOfOrder, Running 2, Halted 2, NoData
+00003 # IsHomed(0) | ended 2 / send / 00003 & / 00003 # IsHomed(1) => OutOfOrder, SecondData, Halted 2, Running 3
+00003 # 1 | ended 2 / send / 00003 ! => OutOfOrder, OutOfOrder, Halted 2, Halted 2
+00003 # 0 | ended 2 / send / 00003 & / 00003 ! => OutOfOrder, OutOfOrder, Halted 2, Halted 2
+00003 # IsHomed(0) | ended 2 / send / 00003 & / 00003 # 0 / 00003 ! => OutOfOrder, OutOfOrder, Halted 2, Halted 2
+00003 # IsHomed(1) | ended 1 / sends 2 => Running 1, OutOfOrder, Failing 1, OutOfOrder
+00003 # IsHomed(1) | ended 1 / sends 2 / 00003 & => OutOfOrder, OutOfOrder, Failing 1, OutOfOrder
+00003 # IsHomed(1) | ended 1 / sends 2 / 00002 & / 00003 & => OutOfOrder, OutOfOrder, Failing 1, OutOfOrder
+00003 # IsHomed(1) | ended 1 / sends 2 / 00003 ! => OutOfOrder, OutOfOrder, Failing 1, Failing 1
+00003 # IsHomed(1) | ended 1 / sends 2 / 00002 ! => Failing 1, OutOfOrder, Halted 1, OutOfOrder
+00003 # IsHomed(1) | ended 1 / sends 2 / 00003 & / 00002 ! => OutOfOrder, OutOfOrder, Halted 1, OutOfOrder
+00004 | ended 3 / send => Running 3, OutOfOrder, Halted 3, OutOfOrder
+00004 | ended 3 / send / 00004 & => OutOfOrder, OutOfOrder, Halted 3, Running 4
+00004 | ended 3 / send / 00004 ! => OutOfOrder, OutOfOrder, Halted 3, Halted 3
+E0001 | ended 8 / send / abort => Aborting 8, OutOfOrder, Failing 8, OutOfOrder
+E0001 | ended 8 / send / abort / E0001 & => OutOfOrder, OutOfOrder, Failing 8, Failing 8
+E0001 | ended 8 / send / abort / E0001 ! => OutOfOrder, OutOfOrder, Failing 8, Failing 8
+E0001 | ended 8 / abort / E0001 & => OutOfOrder, OutOfOrder, Halted 8, Halted 8
+E0001 | ended 8 / send / 00009 ! / resume / abort / E0001 & => OutOfOrder, OutOfOrder, Halted 0, Halted 0
+E0002 | ended 8 / send / abort / E0001 ! / abort => Aborting 8, OutOfOrder, Failing 8, OutOfOrder
+E0002 | ended 8 / send / abort / E0001 ! / abort / E0002 & => OutOfOrder, OutOfOrder, Failing 8, Failing 8
+00009 | ended 8 / send / 00009 ! / resume => OutOfOrder, OutOfOrder, Running 0, Running 0
+00010 | ended 8 / send / 00009 ! / resume / send / 00010 & => OutOfOrder, OutOfOrder, Halted 0, Running 1
+E0000 | ended 8 / send => Running 8, Running 8, Running 8, Running 8
+00010 | ended 8 / send => UnknownTag, UnknownTag, UnknownTag, UnknownTag
+00008 | ended 8 / send => UnknownTag, UnknownTag, UnknownTag, UnknownTag
+00000 | ended 8 / send => UnknownTag, UnknownTag, UnknownTag, UnknownTag
+E0001 | ended 8 / send => UnknownTag, UnknownTag, UnknownTag, UnknownTag
+E0002 | ended 8 / send / abort => UnknownTag, UnknownTag, UnknownTag, UnknownTag
 ";
 
-/// Lines that are none, and data whose text is no point, each behind the actions before it.
+/// Lines that are none, and data whose text is not what the command asks for, each behind the actions before it.
 const TEXTS: &str = "\
-ended 7 / send / 00008 # none => NotResponse
-ended 7 / send / 00008 & / 00008 # X(1), Y(2) => NotResponse
-ended 7 / send / 00008 & / 00008 # Y(2), X(1), Z(3) => NotResponse
-ended 7 / send / 00008 & / 00008 # X(1), Y(2), Z(3) / 00008 # none => NotResponse
-ended 7 / send / 00008 ! / 00008 # none => NotResponse
-ended 6 / sends 2 / 00007 & / 00008 & / 00008 # none => NotResponse
-ended 6 / sends 2 / 00007 & / 00007 # none => OutOfOrder
-ended 7 / abort / E0001 & / E0001 # none => OutOfOrder
-ended 7 / send / 00009 # none => UnknownTag
-ended 7 / send / E0001 # none => UnknownTag
-ended 7 / send / E0000 # none => Running 7
-ended 7 / send / E0000 $ => NotResponse
-ended 7 / send / 00008 &  => Running 7
-ended 7 / send / 00008 &! => NotResponse
-ended 7 / send / 00008 &1 => NotResponse
-ended 7 / send / 00008 #X(1), Y(2), Z(3) => NotResponse
-ended 7 / send / 00008& => NotResponse
-ended 7 / send / 8 & => NotResponse
-ended 7 / send / 00008 ! any text => Halted 7
+ended 8 / send / 00009 # none => NotResponse
+ended 8 / send / 00009 & / 00009 # X(1), Y(2) => NotResponse
+ended 8 / send / 00009 & / 00009 # Y(2), X(1), Z(3) => NotResponse
+ended 8 / send / 00009 & / 00009 # X(1), Y(2), Z(3) / 00009 # none => NotResponse
+ended 8 / send / 00009 ! / 00009 # none => NotResponse
+ended 7 / sends 2 / 00008 & / 00009 & / 00009 # none => NotResponse
+ended 7 / sends 2 / 00008 & / 00008 # none => OutOfOrder
+ended 8 / abort / E0001 & / E0001 # none => OutOfOrder
+ended 8 / send / 00010 # none => UnknownTag
+ended 8 / send / E0001 # none => UnknownTag
+ended 8 / send / E0000 # none => Running 8
+ended 8 / send / E0000 $ => NotResponse
+ended 8 / send / 00009 &  => Running 8
+ended 8 / send / 00009 &! => NotResponse
+ended 8 / send / 00009 &1 => NotResponse
+ended 8 / send / 00009 #X(1), Y(2), Z(3) => NotResponse
+ended 8 / send / 00009& => NotResponse
+ended 8 / send / 8 & => NotResponse
+ended 8 / send / 00009 ! any text => Halted 8
+ended 8 / send / 00009 & / 00009 # IsHomed(1) => NotResponse
+ended 8 / send / 00009 & / 00009 # 1 => NotResponse
+ended 2 / send / 00003 & / 00003 # X(0), Y(0), Z(0) => NotResponse
+ended 2 / send / 00003 # X(0), Y(0), Z(0) => NotResponse
+ended 2 / send / 00003 ! / 00003 # none => NotResponse
+ended 2 / send / 00003 & / 00003 # 1 / 00003 # none => NotResponse
+ended 2 / send / 00003 & / 00003 # IsHomed() => NotResponse
+ended 2 / send / 00003 & / 00003 # IsHomed(2) => NotResponse
+ended 2 / send / 00003 & / 00003 # 10 => NotResponse
+ended 2 / send / 00003 & / 00003 # Home(1) => NotResponse
+ended 2 / send / 00003 & / 00003 #  => NotResponse
+ended 2 / send / 00003 & / 00003 # IsHomed(1) => Running 2
+ended 2 / send / 00003 & / 00003 # ishomed ( 0 ) => Running 2
+ended 2 / send / 00003 & / 00003 # 1 => Running 2
+ended 2 / send / 00003 & / 00003 # 0 => Running 2
+ended 3 / send / 00004 & / 00004 # X(0), Y(0), Z(0) => OutOfOrder
+ended 3 / send / 00004 & / 00004 # IsHomed(1) => OutOfOrder
 ";
 
 // ---- a client that is driven by words
@@ -641,13 +816,23 @@ fn tag_of(line: &[u8]) -> [u8; 5] {
     }
 }
 
-/// The command that is due is sent, received, given a point where one stands here, and done.
-fn end_one(client: &mut Client, point: &str) -> Result<bool, ClientFault> {
+/// The data that are given to what was written: this text, or, where it is empty, that the machine is not homed to who asks for that.
+fn data_for<'a>(written: &[u8], text: &'a str) -> &'a str {
+    if text.is_empty() && written.ends_with(b" IsHomed()\r\n") {
+        "IsHomed(0)"
+    } else {
+        text
+    }
+}
+
+/// The command that is due is sent, received, given its data where a text stands here or it asks whether the machine is homed, and done.
+fn end_one(client: &mut Client, text: &str) -> Result<bool, ClientFault> {
     client.send()?;
     let tag = tag_of(client.out());
+    let data = data_for(client.out(), text);
     feed_line(client, &[&tag, b" &\r\n"])?;
-    if !point.is_empty() {
-        feed_line(client, &[&tag, b" # ", point.as_bytes(), b"\r\n"])?;
+    if !data.is_empty() {
+        feed_line(client, &[&tag, b" # ", data.as_bytes(), b"\r\n"])?;
     }
     feed_line(client, &[&tag, b" %\r\n"])
 }
@@ -683,7 +868,7 @@ fn called(client: &mut Client, action: &str) -> Result<bool, ClientFault> {
         "letters" => feed_letters(client, rest.parse().unwrap_or(0))?,
         "ended" if rest.is_empty() => return end_one(client, ""),
         "ended" => end_all(client, rest.parse().unwrap_or(0))?,
-        "touched" => return end_one(client, rest),
+        "touched" | "told" => return end_one(client, rest),
         "read" => return client.read_one(),
         "bare" => return feed_line(client, &[rest.as_bytes(), b"\n"]),
         _ => return feed_line(client, &[action.as_bytes(), b"\r\n"]),
@@ -693,10 +878,6 @@ fn called(client: &mut Client, action: &str) -> Result<bool, ClientFault> {
 
 // ---- what is shown of it
 
-fn push_text(out: &mut Vec<u8>, text: &str) -> Result<(), AllocError> {
-    out.extend_from_slice(text.as_bytes())
-}
-
 fn push_number(alloc: Global, out: &mut Vec<u8>, number: usize) -> Result<(), AllocError> {
     push_text(out, format!(in alloc; "{number}")?.as_str())
 }
@@ -705,101 +886,9 @@ fn push_state(alloc: Global, out: &mut Vec<u8>, state: State) -> Result<(), Allo
     push_text(out, format!(in alloc; "{state:?}")?.as_str())
 }
 
-fn push_point(out: &mut Vec<u8>, point: Point) -> Result<(), AllocError> {
-    out.push(b' ')?;
-    write_um(out, point.x)?;
-    out.push(b' ')?;
-    write_um(out, point.y)?;
-    out.push(b' ')?;
-    write_um(out, point.z)
-}
-
-fn push_frame(out: &mut Vec<u8>, frame: Frame) -> Result<(), AllocError> {
-    match frame {
-        Frame::Machine => push_text(out, " M"),
-        Frame::Part(offset) => {
-            push_text(out, " P")?;
-            push_point(out, offset)
-        }
-    }
-}
-
-fn push_direction(out: &mut Vec<u8>, dir: Option<Dir>) -> Result<(), AllocError> {
-    match dir {
-        None => push_text(out, " N"),
-        Some(dir) => {
-            push_text(out, " D ")?;
-            write_dir(out, dir, b" ")
-        }
-    }
-}
-
-fn push_act(out: &mut Vec<u8>, act: &Act) -> Result<(), AllocError> {
-    match act {
-        Act::Homed => push_text(out, "HOMED")?,
-        Act::Moved(target, frame) => {
-            push_text(out, "MOVED")?;
-            push_point(out, *target)?;
-            push_frame(out, *frame)?;
-        }
-        Act::Changed(tool) => {
-            push_text(out, "CHANGED ")?;
-            out.extend_from_slice(tool.as_bytes())?;
-        }
-        Act::Framed(frame) => {
-            push_text(out, "FRAMED")?;
-            push_frame(out, *frame)?;
-        }
-        Act::Contact {
-            target,
-            dir,
-            tool,
-            frame,
-            point,
-        } => {
-            push_text(out, "CONTACT")?;
-            push_point(out, *target)?;
-            push_direction(out, *dir)?;
-            out.push(b' ')?;
-            out.extend_from_slice(tool.as_bytes())?;
-            push_frame(out, *frame)?;
-            push_point(out, *point)?;
-        }
-    }
-    out.push(b';')?;
-    Ok(())
-}
-
 fn push_acts(out: &mut Vec<u8>, acts: &[Act]) -> Result<(), AllocError> {
     for act in acts {
         push_act(out, act)?;
-    }
-    Ok(())
-}
-
-/// The connection and the frame that a feature comes from.
-fn push_origin(alloc: Global, out: &mut Vec<u8>, origin: Option<Origin>) -> Result<(), AllocError> {
-    let Some(origin) = origin else {
-        return push_text(out, " -");
-    };
-    let connection = origin.connection;
-    push_text(out, format!(in alloc; " {connection}")?.as_str())?;
-    push_frame(out, origin.frame)
-}
-
-fn push_feature(alloc: Global, out: &mut Vec<u8>, feature: &Feature) -> Result<(), AllocError> {
-    out.extend_from_slice(feature.label.as_bytes())?;
-    push_origin(alloc, out, feature.origin)?;
-    for point in feature.points.as_slice() {
-        push_point(out, *point)?;
-    }
-    out.push(b';')?;
-    Ok(())
-}
-
-fn push_features(alloc: Global, out: &mut Vec<u8>, features: &[Feature]) -> Result<(), AllocError> {
-    for feature in features {
-        push_feature(alloc, out, feature)?;
     }
     Ok(())
 }
@@ -812,18 +901,6 @@ fn push_due(alloc: Global, out: &mut Vec<u8>, client: &Client) -> Result<(), All
         }
         None => Ok(()),
     }
-}
-
-/// Lines, each with `;` for its end.
-fn push_lines(out: &mut Vec<u8>, lines: &[u8]) -> Result<(), AllocError> {
-    for byte in lines {
-        match *byte {
-            b'\r' => {}
-            b'\n' => out.push(b';')?,
-            content => out.push(content)?,
-        }
-    }
-    Ok(())
 }
 
 /// The lines that a call writes, which are sent, and the state or why it is refused.
@@ -875,6 +952,7 @@ fn each_action_has_its_answer(rt: HostRuntime) -> Result<(), Fail> {
         (THREE, 4, FAILED),
         (ONE, 1, ENDED),
         (MOVES, 16, WINDOW),
+        (ONE, 16, TOLD),
     ];
     let mut rows = 0u64;
     for (text, window, script) in scripts {
@@ -886,7 +964,7 @@ fn each_action_has_its_answer(rt: HostRuntime) -> Result<(), Fail> {
             rows = rows.saturating_add(1);
         }
     }
-    assert_eq!(rt; rows, 423);
+    assert_eq!(rt; rows, 562);
     Ok(())
 }
 
@@ -928,15 +1006,20 @@ fn push_read(
 }
 
 /// What the four marks do to the command of a tag, each for a client of its own.
-fn mark_answers(alloc: Global, tag: &str, actions: &str) -> Result<Vec<u8>, Fail> {
-    let marks = [" &", " # X(1), Y(2), Z(3)", " !", " %"];
+fn mark_answers<'a>(
+    alloc: Global,
+    tag: &'a str,
+    data: &'a str,
+    actions: &str,
+) -> Result<Vec<u8>, Fail> {
+    let marks = [(" &", ""), (" # ", data), (" !", ""), (" %", "")];
     let mut answers = Vec::new(alloc);
-    for mark in marks {
+    for (mark, text) in marks {
         if !answers.is_empty() {
             push_text(&mut answers, ", ")?;
         }
         let mut client = behind(alloc, actions)?;
-        let line: [&[u8]; 3] = [tag.as_bytes(), mark.as_bytes(), b"\r\n"];
+        let line: [&[u8]; 4] = [tag.as_bytes(), mark.as_bytes(), text.as_bytes(), b"\r\n"];
         push_read(alloc, &mut answers, &mut client, &line)?;
     }
     Ok(answers)
@@ -948,12 +1031,13 @@ fn marks_have_their_places(rt: HostRuntime) -> Result<(), Fail> {
     let mut rows = 0u64;
     for row in MARKS.lines() {
         let (given, wanted) = row.split_once(" => ").ok_or("a row")?;
-        let (tag, actions) = given.split_once(" | ").ok_or("a tag")?;
-        let found = mark_answers(alloc, tag, actions)?;
+        let (to, actions) = given.split_once(" | ").ok_or("a tag")?;
+        let (tag, data) = to.split_once(" # ").unwrap_or((to, "X(1), Y(2), Z(3)"));
+        let found = mark_answers(alloc, tag, data, actions)?;
         assert_eq!(rt; found.as_slice(), wanted.as_bytes(), "{row}");
         rows = rows.saturating_add(1);
     }
-    assert_eq!(rt; rows, 40);
+    assert_eq!(rt; rows, 52);
     Ok(())
 }
 
@@ -971,7 +1055,7 @@ fn texts_are_read_before_the_table_is_asked(rt: HostRuntime) -> Result<(), Fail>
         assert_eq!(rt; found.as_slice(), wanted.as_bytes(), "{row}");
         rows = rows.saturating_add(1);
     }
-    assert_eq!(rt; rows, 19);
+    assert_eq!(rt; rows, 36);
     Ok(())
 }
 
@@ -1051,7 +1135,7 @@ fn abort_often(client: &mut Client, count: u32) -> Result<(), ClientFault> {
 fn an_abort_is_held_until_its_end_is_read(rt: HostRuntime) -> Result<(), Fail> {
     let alloc = rt.alloc();
     let spent = Err(ClientFault::Faulted(Cause::TagsSpent));
-    let mut client = behind(alloc, "ended 7 / send")?;
+    let mut client = behind(alloc, "ended 8 / send")?;
     assert_eq!(rt; abort_often(&mut client, 9_999), Ok(()));
     assert_eq!(rt; client.state(), State::Failing);
     assert_eq!(rt; client.abort(), spent);

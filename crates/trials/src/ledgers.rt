@@ -71,11 +71,12 @@ fn push_feature(alloc: Global, features: &mut FeatureLedger) -> Result<(), Alloc
 fn ledgers_grow_and_are_counted(rt: HostRuntime) -> Result<(), Fail> {
     let alloc = rt.alloc();
     let mut ledger = ServerLedger::new(alloc);
+    ledger.push(1, Act::HomedIs(false))?;
     ledger.push(1, Act::Homed)?;
     for _ in 0..3 {
         push_two(alloc, &mut ledger)?;
     }
-    assert_eq!(rt; ledger.acts().len(), 7);
+    assert_eq!(rt; ledger.acts().len(), 8);
     assert_eq!(rt; ledger.contacts(), 3);
 
     let mut features = FeatureLedger::new(alloc);

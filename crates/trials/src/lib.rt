@@ -3,6 +3,7 @@
 //!
 //! - `ledgers`, `setups`, `queue`, `tags`, `plans`: the values and lists that both ends stand on
 //! - `server`, `client`, `world`: either end by itself, and both with their connections
+//! - `shown`: what their rows show of lines, acts and features
 #![tactic(auto)]
 
 #[cfg(test)]
@@ -17,6 +18,8 @@ mod queue;
 mod server;
 #[cfg(test)]
 mod setups;
+#[cfg(test)]
+mod shown;
 #[cfg(test)]
 mod tags;
 #[cfg(test)]

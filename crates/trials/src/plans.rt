@@ -24,49 +24,53 @@ const FRAMES: &str =
 const ONE_FROM_ITS_START: &str = "\
 00001 StartSession()
 00002 ClearAllErrors()
-00003 Home() homes
-00004 OnPtMeasReport(X(), Y(), Z())
-00005 SetCoordSystem(MachineCsy) frames machine
-00006 ChangeTool(\"P1\") changes P1
-00007 GoTo(X(10.000), Y(20.000), Z(30.000)) moves machine
-00008 PtMeas(X(10.000), Y(20.000), Z(25.000), IJK(0.000000, 0.000000, 1.000000)) touches P1 machine X(10.000), Y(20.000), Z(25.000) last
-00009 EndSession()
+00003 IsHomed() asks
+00004 Home() homes
+00005 OnPtMeasReport(X(), Y(), Z())
+00006 SetCoordSystem(MachineCsy) frames machine
+00007 ChangeTool(\"P1\") changes P1
+00008 GoTo(X(10.000), Y(20.000), Z(30.000)) moves machine
+00009 PtMeas(X(10.000), Y(20.000), Z(25.000), IJK(0.000000, 0.000000, 1.000000)) touches P1 machine X(10.000), Y(20.000), Z(25.000) last
+00010 EndSession()
 ";
 
 const TWO_BEHIND_A: &str = "\
 00001 StartSession()
 00002 ClearAllErrors()
-00003 Home() homes
-00004 OnPtMeasReport(X(), Y(), Z())
-00005 ChangeTool(\"P1\") changes P1
-00006 SetCoordSystem(MachineCsy) frames machine
-00007 PtMeas(X(4.000), Y(5.000), Z(6.000), IJK(0.000000, 0.000000, 1.000000)) touches P1 machine X(4.000), Y(5.000), Z(6.000) last
-00008 EndSession()
+00003 IsHomed() asks
+00004 Home() homes
+00005 OnPtMeasReport(X(), Y(), Z())
+00006 ChangeTool(\"P1\") changes P1
+00007 SetCoordSystem(MachineCsy) frames machine
+00008 PtMeas(X(4.000), Y(5.000), Z(6.000), IJK(0.000000, 0.000000, 1.000000)) touches P1 machine X(4.000), Y(5.000), Z(6.000) last
+00009 EndSession()
 ";
 
 const FRAMES_RESUMED_BEHIND_A: &str = "\
-00012 ClearAllErrors()
-00013 Home() homes
-00014 OnPtMeasReport(X(), Y(), Z())
-00015 ChangeTool(\"P1\") changes P1
-00016 SetCoordSystem(MachineCsy) frames machine
-00017 PtMeas(X(20.000), Y(0.000), Z(0.000), IJK(0.000000, 0.000000, 1.000000)) touches P1 machine X(20.000), Y(0.000), Z(0.000)
-00018 SetCsyTransformation(PartCsy, -100.000, 0.000, 0.000, 0, 0, 0)
-00019 SetCoordSystem(PartCsy) frames part X(100.000), Y(0.000), Z(0.000)
-00020 PtMeas(X(30.000), Y(0.000), Z(0.000), IJK(0.000000, 0.000000, 1.000000)) touches P1 part X(100.000), Y(0.000), Z(0.000) X(30.000), Y(0.000), Z(0.000) last
-00021 EndSession()
+00013 ClearAllErrors()
+00014 IsHomed() asks
+00015 Home() homes
+00016 OnPtMeasReport(X(), Y(), Z())
+00017 ChangeTool(\"P1\") changes P1
+00018 SetCoordSystem(MachineCsy) frames machine
+00019 PtMeas(X(20.000), Y(0.000), Z(0.000), IJK(0.000000, 0.000000, 1.000000)) touches P1 machine X(20.000), Y(0.000), Z(0.000)
+00020 SetCsyTransformation(PartCsy, -100.000, 0.000, 0.000, 0, 0, 0)
+00021 SetCoordSystem(PartCsy) frames part X(100.000), Y(0.000), Z(0.000)
+00022 PtMeas(X(30.000), Y(0.000), Z(0.000), IJK(0.000000, 0.000000, 1.000000)) touches P1 part X(100.000), Y(0.000), Z(0.000) X(30.000), Y(0.000), Z(0.000) last
+00023 EndSession()
 ";
 
 /// All is measured; the tool and the frame of the last touch are selected again.
 const FRAMES_BEHIND_B: &str = "\
 00001 StartSession()
 00002 ClearAllErrors()
-00003 Home() homes
-00004 OnPtMeasReport(X(), Y(), Z())
-00005 ChangeTool(\"P1\") changes P1
-00006 SetCsyTransformation(PartCsy, -100.000, 0.000, 0.000, 0, 0, 0)
-00007 SetCoordSystem(PartCsy) frames part X(100.000), Y(0.000), Z(0.000)
-00008 EndSession()
+00003 IsHomed() asks
+00004 Home() homes
+00005 OnPtMeasReport(X(), Y(), Z())
+00006 ChangeTool(\"P1\") changes P1
+00007 SetCsyTransformation(PartCsy, -100.000, 0.000, 0.000, 0, 0, 0)
+00008 SetCoordSystem(PartCsy) frames part X(100.000), Y(0.000), Z(0.000)
+00009 EndSession()
 ";
 
 fn push_frame(out: &mut Vec<u8>, frame: Frame) -> Result<(), AllocError> {
@@ -82,6 +86,7 @@ fn push_frame(out: &mut Vec<u8>, frame: Frame) -> Result<(), AllocError> {
 fn push_does(out: &mut Vec<u8>, does: &Does) -> Result<(), AllocError> {
     match does {
         Does::Nothing => Ok(()),
+        Does::AsksHomed => out.extend_from_slice(b" asks"),
         Does::Homes => out.extend_from_slice(b" homes"),
         Does::Moves(_, frame) => {
             out.extend_from_slice(b" moves")?;
@@ -161,7 +166,7 @@ fn plans_begin_behind_what_is_completed(rt: HostRuntime) -> Result<(), Fail> {
             FRAMES,
             1,
             Start::SameConnection,
-            11,
+            12,
             FRAMES_RESUMED_BEHIND_A,
         ),
         (FRAMES, 2, Start::NewConnection, 0, FRAMES_BEHIND_B),

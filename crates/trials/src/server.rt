@@ -2,8 +2,8 @@
 // that is fed and read, or a word for another call. Behind it stand the lines that are answered, each with `;` for its end, or why the call
 // is refused.
 
-use contact_ledger::Act;
-use fixed_um::{Dir, Frame, Point, Um, read_um, write_dir, write_um};
+use crate::shown::{push_act, push_direction, push_frame, push_lines, push_point};
+use fixed_um::{Point, Um, read_um};
 use server_core::{Job, Outcome, Server, ServerFault};
 use std::alloc::{AllocError, Global};
 use std::process::Abort;
@@ -233,6 +233,77 @@ turn => 00001 %;
 turn => 00002 ! Error(3, 9010, \"GoTo\", \"Not homed\");00002 %;
 ledger => 1 HOMED;1 FRAMED M;1 CHANGED P1;1 CONTACT 1.000 0.000 0.000 D -1.000000 0.000000 0.000000 P1 M 1.002 0.000 0.000;1 MOVED 1.000 2.000 3.000 M;1 FRAMED P 100.000 0.000 0.000;1 CONTACT 30.000 0.000 0.000 N P1 P 100.000 0.000 0.000 29.999 0.001 0.000;1 CHANGED P2;";
 
+/// What is answered where it is asked whether the machine is homed: what is so at the turn, on any connection, and not what was so when
+/// the question was read. It is an act of the connection.
+const ASKED: &str = "\
+accept 1 => 
+00003 IsHomed() => 00003 &;
+turn => 00003 ! Error(3, 9005, \"IsHomed\", \"No session\");00003 %;
+clear => 09999 &;09999 %;
+ledger => 
+00001 StartSession() => 00001 &;
+turn => 00001 %;
+00003 IsHomed() => 00003 &;
+turn => 00003 # IsHomed(0);00003 %;
+running => nothing
+turn => NotNow
+ledger => 1 HOMEDIS 0;
+00003 IsHomed(0) => 00003 &;
+turn => 00003 ! Error(3, 9004, \"IsHomed\", \"Bad arguments\");00003 %;
+clear => 09999 &;09999 %;
+E0001 IsHomed() => E0001 &;E0001 ! Error(3, 9004, \"IsHomed\", \"Bad arguments\");E0001 %;
+00004 IsHomed() => 00004 &;
+00005 Home() => 00005 &;
+00006 ishomed ( )  => 00006 &;
+turn => 00004 # IsHomed(0);00004 %;
+turn => 
+turn => NotNow
+done => 00005 %;
+turn => 00006 # IsHomed(1);00006 %;
+state => on 1;session;homed;no tool;M;0.000 0.000 0.000;no error;
+00007 Home() => 00007 &;
+turn => 
+00008 IsHomed() => 00008 &;
+fault => 00007 ! Error(3, 9015, \"Home\", \"Machine fault\");00007 %;00008 ! Error(3, 9007, \"IsHomed\", \"Aborted\");00008 %;
+00009 IsHomed() => 00009 &;00009 ! Error(3, 9008, \"IsHomed\", \"Error state\");00009 %;
+00010 ClearAllErrors() => 00010 &;
+00011 IsHomed() => 00011 &;
+turn => 00010 %;
+turn => 00011 # IsHomed(0);00011 %;
+00012 Home() => 00012 &;
+turn => 
+done => 00012 %;
+00013 Home() => 00013 &;
+turn => 
+E0002 AbortE() => E0002 &;00013 ! Error(3, 9007, \"Home\", \"Aborted\");00013 %;E0002 %;
+clear => 09999 &;09999 %;
+00014 IsHomed() => 00014 &;
+turn => 00014 # IsHomed(0);00014 %;
+00015 Home() => 00015 &;
+turn => 
+done => 00015 %;
+00016 IsHomed() => 00016 &;
+leave => 
+accept 2 => 
+00003 IsHomed() => 00003 &;
+turn => 00003 ! Error(3, 9005, \"IsHomed\", \"No session\");00003 %;
+clear => 09999 &;09999 %;
+00001 StartSession() => 00001 &;
+turn => 00001 %;
+00003 IsHomed() => 00003 &;
+turn => 00003 # IsHomed(1);00003 %;
+00004 EndSession() => 00004 &;
+turn => 00004 %;
+00005 IsHomed() => 00005 &;
+turn => 00005 ! Error(3, 9005, \"IsHomed\", \"No session\");00005 %;
+restart => 
+accept 3 => 
+00001 StartSession() => 00001 &;
+turn => 00001 %;
+00003 IsHomed() => 00003 &;
+turn => 00003 # IsHomed(0);00003 %;
+ledger => 1 HOMEDIS 0;1 HOMEDIS 0;1 HOMED;1 HOMEDIS 1;1 HOMEDIS 0;1 HOMED;1 HOMEDIS 0;1 HOMED;2 HOMEDIS 1;3 HOMEDIS 0;";
+
 /// A touch, a homing, a change and a move run while so many commands wait that the next is refused. Each pair of scripts stands before and
 /// behind that. What runs ends as ever, the error state stays, and nothing else is done until it is ended.
 const TOUCH_RUNS: &str = "\
@@ -389,35 +460,6 @@ fn called(server: &mut Server, action: &str) -> Result<bool, ServerFault> {
     Ok(true)
 }
 
-fn push_point(out: &mut Vec<u8>, point: Point) -> Result<(), AllocError> {
-    write_um(out, point.x)?;
-    out.push(b' ')?;
-    write_um(out, point.y)?;
-    out.push(b' ')?;
-    write_um(out, point.z)?;
-    Ok(())
-}
-
-fn push_frame(out: &mut Vec<u8>, frame: Frame) -> Result<(), AllocError> {
-    match frame {
-        Frame::Machine => out.extend_from_slice(b"M"),
-        Frame::Part(offset) => {
-            out.extend_from_slice(b"P ")?;
-            push_point(out, offset)
-        }
-    }
-}
-
-fn push_direction(out: &mut Vec<u8>, dir: Option<Dir>) -> Result<(), AllocError> {
-    match dir {
-        None => out.extend_from_slice(b" N"),
-        Some(dir) => {
-            out.extend_from_slice(b" D ")?;
-            write_dir(out, dir, b" ")
-        }
-    }
-}
-
 fn push_word(out: &mut Vec<u8>, is: bool, yes: &str, no: &str) -> Result<(), AllocError> {
     out.extend_from_slice(if is { yes.as_bytes() } else { no.as_bytes() })
 }
@@ -453,6 +495,7 @@ fn push_job(out: &mut Vec<u8>, server: &Server) -> Result<(), AllocError> {
         Some(Job::Touch(target, dir)) => {
             out.extend_from_slice(b"Touch ")?;
             push_point(out, *target)?;
+            out.push(b' ')?;
             push_direction(out, *dir)
         }
         Some(Job::Change(tool)) => {
@@ -462,64 +505,10 @@ fn push_job(out: &mut Vec<u8>, server: &Server) -> Result<(), AllocError> {
     }
 }
 
-fn push_act(out: &mut Vec<u8>, act: &Act) -> Result<(), AllocError> {
-    match act {
-        Act::Homed => out.extend_from_slice(b" HOMED;")?,
-        Act::Moved(target, frame) => {
-            out.extend_from_slice(b" MOVED ")?;
-            push_point(out, *target)?;
-            out.push(b' ')?;
-            push_frame(out, *frame)?;
-            out.push(b';')?;
-        }
-        Act::Changed(tool) => {
-            out.extend_from_slice(b" CHANGED ")?;
-            out.extend_from_slice(tool.as_bytes())?;
-            out.push(b';')?;
-        }
-        Act::Framed(frame) => {
-            out.extend_from_slice(b" FRAMED ")?;
-            push_frame(out, *frame)?;
-            out.push(b';')?;
-        }
-        Act::Contact {
-            target,
-            dir,
-            tool,
-            frame,
-            point,
-        } => {
-            out.extend_from_slice(b" CONTACT ")?;
-            push_point(out, *target)?;
-            push_direction(out, *dir)?;
-            out.push(b' ')?;
-            out.extend_from_slice(tool.as_bytes())?;
-            out.push(b' ')?;
-            push_frame(out, *frame)?;
-            out.push(b' ')?;
-            push_point(out, *point)?;
-            out.push(b';')?;
-        }
-    }
-    Ok(())
-}
-
 fn push_ledger(alloc: Global, out: &mut Vec<u8>, server: &Server) -> Result<(), AllocError> {
     for (connection, act) in server.ledger().acts() {
-        out.extend_from_slice(format!(in alloc; "{connection}")?.as_bytes())?;
+        out.extend_from_slice(format!(in alloc; "{connection} ")?.as_bytes())?;
         push_act(out, act)?;
-    }
-    Ok(())
-}
-
-/// Lines, each with `;` for its end.
-fn push_lines(out: &mut Vec<u8>, lines: &[u8]) -> Result<(), AllocError> {
-    for byte in lines {
-        match *byte {
-            b'\r' => {}
-            b'\n' => out.push(b';')?,
-            content => out.push(content)?,
-        }
     }
     Ok(())
 }
@@ -578,14 +567,14 @@ fn rows_played(
 fn each_action_has_its_answer(rt: HostRuntime) -> Result<(), Fail> {
     let alloc = rt.alloc();
     let mut rows = 0u64;
-    for script in [READ, CHECKED, DONE] {
+    for script in [READ, CHECKED, DONE, ASKED] {
         let Some(mut server) = new_server(alloc)? else {
             assert!(rt; false, "the setup");
             return Ok(());
         };
         rows = rows.saturating_add(rows_played(&rt, alloc, &mut server, script)?);
     }
-    assert_eq!(rt; rows, 211);
+    assert_eq!(rt; rows, 278);
     Ok(())
 }
 

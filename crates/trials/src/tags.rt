@@ -1,7 +1,7 @@
 // What no clause says: that tags are drawn with memory, and worked rows.
 
 use dme_line::{Kind, Tag};
-use dme_tags::{Ended, Open, TagFault};
+use dme_tags::{Datum, Ended, Open, TagFault};
 use fixed_um::{Point, Um};
 use std::alloc::Global;
 use std::test::Fail;
@@ -23,11 +23,19 @@ fn with_all_drawn(alloc: Global) -> Result<Open, TagFault> {
     Ok(open)
 }
 
+/// Gives data under a tag: whether the machine is homed where that is asked for, and a point to any other command.
+fn give(open: &mut Open, tag: Tag, homed: bool) -> Result<(), TagFault> {
+    match open.kind_of(tag) {
+        Some(Kind::IsHomed) => open.data(tag, Datum::Homed(homed)),
+        _ => open.data(tag, Datum::Point(point())),
+    }
+}
+
 /// Draws a tag for a touch, which is received, given its point and completed.
 fn touch(open: &mut Open) -> Result<Ended, TagFault> {
     let tag = open.draw(Kind::PtMeas)?;
     open.received(tag)?;
-    open.data(tag, point())?;
+    give(open, tag, true)?;
     open.complete(tag)
 }
 
@@ -110,7 +118,7 @@ fn standing(alloc: Global, kind: Kind, place: Place, read: Read) -> Result<(Open
         open.received(tag)?;
     }
     if read == Read::Given {
-        open.data(tag, point())?;
+        give(&mut open, tag, true)?;
     }
     if read == Read::Failed {
         open.failed(tag)?;
@@ -140,12 +148,14 @@ fn taking(answer: Result<(), TagFault>) -> u8 {
     }
 }
 
-/// A command that is closed is a dot too; one that counts is `m` for a move, `t` for a touch with its point.
+/// A command that is closed is a dot too; one that counts is `m` for a move, `t` for a touch with its point, `h` for a question whose answer
+/// is that the machine is homed.
 fn ending(answer: Result<Ended, TagFault>) -> u8 {
     match answer {
         Ok(Ended::Closed) => b'.',
         Ok(Ended::Counted(Kind::GoTo, None)) => b'm',
-        Ok(Ended::Counted(Kind::PtMeas, Some(given))) if given == point() => b't',
+        Ok(Ended::Counted(Kind::PtMeas, Some(given))) if given == Datum::Point(point()) => b't',
+        Ok(Ended::Counted(Kind::IsHomed, Some(Datum::Homed(true)))) => b'h',
         Ok(Ended::Counted(_, _)) => b'?',
         Err(fault) => refusal(fault),
     }
@@ -156,7 +166,7 @@ fn answers(alloc: Global, kind: Kind, place: Place, read: Read) -> Result<[u8; 4
     let (mut open, tag) = standing(alloc, kind, place, read)?;
     let received = taking(open.received(tag));
     let (mut open, tag) = standing(alloc, kind, place, read)?;
-    let data = taking(open.data(tag, point()));
+    let data = taking(give(&mut open, tag, true));
     let (mut open, tag) = standing(alloc, kind, place, read)?;
     let failed = taking(open.failed(tag));
     let (mut open, tag) = standing(alloc, kind, place, read)?;
@@ -186,9 +196,57 @@ fn marks_have_their_places(rt: HostRuntime) -> Result<(), Fail> {
         (Kind::GoTo, Place::BehindOpen, Read::Received, *b"22.2"),
         (Kind::GoTo, Place::BehindOpen, Read::Failed, *b"22.."),
         (Kind::GoTo, Place::BesideFailed, Read::Received, *b"22.2"),
+        (Kind::IsHomed, Place::Front, Read::Nothing, *b".2.2"),
+        (Kind::IsHomed, Place::Front, Read::Received, *b"2..3"),
+        (Kind::IsHomed, Place::Front, Read::Given, *b"24.h"),
+        (Kind::IsHomed, Place::Front, Read::Failed, *b"22.."),
+        (Kind::IsHomed, Place::BehindOpen, Read::Nothing, *b".2.2"),
+        (Kind::IsHomed, Place::BehindOpen, Read::Received, *b"22.2"),
+        (Kind::IsHomed, Place::BehindOpen, Read::Failed, *b"22.."),
+        (Kind::IsHomed, Place::BesideFailed, Read::Nothing, *b".2.2"),
+        (Kind::IsHomed, Place::BesideFailed, Read::Received, *b"22.2"),
+        (Kind::IsHomed, Place::BesideFailed, Read::Given, *b"22.2"),
+        (Kind::IsHomed, Place::BesideFailed, Read::Failed, *b"22.."),
     ];
     for (kind, place, read, expected) in rows.iter() {
         assert_eq!(rt; answers(alloc, *kind, *place, *read), Ok(*expected));
     }
+    Ok(())
+}
+
+/// Asks whether the machine is homed and is told so; how many commands are open, and whether that is asked, before each mark and behind the
+/// last.
+fn asked(alloc: Global, homed: bool) -> Result<([(usize, bool); 4], Ended), TagFault> {
+    let mut open = Open::new(alloc);
+    let tag = open.draw(Kind::IsHomed)?;
+    let sent = (open.count(), open.is_asking());
+    open.received(tag)?;
+    let received = (open.count(), open.is_asking());
+    give(&mut open, tag, homed)?;
+    let given = (open.count(), open.is_asking());
+    let ended = open.complete(tag)?;
+    Ok((
+        [sent, received, given, (open.count(), open.is_asking())],
+        ended,
+    ))
+}
+
+/// Whether it is asked if the machine is homed where that question has failed and its `%` is on the way.
+fn asks_behind_failure(alloc: Global) -> Result<bool, TagFault> {
+    let mut open = Open::new(alloc);
+    let tag = open.draw(Kind::IsHomed)?;
+    open.failed(tag)?;
+    Ok(open.is_asking())
+}
+
+#[test]
+fn a_question_is_open_until_it_is_answered(rt: HostRuntime) -> Result<(), Fail> {
+    let alloc = rt.alloc();
+    let open = [(1usize, true), (1, true), (1, true), (0, false)];
+    for homed in [false, true] {
+        let ended = Ended::Counted(Kind::IsHomed, Some(Datum::Homed(homed)));
+        assert_eq!(rt; asked(alloc, homed), Ok((open, ended)));
+    }
+    assert_eq!(rt; asks_behind_failure(alloc), Ok(false));
     Ok(())
 }

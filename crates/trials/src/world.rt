@@ -2,11 +2,11 @@
 // repeats one while it can happen, `quiet` makes so many rounds in which all that can happens, or goes on until one does nothing. The
 // machine is done with what it is asked, and a touch meets the surface at its target and the next shift of the setup.
 
-use contact_ledger::{Act, Origin};
+use crate::shown::{push_features, push_point, push_text};
+use contact_ledger::Act;
 use dmis_program::Program;
-use fixed_um::{Frame, Point, write_um};
 use link_world::{Event, NewFault, Outcome, RunCount, World};
-use protocol_model::Job;
+use protocol_model::{Job, State};
 use std::alloc::{AllocError, Global};
 use std::test::Fail;
 use tool_rack::Setup;
@@ -31,29 +31,29 @@ MEAS/LINE,F(B),2;PTMEAS/CART,20,0,0,0,0,1;RECALL/D(PART);PTMEAS/CART,30,0,0,0,0,
 
 /// A program, the window, a schedule, and what it comes to: the client's state, how many acts it has counted, its features, each with the
 /// connection and the frame that it comes from, and the server's contacts with the numbers of their connections.
-const SCHEDULES: [(&str, u8, &str, &str); 11] = [
+const SCHEDULES: [(&str, u8, &str, &str); 13] = [
     (
         ONE,
         1,
         "connect;accept 1;quiet",
-        "Done;5;A 1 M 10.002 20.000 25.000;1 10.002 20.000 25.000;",
+        "Done;6;A 1 M 10.002 20.000 25.000;1 10.002 20.000 25.000;",
     ),
     (
         ONE,
         16,
-        "connect;accept 1;quiet 2",
-        "Done;5;A 1 M 10.002 20.000 25.000;1 10.002 20.000 25.000;",
+        "connect;accept 1;quiet 3",
+        "Done;6;A 1 M 10.002 20.000 25.000;1 10.002 20.000 25.000;",
     ),
     (
         ONE,
         1,
         "connect;accept 1;clientsends;up 10;clientleaves;connect;serverreads;serverleaves;accept 2;quiet",
-        "Done;5;A 2 M 10.002 20.000 25.000;2 10.002 20.000 25.000;",
+        "Done;6;A 2 M 10.002 20.000 25.000;2 10.002 20.000 25.000;",
     ),
     (
         THREE,
         1,
-        "connect;accept 1;quiet 6;clientsends;up all;serverreads;serverturn;machine auto;down 47;clientreads all;\
+        "connect;accept 1;quiet 7;clientsends;up all;serverreads;serverturn;machine auto;down 47;clientreads all;\
 clientleaves;serverleaves;connect;accept 2;quiet",
         "Done;6;C 2 M 1.000 0.000 0.004 -0.001 1.001 0.000 -0.998 0.000 0.000;\
 1 1.002 0.000 0.000;2 1.000 0.000 0.004;2 -0.001 1.001 0.000;2 -0.998 0.000 0.000;",
@@ -61,42 +61,58 @@ clientleaves;serverleaves;connect;accept 2;quiet",
     (
         THREE,
         1,
-        "connect;accept 1;quiet 6;clientsends;up all;serverreads;serverturn;machine auto;clientleaves",
-        "Apart;3;1 1.002 0.000 0.000;",
+        "connect;accept 1;quiet 7;clientsends;up all;serverreads;serverturn;machine auto;clientleaves",
+        "Apart;4;1 1.002 0.000 0.000;",
     ),
     (
         THREE,
         1,
-        "connect;accept 1;quiet 7;clientleaves;serverleaves;connect;accept 2;quiet",
+        "connect;accept 1;quiet 8;clientleaves;serverleaves;connect;accept 2;quiet",
         "Done;6;C 2 M 1.000 0.000 0.004 -0.001 1.001 0.000 -0.998 0.000 0.000;\
 1 1.002 0.000 0.000;2 1.000 0.000 0.004;2 -0.001 1.001 0.000;2 -0.998 0.000 0.000;",
     ),
     (
         THREE,
         1,
-        "connect;accept 1;quiet 7;clientsends;up all;serverreads;serverturn;machine missed;down all;clientreads all;resume;quiet",
-        "Done;10;C 1 M 1.000 0.000 0.004 -0.001 1.001 0.000 -0.998 0.000 0.000;\
+        "connect;accept 1;quiet 8;clientsends;up all;serverreads;serverturn;machine missed;down all;clientreads all;resume;quiet",
+        "Done;11;C 1 M 1.000 0.000 0.004 -0.001 1.001 0.000 -0.998 0.000 0.000;\
 1 1.002 0.000 0.000;1 1.000 0.000 0.004;1 -0.001 1.001 0.000;1 -0.998 0.000 0.000;",
     ),
     (
         THREE,
         3,
-        "connect;accept 1;quiet 2;clientsends;clientsends;clientsends;up all;serverreads all;serverturn;down all;clientreads all;\
-clientsends;up all;serverreads all;serverturn;abort;up all;serverreads;down all;clientreads all",
-        "Halted;2;",
+        "connect;accept 1;quiet 3;clientsends;clientsends;clientsends;up all;serverreads all;serverturn;abort;up all;serverreads;\
+down all;clientreads all",
+        "Halted;3;",
+    ),
+    (
+        THREE,
+        1,
+        "connect;accept 1;quiet 6;clientsends;up all;serverreads;serverturn;abort;up all;serverreads;down all;clientreads all;\
+resume;quiet",
+        "Done;9;C 1 M 1.002 0.000 0.000 0.000 1.000 0.004 -1.001 0.001 0.000;\
+1 1.002 0.000 0.000;1 0.000 1.000 0.004;1 -1.001 0.001 0.000;",
+    ),
+    (
+        THREE,
+        4,
+        "connect;accept 1;quiet 3;clientsends all;up all;serverreads;serverturn;machine auto;serverreads;serverreads;serverturn;\
+machine missed;serverreads;down all;clientreads all;resume;quiet",
+        "Done;11;C 1 M 1.000 0.000 0.004 -0.001 1.001 0.000 -0.998 0.000 0.000;\
+1 1.002 0.000 0.000;1 1.000 0.000 0.004;1 -0.001 1.001 0.000;1 -0.998 0.000 0.000;",
     ),
     (
         FRAMES,
         1,
-        "connect;accept 1;quiet 10;clientsends;up all;serverreads;serverturn;abort;up all;serverreads;down all;clientreads all;\
+        "connect;accept 1;quiet 11;clientsends;up all;serverreads;serverturn;abort;up all;serverreads;down all;clientreads all;\
 resume;quiet",
-        "Done;12;A 1 M 10.002 0.000 0.000;B 1 P 100.000 0.000 0.000 19.999 0.001 0.000 30.002 0.000 0.000;\
+        "Done;13;A 1 M 10.002 0.000 0.000;B 1 P 100.000 0.000 0.000 19.999 0.001 0.000 30.002 0.000 0.000;\
 1 10.002 0.000 0.000;1 20.000 0.000 0.004;1 19.999 0.001 0.000;1 30.002 0.000 0.000;",
     ),
     (
         FRAMES,
         1,
-        "connect;accept 1;quiet 7;clientleaves;serverleaves;connect;accept 2;quiet",
+        "connect;accept 1;quiet 8;clientleaves;serverleaves;connect;accept 2;quiet",
         "Done;6;A 1 M 10.002 0.000 0.000;B 2 P 100.000 0.000 0.000 20.000 0.000 0.004 29.999 0.001 0.000;\
 1 10.002 0.000 0.000;2 20.000 0.000 0.004;2 29.999 0.001 0.000;",
     ),
@@ -104,7 +120,7 @@ resume;quiet",
         TWO,
         1,
         "connect;accept 1;quiet;clientrestart 1;serverrestart;connect;accept 2;quiet",
-        "Done;4;A 1 M 1.002 2.000 3.000;B 2 M 3.999 5.001 6.000;1 1.002 2.000 3.000;1 4.000 5.000 6.004;2 3.999 5.001 6.000;",
+        "Done;5;A 1 M 1.002 2.000 3.000;B 2 M 3.999 5.001 6.000;1 1.002 2.000 3.000;1 4.000 5.000 6.004;2 3.999 5.001 6.000;",
     ),
 ];
 
@@ -224,52 +240,21 @@ fn play(world: &mut World, word: &str) -> Result<(), Fail> {
     Ok(())
 }
 
+/// A world behind a schedule.
+fn behind(alloc: Global, text: &str, window: u8, schedule: &str) -> Result<World, Fail> {
+    let mut world = new_world(alloc, text, window)?;
+    for word in schedule.split(";") {
+        play(&mut world, word)?;
+    }
+    Ok(world)
+}
+
 // ---- what they come to
-
-fn push_text(out: &mut Vec<u8>, text: &str) -> Result<(), AllocError> {
-    out.extend_from_slice(text.as_bytes())
-}
-
-fn push_point(out: &mut Vec<u8>, point: Point) -> Result<(), AllocError> {
-    out.push(b' ')?;
-    write_um(out, point.x)?;
-    out.push(b' ')?;
-    write_um(out, point.y)?;
-    out.push(b' ')?;
-    write_um(out, point.z)
-}
-
-/// The connection that a feature comes from, and its frame: `M`, or `P` and the zero point.
-fn push_origin(alloc: Global, out: &mut Vec<u8>, origin: Option<Origin>) -> Result<(), AllocError> {
-    let Some(Origin { connection, frame }) = origin else {
-        return push_text(out, " -");
-    };
-    push_text(out, format!(in alloc; " {connection}")?.as_str())?;
-    match frame {
-        Frame::Machine => push_text(out, " M"),
-        Frame::Part(offset) => {
-            push_text(out, " P")?;
-            push_point(out, offset)
-        }
-    }
-}
-
-fn push_features(alloc: Global, out: &mut Vec<u8>, world: &World) -> Result<(), AllocError> {
-    for feature in world.features() {
-        out.extend_from_slice(feature.label.as_bytes())?;
-        push_origin(alloc, out, feature.origin)?;
-        for point in feature.points.as_slice() {
-            push_point(out, *point)?;
-        }
-        out.push(b';')?;
-    }
-    Ok(())
-}
 
 fn push_contacts(alloc: Global, out: &mut Vec<u8>, world: &World) -> Result<(), AllocError> {
     for (connection, act) in world.ledger().acts() {
         if let Act::Contact { point, .. } = act {
-            push_text(out, format!(in alloc; "{connection}")?.as_str())?;
+            push_text(out, format!(in alloc; "{connection} ")?.as_str())?;
             push_point(out, *point)?;
             out.push(b';')?;
         }
@@ -285,7 +270,7 @@ fn report(alloc: Global, world: &World) -> Result<Vec<u8>, AllocError> {
         &mut out,
         format!(in alloc; "{state:?};{counted};")?.as_str(),
     )?;
-    push_features(alloc, &mut out, world)?;
+    push_features(alloc, &mut out, world.features())?;
     push_contacts(alloc, &mut out, world)?;
     Ok(out)
 }
@@ -294,12 +279,43 @@ fn report(alloc: Global, world: &World) -> Result<Vec<u8>, AllocError> {
 fn schedules_come_to_their_reports(rt: HostRuntime) -> Result<(), Fail> {
     let alloc = rt.alloc();
     for (text, window, schedule, wanted) in SCHEDULES {
-        let mut world = new_world(alloc, text, window)?;
-        for word in schedule.split(";") {
-            play(&mut world, word)?;
-        }
+        let world = behind(alloc, text, window, schedule)?;
         let found = report(alloc, &world)?;
         assert_eq!(rt; found.as_slice(), wanted.as_bytes(), "{schedule}");
+    }
+    Ok(())
+}
+
+/// How many of the lines that the client wrote on its last connection home the machine.
+fn homings(world: &World) -> usize {
+    world
+        .written()
+        .split(|byte| *byte == b'\n')
+        .filter(|line| line.ends_with(b" Home()\r"))
+        .count()
+}
+
+/// A machine that was homed on another connection is not homed again, whatever the window; a restarted one is.
+#[test]
+fn a_homed_machine_is_not_homed_again(rt: HostRuntime) -> Result<(), Fail> {
+    let alloc = rt.alloc();
+    let rows = [
+        ("connect;accept 1;quiet", 1usize),
+        (
+            "connect;accept 1;quiet;clientrestart 0;serverleaves;connect;accept 2;quiet",
+            0,
+        ),
+        (
+            "connect;accept 1;quiet;clientrestart 0;serverrestart;connect;accept 2;quiet",
+            1,
+        ),
+    ];
+    for window in 1..=16u8 {
+        for (schedule, wanted) in rows {
+            let world = behind(alloc, THREE, window, schedule)?;
+            assert_eq!(rt; homings(&world), wanted, "{window} {schedule}");
+            assert_eq!(rt; world.state(), State::Done, "{window} {schedule}");
+        }
     }
     Ok(())
 }

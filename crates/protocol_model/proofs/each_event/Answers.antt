@@ -12,7 +12,8 @@ use Rattle.protocol_model.specs.Claims.{Made, contacts, acts_on}
 use Rattle.protocol_model.specs.Typed.{World, answered}
 use Rattle.protocol_model.proofs.table.Basics.{if_true, if_false}
 use Rattle.protocol_model.proofs.table.Replying.{Reads, reads_more, IsFront, front_trans, front_more}
-use Rattle.protocol_model.proofs.invariant.Served.{AreUpTo, Served, served_more, IsProgress, no_points, progress_other, contacts_more}
+use Rattle.protocol_model.specs.Undisturbed.{AreUpTo}
+use Rattle.protocol_model.proofs.invariant.Served.{Served, served_more, IsProgress, no_points, progress_other, contacts_more}
 use Rattle.protocol_model.proofs.invariant.Served.{made_up_to}
 use Rattle.protocol_model.proofs.invariant.Moves.{done_on, acts_more, acts_done, acts_elsewhere, up_to_join, up_to_done, Moves}
 use Rattle.protocol_model.proofs.invariant.Holding.{IsNear, IsTidy, IsLive, IsOff, IsHere, IsAhead, IsGone, IsIdle, Inv, know_of}
@@ -138,7 +139,7 @@ pub record IsAnswered (w : World) (table : Table) (up : List Line) (a : Answer) 
   pub counted : next.tally.counted ≡ table.tally.counted ++ acts
   pub progress : IsProgress w.client.program.features w.client.last next.tally.features next.tally.points (contacts w.server.ledger
       ++ contacts (done_on w.server.last acts)) left
-  pub near : IsNear next w.client.unsent left up a.server.running a.server.waiting a.server.error (know_of a.server)
+  pub near : IsNear next left up a.server.running a.server.waiting a.server.error (know_of a.server)
 
 -- an answer on the client's own connection keeps all that holds, if it shows what an event of the server has to show
 pub here_answers : (w : World) (up : List Line) (a : Answer) → Inv w → (live : IsLive w) → w.server.on ≡ true

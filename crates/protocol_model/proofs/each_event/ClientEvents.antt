@@ -10,7 +10,7 @@ use Rattle.contact_ledger.specs.declared.features.Feature.{Feature}
 use Rattle.dmis_program.specs.declared.features.Wanted.{Wanted}
 use Rattle.protocol_model.specs.Replies.{tag_is}
 use Rattle.protocol_model.specs.Plan.{plan}
-use Rattle.protocol_model.specs.Open.{is_failed, count_open, is_held}
+use Rattle.protocol_model.specs.Open.{is_failed, count_open, is_asking, is_held}
 use Rattle.protocol_model.specs.Client.{Client, Table, client_connected, held_now, is_clearing, client_left, left_state, client_restarted}
 use Rattle.protocol_model.specs.Server.{is_abort}
 use Rattle.protocol_model.specs.Claims.{contacts, acts_on}
@@ -23,7 +23,9 @@ use Rattle.protocol_model.proofs.plan.Fitting.{Know, unknown}
 use Rattle.protocol_model.proofs.plan.Marks.{plan_fits, plan_sane, plan_touches, plan_no_abort}
 use Rattle.protocol_model.proofs.invariant.Served.{acts_none, Served, served_front, served_take, progress_served, progress_new, program_has}
 use Rattle.protocol_model.proofs.invariant.Holding.{listed, sent_now, all_received, all_sent, abort_lines, abort_helds, commands_in}
-use Rattle.protocol_model.proofs.invariant.Holding.{AreStandard, IsClearFirst, IsNear, HasState, IsLive, IsOff, IsAtRest, Inv}
+use Rattle.protocol_model.proofs.invariant.Holding.{AreStandard, IsClearFirst, IsAskedLast, IsNear, HasState, IsLive, IsOff, IsAtRest, Inv}
+use Rattle.protocol_model.proofs.table.Asking.{with_unsent}
+use Rattle.protocol_model.proofs.invariant.LineFacts.{asked_more}
 use Rattle.protocol_model.proofs.invariant.LineFacts.{tag_is_false, standard_join, no_clears_join, sent_more, commands_more, steps_more}
 use Rattle.protocol_model.specs.declared.lines.Line.{Line}
 use Rattle.protocol_model.specs.declared.plans.Planned.{Planned}
@@ -120,6 +122,7 @@ connect_event w inv =
               idle = λ e. (refl, refl);
               stopped = λ e. absurd (false≢true e);
               clear_first = tt;
+              asked_last = tt;
               clean = λ e. record {
                 steps = [];
                 todo = refl;
@@ -238,11 +241,12 @@ none_received (x ∷ xs) ys h = absurd (go h.0)
 -- the next command of the plan goes out while no abort is open, and the table that is left still fits the server
 pub near_sends : (table : Table) (p : Planned) (ps : List Planned) (left : List Wanted) (up : List Line) (running : Option Line)
     (waiting : List Waiting) (error : Bool) (know : Know) (n : ℕ)
-    → IsNear table (p ∷ ps) left up running waiting error know → table.event ≡ [] → is_abort (Ok p.command) ≡ false
+    → IsNear table left up running waiting error know → table.tally.unsent ≡ p ∷ ps → is_asking table.standard ≡ false
+    → table.event ≡ [] → is_abort (Ok p.command) ≡ false
     → (is_clearing p.command ≡ true → AreFailed table.standard × (table.tally.failed ≡ false))
-    → IsNear (with_standard (held_now (Std n) (kind_of p.command)) table) ps left (up ++ record { tag = Std n; command = p.command } ∷ [])
-    running waiting error know
-near_sends table p ps left up running waiting error know n h no_event plain clearing =
+    → IsNear (with_standard (held_now (Std n) (kind_of p.command)) (with_unsent ps table)) left (up
+    ++ record { tag = Std n; command = p.command } ∷ []) running waiting error know
+near_sends table p ps left up running waiting error know n h unsent quiet no_event plain clearing =
     let line : Line = record { tag = Std n; command = p.command } in
     let aborts : h.aborts ≡ [] = no_aborts h.aborts (sym h.by.event_is ∙ no_event) in
     let busy : List Line = listed running in
@@ -268,11 +272,13 @@ near_sends table p ps left up running waiting error know n h no_event plain clea
             let all : AreFailed table.standard × (table.tally.failed ≡ false) = clearing e in
             let none = none_received (busy ++ h.queued) h.coming (subst AreFailed h.by.standard_is all.0) in
             (sym (append_assoc busy h.queued h.coming) ∙ (ap (λ (l : List Line). l ++ h.coming) none.0 ∙ none.1), all.1)));
+        asked_last = subst IsAskedLast (ap (λ (l : List Line). l ++ line ∷ []) (append_assoc busy h.queued h.coming) ∙ longer)
+            (asked_more (busy ++ h.queued) h.coming line (ap is_asking (sym h.by.standard_is) ∙ quiet));
         clean = λ e.
             let c = h.by.clean e in
             record {
               steps = c.steps ++ p ∷ [];
-              todo = c.todo ∙ sym (append_assoc c.steps (p ∷ []) ps);
+              todo = c.todo ∙ (ap (λ (l : List Planned). c.steps ++ l) unsent ∙ sym (append_assoc c.steps (p ∷ []) ps));
               commands = steps_more c.steps (p ∷ []) ∙ (ap (λ (l : List Command). l ++ p.command ∷ []) c.commands
                   ∙ (sym (commands_more lines (line ∷ [])) ∙ ap commands_in longer));
               sane = c.sane;

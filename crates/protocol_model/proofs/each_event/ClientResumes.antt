@@ -19,7 +19,8 @@ use Rattle.protocol_model.proofs.plan.Fitting.{Know, unknown}
 use Rattle.protocol_model.proofs.plan.Marks.{plan_fits, plan_sane, plan_touches, plan_no_abort}
 use Rattle.protocol_model.proofs.invariant.Served.{IsProgress, progress_anew, program_has}
 use Rattle.protocol_model.proofs.table.Drawing.{IsDrawn, drawn, none_drawn, event_apart}
-use Rattle.protocol_model.proofs.invariant.Holding.{listed, abort_line, abort_lines, abort_held, commands_in, IsClearFirst, IsNear}
+use Rattle.protocol_model.proofs.invariant.Holding.{listed, abort_line, abort_lines, abort_held, commands_in, IsClearFirst, IsAskedLast}
+use Rattle.protocol_model.proofs.invariant.Holding.{IsNear}
 use Rattle.protocol_model.proofs.invariant.Holding.{HasEvents, HasState, IsLive, IsOff, IsAtRest, IsHere, IsAhead, IsGone, Inv, know_of}
 use Rattle.protocol_model.proofs.each_event.ClientEvents.{no_aborts, none_received}
 use Rattle.protocol_model.specs.declared.lines.Line.{Line}
@@ -31,11 +32,11 @@ use Rattle.protocol_model.specs.declared.lines.Waiting.{Waiting}
 
 -- ---- an abort
 
-near_aborts : (table : Table) (unsent : List Planned) (left : List Wanted) (up : List Line) (running : Option Line) (waiting : List Waiting)
+near_aborts : (table : Table) (left : List Wanted) (up : List Line) (running : Option Line) (waiting : List Waiting)
     (error : Bool) (know : Know) (k : ℕ)
-    → IsNear table unsent left up running waiting error know → table.event ≡ []
-    → IsNear (with_event (abort_held k) table) unsent left (up ++ abort_line k ∷ []) running waiting error know
-near_aborts table unsent left up running waiting error know k h no_event =
+    → IsNear table left up running waiting error know → table.event ≡ []
+    → IsNear (with_event (abort_held k) table) left (up ++ abort_line k ∷ []) running waiting error know
+near_aborts table left up running waiting error know k h no_event =
     let aborts : h.aborts ≡ [] = no_aborts h.aborts (sym h.by.event_is ∙ no_event) in
     record {
       queued = h.queued;
@@ -51,6 +52,7 @@ near_aborts table unsent left up running waiting error know k h no_event =
         idle = h.by.idle;
         stopped = h.by.stopped;
         clear_first = h.by.clear_first;
+        asked_last = h.by.asked_last;
         clean = λ e. let c = h.by.clean e in record {
           steps = c.steps;
           todo = c.todo;
@@ -128,12 +130,12 @@ aborts_one w inv live k no_event =
     placed none (inl here) = inl (record {
       on = here.on;
       same = here.same;
-      near = near_aborts live.table w.client.unsent live.left w.up w.server.running w.server.waiting w.server.error (know_of w.server) k
+      near = near_aborts live.table live.left w.up w.server.running w.server.waiting w.server.error (know_of w.server) k
           here.near none;
     })
     placed none (inr (inl ahead)) = inr (inl (record {
       below = ahead.below;
-      near = near_aborts live.table w.client.unsent live.left w.up None [] false unknown k ahead.near none;
+      near = near_aborts live.table live.left w.up None [] false unknown k ahead.near none;
     }))
     placed none (inr (inr gone)) = inr (inr (record { off = gone.off; same = gone.same }))
 
@@ -178,14 +180,14 @@ halted_by c State.Faulted e = absurd (false≢true e)
 
 -- the tally of a plan that begins
 abbrev begun : List Planned → Tally → Tally
-begun steps y = record y { failed = false; todo = steps; points = []; completed = 0 }
+begun steps y = record y { failed = false; todo = steps; unsent = steps; points = []; completed = 0 }
 
-near_resumes : (p : Program) (fs : List Feature) (table : Table) (unsent : List Planned) (left : List Wanted) (up : List Line)
+near_resumes : (p : Program) (fs : List Feature) (table : Table) (left : List Wanted) (up : List Line)
     (running : Option Line) (waiting : List Waiting) (error : Bool) (know : Know) (y : Tally)
-    → IsPlain p → IsNear table unsent left up running waiting error know → AreFailed table.standard
-    → IsNear (with_tally (begun (plan p (length fs) Start.SameConnection) y) table) (plan p (length fs) Start.SameConnection)
+    → IsPlain p → IsNear table left up running waiting error know → AreFailed table.standard
+    → IsNear (with_tally (begun (plan p (length fs) Start.SameConnection) y) table)
     (drop (length fs) p.features) up running waiting error know
-near_resumes p fs table unsent left up running waiting error know y program h failed =
+near_resumes p fs table left up running waiting error know y program h failed =
     let steps : List Planned = plan p (length fs) Start.SameConnection in
     let none = none_received (listed running ++ h.queued) h.coming (subst AreFailed h.by.standard_is failed) in
     let lines : listed running ++ (h.queued ++ h.coming) ≡ [] = sym (append_assoc (listed running) h.queued h.coming)
@@ -203,6 +205,7 @@ near_resumes p fs table unsent left up running waiting error know y program h fa
         idle = h.by.idle;
         stopped = λ e. absurd (false≢true e);
         clear_first = subst (IsClearFirst false) (sym lines) tt;
+        asked_last = subst IsAskedLast (sym lines) tt;
         clean = λ e. record {
           steps = [];
           todo = refl;
@@ -268,12 +271,12 @@ resumes w inv live halted =
     placed y failed (inl here) = inl (record {
       on = here.on;
       same = here.same;
-      near = near_resumes w.client.program w.client.table.tally.features live.table w.client.unsent live.left w.up w.server.running
+      near = near_resumes w.client.program w.client.table.tally.features live.table live.left w.up w.server.running
           w.server.waiting w.server.error (know_of w.server) y inv.program here.near failed;
     })
     placed y failed (inr (inl ahead)) = inr (inl (record {
       below = ahead.below;
-      near = near_resumes w.client.program w.client.table.tally.features live.table w.client.unsent live.left w.up None [] false unknown y
+      near = near_resumes w.client.program w.client.table.tally.features live.table live.left w.up None [] false unknown y
           inv.program ahead.near failed;
     }))
     placed y failed (inr (inr gone)) = inr (inr (record { off = gone.off; same = gone.same }))

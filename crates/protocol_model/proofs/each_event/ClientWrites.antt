@@ -1,22 +1,23 @@
 -- What the client writes keeps all that holds: commands, aborts, and a plan that goes on.
-use Rattle.std.proofs.Common.{◌≡◌, ℕ, ◌-◌, ◌<◌, ◌≤◌, ◌⊎◌, inl, inr, Bool, true, false, cond, not, ◌||◌, List, [], ◌∷◌, ◌++◌, length, refl}
+use Rattle.std.proofs.Common.{◌≡◌, ℕ, ◌-◌, ◌<◌, ◌≤◌, ◌⊎◌, inl, inr, Bool, true, false, cond, not, ◌&&◌, ◌||◌, List, [], ◌∷◌, length, refl}
 use Rattle.std.proofs.Common.{sym, ◌∙◌, ap, subst, arith, Option, Some, None, is_some, Ok, eqb, eqb-true, le_trans}
 use Rattle.std.proofs.lemmas.Bool.{false≢true, and_parts, ltb-true}
 use Rattle.dme_line.specs.Kinds.{kind_of}
 use Rattle.dme_line.specs.declared.tags.Tag.{Tag}
 use Rattle.dme_line.specs.declared.tags.Tag.TheVariants.{Std}
 use Rattle.dmis_program.specs.declared.features.Wanted.{Wanted}
-use Rattle.protocol_model.specs.Open.{count_open, is_held}
+use Rattle.protocol_model.specs.Open.{count_open, is_asking, is_held}
 use Rattle.protocol_model.specs.Client.{Client, Table, Tally, client_sent, sends_next, held_now, next_number, due, first_due, may_go}
 use Rattle.protocol_model.specs.Client.{is_running, is_clearing}
 use Rattle.protocol_model.specs.Server.{is_abort}
 use Rattle.protocol_model.specs.Typed.{World, sent}
 use Rattle.protocol_model.proofs.table.Counts.{AreFailed, all_failed, failed_tags}
-use Rattle.protocol_model.proofs.table.Replying.{tabled, with_standard, reads_with_standard, OnlyCloses, only_closes, reads_no_event}
+use Rattle.protocol_model.proofs.table.Replying.{with_standard, reads_with_standard, OnlyCloses, only_closes, reads_no_event}
+use Rattle.protocol_model.proofs.table.Asking.{with_unsent, AreUnasked, reads_unasked}
 use Rattle.protocol_model.proofs.plan.Fitting.{unknown}
 use Rattle.protocol_model.proofs.plan.Marks.{HasNoAbort}
 use Rattle.protocol_model.proofs.table.Drawing.{IsDrawn, drawn, none_drawn, standard_apart, held_length}
-use Rattle.protocol_model.proofs.invariant.Holding.{IsNear, HasEvents, HasState, tags_of, IsLive, IsOff, IsAtRest, IsHere, IsAhead, IsGone}
+use Rattle.protocol_model.proofs.invariant.Holding.{HasEvents, HasState, tags_of, IsLive, IsOff, IsAtRest, IsHere, IsAhead, IsGone}
 use Rattle.protocol_model.proofs.invariant.Holding.{Inv, know_of}
 use Rattle.protocol_model.proofs.each_event.ClientEvents.{failed_tags_more, count_more, distinct_more, near_sends}
 use Rattle.protocol_model.specs.declared.plans.Planned.{Planned}
@@ -30,7 +31,8 @@ pub record IsDue (c : Client) : Type 0 where
   pub running : c.state ≡ State.Running
   pub planned : Planned
   pub others : List Planned
-  pub unsent : c.unsent ≡ planned ∷ others
+  pub unsent : c.table.tally.unsent ≡ planned ∷ others
+  pub quiet : is_asking c.table.standard ≡ false
   pub go : may_go c.window (count_open c.table.standard) planned.command ≡ true
 
 is_running-true : (s : State) → is_running s ≡ true → s ≡ State.Running
@@ -46,18 +48,23 @@ first_by : (b : Bool) (p : Planned) → is_some (cond b (Some p) None) ≡ true 
 first_by true p e = refl
 first_by false p e = absurd (false≢true e)
 
-due_by : (c : Client) (ps : List Planned) → c.unsent ≡ ps → c.state ≡ State.Running
+due_by : (c : Client) (ps : List Planned) → c.table.tally.unsent ≡ ps → c.state ≡ State.Running → is_asking c.table.standard ≡ false
     → is_some (first_due c.window (count_open c.table.standard) ps) ≡ true → IsDue c
-due_by c [] e r is = absurd (false≢true is)
-due_by c (p ∷ ps) e r is = record { running = r; planned = p; others = ps; unsent = e; go = first_by _ p is }
+due_by c [] e r quiet is = absurd (false≢true is)
+due_by c (p ∷ ps) e r quiet is = record { running = r; planned = p; others = ps; unsent = e; quiet = quiet; go = first_by _ p is }
+
+not_so : (b : Bool) → not b ≡ true → b ≡ false
+not_so false e = refl
+not_so true e = absurd (false≢true e)
 
 -- where a command is due, it is the first one that a client in Running has not sent
 pub due_is : (c : Client) → is_some (due c) ≡ true → IsDue c
-due_is c is = go (is_running c.state) refl is
+due_is c is = go (is_running c.state && not (is_asking c.table.standard)) refl is
   where
-    go : (b : Bool) → is_running c.state ≡ b → is_some (cond b (first_due c.window (count_open c.table.standard) c.unsent) None) ≡ true
-        → IsDue c
-    go true r e = due_by c c.unsent refl (is_running-true c.state r) e
+    go : (b : Bool) → (is_running c.state && not (is_asking c.table.standard)) ≡ b
+        → is_some (cond b (first_due c.window (count_open c.table.standard) c.table.tally.unsent) None) ≡ true → IsDue c
+    go true r e = let parts = and_parts _ _ r in due_by c c.table.tally.unsent refl (is_running-true c.state parts.0)
+        (not_so _ parts.1) e
     go false r e = absurd (false≢true e)
 
 -- a command goes out under a tag that is not held
@@ -67,7 +74,8 @@ sends_one w inv live d n free =
     let c : Client = w.client in
     let ws : List Wanted = c.program.features in
     let x : Held = held_now (Std n) (kind_of d.planned.command) in
-    let next : Table = with_standard x live.table in
+    let next : Table = with_standard x (with_unsent d.others live.table) in
+    let unasked : AreUnasked ws c.table live.table w.down = reads_unasked ws w.down c.table live.table live.reads d.quiet in
     let failed : c.table.tally.failed ≡ false = subst (λ (s : State). HasState s c.table) d.running live.state in
     let no_event : c.table.event ≡ [] = subst (λ (s : State). HasEvents s c.abort c.table.event) d.running live.events in
     let none : live.table.event ≡ [] = reads_no_event ws w.down c.table live.table live.reads no_event in
@@ -84,7 +92,7 @@ sends_one w inv live d n free =
         on = live.on;
         table = next;
         left = live.left;
-        reads = reads_with_standard ws x w.down c.table live.table live.reads;
+        reads = reads_with_standard ws x w.down (with_unsent d.others c.table) (with_unsent d.others live.table) (unasked.anyhow d.others);
         counted = live.counted;
         progress = live.progress;
         pending = live.pending;
@@ -92,10 +100,10 @@ sends_one w inv live d n free =
         tidy = live.tidy;
         distinct = distinct_more c.table.standard x live.distinct free;
         within = le_trans (count_more c.table.standard x) room;
-        state = subst (λ (s : State). HasState s (tabled (c.table.standard ++ x ∷ []) c.table.event c.table.tally)) (sym d.running) failed;
+        state = subst (λ (s : State). HasState s (with_standard x (with_unsent d.others c.table))) (sym d.running) failed;
         events = live.events;
         plain = plain.1;
-        place = placed failed none plain.0 (clearing tests.1) live.place;
+        place = placed failed none plain.0 (clearing tests.1) (unasked.unsent ∙ d.unsent) unasked.asking live.place;
       });
     }
   where
@@ -122,23 +130,22 @@ sends_one w inv live d n free =
 
     placed : w.client.table.tally.failed ≡ false → live.table.event ≡ [] → is_abort (Ok d.planned.command) ≡ false
         → (is_clearing d.planned.command ≡ true → count_open w.client.table.standard ≡ 0)
+        → live.table.tally.unsent ≡ d.planned ∷ d.others → is_asking live.table.standard ≡ false
         → IsHere w live.table live.left ⊎ (IsAhead w live.table live.left ⊎ IsGone w)
-        → IsHere after_sending (with_standard x live.table) live.left
-        ⊎ (IsAhead after_sending (with_standard x live.table) live.left ⊎ IsGone after_sending)
-    placed failed none plain zero_at (inl here) = inl (record {
+        → IsHere after_sending (with_standard x (with_unsent d.others live.table)) live.left
+        ⊎ (IsAhead after_sending (with_standard x (with_unsent d.others live.table)) live.left ⊎ IsGone after_sending)
+    placed failed none plain zero_at unsent quiet (inl here) = inl (record {
       on = here.on;
       same = here.same;
       near = near_sends live.table d.planned d.others live.left w.up w.server.running w.server.waiting w.server.error (know_of w.server) n
-          (subst (λ (l : List Planned). IsNear live.table l live.left w.up w.server.running w.server.waiting w.server.error
-          (know_of w.server)) d.unsent here.near) none plain (λ e. cleared failed (zero_at e));
+          here.near unsent quiet none plain (λ e. cleared failed (zero_at e));
     })
-    placed failed none plain zero_at (inr (inl ahead)) = inr (inl (record {
+    placed failed none plain zero_at unsent quiet (inr (inl ahead)) = inr (inl (record {
       below = ahead.below;
-      near = near_sends live.table d.planned d.others live.left w.up None [] false unknown n
-          (subst (λ (l : List Planned). IsNear live.table l live.left w.up None [] false unknown) d.unsent ahead.near) none plain
+      near = near_sends live.table d.planned d.others live.left w.up None [] false unknown n ahead.near unsent quiet none plain
           (λ e. cleared failed (zero_at e));
     }))
-    placed failed none plain zero_at (inr (inr gone)) = inr (inr (record { off = gone.off; same = gone.same }))
+    placed failed none plain zero_at unsent quiet (inr (inr gone)) = inr (inr (record { off = gone.off; same = gone.same }))
 
 few_tags : (p : Option Tag) → length (tags_of p) ≤ 1
 few_tags None = omega arith

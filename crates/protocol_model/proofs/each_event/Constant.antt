@@ -45,7 +45,8 @@ client_reads_program w (r ∷ down) = read_program w.client (tag_of r) (mark_of 
 happens_program : (e : Event) (w : World) → (happens e w).client.program ≡ w.client.program
 happens_program Connect w = refl
 happens_program (Accept n) w = refl
-happens_program ClientSends w = sends_program w.client w.client.unsent (next_number tag.Std w.client.table.standard w.client.drawn)
+happens_program ClientSends w = sends_program w.client w.client.table.tally.unsent
+    (next_number tag.Std w.client.table.standard w.client.drawn)
 happens_program ServerReads w = server_reads_program w w.up
 happens_program (ServerReadsOld reading) w = refl
 happens_program ServerTurn w = refl

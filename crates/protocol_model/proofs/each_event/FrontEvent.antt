@@ -2,31 +2,34 @@
 use Rattle.std.proofs.Common.{◌≡◌, ℕ, suc, Bool, true, false, ◌||◌, List, [], ◌∷◌, ◌++◌, refl, sym, ◌∙◌, ap, subst, append_assoc, Option}
 use Rattle.std.proofs.Common.{Some, None}
 use Rattle.std.proofs.lemmas.Bool.{false≢true}
-use Rattle.fixed_um.specs.declared.lengths.Point.{Point}
 use Rattle.dme_line.specs.Kinds.{kind_of}
 use Rattle.dmis_program.specs.declared.features.Wanted.{Wanted}
 use Rattle.protocol_model.specs.Replies.{Reply}
-use Rattle.protocol_model.specs.Client.{Table, Tally, act_of, begins_session, measured, counted_next}
+use Rattle.protocol_model.specs.Client.{Table, Tally, act_of, begins_session, measured, counted_next, tells_homed, passed_over}
+use Rattle.protocol_model.specs.Open.{asks_homed}
 use Rattle.protocol_model.specs.Server.{Server, answers, fails, all_fail}
 use Rattle.protocol_model.specs.Claims.{contacts}
 use Rattle.protocol_model.specs.Typed.{World}
 use Rattle.protocol_model.proofs.table.Replying.{tabled, Reads}
 use Rattle.protocol_model.proofs.plan.Fitting.{known_by, KnowsMore, FitsOne, Fits, fits_more, IsSane}
 use Rattle.protocol_model.proofs.plan.Marks.{touch_in, touches_in, marks_of}
+use Rattle.protocol_model.proofs.plan.PassedOver.{passed_behind, passed_fits, passed_sane, passed_touches}
+use Rattle.protocol_model.proofs.table.Asking.{tells_asks}
 use Rattle.protocol_model.proofs.invariant.Served.{IsProgress}
 use Rattle.protocol_model.proofs.invariant.Moves.{done_on, Moves}
 use Rattle.protocol_model.proofs.invariant.Pairs.{broken, pair_and_pairs}
 use Rattle.protocol_model.proofs.each_event.Answers.{IsAnswered}
 use Rattle.protocol_model.proofs.each_event.ReadEvent.{quiet_answer, tidy_pair_and_pairs}
-use Rattle.protocol_model.proofs.invariant.Touching.{HasPoint, Keeps, measured_keeps, Goes, does_goes}
+use Rattle.protocol_model.proofs.invariant.Touching.{HasDatum, Keeps, measured_keeps, Goes, does_goes}
 use Rattle.protocol_model.proofs.invariant.Holding.{listed, received, all_received, all_sent, all_wait, abort_lines, abort_helds}
 use Rattle.protocol_model.proofs.invariant.Holding.{commands_of, commands_in, AreStandard, AreNoClears, IsClearFirst, IsClean, IsNearBy}
-use Rattle.protocol_model.proofs.invariant.Holding.{IsTidy, know_of}
+use Rattle.protocol_model.proofs.invariant.Holding.{IsAskedLast, IsTidy, know_of}
 use Rattle.protocol_model.proofs.invariant.LineFacts.{standard_before, standard_behind, clear_first_none, no_clears_behind, IsFirstStep}
-use Rattle.protocol_model.proofs.invariant.LineFacts.{first_step}
+use Rattle.protocol_model.proofs.invariant.LineFacts.{asked_behind, first_step, no_steps}
 use Rattle.protocol_model.specs.declared.lines.Line.{Line}
 use Rattle.protocol_model.specs.declared.plans.Planned.{Planned}
 use Rattle.protocol_model.specs.declared.plans.Does.{Does}
+use Rattle.protocol_model.specs.declared.held.Datum.{Datum}
 use Rattle.protocol_model.specs.declared.held.Held.{Held}
 
 -- the first command that the server has to do, on its client's connection, with those that wait and those that come
@@ -37,39 +40,42 @@ pub record IsAtFront (w : World) (table : Table) (left : List Wanted) (x : Line)
     pub up_is : w.up ≡ coming ++ abort_lines aborts
     pub standard : AreStandard (x ∷ (queued ++ coming))
     pub no_clears : AreNoClears (queued ++ coming)
+    pub asked_last : asks_homed (kind_of x.command) ≡ true → queued ++ coming ≡ []
+    pub asked_behind : IsAskedLast (queued ++ coming)
     pub clear : IsClearFirst table.tally.failed (x ∷ (queued ++ coming))
     pub all_sane : IsSane table.tally.todo
     pub all_touches : touches_in table.tally.todo ≡ marks_of left
     pub calm : table.tally.failed ≡ false
     pub does : Does
     pub steps : List Planned
-    pub todo : table.tally.todo ≡ record { command = x.command; does = does } ∷ (steps ++ w.client.unsent)
+    pub todo : table.tally.todo ≡ record { command = x.command; does = does } ∷ (steps ++ table.tally.unsent)
     pub commands : commands_of steps ≡ commands_in (queued ++ coming)
-    pub sane : IsSane (steps ++ w.client.unsent)
-    pub touches : touch_in does ++ touches_in (steps ++ w.client.unsent) ≡ marks_of left
+    pub sane : IsSane (steps ++ table.tally.unsent)
+    pub touches : touch_in does ++ touches_in (steps ++ table.tally.unsent) ≡ marks_of left
     pub one : FitsOne (know_of w.server) x.command does
-    pub rest : Fits (known_by (know_of w.server) x.command) (steps ++ w.client.unsent)
+    pub rest : Fits (known_by (know_of w.server) x.command) (steps ++ table.tally.unsent)
     pub progress : IsProgress w.client.program.features w.client.last table.tally.features table.tally.points
         (contacts w.server.ledger) left
 
 -- where nothing is in the error state, what runs or else waits first is such a command
 pub at_front : (w : World) (table : Table) (left : List Wanted) (x : Line) (now queued coming : List Line) (aborts : List ℕ)
-    → IsNearBy table w.client.unsent left w.up w.server.running w.server.waiting w.server.error (know_of w.server) now coming aborts
+    → IsNearBy table left w.up w.server.running w.server.waiting w.server.error (know_of w.server) now coming aborts
     → IsProgress w.client.program.features w.client.last table.tally.features table.tally.points (contacts w.server.ledger) left
     → listed w.server.running ++ now ≡ x ∷ queued → w.server.error ≡ false → IsAtFront w table left x queued coming aborts
 at_front w table left x now queued coming aborts n progress first quiet =
     let lines : listed w.server.running ++ (now ++ coming) ≡ x ∷ (queued ++ coming) =
     sym (append_assoc (listed w.server.running) now coming) ∙ ap (λ (l : List Line). l ++ coming) first in
     let calm : table.tally.failed ≡ false = no_failure table.tally.failed refl in
-    let c : IsClean table.tally w.client.unsent left (listed w.server.running ++ (now ++ coming)) w.server.error (know_of w.server) =
+    let c : IsClean table.tally left (listed w.server.running ++ (now ++ coming)) w.server.error (know_of w.server) =
     n.clean calm in
     let step : IsFirstStep c.steps x.command (commands_in (queued ++ coming)) =
     first_step c.steps x.command (commands_in (queued ++ coming)) (c.commands ∙ ap commands_in lines) in
-    let todo : table.tally.todo ≡ record { command = x.command; does = step.does } ∷ (step.rest ++ w.client.unsent) = c.todo
-    ∙ ap (λ (l : List Planned). l ++ w.client.unsent) step.is in
-    let sane : IsSane (record { command = x.command; does = step.does } ∷ (step.rest ++ w.client.unsent)) = subst IsSane todo c.sane in
-    let fits : Fits (know_of w.server) (record { command = x.command; does = step.does } ∷ (step.rest ++ w.client.unsent)) =
+    let todo : table.tally.todo ≡ record { command = x.command; does = step.does } ∷ (step.rest ++ table.tally.unsent) = c.todo
+    ∙ ap (λ (l : List Planned). l ++ table.tally.unsent) step.is in
+    let sane : IsSane (record { command = x.command; does = step.does } ∷ (step.rest ++ table.tally.unsent)) = subst IsSane todo c.sane in
+    let fits : Fits (know_of w.server) (record { command = x.command; does = step.does } ∷ (step.rest ++ table.tally.unsent)) =
     subst (Fits (know_of w.server)) todo (c.fits quiet) in
+    let last : IsAskedLast (x ∷ (queued ++ coming)) = subst IsAskedLast lines n.asked_last in
     let clear : IsClearFirst table.tally.failed (x ∷ (queued ++ coming)) = subst (IsClearFirst table.tally.failed) lines n.clear_first in
     record {
       standard_is = n.standard_is ∙ ap (λ (l : List Line). all_received l ++ all_sent coming) first;
@@ -77,6 +83,8 @@ at_front w table left x now queued coming aborts n progress first quiet =
       up_is = n.up_is;
       standard = subst AreStandard lines n.standard;
       no_clears = clear.1;
+      asked_last = last.0;
+      asked_behind = last.1;
       clear = clear;
       all_sane = c.sane;
       all_touches = c.touches;
@@ -124,16 +132,17 @@ front_fails w table left x queued coming aborts s code f moves no_run no_wait er
         stopped = λ e. error;
         clear_first = subst (λ (o : Option Line). IsClearFirst true (listed o ++ coming)) (sym no_run)
             (clear_first_none true coming (no_clears_behind queued coming f.no_clears));
+        asked_last = subst (λ (o : Option Line). IsAskedLast (listed o ++ coming)) (sym no_run) (asked_behind queued coming f.asked_behind);
         clean = λ e. absurd (false≢true (sym e));
       };
     })
 
 -- it is done
 pub front_done : (w : World) (table : Table) (left : List Wanted) (x : Line) (queued coming : List Line) (aborts : List ℕ) (s : Server)
-    (said : List Reply) (given : Option Point)
+    (said : List Reply) (given : Option Datum)
     → (f : IsAtFront w table left x queued coming aborts) → Moves w.server s (act_of f.does given) → w.server.last ≡ w.client.last
     → s.running ≡ None → s.waiting ≡ all_wait queued → s.error ≡ false
-    → KnowsMore (known_by (know_of w.server) x.command) (know_of s) → HasPoint f.does given
+    → KnowsMore (known_by (know_of w.server) x.command) (know_of s) → HasDatum f.does given
     → Reads w.client.program.features (tabled (received x ∷ (all_received queued ++ all_sent coming)) table.event table.tally) said
     (tabled (all_received queued ++ all_sent coming) table.event
     (counted_next w.client.program.features (kind_of x.command) given table.tally.todo table.tally))
@@ -142,10 +151,14 @@ pub front_done : (w : World) (table : Table) (left : List Wanted) (x : Line) (qu
 front_done w table left x queued coming aborts s said given f moves same no_run waiting error knows has reads tidy =
     let ws : List Wanted = w.client.program.features in
     let y : Tally = table.tally in
-    let rest : List Planned = f.steps ++ w.client.unsent in
+    let whole : List Planned = f.steps ++ table.tally.unsent in
+    let told : Bool = tells_homed (kind_of x.command) given in
+    let unsent : List Planned = passed_over told table.tally.unsent in
+    let rest : List Planned = passed_over told whole in
     let mid : Tally = record y {
       session = y.session || begins_session (kind_of x.command);
       todo = rest;
+      unsent = unsent;
       counted = y.counted
           ++ act_of f.does given;
       completed = suc y.completed;
@@ -155,8 +168,10 @@ front_done w table left x queued coming aborts s said given f moves same no_run 
     ap (λ (l : List Planned). counted_next ws (kind_of x.command) given l y) f.todo in
     let hs : List Held = all_received queued ++ all_sent coming in
     let keeps : Keeps mid next = measured_keeps ws f.does given mid in
-    let goes : Goes ws w.client.last mid (contacts w.server.ledger) f.does given (touches_in rest) =
-    does_goes ws w.client.last mid (contacts w.server.ledger) left f.does given (touches_in rest) f.progress has f.touches in
+    let goes : Goes ws w.client.last mid (contacts w.server.ledger) f.does given (touches_in whole) =
+    does_goes ws w.client.last mid (contacts w.server.ledger) left f.does given (touches_in whole) f.progress has f.touches in
+    let parts : rest ≡ f.steps ++ unsent = passed_behind f.steps table.tally.unsent told (λ e. no_steps f.steps
+    (f.commands ∙ ap commands_in (f.asked_last (tells_asks (kind_of x.command) given e)))) in
     record {
       acts = act_of f.does given;
       moves = moves;
@@ -183,13 +198,15 @@ front_done w table left x queued coming aborts s said given f moves same no_run 
           stopped = λ e. absurd (false≢true (sym (keeps.failed ∙ f.calm) ∙ e));
           clear_first = subst (λ (o : Option Line). IsClearFirst next.failed (listed o ++ (queued ++ coming))) (sym no_run)
               (clear_first_none next.failed (queued ++ coming) f.no_clears);
+          asked_last = subst (λ (o : Option Line). IsAskedLast (listed o ++ (queued ++ coming))) (sym no_run) f.asked_behind;
           clean = λ e. record {
             steps = f.steps;
-            todo = keeps.todo;
+            todo = keeps.todo ∙ (parts ∙ ap (λ (l : List Planned). f.steps ++ l) (sym keeps.unsent));
             commands = f.commands ∙ ap (λ (o : Option Line). commands_in (listed o ++ (queued ++ coming))) (sym no_run);
-            sane = subst IsSane (sym keeps.todo) f.sane;
-            touches = ap touches_in keeps.todo ∙ goes.touches;
-            fits = λ g. subst (Fits (know_of s)) (sym keeps.todo) (fits_more rest _ (know_of s) knows f.rest);
+            sane = subst IsSane (sym keeps.todo) (passed_sane told whole f.sane);
+            touches = ap touches_in keeps.todo ∙ (passed_touches _ told whole f.rest ∙ goes.touches);
+            fits = λ g. subst (Fits (know_of s)) (sym keeps.todo)
+                (fits_more rest _ (know_of s) knows (passed_fits _ told whole f.rest));
           };
         };
       };

@@ -2,17 +2,17 @@
 use Rattle.std.proofs.Common.{◌≡◌, ◌≤◌, Bool, true, false, cond, ◌&&◌, List, [], ◌∷◌, refl, sym, ◌∙◌, ap, subst, arith, Option, Some, None}
 use Rattle.std.proofs.Common.{eqb, eqb-true}
 use Rattle.std.proofs.lemmas.Bool.{false≢true}
-use Rattle.fixed_um.specs.declared.lengths.Point.{Point}
 use Rattle.dme_line.specs.Tags.{is_event_tag}
 use Rattle.dme_line.specs.declared.tags.Tag.{Tag}
 use Rattle.dme_line.specs.declared.tags.Tag.TheVariants.{Std, Event}
 use Rattle.protocol_model.specs.Replies.{Mark, tag_is}
 use Rattle.protocol_model.specs.Open.{Effect, Becomes, Closes, Counts, judged, judged_ack, judged_given, heard_in, is_failed, asks_data}
-use Rattle.protocol_model.specs.Open.{count_open}
+use Rattle.protocol_model.specs.Open.{fits, count_open}
 use Rattle.protocol_model.specs.Client.{Table, ends_abort, first_state, last_state, is_whole, state_behind}
 use Rattle.protocol_model.proofs.table.Walks.{two, staged, heard_cases}
 use Rattle.protocol_model.proofs.table.Counts.{is_error, no_break, done_moves}
 use Rattle.protocol_model.proofs.invariant.Holding.{HasEvents, HasState}
+use Rattle.protocol_model.specs.declared.held.Datum.{Datum}
 use Rattle.protocol_model.specs.declared.held.Stage.{Stage}
 use Rattle.protocol_model.specs.declared.held.Held.{Held}
 use Rattle.protocol_model.specs.declared.states.State.{State}
@@ -119,20 +119,20 @@ ack_ends Stage.Received e = cc
 ack_ends (Stage.Given p) e = cc
 ack_ends Stage.Failed e = cc
 
-ack_counts : (s : Stage) (given : Option Point) → judged_ack s ≡ Counts given → ⊥
+ack_counts : (s : Stage) (given : Option Datum) → judged_ack s ≡ Counts given → ⊥
 ack_counts Stage.Sent given e = cc
 ack_counts Stage.Received given e = cc
 ack_counts (Stage.Given p) given e = cc
 ack_counts Stage.Failed given e = cc
 
-data_ends : (b : Bool) (s : Stage) (p : Point) → judged_given b s p ≡ Closes → ⊥
+data_ends : (b : Bool) (s : Stage) (p : Datum) → judged_given b s p ≡ Closes → ⊥
 data_ends true Stage.Sent p e = cc
 data_ends true Stage.Received p e = cc
 data_ends true (Stage.Given q) p e = cc
 data_ends true Stage.Failed p e = cc
 data_ends false s p e = cc
 
-data_counts : (b : Bool) (s : Stage) (p : Point) (given : Option Point) → judged_given b s p ≡ Counts given → ⊥
+data_counts : (b : Bool) (s : Stage) (p : Datum) (given : Option Datum) → judged_given b s p ≡ Counts given → ⊥
 data_counts true Stage.Sent p given e = cc
 data_counts true Stage.Received p given e = cc
 data_counts true (Stage.Given q) p given e = cc
@@ -154,14 +154,14 @@ no_end Mark.Error other n (Some a) t = absurd (false≢true (sym n))
 closes_by : (held : Held) (m : Mark) (hs : List Held) → is_error m ≡ false → judged true held.kind held.stage m ≡ Closes → hs ≡ []
     → AbortLeft held m hs
 closes_by held Mark.Ack hs n v e = absurd (ack_ends held.stage v)
-closes_by held (Mark.Given p) hs n v e = absurd (data_ends (true && asks_data held.kind) held.stage p v)
+closes_by held (Mark.Given p) hs n v e = absurd (data_ends (true && fits held.kind p) held.stage p v)
 closes_by held Mark.Done hs n v e = gone e refl
 closes_by held Mark.Error hs n v e = absurd (false≢true (sym n))
 
-counts_by : (held : Held) (m : Mark) (hs : List Held) (given : Option Point) → is_error m ≡ false
+counts_by : (held : Held) (m : Mark) (hs : List Held) (given : Option Datum) → is_error m ≡ false
     → judged true held.kind held.stage m ≡ Counts given → hs ≡ [] → AbortLeft held m hs
 counts_by held Mark.Ack hs given n v e = absurd (ack_counts held.stage given v)
-counts_by held (Mark.Given p) hs given n v e = absurd (data_counts (true && asks_data held.kind) held.stage p given v)
+counts_by held (Mark.Given p) hs given n v e = absurd (data_counts (true && fits held.kind p) held.stage p given v)
 counts_by held Mark.Done hs given n v e = gone e refl
 counts_by held Mark.Error hs given n v e = absurd (false≢true (sym n))
 

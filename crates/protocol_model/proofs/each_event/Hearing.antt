@@ -20,6 +20,9 @@ use Rattle.protocol_model.proofs.each_event.HearEvent.{has_state, standard_event
 use Rattle.protocol_model.proofs.each_event.HearEvent.{abort_reply}
 use Rattle.protocol_model.specs.declared.states.Cause.{Cause}
 use Rattle.protocol_model.specs.declared.held.Held.{Held}
+use Rattle.protocol_model.proofs.plan.Marks.{HasNoAbort}
+use Rattle.protocol_model.proofs.plan.PassedOver.{passed_no_abort}
+use Rattle.protocol_model.proofs.table.Asking.{step_leaves}
 use Rattle.protocol_model.specs.declared.states.State.{State}
 
 event_events : (state : State) (abort : Option Tag) (event hs : List Held) (t : Tag) (m : Mark) (e : Effect) (b : Table)
@@ -129,6 +132,7 @@ pub record IsHeard (c : Client) (b : Table) (t : Tag) (m : Mark) (down : List Re
   pub distinct : AreDistinct b.standard
   pub count : count_open b.standard ≤ count_open c.table.standard
   pub events : HasEvents (state_behind c.state (ends_abort c.abort t m) b) c.abort b.event
+  pub plain : HasNoAbort b.tally.unsent
 
 hears : (w : World) (inv : Inv w) (live : IsLive w) (r : Reply) (down : List Reply) (b : Table) → w.down ≡ r ∷ down
     → Reads w.client.program.features b down live.table → IsHeard w.client b (tag_of r) (mark_of r) down
@@ -162,7 +166,7 @@ hears w inv live r down b e reads h = record {
     within = le_trans h.count live.within;
     state = has_state w.client.state (ends_abort w.client.abort (tag_of r) (mark_of r)) w.client.table b live.state h.count;
     events = h.events;
-    plain = live.plain;
+    plain = h.plain;
     place = placed live.place;
   });
 }
@@ -241,6 +245,7 @@ is_heard w live r down b tidy other step =
       count = step_counts ws c.table t m b step;
       events = subst (λ (l : List Held). HasEvents (state_behind c.state (ends_abort c.abort t m) b) c.abort l)
           (ap (λ (x : Table). x.event) (sym g)) (standard_events c.state c.abort c.table.event t m b sort live.events);
+      plain = plain;
     })
     (λ n hs e tag apart walk g.
     let sort : is_event_tag t ≡ true = ap is_event_tag tag in
@@ -254,6 +259,7 @@ is_heard w live r down b tidy other step =
       count = step_counts ws c.table t m b step;
       events = subst (λ (l : List Held). HasEvents (state_behind c.state (ends_abort c.abort t m) b) c.abort l)
           (ap (λ (x : Table). x.event) (sym g)) (event_events c.state c.abort c.table.event hs t m e b live.events walked calm.mark);
+      plain = plain;
     })
   where
     c : Client
@@ -267,6 +273,9 @@ is_heard w live r down b tidy other step =
 
     m : Mark
     m = mark_of r
+
+    plain : HasNoAbort b.tally.unsent
+    plain = step_leaves ws c.table t m b HasNoAbort step live.plain (λ ps told. passed_no_abort told ps)
 
 zero_is_event : (t : Tag) → tag_is t (Event 0) ≡ true → is_event_tag t ≡ true
 zero_is_event (Std n) e = absurd (false≢true e)

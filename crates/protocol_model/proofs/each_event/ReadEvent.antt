@@ -26,7 +26,7 @@ use Rattle.protocol_model.proofs.invariant.Pairs.{broken, breaks, pair, ack, abo
 use Rattle.protocol_model.proofs.each_event.Answers.{IsAnswered, tidy_more}
 use Rattle.protocol_model.proofs.invariant.Holding.{listed, received, sent_now, all_received, all_sent, waits, all_wait, abort_tag}
 use Rattle.protocol_model.proofs.invariant.Holding.{abort_line, abort_lines, abort_held, abort_helds, commands_in, AreStandard}
-use Rattle.protocol_model.proofs.invariant.Holding.{IsClearFirst, IsClean, IsNearBy, IsNear, IsTidy, know_of}
+use Rattle.protocol_model.proofs.invariant.Holding.{IsClearFirst, IsAskedLast, IsClean, IsNearBy, IsNear, IsTidy, know_of}
 use Rattle.protocol_model.proofs.invariant.LineFacts.{apart_from, not_in_use, event_not_in_use, standard_behind, clear_first_none}
 use Rattle.protocol_model.proofs.invariant.LineFacts.{wait_more, one_behind, received_behind, few_wait, wait_long, clear_same, no_steps}
 use Rattle.protocol_model.proofs.invariant.LineFacts.{IsFirstStep, first_step}
@@ -47,7 +47,7 @@ pub quiet_answer : (w : World) (table : Table) (left : List Wanted) (up : List L
     → IsProgress w.client.program.features w.client.last table.tally.features table.tally.points (contacts w.server.ledger) left
     → Reads w.client.program.features table a.said (tabled standard event (record (table.tally) { failed = flag }))
     → IsTidy None a.said
-    → IsNear (tabled standard event (record (table.tally) { failed = flag })) w.client.unsent left up a.server.running a.server.waiting
+    → IsNear (tabled standard event (record (table.tally) { failed = flag })) left up a.server.running a.server.waiting
     a.server.error (know_of a.server)
     → IsAnswered w table up a
 quiet_answer w table left up a standard event flag moves progress reads tidy near = record {
@@ -77,7 +77,7 @@ stands_is s x waiting e free plain =
 -- what the facts say of a line that is the next to be read
 pub record IsReading (w : World) (table : Table) (left : List Wanted) (x : Line) (queued coming : List Line) (aborts : List ℕ) : Type 0
   where
-    pub near : IsNearBy table w.client.unsent left w.up w.server.running w.server.waiting w.server.error (know_of w.server) queued
+    pub near : IsNearBy table left w.up w.server.running w.server.waiting w.server.error (know_of w.server) queued
         (x ∷ coming) aborts
     pub progress : IsProgress w.client.program.features w.client.last table.tally.features table.tally.points
         (contacts w.server.ledger) left
@@ -98,6 +98,7 @@ refused w table left x queued coming aborts r error other =
     ap (λ (o : Option Line). listed o ++ (queued ++ x ∷ coming)) no_run ∙ ap (λ (l : List Line). l ++ x ∷ coming) no_wait in
     let standard : AreStandard (x ∷ coming) = subst AreStandard lines n.standard in
     let clear_first : IsClearFirst table.tally.failed (x ∷ coming) = subst (IsClearFirst table.tally.failed) lines n.clear_first in
+    let last : IsAskedLast (x ∷ coming) = subst IsAskedLast lines n.asked_last in
     let same : table.standard ≡ sent_now x ∷ all_sent coming = n.standard_is
     ∙ ap (λ (l : List Line). all_received l ++ sent_now x ∷ all_sent coming) alone in
     let ws : List Wanted = w.client.program.features in
@@ -126,6 +127,7 @@ refused w table left x queued coming aborts r error other =
         stopped = λ e. error;
         clear_first = subst (λ (o : Option Line). IsClearFirst true (listed o ++ coming)) (sym no_run)
             (clear_first_none true coming clear_first.1);
+        asked_last = subst (λ (o : Option Line). IsAskedLast (listed o ++ coming)) (sym no_run) last.1;
         clean = λ e. absurd (false≢true (sym e));
       };
     })
@@ -172,6 +174,7 @@ joins w table left x waiting coming aborts s r on last ledger running waits_same
         idle = λ e. absurd (false≢true (sym error ∙ e));
         stopped = λ e. absurd (calm e);
         clear_first = subst (IsClearFirst table.tally.failed) lines n.clear_first;
+        asked_last = subst IsAskedLast lines n.asked_last;
         clean = λ e.
             let c = n.clean e in
             record {
@@ -195,7 +198,7 @@ reads_standard w table left x waiting coming aborts r =
     s : Server
     s = w.server
 
-    n : IsNearBy table w.client.unsent left w.up w.server.running w.server.waiting w.server.error (know_of w.server) waiting (x ∷ coming)
+    n : IsNearBy table left w.up w.server.running w.server.waiting w.server.error (know_of w.server) waiting (x ∷ coming)
         aborts
     n = r.near
 
@@ -241,13 +244,14 @@ reads_standard w table left x waiting coming aborts r =
 
     fits : w.server.error ≡ true → is_clear (Ok x.command) ≡ true → table.tally.failed ≡ false → Fits (know_of w.server) table.tally.todo
     fits e b f =
-        let c : IsClean table.tally w.client.unsent left (listed w.server.running ++ (waiting ++ x ∷ coming)) w.server.error
+        let c : IsClean table.tally left (listed w.server.running ++ (waiting ++ x ∷ coming)) w.server.error
         (know_of w.server) = n.clean f in
         let first : IsFirstStep c.steps x.command (commands_in coming) =
         first_step c.steps x.command (commands_in coming) (c.commands ∙ ap commands_in (no_wait e)) in
-        let todo : table.tally.todo ≡ record { command = x.command; does = first.does } ∷ (first.rest ++ w.client.unsent) = c.todo
-        ∙ ap (λ (l : List Planned). l ++ w.client.unsent) first.is in
-        let sane : IsSane (record { command = x.command; does = first.does } ∷ (first.rest ++ w.client.unsent)) = subst IsSane todo c.sane
+        let todo : table.tally.todo ≡ record { command = x.command; does = first.does } ∷ (first.rest ++ table.tally.unsent) = c.todo
+        ∙ ap (λ (l : List Planned). l ++ table.tally.unsent) first.is in
+        let sane : IsSane (record { command = x.command; does = first.does } ∷ (first.rest ++ table.tally.unsent)) =
+        subst IsSane todo c.sane
         in
         subst (Fits (know_of w.server)) (sym todo) (sane.0 (clearing b) (know_of w.server))
 
@@ -298,9 +302,9 @@ no_flag (l ∷ ls) f e = absurd (false≢true (sym e))
 
 -- the tally behind an abort keeps what is planned, where nothing ran or waited
 still_clean : (w : World) (table : Table) (left : List Wanted) (queued : List Line) (know : Know)
-    → IsClean table.tally w.client.unsent left (listed w.server.running ++ (queued ++ [])) w.server.error know
+    → IsClean table.tally left (listed w.server.running ++ (queued ++ [])) w.server.error know
     → listed w.server.running ++ queued ≡ []
-    → IsClean (record (table.tally) { failed = flag_of (listed w.server.running ++ queued) table.tally.failed }) w.client.unsent left []
+    → IsClean (record (table.tally) { failed = flag_of (listed w.server.running ++ queued) table.tally.failed }) left []
     true know
 still_clean w table left queued know c none =
     let lines : listed w.server.running ++ (queued ++ []) ≡ [] = sym (append_assoc (listed w.server.running) queued [])
@@ -308,7 +312,7 @@ still_clean w table left queued know c none =
     let steps : c.steps ≡ [] = no_steps c.steps (c.commands ∙ ap commands_in lines) in
     record {
       steps = [];
-      todo = c.todo ∙ ap (λ (l : List Planned). l ++ w.client.unsent) steps;
+      todo = c.todo ∙ ap (λ (l : List Planned). l ++ table.tally.unsent) steps;
       commands = refl;
       sane = c.sane;
       touches = c.touches;
@@ -317,7 +321,7 @@ still_clean w table left queued know c none =
 
 -- an abort is read, with no standard line before it: the answer shows what an event of the server has to show
 pub reads_abort : (w : World) (table : Table) (left : List Wanted) (k : ℕ) (queued : List Line) (aborts : List ℕ)
-    → IsNearBy table w.client.unsent left w.up w.server.running w.server.waiting w.server.error (know_of w.server) queued [] (k ∷ aborts)
+    → IsNearBy table left w.up w.server.running w.server.waiting w.server.error (know_of w.server) queued [] (k ∷ aborts)
     → IsProgress w.client.program.features w.client.last table.tally.features table.tally.points (contacts w.server.ledger) left
     → IsAnswered w table (abort_lines aborts) (server_read w.server (Ok (abort_line k)))
 reads_abort w table left k queued aborts n progress =
@@ -368,6 +372,7 @@ reads_abort w table left k queued aborts n progress =
         idle = λ e. (refl, refl);
         stopped = λ e. refl;
         clear_first = tt;
+        asked_last = tt;
         clean = λ e. let none = no_flag busy table.tally.failed e in still_clean w table left queued (know_of s) (n.clean none.1) none.0;
       };
     }))

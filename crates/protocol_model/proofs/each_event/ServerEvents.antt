@@ -21,7 +21,6 @@ use Rattle.protocol_model.proofs.each_event.WorkEvent.{turned_here, machined_her
 use Rattle.protocol_model.proofs.invariant.Holding.{abort_line, abort_lines, IsNearBy, IsNear, IsLive, IsOff, IsHere, IsAhead, IsGone}
 use Rattle.protocol_model.proofs.invariant.Holding.{IsIdle, Inv, know_of}
 use Rattle.protocol_model.specs.declared.lines.Line.{Line}
-use Rattle.protocol_model.specs.declared.plans.Planned.{Planned}
 use Rattle.protocol_model.specs.declared.lines.Waiting.{Waiting}
 use Rattle.protocol_model.specs.declared.machine.Outcome.{Outcome}
 
@@ -49,7 +48,7 @@ read_here w table left x y up rest e h =
     (subst (λ (z : Line). IsAnswered w table rest (server_read w.server (Ok z))) same h)
 
 reads_next : (w : World) (inv : Inv w) (live : IsLive w) (x : Line) (up queued coming : List Line) (aborts : List ℕ)
-    → IsNearBy live.table w.client.unsent live.left w.up w.server.running w.server.waiting w.server.error (know_of w.server) queued coming
+    → IsNearBy live.table live.left w.up w.server.running w.server.waiting w.server.error (know_of w.server) queued coming
     aborts
     → coming ++ abort_lines aborts ≡ x ∷ up → IsAnswered w live.table up (server_read w.server (Ok x))
 reads_next w inv live x up queued (y ∷ coming) aborts n e =
@@ -156,10 +155,10 @@ machine_event w outcome inv can =
 
 -- ---- connections
 
-near_knows : (table : Table) (unsent : List Planned) (left : List Wanted) (up : List Line) (running : Option Line) (waiting : List Waiting)
-    (error : Bool) (k l : Know) → KnowsMore k l → IsNear table unsent left up running waiting error k
-    → IsNear table unsent left up running waiting error l
-near_knows table unsent left up running waiting error k l more n = record {
+near_knows : (table : Table) (left : List Wanted) (up : List Line) (running : Option Line) (waiting : List Waiting)
+    (error : Bool) (k l : Know) → KnowsMore k l → IsNear table left up running waiting error k
+    → IsNear table left up running waiting error l
+near_knows table left up running waiting error k l more n = record {
   queued = n.queued;
   coming = n.coming;
   aborts = n.aborts;
@@ -172,6 +171,7 @@ near_knows table unsent left up running waiting error k l more n = record {
     idle = n.by.idle;
     stopped = n.by.stopped;
     clear_first = n.by.clear_first;
+    asked_last = n.by.asked_last;
     clean = λ e.
         let c = n.by.clean e in
         record {
@@ -218,17 +218,17 @@ accept_event w n inv can =
         inr (inl (record { below = apart_below n w.client.last made apart; near = ahead.near }))
     placed live off above made true same (inr (inl ahead)) =
         let idle : IsIdle w.server = inv.idle off in
-        let near : IsNear live.table w.client.unsent live.left w.up None [] false (know_of w.server) =
-        near_knows live.table w.client.unsent live.left w.up None [] false unknown (know_of w.server)
+        let near : IsNear live.table live.left w.up None [] false (know_of w.server) =
+        near_knows live.table live.left w.up None [] false unknown (know_of w.server)
         (more_than_nothing (know_of w.server)) ahead.near in
         inl (record {
           on = refl;
           same = eqb-true n w.client.last same;
-          near = subst (λ (o : Option Line). IsNear live.table w.client.unsent live.left w.up o w.server.waiting w.server.error
+          near = subst (λ (o : Option Line). IsNear live.table live.left w.up o w.server.waiting w.server.error
               (know_of w.server)) (sym idle.running)
-              (subst (λ (l : List Waiting). IsNear live.table w.client.unsent live.left w.up None l w.server.error (know_of w.server))
+              (subst (λ (l : List Waiting). IsNear live.table live.left w.up None l w.server.error (know_of w.server))
               (sym idle.waiting)
-              (subst (λ (b : Bool). IsNear live.table w.client.unsent live.left w.up None [] b (know_of w.server)) (sym idle.error) near));
+              (subst (λ (b : Bool). IsNear live.table live.left w.up None [] b (know_of w.server)) (sym idle.error) near));
         })
 
     go : w.server.on ≡ false → w.server.last < n → n ≤ w.client.last → IsOff w ⊎ IsLive w

@@ -30,11 +30,13 @@ use Rattle.protocol_model.proofs.invariant.Moves.{Moves}
 use Rattle.protocol_model.proofs.invariant.Pairs.{done_first, given_first}
 use Rattle.protocol_model.proofs.each_event.Answers.{IsAnswered}
 use Rattle.protocol_model.proofs.each_event.ReadEvent.{quiet_answer}
-use Rattle.protocol_model.proofs.invariant.Touching.{HasPoint}
+use Rattle.protocol_model.proofs.invariant.Touching.{HasDatum}
 use Rattle.protocol_model.proofs.each_event.FrontEvent.{IsAtFront, at_front, front_fails, front_done}
 use Rattle.protocol_model.proofs.invariant.Holding.{listed, received, all_received, all_sent, waits, all_wait, commands_in, AreStandard}
-use Rattle.protocol_model.proofs.invariant.Holding.{IsClearFirst, IsNearBy, know_of}
+use Rattle.protocol_model.proofs.invariant.Holding.{IsClearFirst, IsAskedLast, IsNearBy, know_of}
 use Rattle.protocol_model.specs.declared.lines.Line.{Line}
+use Rattle.protocol_model.specs.declared.held.Datum.{Datum}
+use Rattle.protocol_model.specs.declared.held.Datum.TheVariants as datum
 use Rattle.protocol_model.specs.declared.plans.Does.{Does}
 use Rattle.protocol_model.specs.declared.lines.Waiting.{Waiting}
 use Rattle.protocol_model.specs.declared.machine.Outcome.{Outcome}
@@ -45,7 +47,7 @@ use Rattle.protocol_model.specs.declared.machine.Outcome.{Outcome}
 turn_runs : (w : World) (table : Table) (left : List Wanted) (x : Line) (queued coming : List Line) (aborts : List ℕ) (s : Server)
     → (f : IsAtFront w table left x queued coming aborts) → Moves w.server s [] → s.running ≡ Some x → s.waiting ≡ all_wait queued
     → s.error ≡ false
-    → Fits (know_of s) (record { command = x.command; does = f.does } ∷ (f.steps ++ w.client.unsent))
+    → Fits (know_of s) (record { command = x.command; does = f.does } ∷ (f.steps ++ table.tally.unsent))
     → IsAnswered w table w.up (answers s [])
 turn_runs w table left x queued coming aborts s f moves runs waiting error fits =
     quiet_answer w table left w.up (answers s []) table.standard table.event table.tally.failed moves f.progress refl tt
@@ -62,6 +64,7 @@ turn_runs w table left x queued coming aborts s f moves runs waiting error fits 
         idle = λ e. absurd (false≢true (sym error ∙ e));
         stopped = λ e. absurd (false≢true (sym f.calm ∙ e));
         clear_first = subst (λ (o : Option Line). IsClearFirst table.tally.failed (listed o ++ (queued ++ coming))) (sym runs) f.clear;
+        asked_last = subst (λ (o : Option Line). IsAskedLast (listed o ++ (queued ++ coming))) (sym runs) (f.asked_last, f.asked_behind);
         clean = λ e. record {
           steps = record { command = x.command; does = f.does } ∷ f.steps;
           todo = f.todo;
@@ -87,7 +90,7 @@ turn_quiet : (w : World) (table : Table) (left : List Wanted) (x : Line) (queued
 turn_quiet w table left x queued coming aborts s f nothing moves same runs waiting error knows reads =
     front_done w table left x queued coming aborts s (Reply.Done x.tag ∷ []) None f
     (subst (λ (d : Does). Moves w.server s (act_of d None)) (sym nothing) moves) same runs waiting error knows
-    (subst (λ (d : Does). HasPoint d None) (sym nothing) tt) reads tt
+    (subst (λ (d : Does). HasDatum d None) (sym nothing) tt) reads tt
 
 frame_selected : (system : Csy) (stored : Point) (frame : Frame) → known_frame system (Some stored) ≡ Some frame
     → frame_of system stored ≡ frame
@@ -150,8 +153,18 @@ turns w table left t (command.SetCoordSystem system) queued coming aborts f same
     (subst (λ (d : Does). Moves w.server s (act_of d None)) (sym does) (record { on = refl; last = refl; ledger = refl })) same no_run refl
     error
     (knows_frame w.server.tool system w.server.stored)
-    (subst (λ (d : Does). HasPoint d None) (sym does) tt)
+    (subst (λ (d : Does). HasDatum d None) (sym does) tt)
     (done_first w.client.program.features x (all_received queued ++ all_sent coming) table.event table.tally f.standard.0 f.calm refl) tt
+turns w table left t command.IsHomed queued coming aborts f same no_run error =
+    let x : Line = record { tag = t; command = command.IsHomed } in
+    let homed : Datum = datum.Homed w.server.homed in
+    let s : Server = acted (act.HomedIs w.server.homed) (record (w.server) { waiting = all_wait queued }) in
+    front_done w table left x queued coming aborts s (Reply.Given t homed ∷ Reply.Done t ∷ []) (Some homed) f
+    (subst (λ (d : Does). Moves w.server s (act_of d (Some homed))) (sym f.one) (record { on = refl; last = refl; ledger = refl })) same
+    no_run refl error (more_refl (know_of w.server))
+    (subst (λ (d : Does). HasDatum d (Some homed)) (sym f.one) tt)
+    (given_first w.client.program.features x homed (all_received queued ++ all_sent coming) table.event table.tally f.standard.0 f.calm
+    refl) tt
 turns w table left t command.Home queued coming aborts f same no_run error =
     let x : Line = record { tag = t; command = command.Home } in
     turn_runs w table left x queued coming aborts (record (w.server) { waiting = all_wait queued; homed = false; running = Some x }) f
@@ -172,7 +185,7 @@ turns w table left t command.AbortE queued coming aborts f same no_run error = a
 
 -- the turn of the first that waits
 pub turned_here : (w : World) (table : Table) (left : List Wanted) (now coming : List Line) (aborts : List ℕ)
-    → IsNearBy table w.client.unsent left w.up w.server.running w.server.waiting w.server.error (know_of w.server) now coming aborts
+    → IsNearBy table left w.up w.server.running w.server.waiting w.server.error (know_of w.server) now coming aborts
     → IsProgress w.client.program.features w.client.last table.tally.features table.tally.points (contacts w.server.ledger) left
     → w.server.last ≡ w.client.last → w.server.running ≡ None → (w.server.waiting ≡ [] → ⊥)
     → IsAnswered w table w.up (server_turned w.server)
@@ -198,7 +211,7 @@ turned_here w table left (x ∷ queued) coming aborts n progress same no_run som
 -- it is done without a point
 machine_done : (w : World) (table : Table) (left : List Wanted) (x : Line) (queued coming : List Line) (aborts : List ℕ) (s : Server)
     (does : Does) (acts : List Act)
-    → (f : IsAtFront w table left x queued coming aborts) → f.does ≡ does → act_of does None ≡ acts → HasPoint does None
+    → (f : IsAtFront w table left x queued coming aborts) → f.does ≡ does → act_of does None ≡ acts → HasDatum does None
     → Moves w.server s acts → w.server.last ≡ w.client.last → s.running ≡ None → s.waiting ≡ all_wait queued → s.error ≡ false
     → KnowsMore (known_by (know_of w.server) x.command) (know_of s)
     → Reads w.client.program.features (tabled (received x ∷ (all_received queued ++ all_sent coming)) table.event table.tally)
@@ -210,7 +223,7 @@ machine_done w table left x queued coming aborts s does acts f is stands_for has
     front_done w table left x queued coming aborts s (Reply.Done x.tag ∷ []) None f
     (subst (λ (d : Does). Moves w.server s (act_of d None)) (sym is) (subst (λ (l : List Act). Moves w.server s l) (sym stands_for) moves))
     same runs waiting error knows
-    (subst (λ (d : Does). HasPoint d None) (sym is) has) reads tt
+    (subst (λ (d : Does). HasDatum d None) (sym is) has) reads tt
 
 some_is : (f g : Frame) → ◌≡◌ {A = Option Frame} (Some f) (Some g) → f ≡ g
 some_is f g e = cc
@@ -241,6 +254,7 @@ finishes w table left t (command.GoTo p) queued coming aborts f same waiting err
     (record { on = refl; last = refl; ledger = refl }) same refl waiting error (more_refl (know_of w.server))
     (done_first w.client.program.features (record { tag = t; command = command.GoTo p }) (all_received queued ++ all_sent coming)
     table.event table.tally f.standard.0 f.calm refl)
+finishes w table left t command.IsHomed queued coming aborts f same waiting error can = absurd (false≢true can)
 finishes w table left t command.StartSession queued coming aborts f same waiting error can = absurd (false≢true can)
 finishes w table left t command.EndSession queued coming aborts f same waiting error can = absurd (false≢true can)
 finishes w table left t command.ClearAllErrors queued coming aborts f same waiting error can = absurd (false≢true can)
@@ -270,14 +284,15 @@ touch_by w table left t p d queued coming aborts at (Some n) f same waiting erro
     let dir : d ≡ fits.touch.dir = fits.dir in
     let stands_for : act.Contact p d n w.server.frame point ≡ act.Contact fits.touch.target fits.touch.dir fits.touch.tool fits.touch.frame
     point = cc in
-    let acts : act_of f.does (Some point) ≡ act.Contact p d n w.server.frame point ∷ [] =
-    ap (λ (does : Does). act_of does (Some point)) fits.is ∙ ap (λ (a : Act). a ∷ []) (sym stands_for) in
+    let given : Datum = datum.Point point in
+    let acts : act_of f.does (Some given) ≡ act.Contact p d n w.server.frame point ∷ [] =
+    ap (λ (does : Does). act_of does (Some given)) fits.is ∙ ap (λ (a : Act). a ∷ []) (sym stands_for) in
     let s : Server = acted (act.Contact p d n w.server.frame point) (idle w.server) in
-    front_done w table left x queued coming aborts s (Reply.Given t point ∷ Reply.Done t ∷ []) (Some point) f
+    front_done w table left x queued coming aborts s (Reply.Given t given ∷ Reply.Done t ∷ []) (Some given) f
     (subst (λ (l : List Act). Moves w.server s l) (sym acts) (record { on = refl; last = refl; ledger = refl })) same refl waiting error
     (more_refl (know_of w.server))
-    (subst (λ (does : Does). HasPoint does (Some point)) (sym fits.is) tt)
-    (given_first w.client.program.features x point (all_received queued ++ all_sent coming) table.event table.tally f.standard.0 f.calm
+    (subst (λ (does : Does). HasDatum does (Some given)) (sym fits.is) tt)
+    (given_first w.client.program.features x given (all_received queued ++ all_sent coming) table.event table.tally f.standard.0 f.calm
     refl) tt
 
 touches_now : (w : World) (table : Table) (left : List Wanted) (t : Tag) (c : Command) (queued coming : List Line) (aborts : List ℕ)
@@ -287,6 +302,7 @@ touches_now : (w : World) (table : Table) (left : List Wanted) (t : Tag) (c : Co
     → has_outcome c (Outcome.Touched at) ≡ true → IsAnswered w table w.up (touched w.server t c at w.server.tool)
 touches_now w table left t (command.PtMeas p d) queued coming aborts at f same waiting error can =
     touch_by w table left t p d queued coming aborts at w.server.tool f same waiting error refl
+touches_now w table left t command.IsHomed queued coming aborts at f same waiting error can = absurd (false≢true can)
 touches_now w table left t command.Home queued coming aborts at f same waiting error can = absurd (false≢true can)
 touches_now w table left t (command.ChangeTool n) queued coming aborts at f same waiting error can = absurd (false≢true can)
 touches_now w table left t (command.GoTo p) queued coming aborts at f same waiting error can = absurd (false≢true can)
@@ -300,7 +316,7 @@ touches_now w table left t command.AbortE queued coming aborts at f same waiting
 
 -- the machine is done with what runs
 pub machined_here : (w : World) (table : Table) (left : List Wanted) (queued coming : List Line) (aborts : List ℕ) (outcome : Outcome)
-    → IsNearBy table w.client.unsent left w.up w.server.running w.server.waiting w.server.error (know_of w.server) queued coming aborts
+    → IsNearBy table left w.up w.server.running w.server.waiting w.server.error (know_of w.server) queued coming aborts
     → IsProgress w.client.program.features w.client.last table.tally.features table.tally.points (contacts w.server.ledger) left
     → w.server.last ≡ w.client.last → may_end w.server.running outcome ≡ true → IsAnswered w table w.up (server_machined w.server outcome)
 machined_here w table left queued coming aborts outcome n progress same can = go w.server.running refl

@@ -12,7 +12,7 @@ use Rattle.dme_line.specs.declared.commands.Kind.TheVariants as kind
 use Rattle.dmis_program.specs.declared.features.Wanted.{Wanted}
 use Rattle.protocol_model.proofs.plan.Blocks.{IsPlain}
 use Rattle.protocol_model.specs.Replies.{Reply}
-use Rattle.protocol_model.specs.Open.{count_open}
+use Rattle.protocol_model.specs.Open.{count_open, asks_homed}
 use Rattle.protocol_model.specs.Client.{Table, Tally, is_clearing}
 use Rattle.protocol_model.specs.Server.{Server, is_abort}
 use Rattle.protocol_model.specs.Claims.{contacts, acts_on}
@@ -22,7 +22,8 @@ use Rattle.protocol_model.proofs.table.Counts.{failed_tags}
 use Rattle.protocol_model.proofs.table.Replying.{Reads, IsFront}
 use Rattle.protocol_model.proofs.plan.Fitting.{Know, unknown, Fits, IsSane}
 use Rattle.protocol_model.proofs.plan.Marks.{marks_of, touches_in, HasNoAbort}
-use Rattle.protocol_model.proofs.invariant.Served.{AreUpTo, Served, IsProgress}
+use Rattle.protocol_model.specs.Undisturbed.{AreUpTo}
+use Rattle.protocol_model.proofs.invariant.Served.{Served, IsProgress}
 use Rattle.protocol_model.specs.declared.lines.Line.{Line}
 use Rattle.protocol_model.specs.declared.held.Stage.{Stage}
 use Rattle.protocol_model.specs.declared.held.Held.{Held}
@@ -111,6 +112,11 @@ abbrev pub IsClearFirst : Bool → List Line → Type 0
 IsClearFirst failed [] = Unit {0}
 IsClearFirst failed (l ∷ ls) = (is_clearing l.command ≡ true → failed ≡ false) × AreNoClears ls
 
+-- where a line asks whether the machine is homed, none stands behind it
+abbrev pub IsAskedLast : List Line → Type 0
+IsAskedLast [] = Unit {0}
+IsAskedLast (l ∷ ls) = (asks_homed (kind_of l.command) ≡ true → ls ≡ []) × IsAskedLast ls
+
 -- what a connection knows of its server
 abbrev pub know_of : Server → Know
 know_of s = record { tool = s.tool; frame = Some s.frame; stored = Some s.stored }
@@ -118,19 +124,18 @@ know_of s = record { tool = s.tool; frame = Some s.frame; stored = Some s.stored
 -- ---- where nothing has failed, what is not done is what is planned
 
 -- to do are the commands of these lines, then what is unsent; its touches are those left, and where there is no error it fits
-pub record IsClean (tally : Tally) (unsent : List Planned) (left : List Wanted) (lines : List Line) (error : Bool) (know : Know) : Type 0
-  where
-    pub steps : List Planned
-    pub todo : tally.todo ≡ steps ++ unsent
-    pub commands : commands_of steps ≡ commands_in lines
-    pub sane : IsSane tally.todo
-    pub touches : touches_in tally.todo ≡ marks_of left
-    pub fits : error ≡ false → Fits know tally.todo
+pub record IsClean (tally : Tally) (left : List Wanted) (lines : List Line) (error : Bool) (know : Know) : Type 0 where
+  pub steps : List Planned
+  pub todo : tally.todo ≡ steps ++ tally.unsent
+  pub commands : commands_of steps ≡ commands_in lines
+  pub sane : IsSane tally.todo
+  pub touches : touches_in tally.todo ≡ marks_of left
+  pub fits : error ≡ false → Fits know tally.todo
 
 -- the table that is left when all is read, and a server that this connection meets: what runs, what waits, whether it is in the error
 -- state, and what is known of it;
 -- with the lines that wait, those that the server has not read, and the aborts behind them
-pub record IsNearBy (table : Table) (unsent : List Planned) (left : List Wanted) (up : List Line) (running : Option Line)
+pub record IsNearBy (table : Table) (left : List Wanted) (up : List Line) (running : Option Line)
     (waiting : List Waiting) (error : Bool) (know : Know) (queued coming : List Line) (aborts : List ℕ) : Type 0 where
   pub waiting_is : waiting ≡ all_wait queued
   pub up_is : up ≡ coming ++ abort_lines aborts
@@ -140,15 +145,16 @@ pub record IsNearBy (table : Table) (unsent : List Planned) (left : List Wanted)
   pub idle : error ≡ true → (running ≡ None) × (queued ≡ [])
   pub stopped : table.tally.failed ≡ true → error ≡ true
   pub clear_first : IsClearFirst table.tally.failed (listed running ++ (queued ++ coming))
-  pub clean : table.tally.failed ≡ false → IsClean table.tally unsent left (listed running ++ (queued ++ coming)) error know
+  pub asked_last : IsAskedLast (listed running ++ (queued ++ coming))
+  pub clean : table.tally.failed ≡ false → IsClean table.tally left (listed running ++ (queued ++ coming)) error know
 
 -- so it is for some lines that wait, some that the server has not read, and some aborts behind them
-pub record IsNear (table : Table) (unsent : List Planned) (left : List Wanted) (up : List Line) (running : Option Line)
+pub record IsNear (table : Table) (left : List Wanted) (up : List Line) (running : Option Line)
     (waiting : List Waiting) (error : Bool) (know : Know) : Type 0 where
   pub queued : List Line
   pub coming : List Line
   pub aborts : List ℕ
-  pub by : IsNearBy table unsent left up running waiting error know queued coming aborts
+  pub by : IsNearBy table left up running waiting error know queued coming aborts
 
 -- ---- the client's own facts
 
@@ -205,12 +211,12 @@ tags_of (Some t) = t ∷ []
 pub record IsHere (w : World) (table : Table) (left : List Wanted) : Type 0 where
   pub on : w.server.on ≡ true
   pub same : w.server.last ≡ w.client.last
-  pub near : IsNear table w.client.unsent left w.up w.server.running w.server.waiting w.server.error (know_of w.server)
+  pub near : IsNear table left w.up w.server.running w.server.waiting w.server.error (know_of w.server)
 
 -- the server has come to earlier connections alone: here nothing runs or waits, there is no error, and nothing is known of it
 pub record IsAhead (w : World) (table : Table) (left : List Wanted) : Type 0 where
   pub below : w.server.last < w.client.last
-  pub near : IsNear table w.client.unsent left w.up None [] false unknown
+  pub near : IsNear table left w.up None [] false unknown
 
 -- the server came to the last connection of the client, and is on none now
 pub record IsGone (w : World) : Type 0 where
@@ -232,7 +238,7 @@ pub record IsLive (w : World) : Type 0 where
   pub within : count_open w.client.table.standard ≤ w.client.window
   pub state : HasState w.client.state w.client.table
   pub events : HasEvents w.client.state w.client.abort w.client.table.event
-  pub plain : HasNoAbort w.client.unsent
+  pub plain : HasNoAbort w.client.table.tally.unsent
   pub place : IsHere w table left ⊎ (IsAhead w table left ⊎ IsGone w)
 
 -- ---- a client on no connection

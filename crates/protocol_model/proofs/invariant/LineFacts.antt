@@ -1,20 +1,22 @@
 -- Small facts on lines that run, wait and come.
-use Rattle.std.proofs.Common.{◌≡◌, suc, ◌≤◌, Bool, true, false, ◌||◌, List, [], ◌∷◌, ◌++◌, length, refl, sym, ◌∙◌, ap, subst, arith}
+use Rattle.std.proofs.Common.{◌≡◌, suc, ◌≤◌, Bool, true, false, ◌&&◌, ◌||◌, List, [], ◌∷◌, ◌++◌, length, refl, sym, ◌∙◌, ap, subst, arith}
 use Rattle.std.proofs.Common.{append_assoc, length-append, Option, Some, None, Ok}
 use Rattle.std.proofs.lemmas.Bool.{false≢true}
+use Rattle.dme_line.specs.Kinds.{kind_of}
 use Rattle.dme_line.specs.Tags.{is_event_tag}
 use Rattle.dme_line.specs.declared.tags.Tag.{Tag}
 use Rattle.dme_line.specs.declared.tags.Tag.TheVariants.{Std, Event}
 use Rattle.dme_line.specs.declared.commands.Command.{Command}
 use Rattle.dme_line.specs.declared.commands.Command.TheVariants as command
 use Rattle.protocol_model.specs.Replies.{tag_is}
-use Rattle.protocol_model.specs.Open.{count_open, is_held}
+use Rattle.protocol_model.specs.Open.{count_open, asks_homed, is_asking, is_held}
 use Rattle.protocol_model.specs.Client.{is_clearing}
 use Rattle.protocol_model.specs.Server.{is_clear, runs_under, waits_under}
 use Rattle.protocol_model.proofs.table.Basics.{if_cases, if_false, tag_is-refl, tag_is-true}
 use Rattle.protocol_model.proofs.table.Walks.{AreDistinct}
 use Rattle.protocol_model.proofs.invariant.Holding.{listed, received, sent_now, all_received, all_sent, all_wait, AreStandard, AreNoClears}
-use Rattle.protocol_model.proofs.invariant.Holding.{IsClearFirst, commands_of, commands_in}
+use Rattle.protocol_model.proofs.invariant.Holding.{IsClearFirst, IsAskedLast, commands_of, commands_in}
+use Rattle.protocol_model.proofs.table.Asking.{AskNothing, ask_nothing}
 use Rattle.protocol_model.specs.declared.lines.Line.{Line}
 use Rattle.protocol_model.specs.declared.held.Held.{Held}
 use Rattle.protocol_model.specs.declared.plans.Planned.{Planned}
@@ -93,6 +95,32 @@ pub standard_behind : (xs ys : List Line) → AreStandard (xs ++ ys) → AreStan
 standard_behind [] ys h = h
 standard_behind (x ∷ xs) ys h = standard_behind xs ys h.2
 
+-- where in two lists together a line that asks is the last, it is so in the second
+pub asked_behind : (xs ys : List Line) → IsAskedLast (xs ++ ys) → IsAskedLast ys
+asked_behind [] ys h = h
+asked_behind (x ∷ xs) ys h = asked_behind xs ys h.1
+
+-- behind lines of which none asks any line may stand
+pub asked_more : (xs ys : List Line) (l : Line) → is_asking (all_received xs ++ all_sent ys) ≡ false → IsAskedLast ((xs ++ ys) ++ l ∷ [])
+asked_more [] [] l h = ((λ e. refl), tt)
+asked_more [] (y ∷ ys) l h = let a : AskNothing (sent_now y) (all_sent ys) = ask_nothing (sent_now y) (all_sent ys) h in (
+  (λ e. absurd (never (asks_homed (kind_of y.command)) e a.first)),
+  asked_more [] ys l a.others,
+)
+  where
+    never : (asks : Bool) → asks ≡ true → (asks && true) ≡ false → ⊥
+    never true e f = false≢true (sym f)
+    never false e f = false≢true e
+asked_more (x ∷ xs) ys l h =
+    let a : AskNothing (received x) (all_received xs ++ all_sent ys) = ask_nothing (received x) (all_received xs ++ all_sent ys) h in (
+      (λ e. absurd (never (asks_homed (kind_of x.command)) e a.first)),
+      asked_more xs ys l a.others,
+    )
+  where
+    never : (asks : Bool) → asks ≡ true → (asks && true) ≡ false → ⊥
+    never true e f = false≢true (sym f)
+    never false e f = false≢true e
+
 -- two lists of standard lines are such lines together
 pub standard_join : (xs ys : List Line) → AreStandard xs → AreStandard ys → AreStandard (xs ++ ys)
 standard_join [] ys h g = g
@@ -163,6 +191,7 @@ pub clear_same : (c : Command) → is_clear (Ok c) ≡ is_clearing c
 clear_same command.StartSession = refl
 clear_same command.EndSession = refl
 clear_same command.ClearAllErrors = refl
+clear_same command.IsHomed = refl
 clear_same command.Home = refl
 clear_same command.OnPtMeasReport = refl
 clear_same (command.GoTo p) = refl

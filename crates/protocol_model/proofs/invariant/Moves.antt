@@ -15,7 +15,7 @@ use Rattle.protocol_model.specs.Server.{tagged, server_read, refusal, frame_of, 
 use Rattle.protocol_model.specs.Server.{finished, touched, machined, server_machined}
 use Rattle.protocol_model.specs.Claims.{acts_on}
 use Rattle.protocol_model.proofs.table.Basics.{if_true, if_false}
-use Rattle.protocol_model.proofs.invariant.Served.{AreUpTo}
+use Rattle.protocol_model.specs.Undisturbed.{AreUpTo}
 use Rattle.protocol_model.specs.declared.lines.Line.{Line}
 use Rattle.protocol_model.specs.declared.lines.Misread.{Misread}
 use Rattle.protocol_model.specs.declared.lines.Misread.TheVariants as misread
@@ -104,6 +104,7 @@ carried_moves : (s : Server) (t : Tag) (c : Command) → (acts : List Act) × Mo
 carried_moves s t command.StartSession = ([], stays s _ refl refl refl)
 carried_moves s t command.EndSession = ([], stays s _ refl refl refl)
 carried_moves s t command.ClearAllErrors = ([], stays s _ refl refl refl)
+carried_moves s t command.IsHomed = (act.HomedIs s.homed ∷ [], record { on = refl; last = refl; ledger = refl })
 carried_moves s t command.Home = ([], stays s _ refl refl refl)
 carried_moves s t command.OnPtMeasReport = ([], stays s _ refl refl refl)
 carried_moves s t (command.GoTo p) = ([], stays s _ refl refl refl)
@@ -138,6 +139,7 @@ finished_moves : (s : Server) (t : Tag) (c : Command) → (acts : List Act) × M
 finished_moves s t command.StartSession = ([], stays s _ refl refl refl)
 finished_moves s t command.EndSession = ([], stays s _ refl refl refl)
 finished_moves s t command.ClearAllErrors = ([], stays s _ refl refl refl)
+finished_moves s t command.IsHomed = ([], stays s _ refl refl refl)
 finished_moves s t command.Home = (act.Homed ∷ [], record { on = refl; last = refl; ledger = refl })
 finished_moves s t command.OnPtMeasReport = ([], stays s _ refl refl refl)
 finished_moves s t (command.GoTo p) = (act.Moved p s.frame ∷ [], record { on = refl; last = refl; ledger = refl })
@@ -154,6 +156,7 @@ touched_moves : (s : Server) (t : Tag) (c : Command) (at : Point) (tool : Option
 touched_moves s t command.StartSession at tool = ([], stays s _ refl refl refl)
 touched_moves s t command.EndSession at tool = ([], stays s _ refl refl refl)
 touched_moves s t command.ClearAllErrors at tool = ([], stays s _ refl refl refl)
+touched_moves s t command.IsHomed at tool = ([], stays s _ refl refl refl)
 touched_moves s t command.Home at tool = ([], stays s _ refl refl refl)
 touched_moves s t command.OnPtMeasReport at tool = ([], stays s _ refl refl refl)
 touched_moves s t (command.GoTo p) at tool = ([], stays s _ refl refl refl)

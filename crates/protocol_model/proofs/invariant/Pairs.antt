@@ -3,7 +3,6 @@ use Rattle.std.proofs.Common.{◌≡◌, ℕ, suc, Bool, true, false, not, ◌&&
 use Rattle.std.proofs.Common.{Option, Some, None}
 use Rattle.std.proofs.lemmas.Bool.{false≢true}
 use Rattle.std.proofs.Common.{ne_eqb, suc-ne-zero}
-use Rattle.fixed_um.specs.declared.lengths.Point.{Point}
 use Rattle.dme_line.specs.Kinds.{kind_of}
 use Rattle.dme_line.specs.Tags.{is_event_tag}
 use Rattle.dme_line.specs.declared.tags.Tag.{Tag}
@@ -12,7 +11,7 @@ use Rattle.dme_line.specs.declared.commands.Kind.{Kind}
 use Rattle.dme_line.specs.declared.commands.Kind.TheVariants as kind
 use Rattle.dmis_program.specs.declared.features.Wanted.{Wanted}
 use Rattle.protocol_model.specs.Replies.{Mark, Reply, tag_is}
-use Rattle.protocol_model.specs.Open.{Effect, judged, judged_given, judged_done, settled, put_before, heard_in, asks_data, is_held}
+use Rattle.protocol_model.specs.Open.{Effect, judged, judged_given, judged_done, settled, put_before, heard_in, asks_data, fits, is_held}
 use Rattle.protocol_model.specs.Client.{Tally, Table, counted_next, tallied, heard}
 use Rattle.protocol_model.specs.Server.{fails, all_fail, running_fails}
 use Rattle.protocol_model.proofs.table.Basics.{if_cases, tag_is-refl}
@@ -20,6 +19,7 @@ use Rattle.protocol_model.proofs.table.Walks.{two, heard_at, heard_past}
 use Rattle.protocol_model.proofs.table.Replying.{tabled, fine, standard_step, event_step, Reads, reads_more}
 use Rattle.protocol_model.proofs.invariant.Holding.{listed, received, sent_now, all_received, all_wait, abort_tag, abort_held, AreStandard}
 use Rattle.protocol_model.specs.declared.lines.Line.{Line}
+use Rattle.protocol_model.specs.declared.held.Datum.{Datum}
 use Rattle.protocol_model.specs.declared.held.Stage.{Stage}
 use Rattle.protocol_model.specs.declared.held.Held.{Held}
 
@@ -122,9 +122,9 @@ done_first ws x hs ev y sort calm asks = (
   refl,
 )
 
--- and the point and the end of one that asks for data: it is counted with that point
-pub given_first : (ws : List Wanted) (x : Line) (p : Point) (hs ev : List Held) (y : Tally) → is_event_tag x.tag ≡ false → y.failed ≡ false
-    → asks_data (kind_of x.command) ≡ true → Reads ws (tabled (received x ∷ hs) ev y) (Reply.Given x.tag p ∷ Reply.Done x.tag ∷ [])
+-- and the data and the end of one that asks for them: it is counted with them
+pub given_first : (ws : List Wanted) (x : Line) (p : Datum) (hs ev : List Held) (y : Tally) → is_event_tag x.tag ≡ false → y.failed ≡ false
+    → fits (kind_of x.command) p ≡ true → Reads ws (tabled (received x ∷ hs) ev y) (Reply.Given x.tag p ∷ Reply.Done x.tag ∷ [])
     (tabled hs ev (counted_next ws (kind_of x.command) (Some p) y.todo y))
 given_first ws x p hs ev y sort calm asks = (
   tabled (staged_line x (Stage.Given p) ∷ hs) ev y,

@@ -13,6 +13,7 @@ use Rattle.dmis_program.specs.Meaning.{Meaning as Program, features_of}
 use Rattle.dmis_program.specs.declared.steps.Step.{Step}
 use Rattle.dmis_program.specs.declared.steps.Step.TheVariants as step
 use Rattle.protocol_model.proofs.plan.Blocks.{AreBlocks, IsPlain}
+use Rattle.protocol_model.specs.Undisturbed.{AreUpTo}
 use Rattle.protocol_model.specs.Claims.{Made, contacts, acts_on, IsServed, Serves, IsRun, AreRuns, Sound}
 use Rattle.protocol_model.specs.Client.{joined}
 use Rattle.protocol_model.specs.Plan.{is_empty}
@@ -27,6 +28,7 @@ contacts_more [] m = refl
 contacts_more ((n, act.Contact target dir tool frame point) ∷ l) m =
     let first : Made = record { connection = n; target = target; dir = dir; tool = tool; frame = frame; point = point } in
     ap (λ (ms : List Made). first ∷ ms) (contacts_more l m)
+contacts_more ((n, act.HomedIs homed) ∷ l) m = contacts_more l m
 contacts_more ((n, act.Homed) ∷ l) m = contacts_more l m
 contacts_more ((n, act.Moved p f) ∷ l) m = contacts_more l m
 contacts_more ((n, act.Changed k) ∷ l) m = contacts_more l m
@@ -45,11 +47,6 @@ acts_same n ((m, b) ∷ l) a = acts_step _ b _ _ (a ∷ []) (acts_same n l a)
 pub acts_other : (n m : ℕ) (l : List (ℕ × Act)) (a : Act) → (m ≡ n → ⊥) → acts_on n (l ++ (m, a) ∷ []) ≡ acts_on n l
 acts_other n m [] a apart = if_false {A = List Act} _ (a ∷ []) [] (ne_eqb m n apart)
 acts_other n m ((k, b) ∷ l) a apart = acts_step _ b _ _ [] (acts_other n m l a apart ∙ sym (append-nil (acts_on n l))) ∙ append-nil _
-
--- no act is on a connection above this one
-abbrev pub AreUpTo : ℕ → List (ℕ × Act) → Type 0
-AreUpTo n [] = Unit {0}
-AreUpTo n ((m, a) ∷ l) = (m ≤ n) × AreUpTo n l
 
 -- where no act is above a connection, one act more that is not above it leaves it so
 pub up_to_more : (n : ℕ) (l : List (ℕ × Act)) (m : ℕ) (a : Act) → AreUpTo n l → m ≤ n → AreUpTo n (l ++ (m, a) ∷ [])
@@ -79,6 +76,7 @@ AreMadeUpTo n (m ∷ ms) = (m.connection ≤ n) × AreMadeUpTo n ms
 pub made_up_to : (n : ℕ) (l : List (ℕ × Act)) → AreUpTo n l → AreMadeUpTo n (contacts l)
 made_up_to n [] h = tt
 made_up_to n ((m, act.Contact target dir tool frame point) ∷ l) h = (h.0, made_up_to n l h.1)
+made_up_to n ((m, act.HomedIs homed) ∷ l) h = made_up_to n l h.1
 made_up_to n ((m, act.Homed) ∷ l) h = made_up_to n l h.1
 made_up_to n ((m, act.Moved p f) ∷ l) h = made_up_to n l h.1
 made_up_to n ((m, act.Changed k) ∷ l) h = made_up_to n l h.1

@@ -14,40 +14,49 @@ use Rattle.protocol_model.proofs.plan.Marks.{Marked, marks, marks_of, touch_in}
 use Rattle.protocol_model.proofs.invariant.Served.{Served, served_push, joined_is, serves_more, HaveTouches, with_made, IsProgress, IsNext}
 use Rattle.protocol_model.proofs.invariant.Served.{next_touch}
 use Rattle.protocol_model.proofs.invariant.Moves.{done_on}
+use Rattle.protocol_model.specs.declared.held.Datum.{Datum}
+use Rattle.protocol_model.specs.declared.held.Datum.TheVariants as datum
 use Rattle.protocol_model.specs.declared.plans.Does.{Does}
 
--- a touch is counted with its point
-abbrev pub HasPoint : Does → Option Point → Type 0
-HasPoint (Does.Touches t last) None = ⊥
-HasPoint (Does.Touches t last) (Some p) = Unit {0}
-HasPoint Does.Nothing given = Unit {0}
-HasPoint Does.Homes given = Unit {0}
-HasPoint (Does.Moves p f) given = Unit {0}
-HasPoint (Does.Changes n) given = Unit {0}
-HasPoint (Does.Frames f) given = Unit {0}
+-- a command is counted with what it asks for: a touch with its point, and the question whether the machine is homed with its answer
+abbrev pub HasDatum : Does → Option Datum → Type 0
+HasDatum (Does.Touches t last) (Some (datum.Point p)) = Unit {0}
+HasDatum (Does.Touches t last) _ = ⊥
+HasDatum Does.AsksHomed (Some (datum.Homed homed)) = Unit {0}
+HasDatum Does.AsksHomed _ = ⊥
+HasDatum Does.Nothing given = Unit {0}
+HasDatum Does.Homes given = Unit {0}
+HasDatum (Does.Moves p f) given = Unit {0}
+HasDatum (Does.Changes n) given = Unit {0}
+HasDatum (Does.Frames f) given = Unit {0}
 
 -- what is counted changes the points and the features alone
 pub record Keeps (y z : Tally) : Type 0 where
   pub failed : z.failed ≡ y.failed
   pub todo : z.todo ≡ y.todo
+  pub unsent : z.unsent ≡ y.unsent
   pub counted : z.counted ≡ y.counted
 
 keeps_all : (y : Tally) → Keeps y y
-keeps_all y = record { failed = refl; todo = refl; counted = refl }
+keeps_all y = record { failed = refl; todo = refl; unsent = refl; counted = refl }
 
 -- what is measured of a command, whatever it does, changes neither failures nor the plan nor the counted acts
-pub measured_keeps : (ws : List Wanted) (does : Does) (given : Option Point) (y : Tally) → Keeps y (measured ws does given y)
-measured_keeps ws (Does.Touches t false) (Some p) y = record { failed = refl; todo = refl; counted = refl }
-measured_keeps ws (Does.Touches t true) (Some p) y = record { failed = refl; todo = refl; counted = refl }
-measured_keeps ws (Does.Touches t last) None y = keeps_all y
+pub measured_keeps : (ws : List Wanted) (does : Does) (given : Option Datum) (y : Tally) → Keeps y (measured ws does given y)
+measured_keeps ws (Does.Touches t false) (Some (datum.Point p)) y = record { failed = refl; todo = refl; unsent = refl; counted = refl }
+measured_keeps ws (Does.Touches t true) (Some (datum.Point p)) y = record { failed = refl; todo = refl; unsent = refl; counted = refl }
+measured_keeps ws (Does.Touches t false) (Some (datum.Homed homed)) y = keeps_all y
+measured_keeps ws (Does.Touches t true) (Some (datum.Homed homed)) y = keeps_all y
+measured_keeps ws (Does.Touches t false) None y = keeps_all y
+measured_keeps ws (Does.Touches t true) None y = keeps_all y
 measured_keeps ws Does.Nothing given y = keeps_all y
+measured_keeps ws Does.AsksHomed given y = keeps_all y
 measured_keeps ws Does.Homes given y = keeps_all y
 measured_keeps ws (Does.Moves p f) given y = keeps_all y
 measured_keeps ws (Does.Changes n) given y = keeps_all y
 measured_keeps ws (Does.Frames f) given y = keeps_all y
 
 -- behind a counted command: what is left, and the contacts cut anew
-pub record Goes (ws : List Wanted) (n : ℕ) (y : Tally) (ms : List Made) (does : Does) (given : Option Point) (rest : List Marked) : Type 0
+pub record Goes (ws : List Wanted) (n : ℕ) (y : Tally) (ms : List Made) (does : Does) (given : Option Datum) (rest : List Marked) : Type 0
   where
     pub left : List Wanted
     pub touches : rest ≡ marks_of left
@@ -151,18 +160,26 @@ calm_goes : (ws : List Wanted) (n : ℕ) (y : Tally) (ms : List Made) (left : Li
 calm_goes ws n y ms left h = subst (λ (l : List Made). IsProgress ws n y.features y.points l left) (sym (append-nil ms)) h
 
 -- a command that does the next touch left, with a point, brings its contact to the progress; one that does none leaves it
-pub does_goes : (ws : List Wanted) (n : ℕ) (y : Tally) (ms : List Made) (left : List Wanted) (does : Does) (given : Option Point)
-    (rest : List Marked) → IsProgress ws n y.features y.points ms left → HasPoint does given → touch_in does ++ rest ≡ marks_of left
+pub does_goes : (ws : List Wanted) (n : ℕ) (y : Tally) (ms : List Made) (left : List Wanted) (does : Does) (given : Option Datum)
+    (rest : List Marked) → IsProgress ws n y.features y.points ms left → HasDatum does given → touch_in does ++ rest ≡ marks_of left
     → Goes ws n y ms does given rest
-does_goes ws n y ms left (Does.Touches t false) (Some p) rest h has e =
+does_goes ws n y ms left (Does.Touches t false) (Some (datum.Point p)) rest h has e =
     let next : IsNext t false rest left = next_touch t false rest left h.some e in
     let goes = touch_goes ws n y.features y.points ms left t p rest h next in
     record { left = goes.0; touches = goes.1; progress = goes.2 }
-does_goes ws n y ms left (Does.Touches t true) (Some p) rest h has e =
+does_goes ws n y ms left (Does.Touches t true) (Some (datum.Point p)) rest h has e =
     let next : IsNext t true rest left = next_touch t true rest left h.some e in
     let goes = touch_ends ws n y.features y.points ms left t p (origin_of y.connection t.frame) rest h next in
     record { left = goes.0; touches = goes.1; progress = goes.2 }
+does_goes ws n y ms left (Does.Touches t last) (Some (datum.Homed homed)) rest h has e = absurd has
 does_goes ws n y ms left (Does.Touches t last) None rest h has e = absurd has
+does_goes ws n y ms left Does.AsksHomed (Some (datum.Homed homed)) rest h has e = record {
+  left = left;
+  touches = e;
+  progress = calm_goes ws n y ms left h;
+}
+does_goes ws n y ms left Does.AsksHomed (Some (datum.Point p)) rest h has e = absurd has
+does_goes ws n y ms left Does.AsksHomed None rest h has e = absurd has
 does_goes ws n y ms left Does.Nothing given rest h has e = record { left = left; touches = e; progress = calm_goes ws n y ms left h }
 does_goes ws n y ms left Does.Homes given rest h has e = record { left = left; touches = e; progress = calm_goes ws n y ms left h }
 does_goes ws n y ms left (Does.Moves p f) given rest h has e = record { left = left; touches = e; progress = calm_goes ws n y ms left h }

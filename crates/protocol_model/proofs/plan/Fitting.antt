@@ -35,6 +35,7 @@ abbrev pub known_by : Know → Command → Know
 known_by k command.StartSession = k
 known_by k command.EndSession = k
 known_by k command.ClearAllErrors = unknown
+known_by k command.IsHomed = k
 known_by k command.Home = k
 known_by k command.OnPtMeasReport = k
 known_by k (command.GoTo p) = k
@@ -71,6 +72,7 @@ abbrev pub FitsOne : Know → Command → Does → Type 0
 FitsOne k command.StartSession does = does ≡ Does.Nothing
 FitsOne k command.EndSession does = does ≡ Does.Nothing
 FitsOne k command.ClearAllErrors does = does ≡ Does.Nothing
+FitsOne k command.IsHomed does = does ≡ Does.AsksHomed
 FitsOne k command.Home does = does ≡ Does.Homes
 FitsOne k command.OnPtMeasReport does = does ≡ Does.Nothing
 FitsOne k (command.GoTo p) does = FitsMove k p does
@@ -111,6 +113,7 @@ pub knows_by : (k l : Know) (c : Command) → KnowsMore k l → KnowsMore (known
 knows_by k l command.StartSession more = more
 knows_by k l command.EndSession more = more
 knows_by k l command.ClearAllErrors more = more_refl unknown
+knows_by k l command.IsHomed more = more
 knows_by k l command.Home more = more
 knows_by k l command.OnPtMeasReport more = more
 knows_by k l (command.GoTo p) more = more
@@ -128,6 +131,7 @@ one_more : (k l : Know) (c : Command) (d : Does) → KnowsMore k l → FitsOne k
 one_more k l command.StartSession d more h = h
 one_more k l command.EndSession d more h = h
 one_more k l command.ClearAllErrors d more h = h
+one_more k l command.IsHomed d more h = h
 one_more k l command.Home d more h = h
 one_more k l command.OnPtMeasReport d more h = h
 one_more k l (command.GoTo p) d more h = record { frame = h.frame; known = more.frame h.frame h.known; is = h.is }

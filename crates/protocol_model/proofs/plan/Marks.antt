@@ -42,6 +42,7 @@ marks_of (w ∷ ws) = marks w.touches ++ marks_of ws
 -- the touch that a command stands for, so marked, if it is one
 abbrev pub touch_in : Does → List Marked
 touch_in Does.Nothing = []
+touch_in Does.AsksHomed = []
 touch_in Does.Homes = []
 touch_in (Does.Moves p f) = []
 touch_in (Does.Changes n) = []
@@ -248,8 +249,8 @@ fits_rest p k h = fits_measuring _ _ (behind k p.steps) (selected_at k None Mach
 
 -- a plan fits, whatever is known of the server
 pub plan_fits : (p : Program) (k : ℕ) (start : Start) (know : Know) → IsPlain p → Fits know (plan p k start)
-plan_fits p k NewConnection know h = (refl, (refl, (refl, (refl, fits_rest p k h))))
-plan_fits p k SameConnection know h = (refl, (refl, (refl, fits_rest p k h)))
+plan_fits p k NewConnection know h = (refl, (refl, (refl, (refl, (refl, fits_rest p k h)))))
+plan_fits p k SameConnection know h = (refl, (refl, (refl, (refl, fits_rest p k h))))
 
 no_clear_framing : (frame : Frame) → HasNoClear (framing frame)
 no_clear_framing Machine = (refl, tt)
@@ -276,10 +277,13 @@ no_clear_measuring tool frame ss =
 -- and what follows its ClearAllErrors fits by itself
 sane_clearing : (p : Program) (k : ℕ) → IsPlain p → IsSane (plan p k SameConnection)
 sane_clearing p k h = (
-  (λ e know. (refl, (refl, (refl, fits_rest p k h)))),
+  (λ e know. (refl, (refl, (refl, (refl, fits_rest p k h))))),
   (
     (λ e know. absurd (false≢true e)),
-    ((λ e know. absurd (false≢true e)), sane_without _ (no_clear_measuring _ _ (behind k p.steps))),
+    (
+      (λ e know. absurd (false≢true e)),
+      ((λ e know. absurd (false≢true e)), sane_without _ (no_clear_measuring _ _ (behind k p.steps))),
+    ),
   ),
 )
 
@@ -348,5 +352,5 @@ no_abort_measuring tool frame ss =
 
 -- a plan has no abort
 pub plan_no_abort : (p : Program) (k : ℕ) (start : Start) → HasNoAbort (plan p k start)
-plan_no_abort p k NewConnection = (refl, (refl, (refl, (refl, no_abort_measuring _ _ (behind k p.steps)))))
-plan_no_abort p k SameConnection = (refl, (refl, (refl, no_abort_measuring _ _ (behind k p.steps))))
+plan_no_abort p k NewConnection = (refl, (refl, (refl, (refl, (refl, no_abort_measuring _ _ (behind k p.steps))))))
+plan_no_abort p k SameConnection = (refl, (refl, (refl, (refl, no_abort_measuring _ _ (behind k p.steps)))))

@@ -55,6 +55,7 @@ seconds_more (m ∷ ms) ns = ap (λ (l : List Bool). m.1 ∷ l) (seconds_more ms
 
 touch_first : (d : Does) → touch_of d ≡ firsts (touch_in d)
 touch_first Does.Nothing = refl
+touch_first Does.AsksHomed = refl
 touch_first Does.Homes = refl
 touch_first (Does.Moves p f) = refl
 touch_first (Does.Changes n) = refl
@@ -63,6 +64,7 @@ touch_first (Does.Touches t last) = refl
 
 end_second : (d : Does) → end_of d ≡ seconds (touch_in d)
 end_second Does.Nothing = refl
+end_second Does.AsksHomed = refl
 end_second Does.Homes = refl
 end_second (Does.Moves p f) = refl
 end_second (Does.Changes n) = refl
@@ -132,6 +134,7 @@ selects : (k : Know) (s : Selected) (c : Command) → IsSelected k s → IsSelec
 selects k s command.StartSession h = h
 selects k s command.EndSession h = h
 selects k s command.ClearAllErrors h = nothing_known s
+selects k s command.IsHomed h = h
 selects k s command.Home h = h
 selects k s command.OnPtMeasReport h = h
 selects k s (command.GoTo p) h = h
@@ -150,6 +153,7 @@ fits_as : (k : Know) (s : Selected) (c : Command) (d : Does) → IsSelected k s 
 fits_as k s command.StartSession d h fits = ap (λ (x : Does). Some x) (sym fits)
 fits_as k s command.EndSession d h fits = ap (λ (x : Does). Some x) (sym fits)
 fits_as k s command.ClearAllErrors d h fits = ap (λ (x : Does). Some x) (sym fits)
+fits_as k s command.IsHomed d h fits = ap (λ (x : Does). Some x) (sym fits)
 fits_as k s command.Home d h fits = ap (λ (x : Does). Some x) (sym fits)
 fits_as k s command.OnPtMeasReport d h fits = ap (λ (x : Does). Some x) (sym fits)
 fits_as k s (command.GoTo p) d h fits =
@@ -208,6 +212,7 @@ is_touch p d (Some n) (Some f) last does e = go does e
   where
     go : (x : Does) → read_touch p d last (Some n) (Some f) ≡ Some x → touch_made (Some x) ∷ [] ≡ all_known (touch_of x)
     go Does.Nothing e = absurd (cc)
+    go Does.AsksHomed e = absurd (cc)
     go Does.Homes e = absurd (cc)
     go (Does.Moves q g) e = absurd (cc)
     go (Does.Changes m) e = absurd (cc)
@@ -229,6 +234,7 @@ makes : (s : Selected) (c : Command) (d : Does) → read_as s (is_last d) c ≡ 
 makes s command.StartSession d e = ap (λ (x : Does). all_known (touch_of x)) (some_does Does.Nothing d e)
 makes s command.EndSession d e = ap (λ (x : Does). all_known (touch_of x)) (some_does Does.Nothing d e)
 makes s command.ClearAllErrors d e = ap (λ (x : Does). all_known (touch_of x)) (some_does Does.Nothing d e)
+makes s command.IsHomed d e = ap (λ (x : Does). all_known (touch_of x)) (some_does Does.AsksHomed d e)
 makes s command.Home d e = ap (λ (x : Does). all_known (touch_of x)) (some_does Does.Homes d e)
 makes s command.OnPtMeasReport d e = ap (λ (x : Does). all_known (touch_of x)) (some_does Does.Nothing d e)
 makes s (command.GoTo p) d e = no_touch_move p s.frame d e
@@ -320,16 +326,13 @@ plan_in_order p k start = go start
     go : (s : Start) → IsInOrder s (commands_of (plan p k s))
     go NewConnection = record {
       measuring = m.body;
-      parts = ap
-          (λ (l : List Command). command.StartSession ∷ command.ClearAllErrors ∷ command.Home ∷ command.OnPtMeasReport ∷ l) m.parts;
+      parts = ap (λ (l : List Command). opening NewConnection ++ l) m.parts;
       measures = measure_all m.body m.measures;
     }
     go SameConnection = record {
       measuring = m.body;
-      parts = ap
-          (λ (l : List Command). command.ClearAllErrors ∷ command.Home ∷ command.OnPtMeasReport ∷ l) m.parts;
-      measures =
-          measure_all m.body m.measures;
+      parts = ap (λ (l : List Command). opening SameConnection ++ l) m.parts;
+      measures = measure_all m.body m.measures;
     }
 
 -- ---- the plan of a whole program
@@ -365,6 +368,7 @@ pub in_volume : (c : Command) → HasArguments c → HasVolumeLengths c
 in_volume command.StartSession h = tt
 in_volume command.EndSession h = tt
 in_volume command.ClearAllErrors h = tt
+in_volume command.IsHomed h = tt
 in_volume command.Home h = tt
 in_volume command.OnPtMeasReport h = tt
 in_volume (command.GoTo p) h = tt

@@ -1,29 +1,29 @@
 -- How many open commands there are after a reply, and which of them have failed.
 use Rattle.std.proofs.Common.{◌≡◌, ℕ, suc, ◌≤◌, Bool, true, false, cond, ◌&&◌, List, [], ◌∷◌, refl, sym, ◌∙◌, ap, subst, arith, Option}
 use Rattle.std.proofs.lemmas.Bool.{false≢true}
-use Rattle.fixed_um.specs.declared.lengths.Point.{Point}
 use Rattle.dme_line.specs.declared.tags.Tag.{Tag}
 use Rattle.dme_line.specs.declared.commands.Kind.{Kind}
 use Rattle.protocol_model.specs.Replies.{Mark, tag_is}
 use Rattle.protocol_model.specs.Open.{Effect, Becomes, Breaks, Closes, Counts, Refused, judged, judged_ack, judged_given, judged_error}
-use Rattle.protocol_model.specs.Open.{judged_done, settled, put_before, heard_in, is_failed, asks_data, count_open, is_held}
+use Rattle.protocol_model.specs.Open.{judged_done, settled, put_before, heard_in, is_failed, asks_data, fits, count_open, is_held}
 use Rattle.protocol_model.proofs.table.Basics.{if_cases, if_true, if_false, tag_is-refl, tag_is-true}
 use Rattle.protocol_model.proofs.table.Walks.{two, heard_at, heard_past, staged, heard_cases, AreDistinct}
 use Rattle.protocol_model.specs.declared.states.Cause.{Cause}
+use Rattle.protocol_model.specs.declared.held.Datum.{Datum}
 use Rattle.protocol_model.specs.declared.held.Stage.{Stage}
 use Rattle.protocol_model.specs.declared.held.Held.{Held}
 
 -- ---- what has failed stays so
 
-data_failed : (b : Bool) (p : Point) → judged_given b Stage.Failed p ≡ Refused Cause.OutOfOrder
+data_failed : (b : Bool) (p : Datum) → judged_given b Stage.Failed p ≡ Refused Cause.OutOfOrder
 data_failed true p = refl
 data_failed false p = refl
 
 -- a command that has failed goes to no other stage
 pub failed_stays : (b : Bool) (k : Kind) (m : Mark) (s : Stage) → judged b k Stage.Failed m ≡ Becomes s → s ≡ Stage.Failed
 failed_stays b k Mark.Ack s e = absurd (cc)
-failed_stays b k (Mark.Given p) s e = let d : judged_given (b && asks_data k) Stage.Failed p ≡ Refused Cause.OutOfOrder =
-    data_failed (b && asks_data k) p in absurd (cc)
+failed_stays b k (Mark.Given p) s e = let d : judged_given (b && fits k p) Stage.Failed p ≡ Refused Cause.OutOfOrder =
+    data_failed (b && fits k p) p in absurd (cc)
 failed_stays b k Mark.Done s e = absurd (cc)
 failed_stays b k Mark.Error s e = cc
 
@@ -103,22 +103,22 @@ pub record OnlyEnds (hs gs : List Held) (t : Tag) (m : Mark) (e : Effect) : Type
 
 judged_failed : (a b : Bool) (k : Kind) (m : Mark) → judged a k Stage.Failed m ≡ judged b k Stage.Failed m
 judged_failed a b k Mark.Ack = refl
-judged_failed a b k (Mark.Given p) = data_failed (a && asks_data k) p ∙ sym (data_failed (b && asks_data k) p)
+judged_failed a b k (Mark.Given p) = data_failed (a && fits k p) p ∙ sym (data_failed (b && fits k p) p)
 judged_failed a b k Mark.Done = refl
 judged_failed a b k Mark.Error = refl
 
 never_breaks : (b : Bool) (k : Kind) (m : Mark) → judged b k Stage.Failed m ≡ Breaks → ⊥
 never_breaks b k Mark.Ack e = cc
-never_breaks b k (Mark.Given p) e = let d : judged_given (b && asks_data k) Stage.Failed p ≡ Refused Cause.OutOfOrder =
-    data_failed (b && asks_data k) p in cc
+never_breaks b k (Mark.Given p) e = let d : judged_given (b && fits k p) Stage.Failed p ≡ Refused Cause.OutOfOrder =
+    data_failed (b && fits k p) p in cc
 never_breaks b k Mark.Done e = cc
 never_breaks b k Mark.Error e = cc
 
 -- a command that has failed is not counted
-pub never_counts : (b : Bool) (k : Kind) (m : Mark) (given : Option Point) → judged b k Stage.Failed m ≡ Counts given → ⊥
+pub never_counts : (b : Bool) (k : Kind) (m : Mark) (given : Option Datum) → judged b k Stage.Failed m ≡ Counts given → ⊥
 never_counts b k Mark.Ack given e = cc
-never_counts b k (Mark.Given p) given e = let d : judged_given (b && asks_data k) Stage.Failed p ≡ Refused Cause.OutOfOrder =
-    data_failed (b && asks_data k) p in cc
+never_counts b k (Mark.Given p) given e = let d : judged_given (b && fits k p) Stage.Failed p ≡ Refused Cause.OutOfOrder =
+    data_failed (b && fits k p) p in cc
 never_counts b k Mark.Done given e = cc
 never_counts b k Mark.Error given e = cc
 
@@ -179,7 +179,7 @@ is_error (Mark.Given p) = false
 is_error Mark.Done = false
 is_error Mark.Error = true
 
-data_lives : (b : Bool) (s x : Stage) (p : Point) → judged_given b s p ≡ Becomes x → is_failed x ≡ false
+data_lives : (b : Bool) (s x : Stage) (p : Datum) → judged_given b s p ≡ Becomes x → is_failed x ≡ false
 data_lives true Stage.Sent x p e = absurd (cc)
 data_lives true Stage.Received x p e = let same : x ≡ Stage.Given p = cc in rw same refl
 data_lives true (Stage.Given q) x p e = absurd (cc)
@@ -207,11 +207,11 @@ done_moves false b Stage.Failed x e = cc
 -- a mark other than an error makes nothing fail
 lives : (b : Bool) (k : Kind) (s x : Stage) (m : Mark) → is_error m ≡ false → judged b k s m ≡ Becomes x → is_failed x ≡ false
 lives b k s x Mark.Ack n e = ack_lives s x e
-lives b k s x (Mark.Given p) n e = data_lives (b && asks_data k) s x p e
+lives b k s x (Mark.Given p) n e = data_lives (b && fits k p) s x p e
 lives b k s x Mark.Done n e = absurd (done_moves b (asks_data k) s x e)
 lives b k s x Mark.Error n e = absurd (false≢true (sym n))
 
-data_no_break : (b : Bool) (s : Stage) (p : Point) → judged_given b s p ≡ Breaks → ⊥
+data_no_break : (b : Bool) (s : Stage) (p : Datum) → judged_given b s p ≡ Breaks → ⊥
 data_no_break true Stage.Sent p e = cc
 data_no_break true Stage.Received p e = cc
 data_no_break true (Stage.Given q) p e = cc
@@ -238,7 +238,7 @@ done_no_break false b Stage.Failed e = cc
 -- no mark but an error breaks a command
 pub no_break : (b : Bool) (k : Kind) (s : Stage) (m : Mark) → is_error m ≡ false → judged b k s m ≡ Breaks → ⊥
 no_break b k s Mark.Ack n e = ack_no_break s e
-no_break b k s (Mark.Given p) n e = data_no_break (b && asks_data k) s p e
+no_break b k s (Mark.Given p) n e = data_no_break (b && fits k p) s p e
 no_break b k s Mark.Done n e = done_no_break b (asks_data k) s e
 no_break b k s Mark.Error n e = false≢true (sym n)
 
@@ -263,7 +263,7 @@ error_moves Stage.Received x l e = cc
 error_moves (Stage.Given p) x l e = cc
 error_moves Stage.Failed x l e = false≢true (sym l)
 
-error_no_count : (s : Stage) (given : Option Point) → judged_error s ≡ Counts given → ⊥
+error_no_count : (s : Stage) (given : Option Datum) → judged_error s ≡ Counts given → ⊥
 error_no_count Stage.Sent given e = cc
 error_no_count Stage.Received given e = cc
 error_no_count (Stage.Given p) given e = cc

@@ -11,10 +11,13 @@ use Rattle.dmis_program.specs.declared.features.Wanted.{Wanted}
 use Rattle.protocol_model.specs.Replies.{Mark, Reply, tag_of, mark_of, tag_is}
 use Rattle.protocol_model.specs.Open.{Effect, Heard, heard_in, count_open, is_held}
 use Rattle.protocol_model.specs.Client.{Tally, Table, act_of, origin_of, joined, measured, begins_session, counted_next, tallied}
+use Rattle.protocol_model.specs.Client.{passed_over, tells_homed}
 use Rattle.protocol_model.specs.Client.{heard_standard, heard_event, heard_on, heard}
 use Rattle.protocol_model.proofs.table.Basics.{if_cases, if_true, if_false}
 use Rattle.protocol_model.proofs.table.Walks.{two, heard_more, not_held_keeps, AreDistinct, distinct_keeps}
 use Rattle.protocol_model.proofs.table.Counts.{AreFailed, OnlyEnds, only_ends, count_keeps}
+use Rattle.protocol_model.specs.declared.held.Datum.{Datum}
+use Rattle.protocol_model.specs.declared.held.Datum.TheVariants as datum
 use Rattle.protocol_model.specs.declared.plans.Planned.{Planned}
 use Rattle.protocol_model.specs.declared.plans.Does.{Does}
 use Rattle.protocol_model.specs.declared.states.Cause.{Cause}
@@ -238,26 +241,32 @@ joined_front [] fs ps origin = front_refl fs
 joined_front (w ∷ ws) [] ps origin = front_more [] _
 joined_front (w ∷ ws) (f ∷ fs) ps origin = let rest = joined_front ws fs ps origin in (rest.0, ap (λ (l : List Feature). f ∷ l) rest.1)
 
-measured_grows : (ws : List Wanted) (does : Does) (given : Option Point) (y : Tally) → Grows y (measured ws does given y)
-measured_grows ws (Does.Touches t false) (Some p) y = record { counted = front_refl y.counted; features = front_refl y.features }
-measured_grows ws (Does.Touches t true) (Some p) y = record {
+measured_grows : (ws : List Wanted) (does : Does) (given : Option Datum) (y : Tally) → Grows y (measured ws does given y)
+measured_grows ws (Does.Touches t false) (Some (datum.Point p)) y =
+    record { counted = front_refl y.counted; features = front_refl y.features }
+measured_grows ws (Does.Touches t true) (Some (datum.Point p)) y = record {
   counted = front_refl y.counted;
   features = joined_front ws y.features (y.points ++ p ∷ []) (origin_of y.connection t.frame);
 }
-measured_grows ws (Does.Touches t last) None y = grows_refl y
+measured_grows ws (Does.Touches t false) (Some (datum.Homed homed)) y = grows_refl y
+measured_grows ws (Does.Touches t true) (Some (datum.Homed homed)) y = grows_refl y
+measured_grows ws (Does.Touches t false) None y = grows_refl y
+measured_grows ws (Does.Touches t true) None y = grows_refl y
 measured_grows ws Does.Nothing given y = grows_refl y
+measured_grows ws Does.AsksHomed given y = grows_refl y
 measured_grows ws Does.Homes given y = grows_refl y
 measured_grows ws (Does.Moves p f) given y = grows_refl y
 measured_grows ws (Does.Changes n) given y = grows_refl y
 measured_grows ws (Does.Frames f) given y = grows_refl y
 
-counted_grows : (ws : List Wanted) (k : Kind) (given : Option Point) (todo : List Planned) (y : Tally)
+counted_grows : (ws : List Wanted) (k : Kind) (given : Option Datum) (todo : List Planned) (y : Tally)
     → Grows y (counted_next ws k given todo y)
 counted_grows ws k given [] y = grows_refl y
 counted_grows ws k given (p ∷ todo) y =
     let mid : Tally = record y {
       session = y.session || begins_session k;
-      todo = todo;
+      todo = passed_over (tells_homed k given) todo;
+      unsent = passed_over (tells_homed k given) y.unsent;
       counted = y.counted ++ act_of p.does given;
       completed = suc y.completed;
     } in

@@ -1,11 +1,11 @@
 -- What a reply does to a list of open commands.
 use Rattle.std.proofs.Common.{◌≡◌, Bool, true, false, ◌&&◌, List, [], ◌∷◌, ◌++◌, refl, sym, ◌∙◌, ap, Option, Ok, Err}
-use Rattle.fixed_um.specs.declared.lengths.Point.{Point}
 use Rattle.dme_line.specs.declared.tags.Tag.{Tag}
 use Rattle.protocol_model.specs.Replies.{Mark, tag_is}
 use Rattle.protocol_model.specs.Open.{Verdict, Effect, Heard, Becomes, Breaks, Closes, Counts, Refused, judged, settled, put_before}
 use Rattle.protocol_model.specs.Open.{heard_in, is_failed, is_held}
 use Rattle.protocol_model.proofs.table.Basics.{if_cases, if_true, if_false}
+use Rattle.protocol_model.specs.declared.held.Datum.{Datum}
 use Rattle.protocol_model.specs.declared.held.Stage.{Stage}
 use Rattle.protocol_model.specs.declared.held.Held.{Held}
 
@@ -44,7 +44,7 @@ settled_cases : (h : Held) (hs gs : List Held) (e : Effect) (v : Verdict) (P : T
     → ((s : Stage) → v ≡ Becomes s → gs ≡ staged h s ∷ hs → e ≡ Effect.Quiet → P)
     → (v ≡ Breaks → gs ≡ staged h Stage.Failed ∷ hs → e ≡ Effect.Failure → P)
     → (v ≡ Closes → gs ≡ hs → e ≡ Effect.Quiet → P)
-    → ((given : Option Point) → v ≡ Counts given → gs ≡ hs → e ≡ Effect.Count h.kind given → P)
+    → ((given : Option Datum) → v ≡ Counts given → gs ≡ hs → e ≡ Effect.Count h.kind given → P)
     → P
 settled_cases h hs gs e (Becomes s) P is becomes breaks closes counts = let same = same_two _ _ _ _ is
     in becomes s refl (sym same.0) (sym same.1)
@@ -65,7 +65,7 @@ pub heard_cases : (front : Bool) (h : Held) (hs : List Held) (t : Tag) (m : Mark
     → ((s : Stage) → tag_is h.tag t ≡ true → judged front h.kind h.stage m ≡ Becomes s → gs ≡ staged h s ∷ hs → e ≡ Effect.Quiet → P)
     → (tag_is h.tag t ≡ true → judged front h.kind h.stage m ≡ Breaks → gs ≡ staged h Stage.Failed ∷ hs → e ≡ Effect.Failure → P)
     → (tag_is h.tag t ≡ true → judged front h.kind h.stage m ≡ Closes → gs ≡ hs → e ≡ Effect.Quiet → P)
-    → ((given : Option Point) → tag_is h.tag t ≡ true → judged front h.kind h.stage m ≡ Counts given → gs ≡ hs
+    → ((given : Option Datum) → tag_is h.tag t ≡ true → judged front h.kind h.stage m ≡ Counts given → gs ≡ hs
     → e ≡ Effect.Count h.kind given → P)
     → ((rest : List Held) → tag_is h.tag t ≡ false → heard_in (front && is_failed h.stage) hs t m ≡ two rest e → gs ≡ h ∷ rest → P)
     → P

@@ -1,65 +1,65 @@
--- What a client has counted follows its plan, and so do the commands that are open: kept by every reply.
-use Rattle.std.proofs.Common.{◌≡◌, ℕ, suc, Bool, true, false, ◌&&◌, ◌||◌, not, List, [], ◌∷◌, ◌++◌, length, refl, sym, ◌∙◌, ap, subst}
-use Rattle.std.proofs.Common.{arith, append_assoc, append-nil, length-append, Option, Some, None}
+-- What is planned against what is counted, and what a mark does to a command that has not failed.
+use Rattle.std.proofs.Common.{◌≡◌, ℕ, suc, Bool, true, false, ◌&&◌, List, [], ◌∷◌, ◌++◌, refl, sym, ◌∙◌, ap, subst}
+use Rattle.std.proofs.Common.{append_assoc, Option, Some, None}
 use Rattle.std.proofs.lemmas.Bool.{false≢true}
-use Rattle.fixed_um.specs.declared.lengths.Point.{Point}
 use Rattle.dme_line.specs.Kinds.{kind_of}
-use Rattle.dme_line.specs.declared.tags.Tag.{Tag}
-use Rattle.dme_line.specs.declared.tags.Tag.TheVariants.{Std}
 use Rattle.dme_line.specs.declared.commands.Kind.{Kind}
+use Rattle.dme_line.specs.declared.commands.Kind.TheVariants as kind
 use Rattle.dme_line.specs.declared.commands.Command.{Command}
 use Rattle.dme_line.specs.declared.commands.Command.TheVariants as command
 use Rattle.contact_ledger.specs.declared.acts.Act.{Act}
-use Rattle.dmis_program.specs.declared.features.Wanted.{Wanted}
 use Rattle.protocol_model.specs.Replies.{Mark}
-use Rattle.protocol_model.specs.Open.{Effect, Becomes, Closes, Counts, judged, judged_given, judged_done, heard_in, is_failed, asks_data}
-use Rattle.protocol_model.specs.Client.{Tally, Table, act_of, begins_session, measured, counted_next, tallied, heard}
+use Rattle.protocol_model.specs.Open.{Becomes, Closes, Counts, judged, judged_given, judged_done, is_failed, asks_data}
+use Rattle.protocol_model.specs.Open.{fits}
+use Rattle.protocol_model.specs.Client.{act_of}
 use Rattle.protocol_model.specs.Undisturbed.{tag_at, act_in, acts_planned, AreActs, AreFirstActs}
-use Rattle.protocol_model.proofs.table.Walks.{two, staged, heard_cases}
-use Rattle.protocol_model.proofs.table.Replying.{fine, step_cases}
-use Rattle.protocol_model.proofs.invariant.Touching.{Keeps, measured_keeps}
-use Rattle.protocol_model.proofs.plan.Fitting.{Know, known_by, FitsMove, FitsFrame, FitsOne, Fits}
+use Rattle.protocol_model.proofs.invariant.Touching.{HasDatum}
+use Rattle.protocol_model.proofs.plan.Fitting.{Know, known_by, FitsMove, FitsTouch, FitsFrame, FitsOne, Fits}
+use Rattle.protocol_model.specs.declared.held.Datum.{Datum}
+use Rattle.protocol_model.specs.declared.held.Datum.TheVariants as datum
 use Rattle.protocol_model.specs.declared.held.Stage.{Stage}
 use Rattle.protocol_model.specs.declared.held.Held.{Held}
 use Rattle.protocol_model.specs.declared.plans.Planned.{Planned}
 use Rattle.protocol_model.specs.declared.plans.Does.{Does}
 
--- ---- plans whose touches are commands that ask for data
+-- ---- plans whose touches and questions are commands that ask for data
 
--- a command stands for a touch
-abbrev pub is_touch : Does → Bool
-is_touch (Does.Touches t last) = true
-is_touch Does.Nothing = false
-is_touch Does.Homes = false
-is_touch (Does.Moves p f) = false
-is_touch (Does.Changes n) = false
-is_touch (Does.Frames f) = false
+-- a touch is measured by a PtMeas, an IsHomed asks whether the machine is homed, and what is for nothing of both asks for no data
+abbrev pub IsAskedBy : Does → Kind → Type 0
+IsAskedBy (Does.Touches t last) k = k ≡ kind.PtMeas
+IsAskedBy Does.AsksHomed k = k ≡ kind.IsHomed
+IsAskedBy Does.Nothing k = asks_data k ≡ false
+IsAskedBy Does.Homes k = asks_data k ≡ false
+IsAskedBy (Does.Moves p f) k = asks_data k ≡ false
+IsAskedBy (Does.Changes n) k = asks_data k ≡ false
+IsAskedBy (Does.Frames f) k = asks_data k ≡ false
 
--- a command that stands for a touch asks for data
+-- a command asks for the data that what it is planned for needs
 abbrev pub IsAsked : Planned → Type 0
-IsAsked p = is_touch p.does ≡ true → asks_data (kind_of p.command) ≡ true
+IsAsked p = IsAskedBy p.does (kind_of p.command)
 
 -- each command of a plan does
 abbrev pub AreAsked : List Planned → Type 0
 AreAsked [] = Unit {0}
 AreAsked (p ∷ ps) = IsAsked p × AreAsked ps
 
-no_touch : (d e : Does) → d ≡ e → is_touch e ≡ false → is_touch d ≡ true → ⊥
-no_touch d e same other is = false≢true (sym other ∙ (ap is_touch (sym same) ∙ is))
+asked_as : (d e : Does) (k : Kind) → d ≡ e → IsAskedBy e k → IsAskedBy d k
+asked_as d e k same h = subst (λ (x : Does). IsAskedBy x k) (sym same) h
 
-one_asked : (k : Know) (c : Command) (d : Does) → FitsOne k c d → is_touch d ≡ true → asks_data (kind_of c) ≡ true
-one_asked k command.StartSession d h is = absurd (no_touch d Does.Nothing h refl is)
-one_asked k command.EndSession d h is = absurd (no_touch d Does.Nothing h refl is)
-one_asked k command.ClearAllErrors d h is = absurd (no_touch d Does.Nothing h refl is)
-one_asked k command.Home d h is = absurd (no_touch d Does.Homes h refl is)
-one_asked k command.OnPtMeasReport d h is = absurd (no_touch d Does.Nothing h refl is)
-one_asked k (command.GoTo p) d h is = let f : FitsMove k p d = h in absurd (no_touch d (Does.Moves p f.frame) f.is refl is)
-one_asked k (command.PtMeas p dir) d h is = refl
-one_asked k (command.ChangeTool n) d h is = absurd (no_touch d (Does.Changes n) h refl is)
-one_asked k (command.SetCsyTransformation p) d h is = absurd (no_touch d Does.Nothing h refl is)
-one_asked k (command.SetCoordSystem system) d h is = let f : FitsFrame k system d = h
-    in absurd (no_touch d (Does.Frames f.frame) f.is refl is)
-one_asked k command.AbortE d h is = absurd h
+one_asked : (k : Know) (c : Command) (d : Does) → FitsOne k c d → IsAskedBy d (kind_of c)
+one_asked k command.StartSession d h = asked_as d Does.Nothing _ h refl
+one_asked k command.EndSession d h = asked_as d Does.Nothing _ h refl
+one_asked k command.ClearAllErrors d h = asked_as d Does.Nothing _ h refl
+one_asked k command.IsHomed d h = asked_as d Does.AsksHomed _ h refl
+one_asked k command.Home d h = asked_as d Does.Homes _ h refl
+one_asked k command.OnPtMeasReport d h = asked_as d Does.Nothing _ h refl
+one_asked k (command.GoTo p) d h = let f : FitsMove k p d = h in asked_as d (Does.Moves p f.frame) _ f.is refl
+one_asked k (command.PtMeas p dir) d h = let f : FitsTouch k p dir d = h in asked_as d (Does.Touches f.touch f.last) _ f.is refl
+one_asked k (command.ChangeTool n) d h = asked_as d (Does.Changes n) _ h refl
+one_asked k (command.SetCsyTransformation p) d h = asked_as d Does.Nothing _ h refl
+one_asked k (command.SetCoordSystem system) d h = let f : FitsFrame k system d = h
+    in asked_as d (Does.Frames f.frame) _ f.is refl
+one_asked k command.AbortE d h = absurd h
 
 -- in a plan that fits each does
 pub fits_asked : (ps : List Planned) (k : Know) → Fits k ps → AreAsked ps
@@ -92,15 +92,53 @@ planned_more [] qs = refl
 planned_more (p ∷ ps) qs = ap (λ (l : List Does). act_in p.does ++ l) (planned_more ps qs)
     ∙ sym (append_assoc (act_in p.does) (acts_planned ps) (acts_planned qs))
 
--- what is counted stands for what was planned; a touch is counted with its point
-pub act_stands : (d : Does) (given : Option Point) → (given ≡ None → is_touch d ≡ true → ⊥) → AreActs (act_of d given) (act_in d)
+-- what is counted stands for what was planned; a touch is counted with its point, an IsHomed with its answer
+pub act_stands : (d : Does) (given : Option Datum) → HasDatum d given → AreActs (act_of d given) (act_in d)
 act_stands Does.Nothing given h = tt
+act_stands Does.AsksHomed None h = absurd h
+act_stands Does.AsksHomed (Some (datum.Point p)) h = absurd h
+act_stands Does.AsksHomed (Some (datum.Homed homed)) h = (tt, tt)
 act_stands Does.Homes given h = (tt, tt)
 act_stands (Does.Moves p f) given h = ((refl, refl), tt)
 act_stands (Does.Changes n) given h = (refl, tt)
 act_stands (Does.Frames f) given h = (refl, tt)
-act_stands (Does.Touches t last) None h = absurd (h refl refl)
-act_stands (Does.Touches t last) (Some p) h = ((refl, refl, refl, refl), tt)
+act_stands (Does.Touches t last) None h = absurd h
+act_stands (Does.Touches t last) (Some (datum.Homed homed)) h = absurd h
+act_stands (Does.Touches t last) (Some (datum.Point p)) h = ((refl, refl, refl, refl), tt)
+
+-- ---- data that fit
+
+-- a command of this kind is counted with such data: those that it asks for, or none where it asks for none
+abbrev pub IsGiven : Kind → Option Datum → Type 0
+IsGiven k None = asks_data k ≡ false
+IsGiven k (Some d) = fits k d ≡ true
+
+-- the data that a command of this kind was given are those that it asks for
+abbrev pub IsFilled : Kind → Stage → Type 0
+IsFilled k Stage.Sent = Unit {0}
+IsFilled k Stage.Received = Unit {0}
+IsFilled k (Stage.Given d) = fits k d ≡ true
+IsFilled k Stage.Failed = Unit {0}
+
+-- those of each open command are
+abbrev pub AreFilled : List Held → Type 0
+AreFilled [] = Unit {0}
+AreFilled (h ∷ hs) = IsFilled h.kind h.stage × AreFilled hs
+
+-- what is counted with data that fit has what it was planned for
+pub has_datum : (d : Does) (k : Kind) (given : Option Datum) → IsAskedBy d k → IsGiven k given → HasDatum d given
+has_datum (Does.Touches t last) k None asked g = absurd (false≢true (sym (ap asks_data (sym asked) ∙ g)))
+has_datum (Does.Touches t last) k (Some (datum.Point p)) asked g = tt
+has_datum (Does.Touches t last) k (Some (datum.Homed homed)) asked g =
+    false≢true (ap (λ (x : Kind). fits x (datum.Homed homed)) (sym asked) ∙ g)
+has_datum Does.AsksHomed k None asked g = absurd (false≢true (sym (ap asks_data (sym asked) ∙ g)))
+has_datum Does.AsksHomed k (Some (datum.Homed homed)) asked g = tt
+has_datum Does.AsksHomed k (Some (datum.Point p)) asked g = false≢true (ap (λ (x : Kind). fits x (datum.Point p)) (sym asked) ∙ g)
+has_datum Does.Nothing k given asked g = tt
+has_datum Does.Homes k given asked g = tt
+has_datum (Does.Moves p f) k given asked g = tt
+has_datum (Does.Changes n) k given asked g = tt
+has_datum (Does.Frames f) k given asked g = tt
 
 -- ---- open commands that have not failed
 
@@ -124,20 +162,8 @@ abbrev pub kinds_of : List Planned → List Kind
 kinds_of [] = []
 kinds_of (p ∷ ps) = kind_of p.command ∷ kinds_of ps
 
--- what a reply does to them: nothing to their tags and kinds, or one of them fails, or the first is counted, with its point where it asks
--- for one
-data Kept (hs gs : List Held) (e : Effect) : Type 0 where
-  Same : e ≡ Effect.Quiet → AreCalm gs → ((place : ℕ) → HaveTags place hs → HaveTags place gs) → kinds_held gs ≡ kinds_held hs
-      → Kept hs gs e
-  Broke : e ≡ Effect.Failure → Kept hs gs e
-
-data Moved (hs gs : List Held) (e : Effect) : Type 0 where
-  Stays : Kept hs gs e → Moved hs gs e
-  Counted : (h : Held) (given : Option Point) → hs ≡ h ∷ gs → e ≡ Effect.Count h.kind given → (given ≡ None → asks_data h.kind ≡ false)
-      → Moved hs gs e
-
 -- a stage that has not failed becomes none that has
-data_calm : (b : Bool) (stage : Stage) (p : Point) (s : Stage) → judged_given b stage p ≡ Becomes s → is_failed s ≡ false
+data_calm : (b : Bool) (stage : Stage) (p : Datum) (s : Stage) → judged_given b stage p ≡ Becomes s → is_failed s ≡ false
 data_calm true Stage.Sent p s e = absurd (cc)
 data_calm true Stage.Received p s e = let same : Stage.Given p ≡ s = cc in ap is_failed (sym same)
 data_calm true (Stage.Given q) p s e = absurd (cc)
@@ -147,7 +173,7 @@ data_calm false stage p s e = absurd (cc)
 -- where a command that has not failed goes to another stage, it still has not
 pub becomes_calm : (front : Bool) (kind : Kind) (stage : Stage) (m : Mark) (s : Stage) → is_failed stage ≡ false
     → judged front kind stage m ≡ Becomes s → is_failed s ≡ false
-becomes_calm front kind stage (Mark.Given p) s calm e = data_calm (front && asks_data kind) stage p s e
+becomes_calm front kind stage (Mark.Given p) s calm e = data_calm (front && fits kind p) stage p s e
 becomes_calm front kind Stage.Sent Mark.Ack s calm e = let same : Stage.Received ≡ s = cc in ap is_failed (sym same)
 becomes_calm front kind Stage.Received Mark.Ack s calm e = absurd (cc)
 becomes_calm front kind (Stage.Given q) Mark.Ack s calm e = absurd (cc)
@@ -173,7 +199,7 @@ becomes_calm front kind stage Mark.Done s calm e = absurd (go front (asks_data k
     go false a Stage.Failed e = cc
 
 -- and closes for nothing
-data_closes : (b : Bool) (stage : Stage) (p : Point) → judged_given b stage p ≡ Closes → ⊥
+data_closes : (b : Bool) (stage : Stage) (p : Datum) → judged_given b stage p ≡ Closes → ⊥
 data_closes true Stage.Sent p e = cc
 data_closes true Stage.Received p e = cc
 data_closes true (Stage.Given q) p e = cc
@@ -182,7 +208,7 @@ data_closes false stage p e = cc
 
 -- a command that has not failed is not closed uncounted
 pub no_closes : (front : Bool) (kind : Kind) (stage : Stage) (m : Mark) → is_failed stage ≡ false → judged front kind stage m ≡ Closes → ⊥
-no_closes front kind stage (Mark.Given p) calm e = data_closes (front && asks_data kind) stage p e
+no_closes front kind stage (Mark.Given p) calm e = data_closes (front && fits kind p) stage p e
 no_closes front kind Stage.Sent Mark.Ack calm e = cc
 no_closes front kind Stage.Received Mark.Ack calm e = cc
 no_closes front kind (Stage.Given q) Mark.Ack calm e = cc
@@ -206,7 +232,7 @@ no_closes front kind stage Mark.Done calm e = go front (asks_data kind) stage ca
     go false a (Stage.Given q) calm e = cc
 
 -- behind the front nothing is counted
-data_counts : (b : Bool) (stage : Stage) (p : Point) (given : Option Point) → judged_given b stage p ≡ Counts given → ⊥
+data_counts : (b : Bool) (stage : Stage) (p : Datum) (given : Option Datum) → judged_given b stage p ≡ Counts given → ⊥
 data_counts true Stage.Sent p given e = cc
 data_counts true Stage.Received p given e = cc
 data_counts true (Stage.Given q) p given e = cc
@@ -214,7 +240,7 @@ data_counts true Stage.Failed p given e = cc
 data_counts false stage p given e = cc
 
 -- behind the front no command is counted
-pub no_counts : (kind : Kind) (stage : Stage) (m : Mark) (given : Option Point) → judged false kind stage m ≡ Counts given → ⊥
+pub no_counts : (kind : Kind) (stage : Stage) (m : Mark) (given : Option Datum) → judged false kind stage m ≡ Counts given → ⊥
 no_counts kind stage (Mark.Given p) given e = data_counts false stage p given e
 no_counts kind Stage.Sent Mark.Ack given e = cc
 no_counts kind Stage.Received Mark.Ack given e = cc
@@ -229,195 +255,66 @@ no_counts kind Stage.Received Mark.Done given e = cc
 no_counts kind (Stage.Given q) Mark.Done given e = cc
 no_counts kind Stage.Failed Mark.Done given e = cc
 
--- what asks for data is counted with its point
-pub counts_given : (kind : Kind) (stage : Stage) (m : Mark) → judged true kind stage m ≡ Counts None → asks_data kind ≡ false
-counts_given kind stage (Mark.Given p) e = absurd (data_counts (asks_data kind) stage p None e)
-counts_given kind Stage.Sent Mark.Ack e = absurd (cc)
-counts_given kind Stage.Received Mark.Ack e = absurd (cc)
-counts_given kind (Stage.Given q) Mark.Ack e = absurd (cc)
-counts_given kind Stage.Failed Mark.Ack e = absurd (cc)
-counts_given kind Stage.Sent Mark.Error e = absurd (cc)
-counts_given kind Stage.Received Mark.Error e = absurd (cc)
-counts_given kind (Stage.Given q) Mark.Error e = absurd (cc)
-counts_given kind Stage.Failed Mark.Error e = absurd (cc)
-counts_given kind stage Mark.Done e = go (asks_data kind) stage e
+-- data that fit are taken alone
+data_fills : (b : Bool) (kind : Kind) (stage : Stage) (p : Datum) (s : Stage) → (b ≡ true → fits kind p ≡ true)
+    → judged_given b stage p ≡ Becomes s → IsFilled kind s
+data_fills true kind Stage.Sent p s fit e = absurd (cc)
+data_fills true kind Stage.Received p s fit e = let same : Stage.Given p ≡ s = cc in subst (IsFilled kind) same (fit refl)
+data_fills true kind (Stage.Given q) p s fit e = absurd (cc)
+data_fills true kind Stage.Failed p s fit e = absurd (cc)
+data_fills false kind stage p s fit e = absurd (cc)
+
+both_hold : (a b : Bool) → (a && b) ≡ true → b ≡ true
+both_hold true b e = e
+both_hold false b e = absurd (false≢true e)
+
+-- a command that goes to another stage still has data that fit
+pub becomes_filled : (front : Bool) (kind : Kind) (stage : Stage) (m : Mark) (s : Stage) → judged front kind stage m ≡ Becomes s
+    → IsFilled kind s
+becomes_filled front kind stage (Mark.Given p) s e =
+    data_fills (front && fits kind p) kind stage p s (both_hold front (fits kind p)) e
+becomes_filled front kind Stage.Sent Mark.Ack s e = let same : Stage.Received ≡ s = cc in subst (IsFilled kind) same tt
+becomes_filled front kind Stage.Received Mark.Ack s e = absurd (cc)
+becomes_filled front kind (Stage.Given q) Mark.Ack s e = absurd (cc)
+becomes_filled front kind Stage.Failed Mark.Ack s e = absurd (cc)
+becomes_filled front kind Stage.Sent Mark.Error s e = absurd (cc)
+becomes_filled front kind Stage.Received Mark.Error s e = absurd (cc)
+becomes_filled front kind (Stage.Given q) Mark.Error s e = absurd (cc)
+becomes_filled front kind Stage.Failed Mark.Error s e = let same : Stage.Failed ≡ s = cc in subst (IsFilled kind) same tt
+becomes_filled front kind stage Mark.Done s e = absurd (go front (asks_data kind) stage e)
   where
-    go : (a : Bool) (stage : Stage) → judged_done true a stage ≡ Counts None → a ≡ false
-    go false stage e = refl
-    go true Stage.Sent e = absurd (cc)
-    go true Stage.Received e = absurd (cc)
-    go true (Stage.Given q) e = absurd (cc)
-    go true Stage.Failed e = absurd (cc)
+    go : (f a : Bool) (stage : Stage) → judged_done f a stage ≡ Becomes s → ⊥
+    go true true Stage.Sent e = cc
+    go true true Stage.Received e = cc
+    go true true (Stage.Given q) e = cc
+    go true true Stage.Failed e = cc
+    go true false Stage.Sent e = cc
+    go true false Stage.Received e = cc
+    go true false (Stage.Given q) e = cc
+    go true false Stage.Failed e = cc
+    go false a Stage.Sent e = cc
+    go false a Stage.Received e = cc
+    go false a (Stage.Given q) e = cc
+    go false a Stage.Failed e = cc
 
-first_kept : (front : Bool) (h : Held) (hs gs : List Held) (m : Mark) (e : Effect) (s : Stage) → AreCalm (h ∷ hs)
-    → judged front h.kind h.stage m ≡ Becomes s → gs ≡ staged h s ∷ hs → e ≡ Effect.Quiet → Kept (h ∷ hs) gs e
-first_kept front h hs gs m e s calm v g f = subst (λ (l : List Held). Kept (h ∷ hs) l e) (sym g)
-    (Same f (becomes_calm front h.kind h.stage m s calm.0 v, calm.1) (λ place tags. tags) refl)
-
-kept_behind : (h : Held) (hs rest : List Held) (e : Effect) → is_failed h.stage ≡ false → Kept hs rest e → Kept (h ∷ hs) (h ∷ rest) e
-kept_behind h hs rest e calm (Same quiet others tags kinds) =
-    Same quiet (calm, others) (λ place t. (t.0, tags (suc place) t.1)) (ap (λ (l : List Kind). h.kind ∷ l) kinds)
-kept_behind h hs rest e calm (Broke failure) = Broke failure
-
-behind_kept : (hs : List Held) (t : Tag) (m : Mark) (gs : List Held) (e : Effect) → AreCalm hs → heard_in false hs t m ≡ two gs e
-    → Kept hs gs e
-behind_kept [] t m gs e calm is = absurd (cc)
-behind_kept (h ∷ hs) t m gs e calm is =
-    heard_cases false h hs t m gs e (Kept (h ∷ hs) gs e) is
-    (λ s same v g f. first_kept false h hs gs m e s calm v g f)
-    (λ same v g f. Broke f)
-    (λ same v g f. absurd (no_closes false h.kind h.stage m calm.0 v))
-    (λ given same v g f. absurd (no_counts h.kind h.stage m given v))
-    (λ rest other later g. subst (λ (l : List Held). Kept (h ∷ hs) l e) (sym g)
-    (kept_behind h hs rest e calm.0 (behind_kept hs t m rest e calm.1 later)))
-
-front_moved : (hs : List Held) (t : Tag) (m : Mark) (gs : List Held) (e : Effect) → AreCalm hs → heard_in true hs t m ≡ two gs e
-    → Moved hs gs e
-front_moved [] t m gs e calm is = absurd (cc)
-front_moved (h ∷ hs) t m gs e calm is =
-    heard_cases true h hs t m gs e (Moved (h ∷ hs) gs e) is
-    (λ s same v g f. Stays (first_kept true h hs gs m e s calm v g f))
-    (λ same v g f. Stays (Broke f))
-    (λ same v g f. absurd (no_closes true h.kind h.stage m calm.0 v))
-    (λ given same v g f. Counted h given (ap (λ (l : List Held). h ∷ l) (sym g)) f
-    (λ none. counts_given h.kind h.stage m (v ∙ ap (λ (o : Option Point). Counts o) none)))
-    (λ rest other later g. Stays (subst (λ (l : List Held). Kept (h ∷ hs) l e) (sym g)
-    (kept_behind h hs rest e calm.0 (behind_kept hs t m rest e calm.1
-    (subst (λ (b : Bool). heard_in b hs t m ≡ two rest e) calm.0 later)))))
-
--- ---- a client's open commands and its tally follow a plan
-
--- where nothing has failed: none of the open commands has, their tags are those of their places, and with the unsent ones they are what is
--- to be counted
-pub record IsCalm (finished unsent : List Planned) (hs : List Held) (todo : List Planned) : Type 0 where
-  pub calm : AreCalm hs
-  pub tags : HaveTags (length finished) hs
-  pub kinds : kinds_held hs ++ kinds_of unsent ≡ kinds_of todo
-
-pub record IsFollowing (steps unsent : List Planned) (hs : List Held) (y : Tally) : Type 0 where
-  pub finished : List Planned
-  pub parts : finished ++ y.todo ≡ steps
-  pub acts : AreActs y.counted (acts_planned finished)
-  pub calm : y.failed ≡ false → IsCalm finished unsent hs y.todo
-
--- ---- what is counted
-
-abbrev first_kind : List Kind → Kind → Kind
-first_kind [] d = d
-first_kind (k ∷ ks) d = k
-
-abbrev other_kinds : List Kind → List Kind
-other_kinds [] = []
-other_kinds (k ∷ ks) = ks
-
--- the first command of a list that is to be counted
-counts : (ws : List Wanted) (steps unsent : List Planned) (h : Held) (gs : List Held) (y : Tally) (given : Option Point)
-    (finished todo : List Planned)
-    → AreAsked steps → finished ++ todo ≡ steps → AreActs y.counted (acts_planned finished) → (y.failed ≡ false)
-    → IsCalm finished unsent (h ∷ gs) todo
-    → (given ≡ None → asks_data h.kind ≡ false) → IsFollowing steps unsent gs (counted_next ws h.kind given todo y)
-counts ws steps unsent h gs y given finished [] asked parts acts failed calm given_one = absurd (go calm.kinds)
+-- a command is counted with the data that it asks for
+pub counts_given : (kind : Kind) (stage : Stage) (m : Mark) (given : Option Datum) → IsFilled kind stage
+    → judged true kind stage m ≡ Counts given → IsGiven kind given
+counts_given kind stage (Mark.Given p) given f e = absurd (data_counts (fits kind p) stage p given e)
+counts_given kind Stage.Sent Mark.Ack given f e = absurd (cc)
+counts_given kind Stage.Received Mark.Ack given f e = absurd (cc)
+counts_given kind (Stage.Given q) Mark.Ack given f e = absurd (cc)
+counts_given kind Stage.Failed Mark.Ack given f e = absurd (cc)
+counts_given kind Stage.Sent Mark.Error given f e = absurd (cc)
+counts_given kind Stage.Received Mark.Error given f e = absurd (cc)
+counts_given kind (Stage.Given q) Mark.Error given f e = absurd (cc)
+counts_given kind Stage.Failed Mark.Error given f e = absurd (cc)
+counts_given kind stage Mark.Done given f e = go (asks_data kind) refl stage f e
   where
-    go : h.kind ∷ (kinds_held gs ++ kinds_of unsent) ≡ [] → ⊥
-    go e = cc
-counts ws steps unsent h gs y given finished (p ∷ rest) asked parts acts failed calm given_one =
-    let same : kind_of p.command ≡ h.kind = sym (ap (λ (l : List Kind). first_kind l h.kind) calm.kinds) in
-    let others : kinds_held gs ++ kinds_of unsent ≡ kinds_of rest = ap other_kinds calm.kinds in
-    let one : IsAsked p = asked_at finished p rest (subst AreAsked (sym parts) asked) in
-    let mid : Tally = record y {
-      session = y.session || begins_session h.kind;
-      todo = rest;
-      counted = y.counted ++ act_of p.does given;
-      completed = suc y.completed;
-    } in
-    let keeps : Keeps mid (measured ws p.does given mid) = measured_keeps ws p.does given mid in
-    record {
-      finished = finished ++ p ∷ [];
-      parts = ap (λ (l : List Planned). (finished ++ p ∷ []) ++ l) keeps.todo ∙ (append_assoc finished (p ∷ []) rest ∙ parts);
-      acts = subst (λ (l : List Act). AreActs l (acts_planned (finished ++ p ∷ []))) (sym keeps.counted)
-          (subst (λ (l : List Does). AreActs (y.counted ++ act_of p.does given) l) (sym (planned_more finished (p ∷ [])))
-          (acts_join y.counted (act_of p.does given) (acts_planned finished) (acts_planned (p ∷ [])) acts
-          (subst (λ (l : List Does). AreActs (act_of p.does given) l) (sym (append-nil (act_in p.does)))
-          (act_stands p.does given (λ none touch. false≢true (sym (given_one none) ∙ (ap asks_data (sym same) ∙ one touch)))))));
-      calm = λ e. record {
-        calm = calm.calm.1;
-        tags = subst (λ (k : ℕ). HaveTags k gs) (longer finished p) calm.tags.1;
-        kinds = others ∙ ap kinds_of (sym keeps.todo);
-      };
-    }
-  where
-    longer : (xs : List Planned) (x : Planned) → suc (length xs) ≡ length (xs ++ x ∷ [])
-    longer xs x = omega (arith, length-append xs (x ∷ []))
-
--- ---- every reply
-
--- where something has failed, nothing is counted
-abbrev IsUncounted : Effect → Type 0
-IsUncounted Effect.Quiet = Unit {0}
-IsUncounted Effect.Failure = Unit {0}
-IsUncounted (Effect.Count k given) = ⊥
-
-uncounted : (hs : List Held) (t : Tag) (m : Mark) (gs : List Held) (e : Effect) → heard_in false hs t m ≡ two gs e → IsUncounted e
-uncounted [] t m gs e is = absurd (cc)
-uncounted (h ∷ hs) t m gs e is =
-    heard_cases false h hs t m gs e (IsUncounted e) is
-    (λ s same v g f. subst IsUncounted (sym f) tt)
-    (λ same v g f. subst IsUncounted (sym f) tt)
-    (λ same v g f. subst IsUncounted (sym f) tt)
-    (λ given same v g f. absurd (no_counts h.kind h.stage m given v))
-    (λ rest other later g. uncounted hs t m rest e later)
-
-stays_failed : (ws : List Wanted) (steps unsent : List Planned) (hs gs : List Held) (y : Tally) (e : Effect) → IsFollowing steps unsent hs y
-    → y.failed ≡ true → IsUncounted e → IsFollowing steps unsent gs (tallied ws e y)
-stays_failed ws steps unsent hs gs y Effect.Quiet f failed un =
-    record { finished = f.finished; parts = f.parts; acts = f.acts; calm = λ e. absurd (false≢true (sym e ∙ failed)) }
-stays_failed ws steps unsent hs gs y Effect.Failure f failed un =
-    record { finished = f.finished; parts = f.parts; acts = f.acts; calm = λ e. absurd (false≢true (sym e)) }
-stays_failed ws steps unsent hs gs y (Effect.Count k given) f failed un = absurd un
-
-moved_follows : (ws : List Wanted) (steps unsent : List Planned) (hs gs : List Held) (y : Tally) (e : Effect) → AreAsked steps
-    → (f : IsFollowing steps unsent hs y) → y.failed ≡ false → Moved hs gs e → IsFollowing steps unsent gs (tallied ws e y)
-moved_follows ws steps unsent hs gs y e asked f failed (Stays (Same quiet calm tags kinds)) =
-    let c : IsCalm f.finished unsent hs y.todo = f.calm failed in
-    subst (λ (x : Effect). IsFollowing steps unsent gs (tallied ws x y)) (sym quiet) (record {
-      finished = f.finished;
-      parts = f.parts;
-      acts = f.acts;
-      calm = λ still. record {
-        calm = calm;
-        tags = tags (length f.finished) c.tags;
-        kinds = ap (λ (l : List Kind). l ++ kinds_of unsent) kinds ∙ c.kinds;
-      };
-    })
-moved_follows ws steps unsent hs gs y e asked f failed (Stays (Broke failure)) =
-    subst (λ (x : Effect). IsFollowing steps unsent gs (tallied ws x y)) (sym failure)
-    (record { finished = f.finished; parts = f.parts; acts = f.acts; calm = λ still. absurd (false≢true (sym still)) })
-moved_follows ws steps unsent hs gs y e asked f failed (Counted h given is count given_one) =
-    subst (λ (x : Effect). IsFollowing steps unsent gs (tallied ws x y)) (sym count)
-    (counts ws steps unsent h gs y given f.finished y.todo asked f.parts f.acts failed
-    (subst (λ (l : List Held). IsCalm f.finished unsent l y.todo) is (f.calm failed)) given_one)
-
-standard_follows : (ws : List Wanted) (steps unsent : List Planned) (hs gs : List Held) (y : Tally) (t : Tag) (m : Mark) (e : Effect)
-    → AreAsked steps → IsFollowing steps unsent hs y → (b : Bool) → y.failed ≡ b → heard_in (not y.failed) hs t m ≡ two gs e
-    → IsFollowing steps unsent gs (tallied ws e y)
-standard_follows ws steps unsent hs gs y t m e asked f true failed is =
-    stays_failed ws steps unsent hs gs y e f failed (uncounted hs t m gs e
-    (subst (λ (b : Bool). heard_in (not b) hs t m ≡ two gs e) failed is))
-standard_follows ws steps unsent hs gs y t m e asked f false calm is =
-    let c : IsCalm f.finished unsent hs y.todo = f.calm calm in
-    moved_follows ws steps unsent hs gs y e asked f calm (front_moved hs t m gs e c.calm
-    (subst (λ (b : Bool). heard_in (not b) hs t m ≡ two gs e) calm is))
-
--- each reply leaves a table that follows the plan
-abbrev pub Follows : List Planned → List Planned → Table → Type 0
-Follows steps unsent b = IsFollowing steps unsent b.standard b.tally
-
--- behind a reply what is counted still follows the plan
-pub heard_follows : (ws : List Wanted) (steps unsent : List Planned) → AreAsked steps → (b : Table) (t : Tag) (m : Mark) (c : Table)
-    → heard ws b t m ≡ fine c → Follows steps unsent b → Follows steps unsent c
-heard_follows ws steps unsent asked b t m c is f =
-    step_cases ws b t m c (Follows steps unsent c) is
-    (λ zero_tag same. subst (Follows steps unsent) same f)
-    (λ n hs e tag here after. subst (Follows steps unsent) (sym after)
-    (standard_follows ws steps unsent b.standard hs b.tally (Std n) m e asked f b.tally.failed refl here))
-    (λ n hs e tag other here after. subst (Follows steps unsent) (sym after) f)
+    go : (a : Bool) → asks_data kind ≡ a → (stage : Stage) → IsFilled kind stage → judged_done true a stage ≡ Counts given
+        → IsGiven kind given
+    go a is Stage.Sent f e = absurd (cc)
+    go true is Stage.Received f e = absurd (cc)
+    go false is Stage.Received f e = let same : None ≡ given = cc in subst (IsGiven kind) same is
+    go a is (Stage.Given q) f e = let same : Some q ≡ given = cc in subst (IsGiven kind) same f
+    go a is Stage.Failed f e = absurd (cc)

@@ -1,11 +1,19 @@
 -- A client that follows one plan from its first command on: what it has sent are the first lines of the plan.
-use Rattle.std.proofs.Common.{◌≡◌, ℕ, suc, ◌+◌, Bool, true, false, cond, List, [], ◌∷◌, ◌++◌, length, refl, sym, ◌∙◌, ap, subst, arith}
-use Rattle.std.proofs.Common.{append_assoc, length-append, Option, Some, None, Result, Ok, Err, eqb}
+use Rattle.std.proofs.Common.{◌≡◌, ℕ, suc, ◌⊎◌, inl, inr, Bool, true, false, cond, not, ◌&&◌, ◌||◌, List, [], ◌∷◌, ◌++◌, length, refl, sym}
+use Rattle.std.proofs.Common.{◌∙◌, ap, subst, arith, append_assoc, length-append, Option, Some, None, Result, Ok, Err, eqb}
+use Rattle.std.proofs.lemmas.Bool.{false≢true}
+use Rattle.std.proofs.lemmas.List.{append_cancel_right}
 use Rattle.fixed_um.specs.declared.lengths.Point.{Point}
+use Rattle.fixed_um.specs.declared.frames.Frame.{Frame}
+use Rattle.fixed_um.specs.declared.frames.Frame.TheVariants.{Machine}
+use Rattle.dmis_program.specs.declared.steps.Step.{Step}
 use Rattle.dme_line.specs.Kinds.{kind_of}
 use Rattle.dme_line.specs.declared.tags.Tag.{Tag}
 use Rattle.dme_line.specs.declared.tags.Tag.TheVariants as tag
 use Rattle.dme_line.specs.declared.commands.Kind.{Kind}
+use Rattle.dme_line.specs.declared.commands.Kind.TheVariants as kind
+use Rattle.dme_line.specs.declared.commands.Command.TheVariants as command
+use Rattle.dme_line.specs.declared.homed.NotHomedText.{NotHomedText}
 use Rattle.dme_line.specs.declared.points.NotPoint.{NotPoint}
 use Rattle.dme_line.specs.declared.responses.Mark.{Mark as Marked}
 use Rattle.dme_line.specs.declared.responses.Mark.TheVariants as mark
@@ -15,17 +23,25 @@ use Rattle.line_framing.specs.Next.{Front}
 use Rattle.line_framing.specs.declared.faults.FramingFault.TheVariants as framing
 use Rattle.protocol_model.specs.Replies.{Mark, tag_is}
 use Rattle.protocol_model.specs.Lines.{Readers, command_bytes}
-use Rattle.protocol_model.specs.Open.{asks_data, count_open}
-use Rattle.protocol_model.specs.Client.{Client, Table, faulted, is_apart, held_now, sends_next, client_hears, client_read, heard_on, heard}
+use Rattle.protocol_model.specs.Open.{is_failed, asks_homed, is_asking, count_open}
+use Rattle.protocol_model.specs.Client.{Client, Tally, Table, is_homing, faulted, is_apart, held_now, sends_next, client_hears, client_read}
+use Rattle.protocol_model.specs.Client.{heard_on, heard}
 use Rattle.protocol_model.specs.Client.{first_state, last_state, is_whole, ends_abort, client_connected}
-use Rattle.protocol_model.specs.Ends.{held_under, given_point, given_under, response_read, line_read, front_read}
-use Rattle.protocol_model.specs.Plan.{plan}
-use Rattle.protocol_model.specs.Undisturbed.{tag_at, lines_from}
+use Rattle.protocol_model.specs.Ends.{held_under, given_point, given_homed, given_for, given_under, response_read, line_read}
+use Rattle.protocol_model.specs.Ends.{front_read}
+use Rattle.protocol_model.specs.Plan.{tool_behind, frame_behind, behind, up_to, planned, measuring, plan}
+use Rattle.protocol_model.specs.Undisturbed.{tag_at, lines_from, followed}
 use Rattle.protocol_model.proofs.table.Basics.{if_false}
 use Rattle.protocol_model.proofs.table.Replying.{fine}
 use Rattle.protocol_model.proofs.written_lines.Writable.{command_bytes_more}
-use Rattle.protocol_model.proofs.undisturbed_run.Following.{AreAsked, IsCalm, Follows, kinds_held, kinds_of, heard_follows}
+use Rattle.protocol_model.proofs.undisturbed_run.Following.{AreAsked, IsFilled, AreFilled, AreCalm, kinds_held, kinds_of}
+use Rattle.protocol_model.proofs.undisturbed_run.Homing.{FirstTells, HasNoHoming, followed_cons, AreQuiet, IsLeft, Asked, Unasked}
+use Rattle.protocol_model.proofs.undisturbed_run.Homing.{IsBefore, IsBehind, HoldsNoHoming, homes_is, holds_more, step_holds}
+use Rattle.protocol_model.proofs.undisturbed_run.Homing.{measuring_homes_not, measuring_asks_not}
+use Rattle.protocol_model.proofs.undisturbed_run.Counting.{IsCalm, Follows, heard_follows}
 use Rattle.protocol_model.proofs.undisturbed_run.PlaceTags.{number_at, drawn_at, tags_more, calm_more, lines_start}
+use Rattle.protocol_model.specs.declared.held.Datum.TheVariants as datum
+use Rattle.protocol_model.specs.declared.plans.Does.{Does}
 use Rattle.protocol_model.specs.declared.states.State.{State}
 use Rattle.protocol_model.specs.declared.states.Cause.{Cause}
 use Rattle.protocol_model.specs.declared.lines.Line.{Line}
@@ -33,16 +49,21 @@ use Rattle.protocol_model.specs.declared.held.Held.{Held}
 use Rattle.protocol_model.specs.declared.plans.Planned.{Planned}
 use Rattle.protocol_model.specs.declared.plans.Start.{Start}
 
--- on its connection it has sent these first commands of the plan, under the tags of their places
-pub record IsOnPlan (steps : List Planned) (c : Client) (written : List ℕ) : Type 0 where
+-- on the connection of this number it has sent these first commands of the plan as it is followed, under the tags of their places; where it
+-- was told that the machine is homed, it has sent none that homes it
+pub record IsOnPlan (n : ℕ) (told : Bool) (steps : List Planned) (c : Client) (written : List ℕ) : Type 0 where
   pub on : c.on ≡ true
   pub away : is_apart c.state ≡ false
-  pub first : c.last ≡ 1
-  pub follows : Follows steps c.unsent c.table
+  pub first : c.last ≡ n
   pub sent : List Planned
-  pub whole : sent ++ c.unsent ≡ steps
+  pub follows : Follows told steps sent c.table
+  pub holds : told ≡ true → HoldsNoHoming c.table.standard
   pub drawn : c.drawn ≡ drawn_at (length sent)
   pub written_is : written ≡ command_bytes (lines_from 0 sent)
+
+-- the first act that a client has counted tells what is told
+abbrev pub HasTold : Bool → Client → Type 0
+HasTold told c = FirstTells told c.table.tally.counted
 
 -- ---- replies
 
@@ -72,84 +93,181 @@ first_away State.Halted ends failed h = refl
 first_away State.Done ends failed h = refl
 first_away State.Faulted ends failed h = refl
 
-pub stays_faulted : (steps : List Planned) (c : Client) (written : List ℕ) (cause : Cause) → IsOnPlan steps c written
-    → IsOnPlan steps (faulted cause c) written
-stays_faulted steps c written cause h = record {
+pub stays_faulted : (n : ℕ) (told : Bool) (steps : List Planned) (c : Client) (written : List ℕ) (cause : Cause)
+    → IsOnPlan n told steps c written → IsOnPlan n told steps (faulted cause c) written
+stays_faulted n told steps c written cause h = record {
   on = h.on;
   away = refl;
   first = h.first;
-  follows = h.follows;
   sent = h.sent;
-  whole = h.whole;
+  follows = h.follows;
+  holds = h.holds;
   drawn = h.drawn;
   written_is = h.written_is;
 }
 
-hears_on : (steps : List Planned) (c : Client) (written : List ℕ) (t : Tag) (m : Mark) → AreAsked steps → IsOnPlan steps c written
-    → (r : Result Table Cause) → heard c.program.features c.table t m ≡ r → IsOnPlan steps (client_hears c t m r) written
-hears_on steps c written t m asked h (Ok b) e = record {
+hears_on : (n : ℕ) (told : Bool) (steps : List Planned) (c : Client) (written : List ℕ) (t : Tag) (m : Mark)
+    → AreAsked (followed told steps) → IsOnPlan n told steps c written
+    → (r : Result Table Cause) → heard c.program.features c.table t m ≡ r → HasTold told (client_hears c t m r)
+    → IsOnPlan n told steps (client_hears c t m r) written
+hears_on n told steps c written t m asked h (Ok b) e tells = record {
   on = h.on;
   away = last_away (first_state c.state (ends_abort c.abort t m) b.tally.failed) (is_whole b) (count_open b.standard)
       (first_away c.state (ends_abort c.abort t m) b.tally.failed h.away);
   first = h.first;
-  follows = heard_follows c.program.features steps c.unsent asked c.table t m b e h.follows;
   sent = h.sent;
-  whole = h.whole;
+  follows = heard_follows c.program.features told steps h.sent asked c.table t m b e tells h.follows;
+  holds = λ is. step_holds c.program.features c.table t m b e (h.holds is);
   drawn = h.drawn;
   written_is = h.written_is;
 }
-hears_on steps c written t m asked h (Err cause) e = stays_faulted steps c written cause h
+hears_on n told steps c written t m asked h (Err cause) e tells = stays_faulted n told steps c written cause h
 
-pub read_on : (steps : List Planned) (c : Client) (written : List ℕ) (t : Tag) (m : Mark) → AreAsked steps → IsOnPlan steps c written
-    → IsOnPlan steps (client_read c t m) written
-read_on steps c written t m asked h = go (tag_is t (tag.Event 0)) refl
+pub read_on : (n : ℕ) (told : Bool) (steps : List Planned) (c : Client) (written : List ℕ) (t : Tag) (m : Mark)
+    → AreAsked (followed told steps) → IsOnPlan n told steps c written → HasTold told (client_read c t m)
+    → IsOnPlan n told steps (client_read c t m) written
+read_on n told steps c written t m asked h tells = go (tag_is t (tag.Event 0)) refl tells
   where
-    go : (b : Bool) → tag_is t (tag.Event 0) ≡ b → IsOnPlan steps (cond b c (client_hears c t m (heard_on c.program.features c.table t m)))
-        written
-    go true e = h
-    go false e = hears_on steps c written t m asked h (heard_on c.program.features c.table t m)
-        (if_false {A = Result Table Cause} (tag_is t (tag.Event 0)) (fine c.table) (heard_on c.program.features c.table t m) e)
+    go : (b : Bool) → tag_is t (tag.Event 0) ≡ b
+        → HasTold told (cond b c (client_hears c t m (heard_on c.program.features c.table t m)))
+        → IsOnPlan n told steps (cond b c (client_hears c t m (heard_on c.program.features c.table t m))) written
+    go true e tells = h
+    go false e tells = hears_on n told steps c written t m asked h (heard_on c.program.features c.table t m)
+        (if_false {A = Result Table Cause} (tag_is t (tag.Event 0)) (fine c.table) (heard_on c.program.features c.table t m) e) tells
 
 -- ---- whatever is read
 
-one_of : (steps : List Planned) (written : List ℕ) (b : Bool) (d e : Client) → IsOnPlan steps d written → IsOnPlan steps e written
-    → IsOnPlan steps (cond b d e) written
-one_of steps written true d e p q = p
-one_of steps written false d e p q = q
+one_of : (n : ℕ) (told : Bool) (steps : List Planned) (written : List ℕ) (b : Bool) (d e : Client) → IsOnPlan n told steps d written
+    → (HasTold told e → IsOnPlan n told steps e written) → HasTold told (cond b d e) → IsOnPlan n told steps (cond b d e) written
+one_of n told steps written true d e p q tells = p
+one_of n told steps written false d e p q tells = q tells
 
-point_on : (steps : List Planned) (c : Client) (written : List ℕ) (t : Tag) (r : Result Point NotPoint) → AreAsked steps
-    → IsOnPlan steps c written → IsOnPlan steps (given_point c t r) written
-point_on steps c written t (Ok p) asked h = read_on steps c written t (Mark.Given p) asked h
-point_on steps c written t (Err why) asked h = stays_faulted steps c written Cause.NotResponse h
+point_on : (n : ℕ) (told : Bool) (steps : List Planned) (c : Client) (written : List ℕ) (t : Tag) (r : Result Point NotPoint)
+    → AreAsked (followed told steps) → IsOnPlan n told steps c written → HasTold told (given_point c t r)
+    → IsOnPlan n told steps (given_point c t r) written
+point_on n told steps c written t (Ok p) asked h tells = read_on n told steps c written t (Mark.Given (datum.Point p)) asked h tells
+point_on n told steps c written t (Err why) asked h tells = stays_faulted n told steps c written Cause.NotResponse h
 
-under_on : (readers : Readers) (steps : List Planned) (c : Client) (written : List ℕ) (t : Tag) (text : List ℕ) (kind : Option Kind)
-    → AreAsked steps → IsOnPlan steps c written → IsOnPlan steps (given_under readers c t text kind) written
-under_on readers steps c written t text None asked h = stays_faulted steps c written Cause.UnknownTag h
-under_on readers steps c written t text (Some k) asked h =
-    one_of steps written (asks_data k) (given_point c t (readers.point text)) (faulted Cause.OutOfOrder c)
-    (point_on steps c written t (readers.point text) asked h) (stays_faulted steps c written Cause.OutOfOrder h)
+homed_on : (n : ℕ) (told : Bool) (steps : List Planned) (c : Client) (written : List ℕ) (t : Tag) (r : Result Bool NotHomedText)
+    → AreAsked (followed told steps) → IsOnPlan n told steps c written → HasTold told (given_homed c t r)
+    → IsOnPlan n told steps (given_homed c t r) written
+homed_on n told steps c written t (Ok homed) asked h tells =
+    read_on n told steps c written t (Mark.Given (datum.Homed homed)) asked h tells
+homed_on n told steps c written t (Err why) asked h tells = stays_faulted n told steps c written Cause.NotResponse h
 
-response_on : (readers : Readers) (steps : List Planned) (c : Client) (written : List ℕ) (t : Tag) (m : Marked) → AreAsked steps
-    → IsOnPlan steps c written → IsOnPlan steps (response_read readers c t m) written
-response_on readers steps c written t mark.Ack asked h = read_on steps c written t Mark.Ack asked h
-response_on readers steps c written t (mark.Given text) asked h =
-    one_of steps written (tag_is t (tag.Event 0)) c (given_under readers c t text (held_under t c)) h
-    (under_on readers steps c written t text (held_under t c) asked h)
-response_on readers steps c written t mark.Done asked h = read_on steps c written t Mark.Done asked h
-response_on readers steps c written t (mark.Error text) asked h = read_on steps c written t Mark.Error asked h
+for_on : (readers : Readers) (n : ℕ) (told : Bool) (steps : List Planned) (c : Client) (written : List ℕ) (t : Tag) (text : List ℕ)
+    (k : Kind) → AreAsked (followed told steps) → IsOnPlan n told steps c written → HasTold told (given_for readers c t text k)
+    → IsOnPlan n told steps (given_for readers c t text k) written
+for_on readers n told steps c written t text kind.PtMeas asked h tells =
+    point_on n told steps c written t (readers.point text) asked h tells
+for_on readers n told steps c written t text kind.IsHomed asked h tells =
+    homed_on n told steps c written t (readers.homed text) asked h tells
+for_on readers n told steps c written t text kind.StartSession asked h tells = stays_faulted n told steps c written Cause.OutOfOrder h
+for_on readers n told steps c written t text kind.EndSession asked h tells = stays_faulted n told steps c written Cause.OutOfOrder h
+for_on readers n told steps c written t text kind.ClearAllErrors asked h tells = stays_faulted n told steps c written Cause.OutOfOrder h
+for_on readers n told steps c written t text kind.Home asked h tells = stays_faulted n told steps c written Cause.OutOfOrder h
+for_on readers n told steps c written t text kind.OnPtMeasReport asked h tells = stays_faulted n told steps c written Cause.OutOfOrder h
+for_on readers n told steps c written t text kind.GoTo asked h tells = stays_faulted n told steps c written Cause.OutOfOrder h
+for_on readers n told steps c written t text kind.ChangeTool asked h tells = stays_faulted n told steps c written Cause.OutOfOrder h
+for_on readers n told steps c written t text kind.SetCsyTransformation asked h tells =
+    stays_faulted n told steps c written Cause.OutOfOrder h
+for_on readers n told steps c written t text kind.SetCoordSystem asked h tells = stays_faulted n told steps c written Cause.OutOfOrder h
+for_on readers n told steps c written t text kind.AbortE asked h tells = stays_faulted n told steps c written Cause.OutOfOrder h
 
-line_on : (readers : Readers) (steps : List Planned) (c : Client) (written : List ℕ) (r : Result Response NotResponse) → AreAsked steps
-    → IsOnPlan steps c written → IsOnPlan steps (line_read readers c r) written
-line_on readers steps c written (Ok r) asked h = response_on readers steps c written r.tag r.mark asked h
-line_on readers steps c written (Err refused) asked h = stays_faulted steps c written Cause.NotResponse h
+under_on : (readers : Readers) (n : ℕ) (told : Bool) (steps : List Planned) (c : Client) (written : List ℕ) (t : Tag) (text : List ℕ)
+    (kind : Option Kind)
+    → AreAsked (followed told steps) → IsOnPlan n told steps c written → HasTold told (given_under readers c t text kind)
+    → IsOnPlan n told steps (given_under readers c t text kind) written
+under_on readers n told steps c written t text None asked h tells = stays_faulted n told steps c written Cause.UnknownTag h
+under_on readers n told steps c written t text (Some k) asked h tells = for_on readers n told steps c written t text k asked h tells
 
--- behind what is read a client is still on its plan
-pub front_on : (readers : Readers) (steps : List Planned) (c : Client) (written : List ℕ) (f : Front) → AreAsked steps
-    → IsOnPlan steps c written → IsOnPlan steps (front_read readers c f) written
-front_on readers steps c written (Ok None) asked h = h
-front_on readers steps c written (Ok (Some (line, rest))) asked h = line_on readers steps c written (readers.response line) asked h
-front_on readers steps c written (Err framing.LineTooLong) asked h = stays_faulted steps c written Cause.LineTooLong h
-front_on readers steps c written (Err framing.BadByte) asked h = stays_faulted steps c written Cause.BadByte h
+response_on : (readers : Readers) (n : ℕ) (told : Bool) (steps : List Planned) (c : Client) (written : List ℕ) (t : Tag) (m : Marked)
+    → AreAsked (followed told steps) → IsOnPlan n told steps c written → HasTold told (response_read readers c t m)
+    → IsOnPlan n told steps (response_read readers c t m) written
+response_on readers n told steps c written t mark.Ack asked h tells = read_on n told steps c written t Mark.Ack asked h tells
+response_on readers n told steps c written t (mark.Given text) asked h tells =
+    one_of n told steps written (tag_is t (tag.Event 0)) c (given_under readers c t text (held_under t c)) h
+    (λ later. under_on readers n told steps c written t text (held_under t c) asked h later) tells
+response_on readers n told steps c written t mark.Done asked h tells = read_on n told steps c written t Mark.Done asked h tells
+response_on readers n told steps c written t (mark.Error text) asked h tells =
+    read_on n told steps c written t Mark.Error asked h tells
+
+line_on : (readers : Readers) (n : ℕ) (told : Bool) (steps : List Planned) (c : Client) (written : List ℕ)
+    (r : Result Response NotResponse)
+    → AreAsked (followed told steps) → IsOnPlan n told steps c written → HasTold told (line_read readers c r)
+    → IsOnPlan n told steps (line_read readers c r) written
+line_on readers n told steps c written (Ok r) asked h tells = response_on readers n told steps c written r.tag r.mark asked h tells
+line_on readers n told steps c written (Err refused) asked h tells = stays_faulted n told steps c written Cause.NotResponse h
+
+-- behind what is read a client is still on its plan, where the first act that it has counted tells what is told
+pub front_on : (readers : Readers) (n : ℕ) (told : Bool) (steps : List Planned) (c : Client) (written : List ℕ) (f : Front)
+    → AreAsked (followed told steps) → IsOnPlan n told steps c written → HasTold told (front_read readers c f)
+    → IsOnPlan n told steps (front_read readers c f) written
+front_on readers n told steps c written (Ok None) asked h tells = h
+front_on readers n told steps c written (Ok (Some (line, rest))) asked h tells =
+    line_on readers n told steps c written (readers.response line) asked h tells
+front_on readers n told steps c written (Err framing.LineTooLong) asked h tells =
+    stays_faulted n told steps c written Cause.LineTooLong h
+front_on readers n told steps c written (Err framing.BadByte) asked h tells = stays_faulted n told steps c written Cause.BadByte h
+
+-- ---- what is read leaves the connection
+
+hears_last : (c : Client) (t : Tag) (m : Mark) (r : Result Table Cause) → (client_hears c t m r).last ≡ c.last
+hears_last c t m (Ok b) = refl
+hears_last c t m (Err cause) = refl
+
+either_last : (c : Client) (b : Bool) (d : Client) → d.last ≡ c.last → (cond b c d).last ≡ c.last
+either_last c true d e = refl
+either_last c false d e = e
+
+client_last : (c : Client) (t : Tag) (m : Mark) → (client_read c t m).last ≡ c.last
+client_last c t m = either_last c (tag_is t (tag.Event 0)) (client_hears c t m (heard_on c.program.features c.table t m))
+    (hears_last c t m (heard_on c.program.features c.table t m))
+
+point_last : (c : Client) (t : Tag) (r : Result Point NotPoint) → (given_point c t r).last ≡ c.last
+point_last c t (Ok p) = client_last c t (Mark.Given (datum.Point p))
+point_last c t (Err why) = refl
+
+homed_last : (c : Client) (t : Tag) (r : Result Bool NotHomedText) → (given_homed c t r).last ≡ c.last
+homed_last c t (Ok homed) = client_last c t (Mark.Given (datum.Homed homed))
+homed_last c t (Err why) = refl
+
+for_last : (readers : Readers) (c : Client) (t : Tag) (text : List ℕ) (k : Kind) → (given_for readers c t text k).last ≡ c.last
+for_last readers c t text kind.PtMeas = point_last c t (readers.point text)
+for_last readers c t text kind.IsHomed = homed_last c t (readers.homed text)
+for_last readers c t text kind.StartSession = refl
+for_last readers c t text kind.EndSession = refl
+for_last readers c t text kind.ClearAllErrors = refl
+for_last readers c t text kind.Home = refl
+for_last readers c t text kind.OnPtMeasReport = refl
+for_last readers c t text kind.GoTo = refl
+for_last readers c t text kind.ChangeTool = refl
+for_last readers c t text kind.SetCsyTransformation = refl
+for_last readers c t text kind.SetCoordSystem = refl
+for_last readers c t text kind.AbortE = refl
+
+under_last : (readers : Readers) (c : Client) (t : Tag) (text : List ℕ) (k : Option Kind)
+    → (given_under readers c t text k).last ≡ c.last
+under_last readers c t text None = refl
+under_last readers c t text (Some k) = for_last readers c t text k
+
+response_last : (readers : Readers) (c : Client) (t : Tag) (m : Marked) → (response_read readers c t m).last ≡ c.last
+response_last readers c t mark.Ack = client_last c t Mark.Ack
+response_last readers c t (mark.Given text) = either_last c (tag_is t (tag.Event 0)) (given_under readers c t text (held_under t c))
+    (under_last readers c t text (held_under t c))
+response_last readers c t mark.Done = client_last c t Mark.Done
+response_last readers c t (mark.Error text) = client_last c t Mark.Error
+
+line_last : (readers : Readers) (c : Client) (r : Result Response NotResponse) → (line_read readers c r).last ≡ c.last
+line_last readers c (Ok r) = response_last readers c r.tag r.mark
+line_last readers c (Err refused) = refl
+
+-- a client that reads stays on its connection
+pub read_last : (readers : Readers) (c : Client) (f : Front) → (front_read readers c f).last ≡ c.last
+read_last readers c (Ok None) = refl
+read_last readers c (Ok (Some (line, rest))) = line_last readers c (readers.response line)
+read_last readers c (Err framing.LineTooLong) = refl
+read_last readers c (Err framing.BadByte) = refl
 
 -- ---- a command is sent
 
@@ -157,53 +275,144 @@ kinds_more : (hs : List Held) (x : Held) → kinds_held (hs ++ x ∷ []) ≡ kin
 kinds_more [] x = refl
 kinds_more (h ∷ hs) x = ap (λ (l : List Kind). h.kind ∷ l) (kinds_more hs x)
 
-held_long : (hs : List Held) → length (kinds_held hs) ≡ length hs
-held_long [] = refl
-held_long (h ∷ hs) = ap suc (held_long hs)
+kinds_join : (ps qs : List Planned) → kinds_of (ps ++ qs) ≡ kinds_of ps ++ kinds_of qs
+kinds_join [] qs = refl
+kinds_join (p ∷ ps) qs = ap (λ (l : List Kind). kind_of p.command ∷ l) (kinds_join ps qs)
 
-kinds_long : (ps : List Planned) → length (kinds_of ps) ≡ length ps
-kinds_long [] = refl
-kinds_long (p ∷ ps) = ap suc (kinds_long ps)
+filled_more : (hs : List Held) (x : Held) → AreFilled hs → IsFilled x.kind x.stage → AreFilled (hs ++ x ∷ [])
+filled_more [] x h e = (e, tt)
+filled_more (y ∷ hs) x h e = (h.0, filled_more hs x h.1 e)
 
--- what is counted and what is open was sent
-pub places : (finished todo sent unsent steps : List Planned) (hs : List Held) → finished ++ todo ≡ steps → sent ++ unsent ≡ steps
-    → kinds_held hs ++ kinds_of unsent ≡ kinds_of todo → length finished + length hs ≡ length sent
-places finished todo sent unsent steps hs f s k =
-    let a : length finished + length todo ≡ length steps = sym (length-append finished todo) ∙ ap length f in
-    let b : length sent + length unsent ≡ length steps = sym (length-append sent unsent) ∙ ap length s in
-    let c : length (kinds_held hs) + length (kinds_of unsent) ≡ length (kinds_of todo) =
-    sym (length-append (kinds_held hs) (kinds_of unsent)) ∙ ap length k in
-    omega (arith, a, b, c, held_long hs, kinds_long unsent, kinds_long todo)
+-- where the question is the last that is open, it is open
+is_asked : (hs : List Held) (ks : List Kind) → AreCalm hs → kinds_held hs ≡ ks ++ kind.IsHomed ∷ [] → is_asking hs ≡ true
+is_asked [] [] calm e = absurd (cc)
+is_asked [] (k ∷ ks) calm e = absurd (cc)
+is_asked (h ∷ hs) [] calm e =
+    let first : h.kind ≡ kind.IsHomed = ap (λ (l : List Kind). first_of l h.kind) e in
+    ap (λ (k : Kind). (asks_homed k && not (is_failed h.stage)) || is_asking hs) first
+    ∙ ap (λ (b : Bool). not b || is_asking hs) calm.0
+  where
+    first_of : List Kind → Kind → Kind
+    first_of [] d = d
+    first_of (k ∷ ks) d = k
+is_asked (h ∷ hs) (k ∷ ks) calm e = or_true (asks_homed h.kind && not (is_failed h.stage)) (is_asking hs)
+    (is_asked hs ks calm.1 (ap others_of e))
+  where
+    others_of : List Kind → List Kind
+    others_of [] = []
+    others_of (k ∷ ks) = ks
+
+    or_true : (a b : Bool) → b ≡ true → (a || b) ≡ true
+    or_true true b e = refl
+    or_true false b e = e
+
+-- what the phase says of the command that is sent: it does not home where the machine is told to be homed, and the phase behind it
+record IsSent (told : Bool) (hs : List Held) (y : Tally) (x : Held) (p : Planned) (others : List Planned) : Type 0 where
+  no_homing : told ≡ true → is_homing p.command ≡ false
+  phase : IsBefore (hs ++ x ∷ []) (record y { unsent = others }) ⊎ IsBehind told (record y { unsent = others })
+
+abbrev first_planned : List Planned → Planned → Planned
+first_planned [] d = d
+first_planned (q ∷ qs) d = q
+
+abbrev other_planned : List Planned → List Planned
+other_planned [] = []
+other_planned (q ∷ qs) = qs
+
+-- before the question is counted, quiet commands go out, and then the question
+sent_before : (told : Bool) (hs : List Held) (y : Tally) (x : Held) (p : Planned) (others : List Planned) (b : IsBefore hs y)
+    (later : List Planned) → AreQuiet later → p ∷ others ≡ later ++ b.ask ∷ b.home ∷ b.rest → x.kind ≡ kind_of p.command
+    → kinds_held hs ++ kinds_of (p ∷ others) ≡ kinds_of y.todo → IsSent told hs y x p others
+sent_before told hs y x p others b (q ∷ later) quiet e kind_is kinds = record {
+  no_homing = λ t. ap (λ (r : Planned). is_homing r.command) (ap (λ (l : List Planned). first_planned l p) e) ∙ quiet.0.homes;
+  phase = inl (record {
+    quiet = b.quiet;
+    are_quiet = b.are_quiet;
+    ask = b.ask;
+    home = b.home;
+    rest = b.rest;
+    question = b.question;
+    todo = b.todo;
+    counted = b.counted;
+    left = Unasked later quiet.1 (ap other_planned e);
+  });
+}
+sent_before told hs y x p others b [] quiet e kind_is kinds =
+    let first : p ≡ b.ask = ap (λ (l : List Planned). first_planned l p) e in
+    let rest : others ≡ b.home ∷ b.rest = ap other_planned e in
+    let cut : kinds_held hs ≡ kinds_of b.quiet = append_cancel_right (kinds_held hs) (kinds_of b.quiet)
+    (kinds_of (b.ask ∷ b.home ∷ b.rest)) (ap (λ (l : List Planned). kinds_held hs ++ kinds_of l) (sym e)
+    ∙ (kinds ∙ (ap kinds_of b.todo ∙ kinds_join b.quiet (b.ask ∷ b.home ∷ b.rest)))) in
+    let question : x.kind ≡ kind.IsHomed = kind_is ∙ (ap (λ (r : Planned). kind_of r.command) first ∙ ap kind_of b.question.asks) in
+    record {
+      no_homing = λ t. ap (λ (r : Planned). is_homing r.command) first ∙ ap is_homing b.question.asks;
+      phase = inl (record {
+        quiet = b.quiet;
+        are_quiet = b.are_quiet;
+        ask = b.ask;
+        home = b.home;
+        rest = b.rest;
+        question = b.question;
+        todo = b.todo;
+        counted = b.counted;
+        left = Asked rest (kinds_more hs x ∙ (ap (λ (l : List Kind). l ++ x.kind ∷ []) cut
+            ∙ ap (λ (k : Kind). kinds_of b.quiet ++ k ∷ []) question));
+      });
+    }
+
+sent_by : (told : Bool) (hs : List Held) (y : Tally) (x : Held) (p : Planned) (others : List Planned) → y.unsent ≡ p ∷ others
+    → x.kind ≡ kind_of p.command → kinds_held hs ++ kinds_of (p ∷ others) ≡ kinds_of y.todo → AreCalm hs → is_asking hs ≡ false
+    → IsBefore hs y ⊎ IsBehind told y → IsSent told hs y x p others
+sent_by told hs y x p others unsent kind_is kinds calm quiet (inl b) = go b.left
+  where
+    go : IsLeft hs b.quiet b.ask b.home b.rest y.unsent → IsSent told hs y x p others
+    go (Asked e k) = absurd (false≢true (sym quiet ∙ is_asked hs (kinds_of b.quiet) calm k))
+    go (Unasked later are e) = sent_before told hs y x p others b later are (sym unsent ∙ e) kind_is kinds
+sent_by told hs y x p others unsent kind_is kinds calm quiet (inr b) = record {
+  no_homing = λ t. (subst HasNoHoming unsent (b.unsent t)).0;
+  phase = inr (record {
+    no_question = b.no_question;
+    todo = b.todo;
+    unsent = λ t. (subst HasNoHoming unsent (b.unsent t)).1;
+  });
+}
 
 -- the next command, under the tag of its place
-pub sends_on : (steps : List Planned) (c : Client) (written : List ℕ) (p : Planned) (others : List Planned) (number : Option ℕ)
-    (h : IsOnPlan steps c written) → c.unsent ≡ p ∷ others → c.table.tally.failed ≡ false
-    → number ≡ Some (number_at (length h.sent)) → IsOnPlan steps (sends_next c (p ∷ others) number).client (written
+pub sends_on : (n : ℕ) (told : Bool) (steps : List Planned) (c : Client) (written : List ℕ) (p : Planned) (others : List Planned)
+    (number : Option ℕ) (h : IsOnPlan n told steps c written) → c.table.tally.unsent ≡ p ∷ others → c.table.tally.failed ≡ false
+    → is_asking c.table.standard ≡ false → number ≡ Some (number_at (length h.sent))
+    → IsOnPlan n told steps (sends_next c (p ∷ others) number).client (written
     ++ command_bytes (sends_next c (p ∷ others) number).lines)
-sends_on steps c written p others number h unsent failed is =
-    subst (λ (o : Option ℕ). IsOnPlan steps (sends_next c (p ∷ others) o).client (written
+sends_on n told steps c written p others number h unsent failed quiet is =
+    let k : IsCalm told h.sent h.follows.finished c.table.standard c.table.tally = h.follows.calm failed in
+    let kinds : kinds_held c.table.standard ++ kinds_of (p ∷ others) ≡ kinds_of c.table.tally.todo =
+    ap (λ (l : List Planned). kinds_held c.table.standard ++ kinds_of l) (sym unsent) ∙ k.kinds in
+    let s : IsSent told c.table.standard c.table.tally x p others =
+    sent_by told c.table.standard c.table.tally x p others unsent refl kinds k.calm quiet k.phase in
+    subst (λ (o : Option ℕ). IsOnPlan n told steps (sends_next c (p ∷ others) o).client (written
     ++ command_bytes (sends_next c (p ∷ others) o).lines)) (sym is) (record {
       on = h.on;
       away = h.away;
       first = h.first;
+      sent = h.sent ++ p ∷ [];
       follows = record {
+        whole = append_assoc h.sent (p ∷ []) (followed told others)
+            ∙ (ap (λ (l : List Planned). h.sent ++ l) (sym (followed_cons told p others s.no_homing))
+            ∙ (ap (λ (l : List Planned). h.sent ++ followed told l) (sym unsent) ∙ h.follows.whole));
         finished = h.follows.finished;
         parts = h.follows.parts;
         acts = h.follows.acts;
-        calm = λ e.
-            let k : IsCalm h.follows.finished c.unsent c.table.standard c.table.tally.todo = h.follows.calm e in
-            let at : length h.follows.finished + length c.table.standard ≡ length h.sent =
-            places h.follows.finished c.table.tally.todo h.sent c.unsent steps c.table.standard h.follows.parts h.whole k.kinds in
-            record {
-              calm = calm_more c.table.standard x k.calm refl;
-              tags = tags_more c.table.standard (length h.follows.finished) (length h.sent) x k.tags at refl;
-              kinds = ap (λ (l : List Kind). l ++ kinds_of others) (kinds_more c.table.standard x)
-                  ∙ (append_assoc (kinds_held c.table.standard) (kind_of p.command ∷ []) (kinds_of others)
-                  ∙ (ap (λ (l : List Planned). kinds_held c.table.standard ++ kinds_of l) (sym unsent) ∙ k.kinds));
-            };
+        calm = λ e. record {
+          calm = calm_more c.table.standard x k.calm refl;
+          filled = filled_more c.table.standard x k.filled tt;
+          tags = tags_more c.table.standard (length h.follows.finished) (length h.sent) x k.tags k.places refl;
+          kinds = ap (λ (l : List Kind). l ++ kinds_of others) (kinds_more c.table.standard x)
+              ∙ (append_assoc (kinds_held c.table.standard) (kind_of p.command ∷ []) (kinds_of others) ∙ kinds);
+          places = omega (arith, k.places, longer_held c.table.standard, longer h.sent p);
+          phase = s.phase;
+        };
       };
-      sent = h.sent ++ p ∷ [];
-      whole = append_assoc h.sent (p ∷ []) others ∙ (ap (λ (l : List Planned). h.sent ++ l) (sym unsent) ∙ h.whole);
+      holds = λ t. holds_more c.table.standard x (h.holds t) (homes_is p.command ∙ s.no_homing t);
       drawn = ap drawn_at (longer h.sent p);
       written_is = ap (λ (l : List ℕ). l ++ command_bytes (line ∷ [])) h.written_is
           ∙ (sym (command_bytes_more (lines_from 0 h.sent) (line ∷ [])) ∙ ap command_bytes (sym (lines_start h.sent (p ∷ []))));
@@ -218,18 +427,69 @@ sends_on steps c written p others number h unsent failed is =
     longer : (xs : List Planned) (y : Planned) → suc (length xs) ≡ length (xs ++ y ∷ [])
     longer xs y = omega (arith, length-append xs (y ∷ []))
 
+    longer_held : (hs : List Held) → suc (length hs) ≡ length (hs ++ x ∷ [])
+    longer_held hs = omega (arith, length-append hs (x ∷ []))
+
 -- ---- the plan begins
 
--- on its first connection a client begins its plan
-pub begins_on : (c : Client) → c.last ≡ 0 → IsOnPlan (plan c.program (length c.table.tally.features) Start.NewConnection)
-    (client_connected (suc c.last) c) []
-begins_on c last = record {
+-- on a new connection a client begins its plan
+pub begins_on : (n : ℕ) (told : Bool) (c : Client) → suc c.last ≡ n
+    → IsOnPlan n told (plan c.program (length c.table.tally.features) Start.NewConnection) (client_connected (suc c.last) c) []
+begins_on n told c last = record {
   on = refl;
   away = refl;
-  first = ap suc last;
-  follows = record { finished = []; parts = refl; acts = tt; calm = λ e. record { calm = tt; tags = tt; kinds = refl } };
+  first = last;
   sent = [];
-  whole = refl;
+  follows = record {
+    whole = refl;
+    finished = [];
+    parts = refl;
+    acts = tt;
+    calm = λ e. record {
+      calm = tt;
+      filled = tt;
+      tags = tt;
+      kinds = refl;
+      places = refl;
+      phase = inl (record {
+        quiet = planned command.StartSession Does.Nothing ∷ planned command.ClearAllErrors Does.Nothing ∷ [];
+        are_quiet = (
+          record { nothing = refl; asks = refl; homes = refl },
+          (record { nothing = refl; asks = refl; homes = refl }, tt),
+        );
+        ask = planned command.IsHomed Does.AsksHomed;
+        home = planned command.Home Does.Homes;
+        rest = planned command.OnPtMeasReport Does.Nothing ∷ measuring tool frame steps;
+        question = record {
+          asks = refl;
+          does = refl;
+          homes = refl;
+          no_homing = (refl, measuring_homes_not tool frame steps);
+          asks_no_more = refl;
+          no_question = (refl, measuring_asks_not tool frame steps);
+        };
+        todo = refl;
+        counted = refl;
+        left = Unasked (planned command.StartSession Does.Nothing ∷ planned command.ClearAllErrors Does.Nothing ∷ []) (
+          record { nothing = refl; asks = refl; homes = refl },
+          (record { nothing = refl; asks = refl; homes = refl }, tt),
+        ) refl;
+      });
+    };
+  };
+  holds = λ t. tt;
   drawn = refl;
   written_is = refl;
 }
+  where
+    done : ℕ
+    done = length c.table.tally.features
+
+    tool : Option (List ℕ)
+    tool = tool_behind None (up_to done c.program.steps)
+
+    frame : Frame
+    frame = frame_behind Machine (up_to done c.program.steps)
+
+    steps : List Step
+    steps = behind done c.program.steps

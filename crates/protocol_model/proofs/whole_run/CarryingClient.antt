@@ -13,11 +13,11 @@ use Rattle.protocol_model.specs.Client.{client_hears, heard_on, sends_next, send
 use Rattle.protocol_model.specs.Server.{Server, server_accepted, server_left}
 use Rattle.protocol_model.specs.Ends.{with_lines, end_sent, end_aborted, end_read, end_resumed, end_left, end_restarted, front_read}
 use Rattle.protocol_model.specs.Ends.{line_read, serving_accepted, serving_left, serving_restarted}
-use Rattle.protocol_model.specs.Typed.{World as Lined, sent}
+use Rattle.protocol_model.specs.Typed.{World as Lined, sent, client_reads}
 use Rattle.protocol_model.specs.World.{World, Link, with_link, client_link, client_writes, connected, is_any}
 use Rattle.protocol_model.proofs.invariant.Holding.{Inv, IsOff, IsLive, IsAtRest}
 use Rattle.protocol_model.proofs.each_event.ServerEvents.{accept_event, gone_event}
-use Rattle.protocol_model.proofs.each_event.ClientEvents.{connect_event, client_left_event, client_restart_event}
+use Rattle.protocol_model.proofs.each_event.ClientEvents.{connect_event, client_left_event, client_restart_event, never_faulted}
 use Rattle.protocol_model.proofs.each_event.ClientWrites.{IsDue, due_is, sends_event}
 use Rattle.protocol_model.proofs.each_event.ClientResumes.{never_off, abort_event, resume_event}
 use Rattle.protocol_model.proofs.each_event.Hearing.{hear_event}
@@ -25,7 +25,7 @@ use Rattle.protocol_model.proofs.whole_run.PlainServer.{IsPlainServer, left_plai
 use Rattle.protocol_model.proofs.written_lines.PlainClient.{IsPlainSends, plain_connected, plain_sent, plain_aborted, plain_read}
 use Rattle.protocol_model.proofs.written_lines.PlainClient.{plain_resumed, plain_left, plain_restarted}
 use Rattle.protocol_model.proofs.whole_run.Wires.{IsWired, wired_connect, wired_accept, wired_left, wired_gone, wired_writes}
-use Rattle.protocol_model.proofs.written_lines.LineTaking.{NextReply, next_reply, no_reply_fault, reply_heard}
+use Rattle.protocol_model.proofs.written_lines.LineTaking.{NextReply, next_reply, no_reply_fault, HasPlace, reply_heard}
 use Rattle.protocol_model.proofs.whole_run.Carrying.{lined, IsCarried}
 use Rattle.protocol_model.specs.declared.states.Cause.{Cause}
 use Rattle.protocol_model.specs.declared.plans.Planned.{Planned}
@@ -233,7 +233,7 @@ abort_on w inv can = go inv.side
 pub sends_carried : (b : World) (h : IsCarried b) → is_some (due b.client.client) ≡ true → IsCarried (client_writes b (end_sent b.client))
 sends_carried b h can =
     writes_carried b h (client_sent b.client.client) (due_on (lined b h.up h.down) h.inv can)
-    (sends_stays b.client.client b.client.client.unsent (next_number Std b.client.client.table.standard b.client.client.drawn))
+    (sends_stays b.client.client b.client.client.table.tally.unsent (next_number Std b.client.client.table.standard b.client.client.drawn))
     (plain_sent b.client.client h.client) (sends_event (lined b h.up h.down) h.inv can)
 
 -- a client that may abort adds the bytes of an abort to those up, and what both ends carry is kept
@@ -273,6 +273,14 @@ read_stays c t m = go (tag_is t (Event 0))
     go : (z : Bool) → StaysOn c (cond z c (client_hears c t m (heard_on c.program.features c.table t m)))
     go true = record { on = refl; last = refl }
     go false = hears_stays c t m (heard_on c.program.features c.table t m)
+
+-- the first reply on its way has its place
+first_has_place : (b : World) (h : IsCarried b) (r : Reply) (others : List Reply) → b.client.client.on ≡ true → h.down ≡ r ∷ others
+    → HasPlace b.client.client (tag_of r) (mark_of r)
+first_has_place b h r others on down_is faulty =
+    let w : Lined = lined b h.up (r ∷ others) in
+    never_faulted (client_reads w (r ∷ others))
+    (hear_event w (subst (λ (d : List Reply). Inv (lined b h.up d)) down_is h.inv) on) faulty
 
 -- a reply is read off the front
 heard_carried : (b : World) (h : IsCarried b) (r : Reply) (others : List Reply) (rest : List ℕ) → b.client.client.on ≡ true
@@ -336,7 +344,7 @@ hears_carried readers are b h on due_now = go (next_of b.client.input.rest) refl
         let client_is : front_read readers b.client.client (next_of b.client.input.rest)
         ≡ client_read b.client.client (tag_of t.first) (mark_of t.first) =
         ap (front_read readers b.client.client) next ∙ (ap (λ (l : List ℕ). line_read readers b.client.client (readers.response l)) t.text
-        ∙ reply_heard readers are b.client.client t.first replies.0) in
+        ∙ reply_heard readers are b.client.client t.first replies.0 (first_has_place b h t.first t.others on t.replies_are)) in
         let input_is : left_by (next_of b.client.input.rest) b.client.input ≡ record { rest = rest; fault = b.client.input.fault } =
         ap (λ (f : Front). left_by f b.client.input) next in
         subst (λ (c : Client). IsCarried (record b {

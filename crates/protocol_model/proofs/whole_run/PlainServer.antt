@@ -184,6 +184,17 @@ carried_plain s t command.EndSession h w = record {
 }
 carried_plain s t command.ClearAllErrors h w = record { server = h; said = (tag_of_numbered t w.tagged.numbered, tt) }
 carried_plain s t command.OnPtMeasReport h w = record { server = h; said = (tag_of_numbered t w.tagged.numbered, tt) }
+carried_plain s t command.IsHomed h w = record {
+  server = record {
+    lines = h.lines;
+    waiting_is = h.waiting_is;
+    running = h.running;
+    waiting = h.waiting;
+    stored = h.stored;
+    frame = h.frame;
+  };
+  said = ((tag_of_numbered t w.tagged.numbered, tt), (tag_of_numbered t w.tagged.numbered, tt));
+}
 carried_plain s t (command.SetCsyTransformation p) h w = record {
   server = record {
     lines = h.lines;
@@ -302,6 +313,7 @@ finished_plain s t (command.GoTo p) h tag can = record {
 finished_plain s t command.StartSession h tag can = record { server = h; said = tt }
 finished_plain s t command.EndSession h tag can = record { server = h; said = tt }
 finished_plain s t command.ClearAllErrors h tag can = record { server = h; said = tt }
+finished_plain s t command.IsHomed h tag can = record { server = h; said = tt }
 finished_plain s t command.OnPtMeasReport h tag can = record { server = h; said = tt }
 finished_plain s t (command.PtMeas p d) h tag can = record { server = h; said = tt }
 finished_plain s t (command.SetCsyTransformation p) h tag can = record { server = h; said = tt }
@@ -332,6 +344,7 @@ touched_plain s t (command.GoTo p) at tool h tag can = absurd (false≢true can)
 touched_plain s t command.StartSession at tool h tag can = absurd (false≢true can)
 touched_plain s t command.EndSession at tool h tag can = absurd (false≢true can)
 touched_plain s t command.ClearAllErrors at tool h tag can = absurd (false≢true can)
+touched_plain s t command.IsHomed at tool h tag can = absurd (false≢true can)
 touched_plain s t command.OnPtMeasReport at tool h tag can = absurd (false≢true can)
 touched_plain s t (command.SetCsyTransformation p) at tool h tag can = absurd (false≢true can)
 touched_plain s t (command.SetCoordSystem system) at tool h tag can = absurd (false≢true can)

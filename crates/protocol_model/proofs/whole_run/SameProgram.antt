@@ -4,7 +4,9 @@ use Rattle.dmis_program.specs.Meaning.{Meaning}
 use Rattle.dme_line.specs.declared.tags.Tag.{Tag}
 use Rattle.dme_line.specs.declared.tags.Tag.TheVariants as tag
 use Rattle.dme_line.specs.declared.commands.Kind.{Kind}
+use Rattle.dme_line.specs.declared.commands.Kind.TheVariants as kind
 use Rattle.dme_line.specs.declared.points.NotPoint.{NotPoint}
+use Rattle.dme_line.specs.declared.homed.NotHomedText.{NotHomedText}
 use Rattle.dme_line.specs.declared.responses.Mark.{Mark as Marked}
 use Rattle.dme_line.specs.declared.responses.Mark.TheVariants as mark
 use Rattle.dme_line.specs.declared.responses.Response.{Response}
@@ -14,9 +16,8 @@ use Rattle.line_framing.specs.Next.{Front, next_of}
 use Rattle.line_framing.specs.declared.faults.FramingFault.TheVariants as framing
 use Rattle.protocol_model.specs.Replies.{Mark, tag_is}
 use Rattle.protocol_model.specs.Lines.{Readers}
-use Rattle.protocol_model.specs.Open.{asks_data}
-use Rattle.protocol_model.specs.Client.{Client, Table, sends_next, sends_abort, next_number, client_hears, client_read, heard_on, faulted}
-use Rattle.protocol_model.specs.Ends.{held_under, given_point, given_under, response_read, line_read, front_read}
+use Rattle.protocol_model.specs.Client.{Client, Table, sends_next, sends_abort, next_number, client_hears, client_read, heard_on}
+use Rattle.protocol_model.specs.Ends.{held_under, given_point, given_homed, given_for, given_under, response_read, line_read, front_read}
 use Rattle.protocol_model.specs.World.{World, can, happens, after, run_of}
 use Rattle.protocol_model.specs.declared.events.Event.{Event}
 use Rattle.protocol_model.specs.declared.events.Event.TheVariants.{Connect, Accept, ClientSends, Up, ServerReads, ServerTurn, Machine, Down}
@@ -24,6 +25,7 @@ use Rattle.protocol_model.specs.declared.events.Event.TheVariants.{ClientReads, 
 use Rattle.protocol_model.specs.declared.events.Event.TheVariants.{ServerRestart}
 use Rattle.protocol_model.specs.declared.plans.Planned.{Planned}
 use Rattle.protocol_model.specs.declared.states.Cause.{Cause}
+use Rattle.protocol_model.specs.declared.held.Datum.TheVariants as datum
 
 -- what no event changes
 abbrev kept : Client → Meaning × ℕ
@@ -55,13 +57,30 @@ read_same c t m = one_of c (tag_is t (tag.Event 0)) c (client_hears c t m (heard
     (hears_same c t m (heard_on c.program.features c.table t m))
 
 point_same : (c : Client) (t : Tag) (r : Result Point NotPoint) → Same c (given_point c t r)
-point_same c t (Ok p) = read_same c t (Mark.Given p)
+point_same c t (Ok p) = read_same c t (Mark.Given (datum.Point p))
 point_same c t (Err why) = refl
+
+homed_same : (c : Client) (t : Tag) (r : Result Bool NotHomedText) → Same c (given_homed c t r)
+homed_same c t (Ok homed) = read_same c t (Mark.Given (datum.Homed homed))
+homed_same c t (Err why) = refl
+
+for_same : (readers : Readers) (c : Client) (t : Tag) (text : List ℕ) (k : Kind) → Same c (given_for readers c t text k)
+for_same readers c t text kind.PtMeas = point_same c t (readers.point text)
+for_same readers c t text kind.IsHomed = homed_same c t (readers.homed text)
+for_same readers c t text kind.StartSession = refl
+for_same readers c t text kind.EndSession = refl
+for_same readers c t text kind.ClearAllErrors = refl
+for_same readers c t text kind.Home = refl
+for_same readers c t text kind.OnPtMeasReport = refl
+for_same readers c t text kind.GoTo = refl
+for_same readers c t text kind.ChangeTool = refl
+for_same readers c t text kind.SetCsyTransformation = refl
+for_same readers c t text kind.SetCoordSystem = refl
+for_same readers c t text kind.AbortE = refl
 
 under_same : (readers : Readers) (c : Client) (t : Tag) (text : List ℕ) (kind : Option Kind) → Same c (given_under readers c t text kind)
 under_same readers c t text None = refl
-under_same readers c t text (Some k) = one_of c (asks_data k) (given_point c t (readers.point text)) (faulted Cause.OutOfOrder c)
-    (point_same c t (readers.point text)) refl
+under_same readers c t text (Some k) = for_same readers c t text k
 
 response_same : (readers : Readers) (c : Client) (t : Tag) (m : Marked) → Same c (response_read readers c t m)
 response_same readers c t mark.Ack = read_same c t Mark.Ack
@@ -83,7 +102,7 @@ front_same readers c (Err framing.BadByte) = refl
 happens_same : (readers : Readers) (e : Event) (b : World) → Same b.client.client (happens readers e b).client.client
 happens_same readers Connect b = refl
 happens_same readers (Accept n) b = refl
-happens_same readers ClientSends b = sends_same b.client.client b.client.client.unsent
+happens_same readers ClientSends b = sends_same b.client.client b.client.client.table.tally.unsent
     (next_number tag.Std b.client.client.table.standard b.client.client.drawn)
 happens_same readers (Up k) b = refl
 happens_same readers ServerReads b = refl

@@ -15,6 +15,7 @@ use Rattle.protocol_model.specs.Claims.{Made, IsServed, Serves, AreRuns, Sound, 
 use Rattle.protocol_model.specs.Rows.{at, along, from_above, tool, part, feature}
 use Rattle.protocol_model.specs.LedgerRows.{contact_of, first_touch, second_touch, one_wanted, two_wanted, first_point, second_point}
 use Rattle.protocol_model.specs.LedgerRows.{first_contact, second_contact, ledger_with, right_ledger, measured_as, two_connections}
+use Rattle.protocol_model.specs.LedgerRows.{asked_twice}
 
 -- ---- what is allowed
 
@@ -283,6 +284,8 @@ nothing_counted_is = record { more = []; whole = refl }
 
 -- what acts are, as numbers
 abbrev sort_of : Act → ℕ
+sort_of (act.HomedIs false) = 6
+sort_of (act.HomedIs true) = 7
 sort_of act.Homed = 1
 sort_of (act.Moved p f) = 2
 sort_of (act.Changed n) = 3
@@ -332,3 +335,21 @@ other_connection_is_none h = let e : ◌≡◌ {A = ℕ} 3 4 = ap next_sort h.wh
 -- acts of no connection
 pub no_connection_is_none : Told (act.Homed ∷ []) two_connections 3 → ⊥
 no_connection_is_none h = let e : ◌≡◌ {A = ℕ} 1 0 = ap first_sort h.whole in absurd (omega arith)
+
+-- ---- the question whether the machine is homed
+
+-- all that was done on the first connection
+pub asked_and_homed_is : Told (act.HomedIs false ∷ act.Homed ∷ []) asked_twice 1
+asked_and_homed_is = record { more = []; whole = refl }
+
+-- all that was done on the second
+pub asked_again_is : Told (act.HomedIs true ∷ act.Framed frame.Machine ∷ []) asked_twice 2
+asked_again_is = record { more = []; whole = refl }
+
+-- the other answer
+pub other_answer_is_none : Told (act.HomedIs false ∷ []) asked_twice 2 → ⊥
+other_answer_is_none h = let e : ◌≡◌ {A = ℕ} 6 7 = ap first_sort h.whole in absurd (omega arith)
+
+-- a homing that was passed over
+pub passed_over_is_none : Told (act.HomedIs true ∷ act.Homed ∷ []) asked_twice 2 → ⊥
+passed_over_is_none h = let e : ◌≡◌ {A = ℕ} 1 4 = ap next_sort h.whole in absurd (omega arith)

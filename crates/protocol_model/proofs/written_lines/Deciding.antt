@@ -449,7 +449,8 @@ pub record OneWord (ts : List Token) : Type 0 where
   pub word : List ℕ
   pub spelled : IsOneWord ts word
 
-one_word : (ts : List Token) → Decided (OneWord ts)
+-- it is decided whether they are
+pub one_word : (ts : List Token) → Decided (OneWord ts)
 one_word ts = decided_by (λ (e : shapes ts ≡ 0 ∷ 3 ∷ 1 ∷ []). record {
   word = first_of (words ts);
   spelled = filled_of (0 ∷ 3 ∷ 1 ∷ []) ts e;
@@ -646,6 +647,8 @@ saying kind.EndSession ts = decided_by (λ (e : ts ≡ enclosed []). record { co
     (λ (s : Saying kind.EndSession ts). s.says.0) (nothing_is ts)
 saying kind.ClearAllErrors ts = decided_by (λ (e : ts ≡ enclosed []). record { command = command.ClearAllErrors; says = (e, refl) })
     (λ (s : Saying kind.ClearAllErrors ts). s.says.0) (nothing_is ts)
+saying kind.IsHomed ts = decided_by (λ (e : ts ≡ enclosed []). record { command = command.IsHomed; says = (e, refl) })
+    (λ (s : Saying kind.IsHomed ts). s.says.0) (nothing_is ts)
 saying kind.Home ts = decided_by (λ (e : ts ≡ enclosed []). record { command = command.Home; says = (e, refl) })
     (λ (s : Saying kind.Home ts). s.says.0) (nothing_is ts)
 saying kind.OnPtMeasReport ts = decided_by (λ (r : IsReport ts). record { command = command.OnPtMeasReport; says = (r, refl) })

@@ -1,11 +1,10 @@
 -- A line that stands at the front of bytes is the first of the lines that they carry, and reads as what was written.
 use Rattle.std.proofs.Common.{◌≡◌, ℕ, Bool, true, false, cond, not, ◌&&◌, List, [], ◌∷◌, ◌++◌, refl, sym, ◌∙◌, ap, Option, Some, None, Ok}
 use Rattle.std.proofs.Common.{Err}
-use Rattle.fixed_um.specs.declared.lengths.Point.{Point}
-use Rattle.dme_line.specs.Points.{written_point}
 use Rattle.dme_line.specs.declared.tags.Tag.{Tag}
 use Rattle.dme_line.specs.declared.tags.Tag.TheVariants.{Std, Event}
 use Rattle.dme_line.specs.declared.commands.Kind.{Kind}
+use Rattle.dme_line.specs.declared.commands.Kind.TheVariants as kind
 use Rattle.line_framing.specs.Next.{next_of}
 use Rattle.line_framing.specs.Stream.{TakesFirst}
 use Rattle.line_framing.specs.declared.faults.FramingFault.{FramingFault}
@@ -13,15 +12,19 @@ use Rattle.line_framing.proofs.Streams.{takes_first, no_fault}
 use Rattle.dmis_program.specs.declared.features.Wanted.{Wanted}
 use Rattle.protocol_model.specs.Replies.{Reply, Mark, tag_of, mark_of, tag_is}
 use Rattle.protocol_model.specs.Lines.{command_text, reply_text, command_texts, reply_texts, command_bytes, reply_bytes, Readers}
-use Rattle.protocol_model.specs.Lines.{AreReaders}
-use Rattle.protocol_model.specs.Open.{Heard, Refused, judged, judged_given, settled, put_before, heard_in, is_failed, asks_data}
+use Rattle.protocol_model.specs.Lines.{AreReaders, written_datum}
+use Rattle.protocol_model.specs.Open.{Heard, Refused, judged, judged_given, settled, put_before, heard_in, is_failed, fits}
 use Rattle.protocol_model.specs.Client.{Client, heard_standard, heard_event, heard_on, client_hears, client_read, faulted}
-use Rattle.protocol_model.specs.Ends.{held_kind, held_under, given_point, given_under, given, response_read, line_read}
+use Rattle.protocol_model.specs.Ends.{held_kind, held_under, given_point, given_homed, given_for, given_under, given, response_read}
+use Rattle.protocol_model.specs.Ends.{line_read}
 use Rattle.protocol_model.proofs.table.Basics.{if_cases, if_true, if_false, and_false}
 use Rattle.protocol_model.proofs.written_lines.Writable.{AreWritable, command_lines, IsWritableReply, AreReplies, reply_lines, response_of}
-use Rattle.protocol_model.proofs.written_lines.Writable.{reply_read, point_read}
+use Rattle.protocol_model.proofs.written_lines.Writable.{IsWritableDatum, reply_read, point_read, homed_read}
 use Rattle.protocol_model.specs.declared.lines.Line.{Line}
 use Rattle.protocol_model.specs.declared.states.Cause.{Cause}
+use Rattle.protocol_model.specs.declared.states.State.{State}
+use Rattle.protocol_model.specs.declared.held.Datum.{Datum}
+use Rattle.protocol_model.specs.declared.held.Datum.TheVariants as datum
 use Rattle.protocol_model.specs.declared.held.Held.{Held}
 use Rattle.protocol_model.specs.declared.held.Stage.{Stage}
 
@@ -100,70 +103,86 @@ unknown_in front (h ∷ hs) t m e = if_cases {A = Option Kind} (tag_is h.tag t) 
     (put_before h (heard_in (front && is_failed h.stage) hs t m)) other
     ∙ ap (put_before h) (unknown_in (front && is_failed h.stage) hs t m rest))
 
--- under a tag of a command that asks for no data, a data mark is out of order
-data_out : (b : Bool) (k : Kind) (s : Stage) (p : Point) → asks_data k ≡ false
-    → judged_given (b && asks_data k) s p ≡ Refused Cause.OutOfOrder
-data_out b k s p e = ap (λ (x : Bool). judged_given (b && x) s p) e ∙ ap (λ (x : Bool). judged_given x s p) (and_false b)
+-- data that the command under their tag does not ask for are out of order
+data_out : (b : Bool) (k : Kind) (s : Stage) (d : Datum) → fits k d ≡ false → judged_given (b && fits k d) s d ≡ Refused Cause.OutOfOrder
+data_out b k s d e = ap (λ (x : Bool). judged_given (b && x) s d) e ∙ ap (λ (x : Bool). judged_given x s d) (and_false b)
 
-out_of_order_in : (front : Bool) (hs : List Held) (t : Tag) (k : Kind) (p : Point) → held_kind t hs ≡ Some k → asks_data k ≡ false
-    → heard_in front hs t (Mark.Given p) ≡ Err Cause.OutOfOrder
-out_of_order_in front [] t k p e asks = absurd (cc)
-out_of_order_in front (h ∷ hs) t k p e asks = if_cases {A = Option Kind} (tag_is h.tag t) (Some h.kind) (held_kind t hs) (Some k)
-    (heard_in front (h ∷ hs) t (Mark.Given p) ≡ Err Cause.OutOfOrder) e
+out_of_order_in : (front : Bool) (hs : List Held) (t : Tag) (k : Kind) (d : Datum) → held_kind t hs ≡ Some k → fits k d ≡ false
+    → heard_in front hs t (Mark.Given d) ≡ Err Cause.OutOfOrder
+out_of_order_in front [] t k d e misfit = absurd (cc)
+out_of_order_in front (h ∷ hs) t k d e misfit = if_cases {A = Option Kind} (tag_is h.tag t) (Some h.kind) (held_kind t hs) (Some k)
+    (heard_in front (h ∷ hs) t (Mark.Given d) ≡ Err Cause.OutOfOrder) e
     (λ same found.
-    let kind : h.kind ≡ k = cc in
-    if_true {A = Heard} (tag_is h.tag t) (settled h hs (judged front h.kind h.stage (Mark.Given p)))
-    (put_before h (heard_in (front && is_failed h.stage) hs t (Mark.Given p))) same
-    ∙ ap (settled h hs) (data_out front h.kind h.stage p (ap asks_data kind ∙ asks)))
-    (λ other rest. if_false {A = Heard} (tag_is h.tag t) (settled h hs (judged front h.kind h.stage (Mark.Given p)))
-    (put_before h (heard_in (front && is_failed h.stage) hs t (Mark.Given p))) other
-    ∙ ap (put_before h) (out_of_order_in (front && is_failed h.stage) hs t k p rest asks))
+    let kind_is : h.kind ≡ k = cc in
+    if_true {A = Heard} (tag_is h.tag t) (settled h hs (judged front h.kind h.stage (Mark.Given d)))
+    (put_before h (heard_in (front && is_failed h.stage) hs t (Mark.Given d))) same
+    ∙ ap (settled h hs) (data_out front h.kind h.stage d (ap (λ (x : Kind). fits x d) kind_is ∙ misfit)))
+    (λ other rest. if_false {A = Heard} (tag_is h.tag t) (settled h hs (judged front h.kind h.stage (Mark.Given d)))
+    (put_before h (heard_in (front && is_failed h.stage) hs t (Mark.Given d))) other
+    ∙ ap (put_before h) (out_of_order_in (front && is_failed h.stage) hs t k d rest misfit))
 
 unknown_on : (ws : List Wanted) (c : Client) (t : Tag) (m : Mark) → held_under t c ≡ None → heard_on ws c.table t m ≡ Err Cause.UnknownTag
 unknown_on ws c (Std n) m e = ap (heard_standard ws c.table) (unknown_in (not c.table.tally.failed) c.table.standard (Std n) m e)
 unknown_on ws c (Event n) m e = ap (heard_event c.table) (unknown_in true c.table.event (Event n) m e)
 
-out_of_order_on : (ws : List Wanted) (c : Client) (t : Tag) (k : Kind) (p : Point) → held_under t c ≡ Some k → asks_data k ≡ false
-    → heard_on ws c.table t (Mark.Given p) ≡ Err Cause.OutOfOrder
-out_of_order_on ws c (Std n) k p e asks = ap (heard_standard ws c.table)
-    (out_of_order_in (not c.table.tally.failed) c.table.standard (Std n) k p e asks)
-out_of_order_on ws c (Event n) k p e asks = ap (heard_event c.table) (out_of_order_in true c.table.event (Event n) k p e asks)
+out_of_order_on : (ws : List Wanted) (c : Client) (t : Tag) (k : Kind) (d : Datum) → held_under t c ≡ Some k → fits k d ≡ false
+    → heard_on ws c.table t (Mark.Given d) ≡ Err Cause.OutOfOrder
+out_of_order_on ws c (Std n) k d e misfit = ap (heard_standard ws c.table)
+    (out_of_order_in (not c.table.tally.failed) c.table.standard (Std n) k d e misfit)
+out_of_order_on ws c (Event n) k d e misfit = ap (heard_event c.table) (out_of_order_in true c.table.event (Event n) k d e misfit)
 
--- a data text that is a point is heard as that point, whatever is held under its tag
-pub given_is : (readers : Readers) (c : Client) (t : Tag) (text : List ℕ) (p : Point) → readers.point text ≡ Ok p
-    → given readers c t text ≡ client_read c t (Mark.Given p)
-given_is readers c t text p e = go (tag_is t (Event 0)) refl (held_under t c) refl
+-- a client that reads this mark is not Faulted by it
+abbrev pub HasPlace : Client → Tag → Mark → Type 0
+HasPlace c t m = (client_read c t m).state ≡ State.Faulted → ⊥
+
+-- data that have their place are heard as they were said, whatever is held under their tag
+pub given_is : (readers : Readers) → AreReaders readers → (c : Client) (t : Tag) (d : Datum) → IsWritableDatum d
+    → HasPlace c t (Mark.Given d) → given readers c t (written_datum d) ≡ client_read c t (Mark.Given d)
+given_is readers are c t d w place = go (tag_is t (Event 0)) refl (held_under t c) refl
   where
-    m : Mark
-    m = Mark.Given p
+    refused : (e : Datum) (k : Kind) → tag_is t (Event 0) ≡ false → held_under t c ≡ Some k → fits k e ≡ false
+        → client_read c t (Mark.Given e) ≡ faulted Cause.OutOfOrder c
+    refused e k is held misfit = if_false {A = Client} (tag_is t (Event 0)) c
+        (client_hears c t (Mark.Given e) (heard_on c.program.features c.table t (Mark.Given e))) is
+        ∙ ap (client_hears c t (Mark.Given e)) (out_of_order_on c.program.features c t k e held misfit)
 
-    ws : List Wanted
-    ws = c.program.features
+    out : (e : Datum) (k : Kind) → tag_is t (Event 0) ≡ false → held_under t c ≡ Some k → fits k e ≡ false → HasPlace c t (Mark.Given e) → ⊥
+    out e k is held misfit here = here (ap (λ (x : Client). x.state) (refused e k is held misfit))
 
-    go : (zero_tag : Bool) → tag_is t (Event 0) ≡ zero_tag → (kind : Option Kind) → held_under t c ≡ kind
-        → cond (tag_is t (Event 0)) c (given_under readers c t text (held_under t c))
-        ≡ cond (tag_is t (Event 0)) c (client_hears c t (Mark.Given p) (heard_on c.program.features c.table t (Mark.Given p)))
-    go true is kind held = if_true {A = Client} _ _ _ is ∙ sym (if_true {A = Client} _ _ _ is)
-    go false is None held = if_false {A = Client} _ _ _ is ∙ (ap (given_under readers c t text) held
-        ∙ (ap (client_hears c t (Mark.Given p)) (sym (unknown_on c.program.features c t (Mark.Given p) held))
+    asked : (e : Datum) → IsWritableDatum e → HasPlace c t (Mark.Given e) → (k : Kind) → tag_is t (Event 0) ≡ false
+        → held_under t c ≡ Some k → given_for readers c t (written_datum e) k ≡ client_read c t (Mark.Given e)
+    asked (datum.Point p) wire here kind.PtMeas is held = ap (given_point c t) (point_read readers are p wire)
+    asked (datum.Homed homed) wire here kind.PtMeas is held = absurd (out (datum.Homed homed) kind.PtMeas is held refl here)
+    asked (datum.Point p) wire here kind.IsHomed is held = absurd (out (datum.Point p) kind.IsHomed is held refl here)
+    asked (datum.Homed homed) wire here kind.IsHomed is held = ap (given_homed c t) (homed_read readers are homed)
+    asked e wire here kind.StartSession is held = sym (refused e kind.StartSession is held refl)
+    asked e wire here kind.EndSession is held = sym (refused e kind.EndSession is held refl)
+    asked e wire here kind.ClearAllErrors is held = sym (refused e kind.ClearAllErrors is held refl)
+    asked e wire here kind.Home is held = sym (refused e kind.Home is held refl)
+    asked e wire here kind.OnPtMeasReport is held = sym (refused e kind.OnPtMeasReport is held refl)
+    asked e wire here kind.GoTo is held = sym (refused e kind.GoTo is held refl)
+    asked e wire here kind.ChangeTool is held = sym (refused e kind.ChangeTool is held refl)
+    asked e wire here kind.SetCsyTransformation is held = sym (refused e kind.SetCsyTransformation is held refl)
+    asked e wire here kind.SetCoordSystem is held = sym (refused e kind.SetCoordSystem is held refl)
+    asked e wire here kind.AbortE is held = sym (refused e kind.AbortE is held refl)
+
+    go : (zero_tag : Bool) → tag_is t (Event 0) ≡ zero_tag → (held : Option Kind) → held_under t c ≡ held
+        → cond (tag_is t (Event 0)) c (given_under readers c t (written_datum d) (held_under t c)) ≡ client_read c t (Mark.Given d)
+    go true is k held = if_true {A = Client} _ _ _ is ∙ sym (if_true {A = Client} _ _ _ is)
+    go false is None held = if_false {A = Client} _ _ _ is ∙ (ap (given_under readers c t (written_datum d)) held
+        ∙ (ap (client_hears c t (Mark.Given d)) (sym (unknown_on c.program.features c t (Mark.Given d) held))
         ∙ sym (if_false {A = Client} _ _ _ is)))
-    go false is (Some k) held = if_false {A = Client} _ _ _ is ∙ (ap (given_under readers c t text) held ∙ asked (asks_data k) refl)
-      where
-        asked : (asks : Bool) → asks_data k ≡ asks → cond (asks_data k) (given_point c t (readers.point text)) (faulted Cause.OutOfOrder c)
-            ≡ cond (tag_is t (Event 0)) c (client_hears c t (Mark.Given p) (heard_on c.program.features c.table t (Mark.Given p)))
-        asked true yes_asks = if_true {A = Client} _ _ _ yes_asks ∙ ap (given_point c t) e
-        asked false no_data = if_false {A = Client} _ _ _ no_data
-            ∙ (ap (client_hears c t (Mark.Given p)) (sym (out_of_order_on c.program.features c t k p held no_data))
-            ∙ sym (if_false {A = Client} _ _ _ is))
+    go false is (Some k) held = if_false {A = Client} _ _ _ is ∙ (ap (given_under readers c t (written_datum d)) held
+        ∙ asked d w place k is held)
 
--- a reply that can be written is heard as it was said
+-- a reply that can be written and has its place is heard as it was said
 pub reply_heard : (readers : Readers) → AreReaders readers → (c : Client) (r : Reply) → IsWritableReply r
-    → line_read readers c (readers.response (reply_text r)) ≡ client_read c (tag_of r) (mark_of r)
-reply_heard readers are c r w = ap (line_read readers c) (reply_read readers are r w) ∙ go r w
+    → HasPlace c (tag_of r) (mark_of r) → line_read readers c (readers.response (reply_text r)) ≡ client_read c (tag_of r) (mark_of r)
+reply_heard readers are c r w place = ap (line_read readers c) (reply_read readers are r w) ∙ go r w place
   where
-    go : (x : Reply) → IsWritableReply x → response_read readers c (response_of x).tag (response_of x).mark
-        ≡ client_read c (tag_of x) (mark_of x)
-    go (Reply.Ack t) h = refl
-    go (Reply.Given t p) h = given_is readers c t (written_point p) p (point_read readers are p h.1)
-    go (Reply.Done t) h = refl
-    go (Reply.Error t code name) h = refl
+    go : (x : Reply) → IsWritableReply x → HasPlace c (tag_of x) (mark_of x)
+        → response_read readers c (response_of x).tag (response_of x).mark ≡ client_read c (tag_of x) (mark_of x)
+    go (Reply.Ack t) h here = refl
+    go (Reply.Given t d) h here = given_is readers are c t d h.1 here
+    go (Reply.Done t) h here = refl
+    go (Reply.Error t code name) h here = refl

@@ -1,6 +1,6 @@
 -- What a client writes are commands that can be written.
-use Rattle.std.proofs.Common.{◌≡◌, ℕ, zero, suc, ◌-◌, ◌≤◌, Bool, true, false, cond, List, [], ◌∷◌, ◌++◌, length, refl, sym, arith, Option}
-use Rattle.std.proofs.Common.{Some, None, Result, Ok, Err, IfSome}
+use Rattle.std.proofs.Common.{◌≡◌, ℕ, zero, suc, ◌-◌, ◌≤◌, Bool, true, false, cond, not, List, [], ◌∷◌, ◌++◌, length, refl, sym, arith}
+use Rattle.std.proofs.Common.{Option, Some, None, Result, Ok, Err, IfSome}
 use Rattle.std.specs.List.{AllByRecursion}
 use Rattle.std.proofs.lemmas.Bool.{false≢true}
 use Rattle.fixed_um.specs.Names.{IsName}
@@ -8,6 +8,7 @@ use Rattle.fixed_um.specs.Shapes.{Direction, IsDirection}
 use Rattle.fixed_um.specs.declared.frames.Frame.{Frame}
 use Rattle.fixed_um.specs.declared.frames.Frame.TheVariants.{Machine, Part}
 use Rattle.dmis_program.specs.Meaning.{Meaning as Program, block_touches}
+use Rattle.dmis_program.specs.declared.features.Wanted.{Wanted}
 use Rattle.dmis_program.specs.Programs.{IsProgram, IsStep, IsTouch, IsFrame}
 use Rattle.dmis_program.specs.declared.steps.Step.{Step}
 use Rattle.dmis_program.specs.declared.steps.Step.TheVariants as step
@@ -19,13 +20,16 @@ use Rattle.dme_line.specs.declared.commands.Command.{Command}
 use Rattle.dme_line.specs.declared.commands.Command.TheVariants as command
 use Rattle.dme_line.proofs.CommandBack.{volume_on_wire}
 use Rattle.protocol_model.specs.Replies.{Mark, tag_is}
+use Rattle.protocol_model.specs.Open.{Heard, heard_in}
 use Rattle.protocol_model.specs.Plan.{tool_behind, frame_behind, is_empty, behind, up_to, framing, tooling, stepping, measuring, clearing}
 use Rattle.protocol_model.specs.Plan.{plan}
 use Rattle.protocol_model.specs.Client.{Client, Table, Sends, first_free, or_else, next_number, sends_next, client_sent, sends_abort}
 use Rattle.protocol_model.specs.Client.{client_aborted, client_connected, client_resumed, client_left, client_restarted, client_hears}
-use Rattle.protocol_model.specs.Client.{client_read, heard_on}
+use Rattle.protocol_model.specs.Client.{client_read, heard_standard, heard_event, heard_on, passed_over}
 use Rattle.protocol_model.specs.Server.{is_abort}
 use Rattle.protocol_model.proofs.plan.Marks.{HasNoAbort, plan_no_abort}
+use Rattle.protocol_model.proofs.plan.PassedOver.{passes, passed_no_abort}
+use Rattle.protocol_model.proofs.table.Asking.{tallied_leaves}
 use Rattle.protocol_model.proofs.table.Drawing.{IsFound, found, or_cases}
 use Rattle.protocol_model.proofs.written_lines.Writable.{AreWritable, opposite_in_volume}
 use Rattle.protocol_model.specs.declared.states.Cause.{Cause}
@@ -142,8 +146,11 @@ plan_arguments p k start h = go start
         tt,
         (
           tt,
-          arguments_measuring _ _ (behind k p.steps) (tool_is None (up_to k p.steps) tt (steps_up_to k p.steps h.steps))
-              (frame_is Machine (up_to k p.steps) tt (steps_up_to k p.steps h.steps)) (steps_behind k p.steps h.steps),
+          (
+            tt,
+            arguments_measuring _ _ (behind k p.steps) (tool_is None (up_to k p.steps) tt (steps_up_to k p.steps h.steps))
+                (frame_is Machine (up_to k p.steps) tt (steps_up_to k p.steps h.steps)) (steps_behind k p.steps h.steps),
+          ),
         ),
       ),
     )
@@ -151,6 +158,10 @@ plan_arguments p k start h = go start
     go : (s : Start) → HaveArguments (plan p k s)
     go NewConnection = (tt, rest)
     go SameConnection = rest
+
+-- so have those that are left where the homing that is next is passed over
+passed_arguments : (told : Bool) (ps : List Planned) → HaveArguments ps → HaveArguments (passed_over told ps)
+passed_arguments told ps h = passes HaveArguments (λ p qs e f. f.1) told ps h
 
 -- ---- numbers that are drawn
 
@@ -168,8 +179,8 @@ pub record IsPlainClient (c : Client) : Type 0 where
   pub program : IsProgram c.program
   pub drawn : c.drawn ≤ 9999
   pub event_drawn : c.event_drawn ≤ 9999
-  pub unsent : HaveArguments c.unsent
-  pub no_abort : HasNoAbort c.unsent
+  pub unsent : HaveArguments c.table.tally.unsent
+  pub no_abort : HasNoAbort c.table.tally.unsent
 
 -- such a client, with lines to send that can be written
 pub record IsPlainSends (s : Sends) : Type 0 where
@@ -181,6 +192,7 @@ pub standard_kind : (c : Command) → is_abort (Ok c) ≡ false → false ≡ is
 standard_kind command.StartSession h = refl
 standard_kind command.EndSession h = refl
 standard_kind command.ClearAllErrors h = refl
+standard_kind command.IsHomed h = refl
 standard_kind command.Home h = refl
 standard_kind command.OnPtMeasReport h = refl
 standard_kind (command.GoTo p) h = refl
@@ -228,7 +240,7 @@ sends_by c (p ∷ ps) (Some n) h a b within =
 
 -- what it sends of its plan can be written, and it stays plain
 pub plain_sent : (c : Client) → IsPlainClient c → IsPlainSends (client_sent c)
-plain_sent c h = sends_by c c.unsent (next_number Std c.table.standard c.drawn) h h.unsent h.no_abort
+plain_sent c h = sends_by c c.table.tally.unsent (next_number Std c.table.standard c.drawn) h h.unsent h.no_abort
     (λ n e. number_below Std c.table.standard c.drawn 9999 n h.drawn e)
 
 aborts_by : (c : Client) (number : Option ℕ) → IsPlainClient c → ((n : ℕ) → number ≡ Some n → (1 ≤ n) × (n ≤ 9999))
@@ -255,15 +267,38 @@ pub plain_aborted : (c : Client) → IsPlainClient c → IsPlainSends (client_ab
 plain_aborted c h = aborts_by c (next_number Event c.table.event c.event_drawn) h
     (λ n e. number_below Event c.table.event c.event_drawn 9999 n h.event_drawn e)
 
-hears_plain : (c : Client) (t : Tag) (m : Mark) (r : Result Table Cause) → IsPlainClient c → IsPlainClient (client_hears c t m r)
-hears_plain c t m (Ok b) h = record {
+-- commands that can be written and are no aborts
+abbrev AreSendable : List Planned → Type 0
+AreSendable ps = HaveArguments ps × HasNoAbort ps
+
+-- where a reply has its place, what it leaves unsent are such
+abbrev LeavesSendable : Result Table Cause → Type 0
+LeavesSendable (Ok b) = AreSendable b.tally.unsent
+LeavesSendable (Err cause) = Unit {0}
+
+standard_leaves : (ws : List Wanted) (b : Table) (r : Heard) → AreSendable b.tally.unsent → LeavesSendable (heard_standard ws b r)
+standard_leaves ws b (Ok (hs, effect)) h = tallied_leaves ws effect b.tally AreSendable h
+    (λ ps told s. (passed_arguments told ps s.0, passed_no_abort told ps s.1))
+standard_leaves ws b (Err cause) h = tt
+
+event_leaves : (b : Table) (r : Heard) → AreSendable b.tally.unsent → LeavesSendable (heard_event b r)
+event_leaves b (Ok (hs, effect)) h = h
+event_leaves b (Err cause) h = tt
+
+leaves_on : (ws : List Wanted) (b : Table) (t : Tag) (m : Mark) → AreSendable b.tally.unsent → LeavesSendable (heard_on ws b t m)
+leaves_on ws b (Std n) m h = standard_leaves ws b (heard_in (not b.tally.failed) b.standard (Std n) m) h
+leaves_on ws b (Event n) m h = event_leaves b (heard_in true b.event (Event n) m) h
+
+hears_plain : (c : Client) (t : Tag) (m : Mark) (r : Result Table Cause) → IsPlainClient c → LeavesSendable r
+    → IsPlainClient (client_hears c t m r)
+hears_plain c t m (Ok b) h leaves = record {
   program = h.program;
   drawn = h.drawn;
   event_drawn = h.event_drawn;
-  unsent = h.unsent;
-  no_abort = h.no_abort;
+  unsent = leaves.0;
+  no_abort = leaves.1;
 }
-hears_plain c t m (Err cause) h = record {
+hears_plain c t m (Err cause) h leaves = record {
   program = h.program;
   drawn = h.drawn;
   event_drawn = h.event_drawn;
@@ -278,6 +313,7 @@ plain_read c t m h = go (tag_is t (Event 0))
     go : (b : Bool) → IsPlainClient (cond b c (client_hears c t m (heard_on c.program.features c.table t m)))
     go true = h
     go false = hears_plain c t m (heard_on c.program.features c.table t m) h
+        (leaves_on c.program.features c.table t m (h.unsent, h.no_abort))
 
 -- and where it resumes measuring
 pub plain_resumed : (c : Client) → IsPlainClient c → IsPlainClient (client_resumed c)

@@ -11,6 +11,8 @@ use Rattle.dme_line.specs.Words.{is_word}
 use Rattle.dme_line.specs.Tokens.{Token, tokens}
 use Rattle.dme_line.specs.Tags.{written_tag, IsTag, IsNumbered, is_event_tag}
 use Rattle.dme_line.specs.Kinds.{kind_name, is_event_kind}
+use Rattle.dme_line.specs.Arguments.{IsOneWord}
+use Rattle.dme_line.specs.Homed.{homed_digit, IsHomedCall, IsHomedText, ReadsHomed}
 use Rattle.dme_line.specs.Points.{point_tokens, HasCoordinates, IsPointText, ReadsPoint}
 use Rattle.dme_line.specs.CommandText.{IsTagged, is_name_part, Begins, ReadsCommand}
 use Rattle.dme_line.specs.Responses.{are_spaces, IsMarkText, IsResponseLine, ReadsResponse}
@@ -26,13 +28,16 @@ use Rattle.dme_line.specs.declared.responses.Mark.TheVariants as mark
 use Rattle.dme_line.specs.declared.responses.Response.{Response}
 use Rattle.dme_line.specs.declared.responses.NotResponse.{NotResponse}
 use Rattle.dme_line.specs.declared.points.NotPoint.{NotPoint}
+use Rattle.dme_line.specs.declared.homed.NotHomedText.{NotHomedText}
 use Rattle.dme_line.proofs.TagLemmas.{one_tag, tag_numbered}
 use Rattle.dme_line.proofs.NameCutLemmas.{name_cut}
 use Rattle.dme_line.proofs.CommandLemmas.{SaysHere, says_here}
+use Rattle.dme_line.proofs.HomedLemmas.{CallHere, call_here, call_from}
+use Rattle.dme_line.proofs.ToolLemmas.{same_word}
 use Rattle.protocol_model.specs.Lines.{Readers, AreReaders}
 use Rattle.protocol_model.proofs.table.Basics.{if_cases}
 use Rattle.protocol_model.proofs.written_lines.Deciding.{Decided, decided_by, both, test, same_bytes, shapes, words, first_of, others_of}
-use Rattle.protocol_model.proofs.written_lines.Deciding.{filled, filled_of, has_shape, Length, length_is, Saying, saying}
+use Rattle.protocol_model.proofs.written_lines.Deciding.{filled, filled_of, has_shape, Length, length_is, OneWord, one_word, Saying, saying}
 
 -- ---- tags
 
@@ -242,7 +247,7 @@ named_one name (k ∷ ks) (inr h) = named_one name ks h
 
 abbrev all_kinds : List Kind
 all_kinds = kind.StartSession ∷ kind.EndSession ∷ kind.ClearAllErrors ∷ kind.Home ∷ kind.OnPtMeasReport ∷ kind.GoTo ∷ kind.PtMeas
-    ∷ kind.ChangeTool ∷ kind.SetCsyTransformation ∷ kind.SetCoordSystem ∷ kind.AbortE ∷ []
+    ∷ kind.ChangeTool ∷ kind.SetCsyTransformation ∷ kind.SetCoordSystem ∷ kind.AbortE ∷ kind.IsHomed ∷ []
 
 among_all : (name : List ℕ) (k : Kind) → is_word (kind_name k) name ≡ true → IsOneOf name all_kinds
 among_all name kind.StartSession e = inl e
@@ -256,6 +261,7 @@ among_all name kind.ChangeTool e = inr (inr (inr (inr (inr (inr (inr (inl e)))))
 among_all name kind.SetCsyTransformation e = inr (inr (inr (inr (inr (inr (inr (inr (inl e))))))))
 among_all name kind.SetCoordSystem e = inr (inr (inr (inr (inr (inr (inr (inr (inr (inl e)))))))))
 among_all name kind.AbortE e = inr (inr (inr (inr (inr (inr (inr (inr (inr (inr (inl e))))))))))
+among_all name kind.IsHomed e = inr (inr (inr (inr (inr (inr (inr (inr (inr (inr (inr (inl e)))))))))))
 
 -- the line has a tag and a name
 named : (line : List ℕ) (t : Tag) (name rest : List ℕ) → Begins line t name rest → CommandRead line
@@ -497,13 +503,82 @@ point_reading text = go (spelled_is text)
     go (inl s) = record { result = Ok s.point; reads = s.is }
     go (inr none) = record { result = Err (record {}); reads = λ p h. none (record { point = p; is = h }) }
 
--- ---- all three
+-- ---- answers to IsHomed
+
+record HomedRead (text : List ℕ) : Type 0 where
+  pub result : Result Bool NotHomedText
+  pub reads : ReadsHomed text result
+
+record Digit (text : List ℕ) : Type 0 where
+  pub homed : Bool
+  pub is : text ≡ homed_digit homed
+
+digit_is_said : (text : List ℕ) → Decided (Digit text)
+digit_is_said text = go (same_bytes text (homed_digit true)) (same_bytes text (homed_digit false))
+  where
+    neither : (text ≡ homed_digit true → ⊥) → (text ≡ homed_digit false → ⊥) → (b : Bool) → text ≡ homed_digit b → ⊥
+    neither one zero true e = one e
+    neither one zero false e = zero e
+
+    go : Decided (text ≡ homed_digit true) → Decided (text ≡ homed_digit false) → Decided (Digit text)
+    go (inl e) zero = inl (record { homed = true; is = e })
+    go (inr one) (inl e) = inl (record { homed = false; is = e })
+    go (inr one) (inr zero) = inr (λ d. neither one zero d.homed d.is)
+
+record Call (text : List ℕ) : Type 0 where
+  pub homed : Bool
+  pub is : IsHomedCall text homed
+
+call_is : (text : List ℕ) → Decided (Call text)
+call_is text = go (test (is_word (kind_name kind.IsHomed) name)) (one_word (tokens rest))
+  where
+    name : List ℕ
+    name = take (prefix_len is_name_part text) text
+
+    rest : List ℕ
+    rest = drop (prefix_len is_name_part text) text
+
+    here : (c : Call text) → CallHere name rest c.homed
+    here c = call_here text name rest c.homed (name_cut text) c.is
+
+    word_is : (w : OneWord (tokens rest)) (c : Call text) → w.word ≡ homed_digit c.homed
+    word_is w c = same_word (tokens rest) w.word (homed_digit c.homed) w.spelled (here c).spelled
+
+    told : is_word (kind_name kind.IsHomed) name ≡ true → (w : OneWord (tokens rest)) → Decided (Digit w.word) → Decided (Call text)
+    told known w (inr none) = inr (λ c. none (record { homed = c.homed; is = word_is w c }))
+    told known w (inl d) = inl (record {
+      homed = d.homed;
+      is = call_from text name rest d.homed (name_cut text) (record {
+        known = known;
+        spelled = subst (λ (x : List ℕ). IsOneWord (tokens rest) x) d.is w.spelled;
+      });
+    })
+
+    go : Decided (is_word (kind_name kind.IsHomed) name ≡ true) → Decided (OneWord (tokens rest)) → Decided (Call text)
+    go (inr other) word = inr (λ c. other (here c).known)
+    go (inl known) (inr none) = inr (λ c. none (record { word = homed_digit c.homed; spelled = (here c).spelled }))
+    go (inl known) (inl w) = told known w (digit_is_said w.word)
+
+homed_reading : (text : List ℕ) → HomedRead text
+homed_reading text = go (digit_is_said text) (call_is text)
+  where
+    neither : (Digit text → ⊥) → (Call text → ⊥) → (b : Bool) → IsHomedText text b → ⊥
+    neither no_digit no_call b (inl e) = no_digit (record { homed = b; is = e })
+    neither no_digit no_call b (inr h) = no_call (record { homed = b; is = h })
+
+    go : Decided (Digit text) → Decided (Call text) → HomedRead text
+    go (inl d) call = record { result = Ok d.homed; reads = inl d.is }
+    go (inr no_digit) (inl c) = record { result = Ok c.homed; reads = inr c.is }
+    go (inr no_digit) (inr no_call) = record { result = Err (record {}); reads = neither no_digit no_call }
+
+-- ---- all four
 
 abbrev some_readers : Readers
 some_readers = record {
   command = λ line. (command_reading line).result;
   response = λ line. (response_reading line).result;
   point = λ text. (point_reading text).result;
+  homed = λ text. (homed_reading text).result;
 }
 
 readers_are : AreReaders some_readers
@@ -511,6 +586,7 @@ readers_are = record {
   command = λ line. (command_reading line).reads;
   response = λ line. (response_reading line).reads;
   point = λ text. (point_reading text).reads;
+  homed = λ text. (homed_reading text).reads;
 }
 
 -- there are readers that read as the interface says

@@ -1,5 +1,5 @@
 -- Lines that can be written: their bytes are lines, and they read back.
-use Rattle.std.proofs.Common.{◌≡◌, ℕ, ◌≤◌, List, [], ◌∷◌, ◌++◌, refl, ◌∙◌, ap, arith, Ok, unsigned_abs, ℤ, ◌-ℤ◌, neg_ℤ}
+use Rattle.std.proofs.Common.{◌≡◌, ℕ, ◌≤◌, Bool, List, [], ◌∷◌, ◌++◌, refl, ◌∙◌, ap, arith, Ok, unsigned_abs, ℤ, ◌-ℤ◌, neg_ℤ}
 use Rattle.std.proofs.lemmas.Int.{ints}
 use Rattle.fixed_um.specs.Limits.{volume_limit, wire_limit}
 use Rattle.fixed_um.specs.Points.{IsInVolume, point_difference, point_opposite}
@@ -7,8 +7,9 @@ use Rattle.fixed_um.specs.declared.lengths.Point.{Point}
 use Rattle.dme_line.specs.Words.{IsWireText}
 use Rattle.dme_line.specs.Tags.{IsTag}
 use Rattle.dme_line.specs.Points.{written_point, IsOnWire}
+use Rattle.dme_line.specs.Homed.{written_homed}
 use Rattle.dme_line.specs.Written.{written_command, IsWritable}
-use Rattle.dme_line.specs.Responses.{written_response}
+use Rattle.dme_line.specs.Responses.{written_response, homed_response}
 use Rattle.dme_line.specs.Errors.{written_error, error_report}
 use Rattle.dme_line.specs.declared.tags.Tag.{Tag}
 use Rattle.dme_line.specs.declared.commands.Command.{Command}
@@ -19,14 +20,17 @@ use Rattle.dme_line.proofs.CommandBack.{command_reads_back}
 use Rattle.dme_line.proofs.OneCommand.{one_command_reading}
 use Rattle.dme_line.proofs.OneResponse.{one_response_reading}
 use Rattle.dme_line.proofs.PointLemmas.{one_point_reading}
+use Rattle.dme_line.proofs.HomedLemmas.{one_homed_reading, homed_reads_back, homed_writable}
 use Rattle.dme_line.proofs.ResponseBack.{response_reads_back, response-wire, point_reads_back, error-wire, error_reads_back}
 use Rattle.dme_line.proofs.WireTexts.{point-wire}
 use Rattle.line_framing.specs.Content.{IsLine, AreLines, line_bytes}
 use Rattle.line_framing.proofs.Streams.{line_bytes-append}
 use Rattle.protocol_model.specs.Replies.{Reply}
 use Rattle.protocol_model.specs.Lines.{command_text, reply_text, command_texts, reply_texts, command_bytes, reply_bytes, Readers}
-use Rattle.protocol_model.specs.Lines.{AreReaders}
+use Rattle.protocol_model.specs.Lines.{AreReaders, written_datum}
 use Rattle.protocol_model.specs.declared.lines.Line.{Line}
+use Rattle.protocol_model.specs.declared.held.Datum.{Datum}
+use Rattle.protocol_model.specs.declared.held.Datum.TheVariants as datum
 
 -- ---- commands
 
@@ -68,10 +72,15 @@ command_read r h t c w = one_command_reading (written_command t c) (r.command (w
 
 -- ---- replies
 
--- a reply can be written: its tag has room in its digits, and a point that it gives is within the wire limit
+-- data can be written: a point that is within the wire limit, and whether the machine is homed
+abbrev pub IsWritableDatum : Datum → Type 0
+IsWritableDatum (datum.Point p) = IsOnWire p
+IsWritableDatum (datum.Homed homed) = Unit {0}
+
+-- a reply can be written: its tag has room in its digits, and the data that it gives can be written
 abbrev pub IsWritableReply : Reply → Type 0
 IsWritableReply (Reply.Ack t) = IsTag t
-IsWritableReply (Reply.Given t p) = IsTag t × IsOnWire p
+IsWritableReply (Reply.Given t d) = IsTag t × IsWritableDatum d
 IsWritableReply (Reply.Done t) = IsTag t
 IsWritableReply (Reply.Error t code name) = IsTag t
 
@@ -88,14 +97,15 @@ replies_join (x ∷ xs) ys h g = (h.0, replies_join xs ys h.1 g)
 -- the response that a reply is written as
 abbrev pub response_of : Reply → Response
 response_of (Reply.Ack t) = record { tag = t; mark = mark.Ack }
-response_of (Reply.Given t p) = record { tag = t; mark = mark.Given (written_point p) }
+response_of (Reply.Given t d) = record { tag = t; mark = mark.Given (written_datum d) }
 response_of (Reply.Done t) = record { tag = t; mark = mark.Done }
 response_of (Reply.Error t code name) = record { tag = t; mark = mark.Error (error_report code name) }
 
 reply_wire : (r : Reply) → IsWritableReply r → IsWireText 200 (reply_text r)
 reply_wire (Reply.Ack t) h = response-wire (record { tag = t; mark = mark.Ack }) (record { tagged = h; texts = tt })
-reply_wire (Reply.Given t p) h = response-wire (record { tag = t; mark = mark.Given (written_point p) })
+reply_wire (Reply.Given t (datum.Point p)) h = response-wire (record { tag = t; mark = mark.Given (written_point p) })
     (record { tagged = h.0; texts = wire_weaker 49 192 (written_point p) (omega arith) (point-wire p h.1) })
+reply_wire (Reply.Given t (datum.Homed homed)) h = response-wire (homed_response t homed) (homed_writable t homed h.0)
 reply_wire (Reply.Done t) h = response-wire (record { tag = t; mark = mark.Done }) (record { tagged = h; texts = tt })
 reply_wire (Reply.Error t code name) h = wire_weaker 80 200 (written_error t code name) (omega arith) (error-wire t code name)
 
@@ -119,7 +129,7 @@ response_back r h x t = one_response_reading (written_response x) (r.response (w
 -- a reply that can be written is read back as the response it is written as
 pub reply_read : (r : Readers) → AreReaders r → (x : Reply) → IsWritableReply x → r.response (reply_text x) ≡ Ok (response_of x)
 reply_read r h (Reply.Ack t) w = response_back r h (record { tag = t; mark = mark.Ack }) w
-reply_read r h (Reply.Given t p) w = response_back r h (record { tag = t; mark = mark.Given (written_point p) }) w.0
+reply_read r h (Reply.Given t d) w = response_back r h (record { tag = t; mark = mark.Given (written_datum d) }) w.0
 reply_read r h (Reply.Done t) w = response_back r h (record { tag = t; mark = mark.Done }) w
 reply_read r h (Reply.Error t code name) w =
     one_response_reading (written_error t code name) (r.response (written_error t code name))
@@ -130,6 +140,11 @@ reply_read r h (Reply.Error t code name) w =
 pub point_read : (r : Readers) → AreReaders r → (p : Point) → IsOnWire p → r.point (written_point p) ≡ Ok p
 point_read r h p w = one_point_reading (written_point p) (r.point (written_point p)) (Ok p) (h.point (written_point p))
     (point_reads_back p w)
+
+-- whether the machine is homed is read back as it was written
+pub homed_read : (r : Readers) → AreReaders r → (homed : Bool) → r.homed (written_homed homed) ≡ Ok homed
+homed_read r h homed = one_homed_reading (written_homed homed) (r.homed (written_homed homed)) (Ok homed) (h.homed (written_homed homed))
+    (homed_reads_back homed)
 
 -- ---- points
 

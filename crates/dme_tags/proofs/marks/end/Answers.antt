@@ -1,7 +1,9 @@
+use Rattle.std.proofs.Common.{ap}
 use Rattle.std.proofs.lemmas.Result.{err_from_is_err_and}
 use Rattle.protocol_model.specs.Replies.{Mark}
-use Rattle.dme_tags.specs.Answers.{effect_of}
+use Rattle.dme_tags.specs.Answers.{effect_of, effect_heard}
 use Rattle.dme_tags.proofs.Places.{ended_at, front_at, refused_at}
+use Rattle.dme_tags.proofs.Fitting.{data_heard, fit_heard}
 use Rattle.dme_tags.proofs.marks.end.Goals as goal
 
 pub returns-in_err-index-clause-refused : goal.returns-in_err-index-clause-refused
@@ -28,3 +30,9 @@ returns-clause-in_order c =
     let at = rw c.deref.ensures.value at c.in_ok-index.ensures.found in
     let front = rw c.deref-2.ensures.value at c.is_front.ensures in
     λ counted. front_at c.args.front _ _ _ _ _ at front (c.in_ok-ended.ensures.counted counted)
+
+pub returns-clause-fit : goal.returns-clause-fit
+returns-clause-fit c = fit_heard c.args.front _ _ c.args.tag Mark.Done (effect_of c.in_ok-ended.ended) (returns-clause-ok c)
+
+pub returns-clause-data : goal.returns-clause-data
+returns-clause-data c = data_heard c.args.front _ c.args.tag c.in_ok-ended.ended (ap effect_heard (returns-clause-ok c))

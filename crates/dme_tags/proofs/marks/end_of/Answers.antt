@@ -3,6 +3,7 @@ use Rattle.std.proofs.lemmas.Result.{err_from_is_err_and}
 use Rattle.protocol_model.specs.Replies.{Mark}
 use Rattle.dme_tags.specs.Answers.{effect_of, effect_heard}
 use Rattle.dme_tags.proofs.Places.{ended_at, refused_at}
+use Rattle.dme_tags.proofs.Fitting.{data_heard}
 use Rattle.dme_tags.proofs.marks.end_of.Goals as goal
 
 pub returns-in_err-index-clause-refused : goal.returns-in_err-index-clause-refused
@@ -20,3 +21,6 @@ pub returns-clause-ok : goal.returns-clause-ok
 returns-clause-ok c =
     ap effect_heard (ended_at c.args.front _ _ Mark.Done _ _ (effect_of c.in_ok-ended.ended) _ c.in_ok-index.ensures.found
     c.is_front.ensures (c.in_ok-ended.ensures.ok _))
+
+pub returns-clause-data : goal.returns-clause-data
+returns-clause-data c = data_heard c.args.front _ c.args.tag c.in_ok-ended.ended (returns-clause-ok c)

@@ -1,6 +1,8 @@
+use Rattle.std.proofs.Common.{true}
 use Rattle.std.proofs.lemmas.Result.{err_from_is_err_and}
 use Rattle.protocol_model.specs.Replies.{Mark}
 use Rattle.dme_tags.proofs.Places.{failed_at}
+use Rattle.dme_tags.proofs.Fitting.{fit_heard}
 use Rattle.dme_tags.proofs.marks.fail.Goals as goal
 
 pub returns-in_err-index-clause-refused : goal.returns-in_err-index-clause-refused
@@ -10,3 +12,6 @@ returns-in_err-index-clause-refused c =
 
 pub returns-clause-ok : goal.returns-clause-ok
 returns-clause-ok c = rw (c.is_failed.ensures, ← c.deref.ensures.value) (λ front. failed_at front _ _ _ _ c.in_ok-index.ensures.found)
+
+pub returns-clause-fit : goal.returns-clause-fit
+returns-clause-fit c = fit_heard true _ _ c.args.tag Mark.Error _ (returns-clause-ok c true)

@@ -3,6 +3,7 @@ use Rattle.std.proofs.lemmas.Result.{err_from_is_err_and}
 use Rattle.protocol_model.specs.Replies.{Mark}
 use Rattle.protocol_model.specs.Open.{Effect}
 use Rattle.dme_tags.proofs.Places.{changed_at, refused_at}
+use Rattle.dme_tags.proofs.Fitting.{fit_heard}
 use Rattle.dme_tags.proofs.marks.receive.Goals as goal
 
 pub returns-in_err-index-clause-refused : goal.returns-in_err-index-clause-refused
@@ -20,3 +21,6 @@ pub returns-clause-ok : goal.returns-clause-ok
 returns-clause-ok c =
     rw (← c.deref.ensures.value) (λ front. changed_at front _ _ Mark.Ack _ _ _ Effect.Quiet _ c.in_ok-index.ensures.found refl
     (c.in_ok-next.ensures.ok true _))
+
+pub returns-clause-fit : goal.returns-clause-fit
+returns-clause-fit c = fit_heard true _ _ c.args.tag Mark.Ack Effect.Quiet (returns-clause-ok c true)

@@ -16,6 +16,9 @@ returns-clause-one_point_report c = refl
 pub returns-clause-nine_rounds : goal.returns-clause-nine_rounds
 returns-clause-nine_rounds c = refl
 
+pub returns-clause-ten_rounds : goal.returns-clause-ten_rounds
+returns-clause-ten_rounds c = refl
+
 pub returns-clause-widest_window : goal.returns-clause-widest_window
 returns-clause-widest_window c = refl
 

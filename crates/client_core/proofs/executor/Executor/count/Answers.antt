@@ -11,10 +11,10 @@ pub returns-in-Ok : goal.returns-in-Ok
 returns-in-Ok c = (
   c.settle.ensures ∙ (counted_read c.self.inside.program c.self.inside.window c.self.inside.on c.self.inside.state
       c.self.inside.cause
-      c.self.inside.commands c.complete.new.self c.self.inside.progress c.count.new.self c.self.inside.sent c.self.inside.abort c.args.tag _
+      c.self.inside.commands c.complete.new.self c.self.inside.progress c.count.new.self c.self.inside.abort c.args.tag _
       c.args.kind c.args.given.now c.args.ends
       c.requires.standard c.in-Ok.ensures.ok (ap (λ x. effect_heard (heard (opened_of x) c.args.tag Mark.Done)) c.self.view_is
-      ∙ c.requires.counts) (search rules) c.count.ensures.plan c.count.ensures.connection (search rules)
+      ∙ c.requires.counts) (search rules) c.count.ensures.connection (search rules)
       ∙ ap (λ x. client_read x c.args.tag Mark.Done) c.self.view_is),
   tt,
 )

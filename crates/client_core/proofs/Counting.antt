@@ -1,0 +1,34 @@
+-- A counted command is what `protocol_model` counts.
+use Rattle.std.proofs.Common.{◌≡◌, suc, Bool, ◌||◌, List, [], ◌∷◌, ◌++◌, drop, Option, sym, ap}
+use Rattle.dme_line.specs.declared.commands.Kind.{Kind}
+use Rattle.dmis_program.specs.declared.features.Wanted.{Wanted}
+use Rattle.protocol_model.specs.Client.{Tally, act_of, measured, counted_next, begins_session, tells_homed, passed_over}
+use Rattle.protocol_model.specs.declared.held.Datum.{Datum}
+use Rattle.protocol_model.specs.declared.plans.Planned.{Planned}
+use Rattle.client_core.specs.declared.progress.Progress.{Progress}
+use Rattle.client_core.specs.Progress.{tally_of, measured_so}
+
+-- the next command of the plan
+pub counted_is : (ws : List Wanted) (kind : Kind) (given : Option Datum) (p q : Progress) (planned : Planned) (rest : List Planned)
+    → drop p.todo p.plan.items ≡ planned ∷ rest
+    → ((y : Tally) → measured ws planned.does given (measured_so p.connection p.points p.features y)
+    ≡ measured_so p.connection q.points q.features y)
+    → q.connection ≡ p.connection → q.session ≡ (p.session || begins_session kind)
+    → drop q.todo q.plan.items ≡ passed_over (tells_homed kind given) rest
+    → drop q.unsent q.plan.items ≡ passed_over (tells_homed kind given) (drop p.unsent p.plan.items)
+    → q.counted.items ≡ p.counted.items ++ act_of planned.does given → q.completed ≡ suc p.completed
+    → (failed : Bool) → tally_of failed q ≡ counted_next ws kind given (tally_of failed p).todo (tally_of failed p)
+counted_is ws kind given p q planned rest first measures number session todo unsent acts completed failed =
+    rw (first, number, session, todo, unsent, acts, completed) (sym (measures (record (tally_of failed p) {
+      session = p.session || begins_session kind;
+      todo = passed_over (tells_homed kind given) rest;
+      unsent = passed_over (tells_homed kind given) (drop p.unsent p.plan.items);
+      counted = p.counted.items ++ act_of planned.does given;
+      completed = suc p.completed;
+    })))
+
+-- behind the whole plan nothing
+pub none_counted : (ws : List Wanted) (kind : Kind) (given : Option Datum) (p : Progress) → drop p.todo p.plan.items ≡ []
+    → (failed : Bool) → tally_of failed p ≡ counted_next ws kind given (tally_of failed p).todo (tally_of failed p)
+none_counted ws kind given p none failed =
+    ap (λ (l : List Planned). counted_next ws kind given l (tally_of failed p)) (sym none)

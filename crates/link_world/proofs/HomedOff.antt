@@ -1,0 +1,98 @@
+-- A server behind a list of its calls, off a connection: it is as it left that, and no act of it is on a later one.
+use Rattle.std.proofs.Common.{◌≡◌, ℕ, ◌<◌, ◌≤◌, Bool, true, false, cond, not, ◌&&◌, List, [], ◌∷◌, ◌++◌, length, refl, sym, ◌∙◌, ap, subst, arith}
+use Rattle.std.proofs.Common.{append-nil, Option, Some, None, Ok, Err}
+use Rattle.std.proofs.lemmas.Bool.{and_parts, ltb-true}
+use Rattle.dmis_program.specs.Meaning.{Meaning}
+use Rattle.dmis_program.specs.Programs.{IsProgram}
+use Rattle.contact_ledger.specs.declared.acts.Act.{Act}
+use Rattle.line_framing.specs.Next.{Front, next_of}
+use Rattle.protocol_model.specs.Lines.{Readers, AreReaders, reading_of}
+use Rattle.protocol_model.specs.Plan.{plan}
+use Rattle.protocol_model.specs.Server.{Server}
+use Rattle.protocol_model.specs.Ends.{ServerEnd, front_served, serving_left}
+use Rattle.protocol_model.specs.World.{Link, run_of}
+use Rattle.protocol_model.specs.Undisturbed.{AreUndisturbed, AreFirstLines, followed, AreUpTo, met}
+use Rattle.protocol_model.specs.declared.events.Event.{Event}
+use Rattle.protocol_model.specs.declared.plans.Start.{Start}
+use Rattle.protocol_model.proofs.invariant.Served.{up_to_above}
+use Rattle.protocol_model.proofs.invariant.Moves.{Moves, done_on, up_to_join, up_to_done, read_moves, turned_moves, machined_moves}
+use Rattle.protocol_model.proofs.undisturbed_run.UndisturbedRun.{homed_lines}
+use Rattle.server_core.specs.Calls.{Call, Accept, Feed, ReadOne, Turn, Machine, Leave, Restart, Sent, possible, done_by, behind_call}
+use Rattle.server_core.specs.Calls.{behind_calls, reached}
+use Rattle.server_core.specs.Steady.{IsOff}
+use Rattle.server_core.proofs.Reached.{reached_steady}
+
+-- no act is on a later connection than the last
+abbrev IsBehind : ServerEnd → Type 0
+IsBehind e = AreUpTo e.server.last e.server.ledger
+
+moved : (s t : Server) (acts : List Act) → Moves s t acts → AreUpTo s.last s.ledger → AreUpTo t.last t.ledger
+moved s t acts m h =
+    let all : AreUpTo s.last (s.ledger ++ done_on s.last acts) = up_to_join s.last s.ledger (done_on s.last acts) h (up_to_done s.last acts)
+    in
+    subst (λ (n : ℕ). AreUpTo n t.ledger) (sym m.last) (subst (λ (l : List (ℕ × Act)). AreUpTo s.last l) (sym m.ledger) all)
+
+front_behind : (readers : Readers) (e : ServerEnd) (f : Front) → IsBehind e → IsBehind (front_served readers e f)
+front_behind readers e (Ok None) h = h
+front_behind readers e (Ok (Some (line, rest))) h = moved e.server _ [] (read_moves e.server (reading_of (readers.command line))) h
+front_behind readers e (Err why) h = h
+
+done_behind : (readers : Readers) (call : Call) (e : ServerEnd) → possible call e ≡ true → IsBehind e → IsBehind (done_by readers call e)
+done_behind readers (Accept n) e may h =
+    let parts = and_parts _ _ may in
+    let numbers = and_parts _ _ parts.1 in
+    up_to_above e.server.last n e.server.ledger (later e.server.last n (ltb-true _ _ numbers.0)) h
+  where
+    later : (m n : ℕ) → m < n → m ≤ n
+    later m n lt = omega (arith, lt)
+done_behind readers (Feed bytes) e may h = h
+done_behind readers ReadOne e may h = front_behind readers e (next_of e.input.rest) h
+done_behind readers Turn e may h = let m = turned_moves e.server in moved e.server _ m.0 m.1 h
+done_behind readers (Machine ended) e may h = let m = machined_moves e.server ended in moved e.server _ m.0 m.1 h
+done_behind readers Leave e may h = h
+done_behind readers Restart e may h = h
+done_behind readers (Sent count) e may h = h
+
+call_behind : (readers : Readers) (call : Call) (e : ServerEnd) → IsBehind e → (b : Bool) → possible call e ≡ b
+    → IsBehind (cond b (done_by readers call e) e)
+call_behind readers call e h true may = done_behind readers call e may h
+call_behind readers call e h false may = h
+
+calls_behind : (readers : Readers) (calls : List Call) (e : ServerEnd) → IsBehind e → IsBehind (behind_calls readers calls e)
+calls_behind readers [] e h = h
+calls_behind readers (call ∷ calls) e h =
+    calls_behind readers calls (behind_call readers call e) (call_behind readers call e h (possible call e) refl)
+
+-- what a server that is on no connection would leave, it has left
+left_is : (e : ServerEnd) → e.server.on ≡ false → IsOff e → serving_left e ≡ e
+left_is e on off = sym (λ i. record {
+  server = record (e.server) {
+    on = on i;
+    session = off.session i;
+    frame = off.frame i;
+    stored = off.stored i;
+    error = off.error i;
+    running = off.running i;
+    waiting = off.waiting i;
+  };
+  input = off.input i;
+  out = off.out i;
+})
+
+-- behind its calls a server that is on no connection is as it left its last
+pub off_is_left : (readers : Readers) (rack : List (List ℕ)) (calls : List Call) → (reached readers rack calls).server.on ≡ false
+    → serving_left (reached readers rack calls) ≡ reached readers rack calls
+off_is_left readers rack calls off = left_is (reached readers rack calls) off ((reached_steady readers rack calls).off off)
+
+-- and where its machine is homed, it is not told to home it again
+pub homed_off_lines : (readers : Readers) → AreReaders readers → (rack : List (List ℕ)) (calls : List Call)
+    → (reached readers rack calls).server.homed ≡ true → (program : Meaning) (window : ℕ) (links : List Link) (events : List Event)
+    → length links ≡ (reached readers rack calls).server.last → IsProgram program → window ≤ 16 → AreUndisturbed events
+    → AreFirstLines (run_of readers events (met program window (reached readers rack calls) links)).written
+    (followed true (plan program 0 Start.NewConnection))
+homed_off_lines readers are rack calls homed program window links events made is few quiet =
+    homed_lines readers are program window (reached readers rack calls) links events is few (record {
+      homed = homed;
+      made = made;
+      ledger = calls_behind readers calls _ tt;
+    }) quiet

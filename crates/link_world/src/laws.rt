@@ -1,0 +1,38 @@
+// What follows for both ends from the contracts of their calls. Each function has laws for its contract and does nothing.
+
+ghost use Rattle.std.specs.Prelude.{◌≡◌, ◌≤◌, ℕ, List, false, length, true};
+ghost use Rattle.dmis_program.specs.Meaning.{Meaning};
+ghost use Rattle.dmis_program.specs.Programs.{IsProgram};
+ghost use Rattle.protocol_model.specs.Ends.{serving_left};
+ghost use Rattle.protocol_model.specs.Lines.{Readers, AreReaders};
+ghost use Rattle.protocol_model.specs.Plan.{plan};
+ghost use Rattle.protocol_model.specs.Undisturbed.{AreUndisturbed, AreFirstLines, followed, met};
+ghost use Rattle.protocol_model.specs.World.{Link, run_of};
+ghost use Rattle.protocol_model.specs.declared.events.Event.{Event as OneEvent};
+ghost use Rattle.protocol_model.specs.declared.plans.Start.TheVariants as Start;
+ghost use Rattle.server_core.specs.Calls.{Call, reached};
+
+/// A server whose machine is homed is not told to home it again. For every rack and every list of calls of a server from a new one, behind
+/// which it is on no connection and its machine is homed, every program and every window up to 16: let a new client come to it on the
+/// connection behind those that were made (`links`, with whatever bytes are left on them), and let nothing disturb that.
+///
+/// - `left`: this server is as it left its last connection, so the next one begins with it as it is;
+/// - `lines`: the bytes that the client writes there are the first lines of its plan without the homing, each whole with its CR LF, under
+///   the tags from 1 on (no command of that plan homes, by `protocol_model::homed_machines_are_not_homed_again`).
+///
+/// The events are the calls of both ends: each is, by their contracts, one function of `protocol_model`'s `Ends` (this profile).
+#[tactic(auto, using(crate::proofs::HomedOff::off_is_left, crate::proofs::HomedOff::homed_off_lines))]
+pub fn homed_servers_are_not_homed_again()
+    ensures left { (readers : Readers) (rack : List (List ℕ)) (calls : List Call)
+        → (reached readers rack calls).server.on ≡ false
+        → serving_left (reached readers rack calls) ≡ reached readers rack calls }
+    ensures lines { (readers : Readers) → AreReaders readers
+        → (rack : List (List ℕ)) (calls : List Call)
+        → (reached readers rack calls).server.homed ≡ true
+        → (program : Meaning) (window : ℕ) (links : List Link) (events : List OneEvent)
+        → length links ≡ (reached readers rack calls).server.last
+        → IsProgram program → window ≤ 16 → AreUndisturbed events
+        → AreFirstLines (run_of readers events
+        (met program window (reached readers rack calls) links)).written
+        (followed true (plan program 0 Start.NewConnection)) }
+{}
