@@ -1,0 +1,17 @@
+pub mod LineCuts
+pub mod PlainFields
+pub mod LineFields
+pub mod Leaves
+pub mod OpeningLines
+pub mod FeatureRuns
+pub mod FeatureShapes
+pub mod FeatureReads
+pub mod WrittenTexts
+pub mod FailedReads
+pub mod TextLines
+pub mod EntryWrites
+pub mod EntryLines
+pub mod ContactReads
+pub mod OneEntry
+pub mod ContactLaws
+pub mod ContactFronts

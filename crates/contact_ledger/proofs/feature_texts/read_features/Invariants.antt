@@ -1,0 +1,17 @@
+use Rattle.std.proofs.Common.{◌≡◌, ◌+◌, ◌≤◌, [], length, take, drop}
+use Rattle.contact_ledger.specs.Lines.{whole_lines}
+use Rattle.contact_ledger.specs.Places.{IsSound, Leads}
+use Rattle.contact_ledger.specs.declared.places.Place.TheVariants.{Start}
+use Rattle.contact_ledger.proofs.feature_texts.read_features.Given as goal
+
+-- the lines so far lead to the place with the features so far
+abbrev pub invariant-loop-line : goal.invariant-loop-line
+invariant-loop-line l = record {
+  left : drop l.number (whole_lines l.bytes) ≡ whole_lines l.rest;
+  read : Leads [] Start (take l.number (whole_lines l.bytes)) l.features l.place;
+  sound : IsSound l.features l.place;
+  count : l.number + length l.rest ≤ length l.bytes;
+}
+
+abbrev pub decreases-loop-line : goal.decreases-loop-line
+decreases-loop-line l = length l.rest

@@ -1,0 +1,15 @@
+use Rattle.std.proofs.Common.{◌≡◌, ◌++◌, drop}
+use Rattle.std.specs.List.{AllByRecursion}
+use Rattle.contact_ledger.specs.Lines.{text_of}
+use Rattle.contact_ledger.specs.FeatureTexts.{CanBeWritten, AreFeatures, lines_of_all}
+use Rattle.contact_ledger.specs.declared.openings.Version.TheVariants.{Second}
+use Rattle.contact_ledger.proofs.feature_writing.add_features.Given as goal
+
+-- what is written, and the lines that are left
+abbrev pub invariant-loop-feature : goal.invariant-loop-feature
+invariant-loop-feature l = record {
+  text : l.text.items ++ text_of (lines_of_all Second (drop l.feature-index l.features))
+      ≡ l.fn.text.items ++ text_of (lines_of_all Second l.features);
+  features : AreFeatures Second (drop l.feature-index l.features) → AreFeatures Second l.features;
+  owed : AllByRecursion CanBeWritten (drop l.feature-index l.features);
+}

@@ -1,0 +1,34 @@
+// The text of a list of features (this profile).
+
+ghost use Rattle.std.specs.Prelude.{◌≡◌, IfOk};
+ghost use Rattle.std.specs.List.{AllByRecursion};
+ghost use Rattle.contact_ledger.specs.Damage.{ReadsText};
+ghost use Rattle.contact_ledger.specs.FeatureTexts.{CanBeWritten, IsFeatures, IsDamagedFeatures};
+
+use crate::faults::TextFault;
+use crate::feature_ledger::FeatureLedger;
+use crate::forms::Forms;
+use crate::lines::cut_line;
+use crate::places::{Place, behind_line};
+use std::alloc::Global;
+
+/// The features of a text of version 1 or 2, which its first line tells; those of version 1 have no origin. A feature counts where its
+/// `END` line has its LF. What stands behind the last LF is not looked at, and a text without any line has no features.
+///
+/// The first line that cannot stand in its place is answered with its number.
+pub fn read_features(alloc: Global, bytes: &[u8]) -> Result<FeatureLedger, TextFault>
+    ensures read { ReadsText (IsFeatures bytes.now) (IsDamagedFeatures bytes.now) result }
+    ensures writable { IfOk result (AllByRecursion CanBeWritten) }
+{
+    let mut forms = Forms::new(alloc)?;
+    let mut features = FeatureLedger::new(alloc);
+    let mut place = Place::Start;
+    let mut number = 0;
+    let mut rest = bytes;
+    while let Some((line, after)) = cut_line(rest) {
+        number += 1;
+        place = behind_line(alloc, &mut forms, &mut features, place, number, line)?;
+        rest = after;
+    }
+    Ok(features)
+}
