@@ -1,0 +1,53 @@
+// The audit.
+
+ghost use Rattle.std.specs.Prelude.{◌≡◌, ◌↔◌, IfOk};
+ghost use Rattle.protocol_model.specs.Claims.{contacts, AreRuns, Sound};
+ghost use Rattle.ledger_audit.specs.Verdicts.{AreLeast, AreFewestUnsound, IfStarts, IfNoRun, TellsStarts, TellsNoRun};
+
+use crate::contacts::contacts_of;
+use crate::runs::first_run;
+use crate::verdicts::{Starts, Verdict};
+use contact_ledger::{Feature, ServerLedger};
+use dmis_program::Program;
+use std::alloc::{AllocError, Global};
+
+/// Whether features are the first ones of a program, each measured by an unbroken run of a server's contacts on one connection, none of
+/// which begins before the one before it has ended. A run's contacts have the targets, directions, tools and frames of the feature's
+/// touches in the program, and reported its points. Where a feature comes from is not looked at.
+///
+/// The starts are those of the runs, each the least that it can be, where every feature has its run. Otherwise the count of the first
+/// features that have none together, the fewest of which this is so; a feature that the program does not have has no run. Only want of
+/// memory is an `Err`.
+pub fn audit(
+    alloc: Global,
+    program: &Program,
+    features: &[Feature],
+    ledger: &ServerLedger,
+) -> Result<Verdict, AllocError>
+    ensures runs { IfOk result (λ v. IfStarts v
+        (λ s. AreRuns program.now.features features.now s 0 (contacts ledger.now))) }
+    ensures least { IfOk result (λ v. IfStarts v
+        (AreLeast program.now.features features.now (contacts ledger.now))) }
+    ensures no_run { IfOk result (λ v. IfNoRun v
+        (AreFewestUnsound program.now.features features.now ledger.now)) }
+    ensures sound { IfOk result (λ v. TellsStarts v
+        ↔ Sound program.now.features features.now ledger.now) }
+    ensures unsound { IfOk result (λ v. TellsNoRun v
+        ↔ (Sound program.now.features features.now ledger.now → ⊥)) }
+{
+    let contacts = contacts_of(alloc, ledger.acts())?;
+    let wanted = program.features();
+    let mut starts = Starts::new(alloc);
+    let mut least = 0;
+    for (index, feature) in features.iter().enumerate() {
+        if index >= wanted.len() {
+            return Ok(Verdict::NoRun(index + 1));
+        }
+        let Some(start) = first_run(&wanted[index], feature, &contacts, least) else {
+            return Ok(Verdict::NoRun(index + 1));
+        };
+        starts.push(start as u64)?;
+        least = start + feature.points.len();
+    }
+    Ok(Verdict::Starts(starts))
+}

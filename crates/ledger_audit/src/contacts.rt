@@ -1,0 +1,66 @@
+// The contacts of a ledger.
+
+ghost use Rattle.std.specs.Prelude.{◌≡◌, IfOk};
+ghost use Rattle.protocol_model.specs.Claims.{contacts};
+
+use contact_ledger::Act;
+use fixed_um::{Dir, Frame, Name, Point};
+use std::alloc::{AllocError, Global};
+use std::marker::Model;
+
+/// A contact that a server has made: on which connection, what was asked for, the tool and the frame of the touch, and the point that
+/// was reported.
+#[derive(Drop)]
+pub(crate) struct Contact<'l> {
+    pub connection: u64,
+    pub target: Point,
+    pub dir: Option<Dir>,
+    pub tool: &'l Name,
+    pub frame: Frame,
+    pub point: Point,
+}
+
+impl<'l> Model for Contact<'l> {
+    ghost use Rattle.protocol_model.specs.Claims.{Made};
+
+    ghost Value = { Made };
+
+    ghost view = { λ c. record {
+      connection = c.connection;
+      target = c.target;
+      dir = c.dir;
+      tool = c.tool.now;
+      frame = c.frame;
+      point = c.point;
+    } };
+}
+
+/// The contacts of a ledger, in order. Only want of memory is an `Err`.
+pub(crate) fn contacts_of<'l>(
+    alloc: Global,
+    acts: &'l [(u64, Act)],
+) -> Result<Vec<Contact<'l>>, AllocError>
+    ensures { IfOk result (λ made. made.items ≡ contacts acts.now) }
+{
+    let mut made = Vec::new(alloc);
+    for (connection, act) in acts {
+        if let Act::Contact {
+            target,
+            dir,
+            tool,
+            frame,
+            point,
+        } = act
+        {
+            made.push(Contact {
+                connection: *connection,
+                target: *target,
+                dir: *dir,
+                tool,
+                frame: *frame,
+                point: *point,
+            })?;
+        }
+    }
+    Ok(made)
+}
