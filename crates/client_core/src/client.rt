@@ -2,8 +2,8 @@
 
 ghost use Rattle.std.specs.Prelude.{◌≡◌, ◌≢◌, ◌↔◌, ◌⊎◌, ◌≤◌, ◌+◌, ◌&&◌, not, nat_le, true, false, None, Some, Ok, Err, length, IsTrue, IsOk, IfOk, IfErr, OnOk, OnErr, IfSome, IsSome, IsNone, is_some, MatchOption};
 ghost use Rattle.std.specs.Result.{IsErrOf};
-ghost use Rattle.fixed_um.specs.Calls.{Leads};
-ghost use Rattle.contact_ledger.specs.Ledgers.{connection_most};
+ghost use Rattle.fixed_um.specs.Calls.{Leads, Shows};
+ghost use Rattle.contact_ledger.specs.Ledgers.{HaveOrigins, connection_most};
 ghost use Rattle.line_framing.specs.Next.{next_of};
 ghost use Rattle.line_framing.specs.Framing.{IsLineDue};
 ghost use Rattle.protocol_model.specs.Open.{count_open, is_asking};
@@ -327,9 +327,9 @@ impl Client {
         self.executor.state()
     }
 
-    /// The completed features.
+    /// The completed features. Each has an origin as a list of features owes it.
     pub fn features(&self) -> &[Feature]
-        ensures { result.now ≡ self.now.client.table.tally.features }
+        ensures { Shows result.now self.now.client.table.tally.features HaveOrigins }
     {
         self.executor.features()
     }

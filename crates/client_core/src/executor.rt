@@ -1,6 +1,8 @@
 // What a client keeps besides the bytes of its connection.
 
 ghost use Rattle.std.specs.Prelude.{◌≡◌, ◌≤◌, ◌&&◌, length, None, Some, OnOk, OnErr, IfOk, MatchOption, is_some, true, false};
+ghost use Rattle.fixed_um.specs.Calls.{Shows};
+ghost use Rattle.contact_ledger.specs.Ledgers.{HaveOrigins};
 ghost use Rattle.protocol_model.specs.Client.{new_client, client_left, client_restarted, due, faulted, is_whole, first_state, last_state, state_behind};
 ghost use Rattle.protocol_model.specs.Open.{count_open};
 ghost use Rattle.protocol_model.specs.Client.{may_abort, may_resume};
@@ -247,7 +249,7 @@ impl Executor {
     }
 
     pub(crate) fn features(&self) -> &[Feature]
-        ensures { result.now ≡ self.now.table.tally.features }
+        ensures { Shows result.now self.now.table.tally.features HaveOrigins }
     {
         self.progress.features.list()
     }

@@ -1,6 +1,6 @@
 -- The bytes that come to the client in a world.
 use Rattle.std.proofs.Common.{◌≡◌, ℕ, ◌-◌, ◌<◌, Bool, true, false, not, ◌&&◌, List, length, take, drop, slice_index_or, slice_set, sym, ◌∙◌}
-use Rattle.std.proofs.Common.{ap, subst, arith}
+use Rattle.std.proofs.Common.{ap, arith}
 use Rattle.std.proofs.lemmas.Bool.{and_from}
 use Rattle.protocol_model.specs.Ends.{ClientEnd, end_fed}
 use Rattle.protocol_model.specs.World.{World, Link, no_link, link_of, with_link, client_link, has_some, can, happens, moved_down}
@@ -11,7 +11,7 @@ use Rattle.server_core.specs.Serving.{Serving}
 use Rattle.link_world.specs.declared.connection.Connection.{Connection}
 use Rattle.link_world.specs.Links.{Linked, link_of_connection, links_of, fewer_down, seen, with_world, IsReached}
 use Rattle.link_world.proofs.Linking.{links_get, link_put}
-use Rattle.link_world.proofs.Reached.{reached_more, made}
+use Rattle.link_world.proofs.Reached.{made}
 use Rattle.link_world.proofs.ClientWriting.{awake}
 use Rattle.link_world.proofs.ClientReading.{faulted_same}
 

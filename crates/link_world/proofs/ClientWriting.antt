@@ -1,15 +1,11 @@
 -- What the client writes in a world joins the bytes of its connection.
 use Rattle.std.proofs.Common.{◌≡◌, ◌≢◌, ℕ, ◌-◌, ◌≤◌, ◌<◌, Bool, true, false, is_some, List, ◌++◌, length, slice_index_or, slice_set, refl}
-use Rattle.std.proofs.Common.{sym, ◌∙◌, ap, subst, arith, ◌⊎◌, inl, inr}
+use Rattle.std.proofs.Common.{sym, ◌∙◌, ap, arith}
 use Rattle.protocol_model.specs.Client.{due, may_abort}
 use Rattle.protocol_model.specs.Ends.{ClientEnd, end_sent, end_aborted}
-use Rattle.protocol_model.specs.World.{World, Link, link_of, with_link, client_link, can, happens, client_writes}
-use Rattle.protocol_model.specs.Typed.{World as Lined}
+use Rattle.protocol_model.specs.World.{Link, link_of, with_link, client_writes}
 use Rattle.protocol_model.specs.declared.events.Event.TheVariants as event
 use Rattle.protocol_model.specs.declared.states.State.{State}
-use Rattle.protocol_model.proofs.invariant.Holding.{Inv, IsOff, IsLive, IsAtRest}
-use Rattle.protocol_model.proofs.each_event.ClientWrites.{IsDue, due_is}
-use Rattle.protocol_model.proofs.each_event.ClientResumes.{never_off}
 use Rattle.protocol_model.proofs.whole_run.Carrying.{lined, IsCarried}
 use Rattle.protocol_model.proofs.whole_run.CarryingClient.{due_on, abort_on}
 use Rattle.client_core.specs.Clients.{is_faulted}
@@ -17,7 +13,7 @@ use Rattle.server_core.specs.Serving.{Serving}
 use Rattle.link_world.specs.declared.connection.Connection.{Connection}
 use Rattle.link_world.specs.Links.{Linked, link_of_connection, links_of, quiet_client, with_up, seen, with_world, IsReached}
 use Rattle.link_world.proofs.Linking.{links_same, link_put}
-use Rattle.link_world.proofs.Reached.{carried, reached_more, made, agree, never_faulted_behind}
+use Rattle.link_world.proofs.Reached.{carried, made, agree, never_faulted_behind}
 
 -- ---- where it may write it is on a connection
 

@@ -22,7 +22,7 @@ use Rattle.std.proofs.Common.{
 use Rattle.std.proofs.Common.{Result, Ok, Err}
 use Rattle.std.specs.Prelude.{OnOk, OnErr, IsErrAnd}
 use Rattle.fixed_um.specs.Calls.{Leads}
-use Rattle.protocol_model.specs.Lines.{Readers, AreReaders}
+use Rattle.protocol_model.specs.Lines.{Readers}
 use Rattle.protocol_model.specs.Ends.{ClientEnd, ServerEnd, end_fed, serving_fed}
 use Rattle.protocol_model.specs.World.{World, can, happens, has_some, is_line, client_writes, server_writes, moved_up, moved_down}
 use Rattle.protocol_model.specs.declared.events.Event.{Event}

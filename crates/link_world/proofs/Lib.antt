@@ -11,3 +11,14 @@ pub mod Undisturbed
 pub mod SameKind
 pub mod Events
 pub mod HomedOff
+pub mod Numbering
+pub mod ScheduleLines
+pub mod ScheduleNumbers
+pub mod EventLists
+pub mod EventsLeft
+pub mod AllBytes
+pub mod ServerWork
+pub mod WorkLists
+pub mod Thens
+pub mod RoundLists
+pub mod Instructions

@@ -1,27 +1,23 @@
 -- What the server answers in a world joins the bytes of its connection, and the bytes that come to it.
 use Rattle.std.proofs.Common.{◌≡◌, ℕ, ◌-◌, ◌<◌, Bool, true, false, not, ◌&&◌, is_none, List, ◌++◌, length, take, drop, slice_index_or}
-use Rattle.std.proofs.Common.{slice_set, refl, sym, ◌∙◌, ap, subst, arith, Option, Some, None, Ok, Err}
-use Rattle.line_framing.specs.Next.{Front, next_of}
-use Rattle.line_framing.specs.Framing.{IsLineDue}
+use Rattle.std.proofs.Common.{slice_set, sym, ◌∙◌, ap, subst, Option}
+use Rattle.line_framing.specs.Next.{next_of}
 use Rattle.line_framing.specs.declared.faults.FramingFault.{FramingFault}
-use Rattle.protocol_model.specs.Lines.{Readers, AreReaders}
 use Rattle.protocol_model.specs.Plan.{is_empty}
 use Rattle.protocol_model.specs.Server.{may_end}
-use Rattle.protocol_model.specs.Ends.{ClientEnd, ServerEnd, serving_fed, serving_read, front_served}
-use Rattle.protocol_model.specs.World.{World, Link, no_link, link_of, with_link, server_link, is_line, has_some, can, happens}
+use Rattle.protocol_model.specs.Ends.{ClientEnd, ServerEnd, serving_fed}
+use Rattle.protocol_model.specs.World.{Link, no_link, link_of, with_link, is_line, has_some, can}
 use Rattle.protocol_model.specs.World.{server_writes, moved_up}
-use Rattle.protocol_model.specs.declared.events.Event.{Event}
 use Rattle.protocol_model.specs.declared.events.Event.TheVariants as event
 use Rattle.protocol_model.specs.declared.lines.Line.{Line}
 use Rattle.protocol_model.specs.declared.lines.Waiting.{Waiting}
 use Rattle.protocol_model.specs.declared.machine.Outcome.{Outcome}
 use Rattle.protocol_model.proofs.invariant.Holding.{IsIdle}
-use Rattle.protocol_model.proofs.written_lines.ReadersExist.{some_are_readers}
 use Rattle.server_core.specs.Serving.{Serving, with_end, may_turn}
 use Rattle.link_world.specs.declared.connection.Connection.{Connection}
 use Rattle.link_world.specs.Links.{Linked, link_of_connection, links_of, with_down, fewer_up, quiet_server, seen, with_world, IsReached}
 use Rattle.link_world.proofs.Linking.{links_get, links_same, link_put}
-use Rattle.link_world.proofs.Reached.{carried, reached_more, agree, links_long}
+use Rattle.link_world.proofs.Reached.{carried, agree}
 
 -- ---- on no connection it does nothing
 

@@ -1,5 +1,5 @@
 -- What is promised of a world after any events, and when none is made (this profile).
-use Rattle.std.specs.Prelude.{◌≡◌, ◌≢◌, ℕ, nat_le, Bool, true, false, ◌&&◌, None, List}
+use Rattle.std.specs.Prelude.{◌≡◌, ◌≢◌, Bool, true, false, None, List}
 use Rattle.dmis_program.specs.Meaning.{Meaning}
 use Rattle.tool_rack.specs.Setups.{SetupValue}
 use Rattle.protocol_model.specs.Claims.{Sound, Told}

@@ -2,3 +2,11 @@ pub mod Links
 pub mod Events
 pub mod Claims
 pub mod Runs
+pub mod Machines
+pub mod Schedules
+pub mod Reports
+pub mod ReportRows
+pub mod ScheduleTexts
+pub mod ScheduleCarrying
+pub mod ScheduleRows
+pub mod Parts

@@ -5,6 +5,11 @@
 //! - `client_events`, `server_events`: what each event does
 //! - `connection`: the bytes of a connection, both ways
 //! - `faults`: why an event is refused
+//! - `machines`: what ends the jobs of a server, and the simulated machine
+//! - `schedules`: lists of instructions that events are made of; `schedule_reading`, `schedule_faults`: schedules read from a text
+//! - `playing`, `rounds`: schedules played on a world, and the quiet rounds in which all that can happens
+//! - `reports`, `report_text`: what a world shows, and its text
+//! - `report_rows`, `schedule_rows`: worked reports and texts of schedules
 //! - `laws`: a server whose machine is homed is not told to home it again
 #![tactic(auto)]
 
@@ -12,10 +17,26 @@ mod client_events;
 mod connection;
 mod faults;
 pub mod laws;
+mod machines;
+mod playing;
+pub mod report_rows;
+mod report_text;
+mod reports;
+mod rounds;
+mod schedule_faults;
+mod schedule_reading;
+pub mod schedule_rows;
+mod schedules;
 mod server_events;
 mod world;
 
 pub use faults::{NewFault, WorldFault};
 pub use laws::homed_servers_are_not_homed_again;
+pub use machines::{Machine, Simulated};
 pub use protocol_model::{Event, Outcome};
+pub use report_rows::contacts_are_numbered_as_they_were_made;
+pub use report_text::{write_contact_rows, write_report};
+pub use reports::{Contacts, Report, Reported, report_of};
+pub use schedule_faults::ScheduleFault;
+pub use schedules::{Instruction, Schedule};
 pub use world::{RunCount, World};

@@ -20,7 +20,7 @@ use protocol_model::Outcome;
 use server_core::Server;
 
 /// The place of the connection on which a server stands, if it stands on one.
-fn server_place(server: &Server, connections: &Vec<Connection>) -> Option<usize>
+pub(crate) fn server_place(server: &Server, connections: &Vec<Connection>) -> Option<usize>
     requires { StandsOn server.now.end connections.now.items }
     ensures { MatchOption result (server.now.end.server.on ≡ false)
         (λ at. (server.now.end.server.on ≡ true)

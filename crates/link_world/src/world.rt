@@ -1,6 +1,6 @@
 // Both ends and the connections between them.
 
-ghost use Rattle.std.specs.Prelude.{◌≡◌, ◌↔◌, ◌+◌, length, true, false, [], IsOk, IsErrAnd, IfOk, OnOk, OnErr, MatchOption, None, Some};
+ghost use Rattle.std.specs.Prelude.{◌≡◌, ◌↔◌, ◌⊎◌, ◌+◌, length, true, false, [], IsOk, IsErrAnd, IfOk, IfErr, OnOk, OnErr, MatchOption, None, Some};
 ghost use Rattle.std.specs.Result.{IsErrOf};
 ghost use Rattle.protocol_model.specs.Lines.{Readers, AreReaders};
 ghost use Rattle.protocol_model.specs.Server.{running_job};
@@ -70,6 +70,7 @@ impl World {
         ensures bad_window { IsErrAnd result (λ fault. HandsBack program setup fault)
             ↔ (is_window window ≡ false) }
         ensures memory { IsErrAnd result (λ fault. IsWant fault) → is_window window ≡ true }
+        ensures refused { IfErr result (λ fault. HandsBack program setup fault ⊎ IsWant fault) }
 
         // What holds before any event.
         ensures untouched { IfOk result (λ world. IsNew world.world) }

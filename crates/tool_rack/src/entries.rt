@@ -1,13 +1,12 @@
-ghost use Rattle.std.specs.Prelude.{◌≡◌, ◌≤◌, unsigned_abs, IfOk, IfSome};
-ghost use Rattle.fixed_um.specs.Limits.{volume_limit};
-ghost use Rattle.fixed_um.specs.Points.{IsInVolume};
+ghost use Rattle.std.specs.Prelude.{IfOk};
 ghost use Rattle.tool_rack.specs.Fields.{fields_of};
-ghost use Rattle.tool_rack.specs.Entries.{length_of, point_of, tool_entry, frame_entry, shift_entry, fields_entry, entry_on, IsEntryInVolume};
+ghost use Rattle.tool_rack.specs.Entries.{tool_entry, frame_entry, shift_entry, fields_entry, entry_on, IsEntryInVolume};
 ghost use Rattle.tool_rack.specs.Setups.{GivesSetup};
 
 use crate::faults::SetupFault;
 use crate::fields::{cut_field, has_outer_space, is_dropped, is_word, one_field, three_fields};
-use fixed_um::{Name, NumeralFault, Point, Um, read_um};
+use crate::positions::point_in_volume;
+use fixed_um::{Name, Point};
 use std::alloc::Global;
 
 /// What a line of a setup says.
@@ -18,25 +17,6 @@ pub(crate) enum Entry {
     /// A frame, with its zero point in machine axes.
     Frame(Name, Point),
     Shift(Point),
-}
-
-/// The length that a numeral writes, within the machine's volume.
-fn length(text: &[u8]) -> Result<Um, NumeralFault>
-    ensures value { result ≡ length_of text.now }
-    ensures within { IfOk result (λ length. unsigned_abs length ≤ volume_limit) }
-{
-    read_um(text, Um::volume_limit())
-}
-
-/// The point that three numerals write.
-fn point(x: &[u8], y: &[u8], z: &[u8]) -> Option<Point>
-    ensures value { result ≡ point_of x.now y.now z.now }
-    ensures within { IfSome result IsInVolume }
-{
-    match (length(x), length(y), length(z)) {
-        (Ok(x), Ok(y), Ok(z)) => Some(Point { x, y, z }),
-        _ => None,
-    }
 }
 
 /// What the fields behind `TOOL` say.
@@ -67,7 +47,7 @@ fn frame_entry(alloc: Global, number: u64, values: &[u8]) -> Result<Entry, Setup
     let Some(name) = Name::new(alloc, name)? else {
         return Err(SetupFault::BadLine(number));
     };
-    match point(x, y, z) {
+    match point_in_volume(x, y, z) {
         Some(offset) => Ok(Entry::Frame(name, offset)),
         None => Err(SetupFault::BadNumeral(number)),
     }
@@ -81,7 +61,7 @@ fn shift_entry(number: u64, values: &[u8]) -> Result<Entry, SetupFault>
     let Some((x, y, z)) = three_fields(values) else {
         return Err(SetupFault::BadLine(number));
     };
-    match point(x, y, z) {
+    match point_in_volume(x, y, z) {
         Some(shift) => Ok(Entry::Shift(shift)),
         None => Err(SetupFault::BadNumeral(number)),
     }

@@ -1,9 +1,11 @@
+// Lines of fields, as the texts of a setup and of a schedule have them.
+
 ghost use Rattle.std.specs.Prelude.{◌≡◌, ◌≢◌, ℕ, ◌∷◌, [], ◌≤◌, ◌==◌, not, List, length, None, MatchOption, IfSome};
 ghost use Rattle.std.specs.List.{prefix_len};
 ghost use Rattle.tool_rack.specs.Fields.{fields_of, is_dropped, has_outer_space, is_word};
 
-/// Whether a line says nothing.
-pub(crate) fn is_dropped(line: &[u8]) -> bool
+/// Whether a line says nothing: it is empty, or begins with `#`. Takes no memory.
+pub fn is_dropped(line: &[u8]) -> bool
     ensures { result ≡ is_dropped line.now }
 {
     match line {
@@ -12,8 +14,9 @@ pub(crate) fn is_dropped(line: &[u8]) -> bool
     }
 }
 
-/// Whether a space stands at the start of a line or at its end.
-pub(crate) fn has_outer_space(line: &[u8]) -> bool
+/// Whether a space stands at the start of a line or at its end; such a line is refused by every text of lines with fields. Takes no
+/// memory.
+pub fn has_outer_space(line: &[u8]) -> bool
     ensures { result ≡ has_outer_space line.now }
 {
     match line {
@@ -23,8 +26,8 @@ pub(crate) fn has_outer_space(line: &[u8]) -> bool
     }
 }
 
-/// Whether a field is this word, its letters in any case.
-pub(crate) fn is_word(name: &[u8], field: &[u8]) -> bool
+/// Whether a field is this word, its letters in any case. Takes no memory.
+pub fn is_word(name: &[u8], field: &[u8]) -> bool
     ensures { result ≡ is_word name.now field.now }
 {
     field.eq_ignore_ascii_case(name)
@@ -53,9 +56,9 @@ fn field_len(bytes: &[u8]) -> usize
     bytes.iter().take_while(|byte| **byte != b' ').count()
 }
 
-/// The first field, and the bytes behind it; none where there is no field.
+/// The first field, and the bytes behind it; `None` where there is no field. Fields are separated by one or more spaces. Takes no memory.
 #[tactic(auto, using(crate::proofs::FieldCuts::cuts))]
-pub(crate) fn cut_field(bytes: &[u8]) -> Option<(&[u8], &[u8])>
+pub fn cut_field(bytes: &[u8]) -> Option<(&[u8], &[u8])>
     ensures { MatchOption result (fields_of bytes.now ≡ [])
         (λ p. fields_of bytes.now ≡ p.0.now ∷ fields_of p.1.now) }
 {
@@ -66,8 +69,8 @@ pub(crate) fn cut_field(bytes: &[u8]) -> Option<(&[u8], &[u8])>
     Some(text.split_at(field_len(text)))
 }
 
-/// The one field; none where there are more, or none at all.
-pub(crate) fn one_field(bytes: &[u8]) -> Option<&[u8]>
+/// The one field; `None` where there are more, or none at all. Takes no memory.
+pub fn one_field(bytes: &[u8]) -> Option<&[u8]>
     ensures one { IfSome result (λ x. fields_of bytes.now ≡ x.now ∷ []) }
     ensures other { result ≡ None → (x : List ℕ) → fields_of bytes.now ≢ x ∷ [] }
 {
@@ -78,8 +81,8 @@ pub(crate) fn one_field(bytes: &[u8]) -> Option<&[u8]>
     }
 }
 
-/// The three fields; none where there are more or less.
-pub(crate) fn three_fields(bytes: &[u8]) -> Option<(&[u8], &[u8], &[u8])>
+/// The three fields; `None` where there are more or less. Takes no memory.
+pub fn three_fields(bytes: &[u8]) -> Option<(&[u8], &[u8], &[u8])>
     ensures three { IfSome result (λ p. fields_of bytes.now ≡ p.0.now ∷ p.1.now ∷ p.2.now ∷ []) }
     ensures other { result ≡ None → (x y z : List ℕ) → fields_of bytes.now ≢ x ∷ y ∷ z ∷ [] }
 {

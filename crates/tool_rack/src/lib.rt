@@ -4,7 +4,8 @@
 //! - `setups`: `Setup` and `Rack`, read from a text
 //! - `faults`: why a text is refused
 //! - `entries`: what one line says
-//! - `fields`: the fields of a line
+//! - `fields`: the fields of a line, here and in other texts of lines
+//! - `positions`: positions within the machine's volume
 //! - `laws`: what follows from the definitions
 //!
 //! What a text says is `setup_of` of specs/Setups.antt, a function of its lines: each line is judged by itself and by what the lines
@@ -13,8 +14,9 @@
 
 mod entries;
 mod faults;
-mod fields;
+pub mod fields;
 pub mod laws;
+pub mod positions;
 mod setups;
 
 pub use faults::SetupFault;

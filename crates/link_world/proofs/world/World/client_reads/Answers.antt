@@ -1,7 +1,7 @@
 use Rattle.std.proofs.Common.{rules, ◌≡◌, true, false, sym, ◌∙◌, ap, subst}
 use Rattle.protocol_model.specs.Ends.{ClientEnd}
 use Rattle.link_world.specs.Links.{Linked, seen, IsReached}
-use Rattle.link_world.proofs.ClientReading.{reads_any, read_reached, no_line, line_can, not_read, wanted_for}
+use Rattle.link_world.proofs.ClientReading.{reads_any, read_reached, no_line, line_can, not_read}
 use Rattle.link_world.proofs.Events.{not_now, refused_if, unchanged}
 use Rattle.link_world.proofs.world.World.client_reads.Goals as goal
 

@@ -1,0 +1,144 @@
+-- What the server does leaves less to do.
+use Rattle.std.proofs.Common.{◌≡◌, ℕ, ◌+◌, ◌*◌, ◌<◌, ◌≤◌, Bool, true, false, not, List, [], ◌∷◌, length, refl}
+use Rattle.std.proofs.Common.{ap, subst, arith, Option, Some, None, Ok, Err, Result}
+use Rattle.std.proofs.lemmas.Bool.{false≢true, and_parts}
+use Rattle.fixed_um.specs.Points.{point_sum}
+use Rattle.fixed_um.specs.declared.lengths.Point.{Point}
+use Rattle.dme_line.specs.declared.tags.Tag.{Tag}
+use Rattle.dme_line.specs.declared.commands.Command.{Command}
+use Rattle.dme_line.specs.declared.commands.Command.TheVariants as command
+use Rattle.protocol_model.specs.Lines.{Readers}
+use Rattle.protocol_model.specs.Plan.{is_empty}
+use Rattle.protocol_model.specs.Server.{Server, Answer, carried, carried_out, taken, turned_to, refusal, machined, finished, touched}
+use Rattle.protocol_model.specs.Server.{has_outcome, first_failing, checks, in_volume, offset}
+use Rattle.protocol_model.specs.World.{World, can, happens}
+use Rattle.protocol_model.specs.declared.lines.Line.{Line}
+use Rattle.protocol_model.specs.declared.lines.Misread.{Misread}
+use Rattle.protocol_model.specs.declared.lines.Waiting.{Waiting}
+use Rattle.protocol_model.specs.declared.machine.Outcome.{Outcome}
+use Rattle.protocol_model.specs.declared.machine.Outcome.TheVariants as outcome
+use Rattle.protocol_model.specs.declared.events.Event.TheVariants as event
+use Rattle.server_core.specs.Steady.{IsRunnable}
+
+-- how much there is to do at most
+abbrev pub one_if : Option Line → ℕ
+one_if None = 0
+one_if (Some line) = 1
+
+abbrev pub work_in : Server → ℕ
+work_in s = one_if s.running + 2 * length s.waiting
+
+abbrev pub work_left : World → ℕ
+work_left w = work_in w.server.server
+
+one_most : (r : Option Line) → one_if r ≤ 1
+one_most None = omega arith
+one_most (Some line) = omega arith
+
+-- ---- a turn takes one of what waits
+
+carried_waits : (s : Server) (t : Tag) (c : Command) → (carried_out s t c).server.waiting ≡ s.waiting
+carried_waits s t command.StartSession = refl
+carried_waits s t command.EndSession = refl
+carried_waits s t command.ClearAllErrors = refl
+carried_waits s t command.OnPtMeasReport = refl
+carried_waits s t command.IsHomed = refl
+carried_waits s t (command.SetCsyTransformation p) = refl
+carried_waits s t (command.SetCoordSystem system) = refl
+carried_waits s t command.Home = refl
+carried_waits s t (command.ChangeTool n) = refl
+carried_waits s t (command.GoTo p) = refl
+carried_waits s t (command.PtMeas p d) = refl
+carried_waits s t command.AbortE = refl
+
+carried_few : (s : Server) (t : Tag) (r : Result Command Misread) → length (carried s t r).server.waiting ≤ length s.waiting
+carried_few s t (Ok c) = let same = ap length (carried_waits s t c) in omega (arith, same)
+carried_few s t (Err why) = omega arith
+
+taken_few : (s : Server) (w : Waiting) (ws : List Waiting) (o : Option ℕ) → length (taken s w ws o).server.waiting ≤ length ws
+taken_few s w ws (Some number) = omega arith
+taken_few s w ws None = carried_few (record s { waiting = ws }) w.tag w.reading
+
+turned_few : (s : Server) (ws : List Waiting) → not (is_empty ws) ≡ true → length (turned_to s ws).server.waiting < length ws
+turned_few s [] some = absurd (false≢true some)
+turned_few s (w ∷ ws) some = let few = taken_few s w ws (refusal s w.reading) in omega (arith, few)
+
+pub turn_less : (readers : Readers) (w : World) → can event.ServerTurn w ≡ true
+    → work_left (happens readers event.ServerTurn w) < work_left w
+turn_less readers w may =
+    let s : Server = w.server.server in
+    let few = turned_few s s.waiting (and_parts _ _ may).1 in
+    let most = one_most (turned_to s s.waiting).server.running in omega (arith, few, most)
+
+-- ---- what runs ends
+
+record Ends (s : Server) (a : Answer) : Type 0 where
+  pub idle : a.server.running ≡ None
+  pub few : length a.server.waiting ≤ length s.waiting
+
+finished_ends : (s : Server) (t : Tag) (c : Command) → has_outcome c outcome.Done ≡ true → Ends s (finished s t c)
+finished_ends s t command.Home may = record { idle = refl; few = omega arith }
+finished_ends s t (command.ChangeTool n) may = record { idle = refl; few = omega arith }
+finished_ends s t (command.GoTo p) may = record { idle = refl; few = omega arith }
+finished_ends s t (command.PtMeas p d) may = absurd (false≢true may)
+finished_ends s t command.StartSession may = absurd (false≢true may)
+finished_ends s t command.EndSession may = absurd (false≢true may)
+finished_ends s t command.ClearAllErrors may = absurd (false≢true may)
+finished_ends s t command.OnPtMeasReport may = absurd (false≢true may)
+finished_ends s t command.IsHomed may = absurd (false≢true may)
+finished_ends s t (command.SetCsyTransformation p) may = absurd (false≢true may)
+finished_ends s t (command.SetCoordSystem system) may = absurd (false≢true may)
+finished_ends s t command.AbortE may = absurd (false≢true may)
+
+-- a touch runs only with a tool
+no_tool : (a b : Bool) (others : List (Bool × ℕ))
+    → first_failing ((a, 9005) ∷ (false, 9006) ∷ (b, 9010) ∷ (false, 9012) ∷ (true, 9011) ∷ others) ≡ None → ⊥
+no_tool true b others e = cc
+no_tool false true others e = cc
+no_tool false false others e = cc
+
+touched_ends : (s : Server) (line : Line) (at : Point) (tool : Option (List ℕ)) → s.tool ≡ tool
+    → has_outcome line.command (outcome.Touched at) ≡ true → first_failing (checks s line.command) ≡ None
+    → Ends s (touched s line.tag line.command at tool)
+touched_ends s line at tool is may fine = go line.command tool is may fine
+  where
+    go : (c : Command) (tool : Option (List ℕ)) → s.tool ≡ tool → has_outcome c (outcome.Touched at) ≡ true
+        → first_failing (checks s c) ≡ None → Ends s (touched s line.tag c at tool)
+    go (command.PtMeas p d) (Some name) is may fine = record { idle = refl; few = omega arith }
+    go (command.PtMeas p d) None is may fine =
+        absurd (no_tool (not s.session) (not s.homed) ((not (in_volume (point_sum p (offset s.frame))), 9013) ∷ [])
+        (subst (λ (tool : Option (List ℕ)).
+        first_failing (checks (record s { tool = tool }) (command.PtMeas p d)) ≡ None) is fine))
+    go command.Home tool is may fine = absurd (false≢true may)
+    go (command.ChangeTool n) tool is may fine = absurd (false≢true may)
+    go (command.GoTo p) tool is may fine = absurd (false≢true may)
+    go command.StartSession tool is may fine = absurd (false≢true may)
+    go command.EndSession tool is may fine = absurd (false≢true may)
+    go command.ClearAllErrors tool is may fine = absurd (false≢true may)
+    go command.OnPtMeasReport tool is may fine = absurd (false≢true may)
+    go command.IsHomed tool is may fine = absurd (false≢true may)
+    go (command.SetCsyTransformation p) tool is may fine = absurd (false≢true may)
+    go (command.SetCoordSystem system) tool is may fine = absurd (false≢true may)
+    go command.AbortE tool is may fine = absurd (false≢true may)
+
+machined_ends : (s : Server) (line : Line) (o : Outcome) → has_outcome line.command o ≡ true → IsRunnable s line
+    → Ends s (machined s o (Some line))
+machined_ends s line outcome.Done may fine = finished_ends s line.tag line.command may
+machined_ends s line (outcome.Touched at) may fine = touched_ends s line at s.tool refl may fine.1
+machined_ends s line outcome.Missed may fine = record { idle = refl; few = omega arith }
+machined_ends s line outcome.Fault may fine = record { idle = refl; few = omega arith }
+
+end_less : (s : Server) (o : Outcome) (r : Option Line) → s.running ≡ r → Rattle.protocol_model.specs.Server.may_end r o ≡ true
+    → ((line : Line) → r ≡ Some line → IsRunnable s line)
+    → work_in (machined s o r).server < one_if r + 2 * length s.waiting
+end_less s o None is may fine = absurd (false≢true may)
+end_less s o (Some line) is may fine =
+    let e : Ends s (machined s o (Some line)) = machined_ends s line o may (fine line refl) in
+    let few : length (machined s o (Some line)).server.waiting ≤ length s.waiting = e.few in
+    let idle : one_if (machined s o (Some line)).server.running ≡ 0 = ap one_if e.idle in
+    omega (arith, few, idle)
+
+pub machine_less : (readers : Readers) (w : World) (o : Outcome) → can (event.Machine o) w ≡ true
+    → ((line : Line) → w.server.server.running ≡ Some line → IsRunnable w.server.server line)
+    → work_left (happens readers (event.Machine o) w) < work_left w
+machine_less readers w o may fine = end_less w.server.server o w.server.server.running refl may fine

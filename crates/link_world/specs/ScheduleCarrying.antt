@@ -1,0 +1,27 @@
+-- A schedule that grows line by line, as the code keeps it: no public clause cites this.
+use Rattle.std.specs.Prelude.{ℕ, ◌+◌, List, [], ◌∷◌, ◌++◌, Option, Some, None, Result, Ok, Err, if◌then◌else◌}
+use Rattle.tool_rack.specs.Fields.{is_dropped}
+use Rattle.link_world.specs.ScheduleTexts.{instruction_on}
+use Rattle.link_world.specs.declared.schedules.Instruction.{Instruction}
+use Rattle.link_world.specs.declared.schedule_faults.ScheduleFault.{ScheduleFault}
+use Rattle.link_world.specs.declared.schedule_faults.ScheduleFault.TheVariants.{BadLine}
+
+-- the instructions above, and what line n asks for; its refusal where it asks for nothing that there is
+abbrev pub read_more : ℕ → List Instruction → Option Instruction → Result (List Instruction) ScheduleFault
+read_more n above None = Err (BadLine n)
+read_more n above (Some instruction) = Ok (above ++ instruction ∷ [])
+
+-- the instructions above, with what line n asks for
+abbrev pub read_line : ℕ → List Instruction → List ℕ → Result (List Instruction) ScheduleFault
+read_line n above line = if is_dropped line then Ok above else read_more n above (instruction_on line)
+
+-- one step, and then the next with what it gave
+abbrev pub and_behind : Result (List Instruction) ScheduleFault → (List Instruction → Result (List Instruction) ScheduleFault)
+    → Result (List Instruction) ScheduleFault
+and_behind (Ok instructions) f = f instructions
+and_behind (Err fault) f = Err fault
+
+-- the instructions behind more lines, of which the first has number n
+abbrev pub read_behind : ℕ → List Instruction → List (List ℕ) → Result (List Instruction) ScheduleFault
+read_behind n above [] = Ok above
+read_behind n above (line ∷ lines) = and_behind (read_line n above line) (λ more. read_behind (n + 1) more lines)
