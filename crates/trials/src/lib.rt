@@ -1,11 +1,17 @@
-//! Tests of the crates between the texts and the program: what no clause says of them, as that a call succeeds where memory is there, and
-//! literal rows of calls. They stand here so that no library is proved a second time for their sake.
+//! Tests of the crates between the texts and the program: what no clause says of them, as that a call succeeds where memory is there. They
+//! stand here so that no library is proved a second time for their sake. Rows of calls are the input of the program `call_rows`.
 //!
-//! - `ledgers`, `setups`, `queue`, `tags`, `plans`: the values and lists that both ends stand on
-//! - `server`, `client`, `world`: either end by itself, and both with their connections
-//! - `shown`: what their rows show of lines, acts and features
+//! - `ledgers`, `queue`, `tags`, `plans`: the values and lists that both ends stand on
+//! - `client`, `world`: a client that is not made, and both ends with their connections
+//! - `audits`, `audit_cases`, `audit_search`: audits of small ledgers beside a plain search that tries all choices of starts
 #![tactic(auto)]
 
+#[cfg(test)]
+mod audit_cases;
+#[cfg(test)]
+mod audit_search;
+#[cfg(test)]
+mod audits;
 #[cfg(test)]
 mod client;
 #[cfg(test)]
@@ -14,12 +20,6 @@ mod ledgers;
 mod plans;
 #[cfg(test)]
 mod queue;
-#[cfg(test)]
-mod server;
-#[cfg(test)]
-mod setups;
-#[cfg(test)]
-mod shown;
 #[cfg(test)]
 mod tags;
 #[cfg(test)]

@@ -1,8 +1,21 @@
-// What the rows of tests show of either end: the lines that it writes, its acts and its features. Lengths are in millimetres.
+// What the rows show of either end: the lines that it writes, its acts and its features. Lengths are in millimetres.
 
 use contact_ledger::{Act, Feature, Origin};
 use fixed_um::{Dir, Frame, Point, write_dir, write_um};
 use std::alloc::{AllocError, Global};
+
+/// The text of a row: `;` stands for LF, `|` for CR.
+pub(crate) fn lined(alloc: Global, row: &str) -> Result<Vec<u8>, AllocError> {
+    let mut text = Vec::new(alloc);
+    for byte in row.as_bytes() {
+        text.push(match *byte {
+            b';' => b'\n',
+            b'|' => b'\r',
+            other => other,
+        })?;
+    }
+    Ok(text)
+}
 
 pub(crate) fn push_text(out: &mut Vec<u8>, text: &str) -> Result<(), AllocError> {
     out.extend_from_slice(text.as_bytes())

@@ -1,0 +1,50 @@
+//! Calls of a client and of a server, row by row: it reads actions from standard input, and writes each with what it answers behind ` => `.
+//! What it is to write stands beside it, so that no clause says it: that the calls succeed with memory, and the texts that they write. The
+//! rows are its input and not its text, since the prover reads all that is text.
+//!
+//! The input has parts, each behind a head in brackets. `program NAME` and `setup` are texts that the other parts are made of. `client NAME W`
+//! is a client of a program with this window and `server` a server of the setup, each through all rows of its part. In the others each row
+//! stands by itself: `marks NAME W` and `texts NAME W` for a client, `homings NAME W` for a world behind a schedule, `reports NAME W` for both
+//! ends behind so many commands, `setups`, `schedules`, `features` and `contacts` for texts. A line that begins with `-- ` says what the rows below it show. `files
+//! NAME W` has a schedule, and the features and contacts files that it leaves stand in its place.
+//!
+//! - `parts`: the parts of the input, and their rows
+//! - `client`, `server`: what an action does, and what it shows
+//! - `setups`: what setups say
+//! - `texts`: texts of features and of acts that are read and written again
+//! - `worlds`: worlds behind schedules, and both ends that are driven by hand
+//! - `shown`: lines, acts and features as rows show them
+//! - `stop`: why it ends early
+#![tactic(auto)]
+
+mod client;
+mod parts;
+mod server;
+mod setups;
+mod shown;
+mod stop;
+mod texts;
+mod worlds;
+
+use byte_ports::{Reading, Writing, pull_all, push_all};
+use std::io;
+use std::process::ExitCode;
+use stop::Stop;
+
+fn run<R: Input + Print + AllocGlobal>(rt: &R) -> Result<(), Stop> {
+    let alloc = rt.alloc();
+    let mut source = Reading::new(rt.reader());
+    let input = pull_all(alloc, &mut source, 1_000_000).map_err(|_| Stop::Port)?;
+    let text = str::from_utf8(input.as_slice()).map_err(|_| Stop::Row)?;
+    let answers = parts::answered(alloc, text)?;
+    let mut sink = Writing::new(io::writer(rt));
+    push_all(&mut sink, answers.as_slice()).map_err(|_| Stop::Port)
+}
+
+fn main(rt: HostRuntime) -> ExitCode {
+    match run(&rt) {
+        Ok(()) => ExitCode::from(0),
+        Err(Stop::Row | Stop::Port) => ExitCode::from(1),
+        Err(Stop::Memory) => ExitCode::from(4),
+    }
+}
