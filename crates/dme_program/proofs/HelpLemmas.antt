@@ -1,24 +1,21 @@
 -- Words without a fault do not call for help: a walk over them does not stop at `help`, and it stops at a subcommand.
-use Rattle.std.proofs.Common.{◌≡◌, ℕ, Bool, true, false, ◌||◌, List, [], ◌∷◌, fold, Option, Some, None, is_some, option_map, find, codes}
-use Rattle.std.proofs.Common.{length, cond, refl, arith, true≢false, ap, sym, ◌∙◌}
+use Rattle.std.proofs.Common.{◌≡◌, ℕ, Bool, true, false, List, [], ◌∷◌, fold, Option, Some, None, is_some, codes}
+use Rattle.std.proofs.Common.{length, cond, refl, arith, ap, sym, ◌∙◌}
 use Rattle.std.specs.Str.{bytes_eq}
 use Rattle.std.proofs.lemmas.Option.{none-some, same_Some}
-use Rattle.std.proofs.lemmas.Slice.Eq.{bytes_eq-Decides}
-use Rattle.std.specs.List.{list_any}
 use Rattle.clap.specs.Lexer.{long_of, short_of}
-use Rattle.clap.specs.Walk.{Held, Names, Outcome, Row, Rule, Step, Text, Waiting, Walk, after_flag, settled, answers_to, finished}
-use Rattle.clap.specs.Walk.{nothing_held, walk, walk_from, after_step, arg_by_index, arg_by_long, bundle, done, idle, long_met}
+use Rattle.clap.specs.Walk.{Held, Names, Outcome, Row, Rule, Step, Text, Waiting, Walk, after_flag, settled, finished}
+use Rattle.clap.specs.Walk.{walk, walk_from, after_step, arg_by_index, arg_by_long, bundle, done, idle, long_met}
 use Rattle.clap.specs.Walk.{long_or_other, next, option, plain, plain_word, positional, refused, short_or_plain, subcommand, subcommand_met}
 use Rattle.clap.specs.Walk.{subcommand_or_other, to_positional, trailing, value, waits, walked, walked_from, word_met}
 use Rattle.clap.specs.Kinds.{Kinds, or_else}
-use Rattle.clap.specs.Simple.{App, Shape, argument_words, built, entered, label_of, names_of, rows_at, subcommand_of}
-use Rattle.clap.specs.Faults.{check_fault, defaults_fault, settle_fault, entered_fault, fault_of, level_fault, other_fault, step_fault}
+use Rattle.clap.specs.Simple.{App, Shape, names_of}
+use Rattle.clap.specs.Faults.{check_fault, defaults_fault, settle_fault, level_fault, other_fault, step_fault}
 use Rattle.clap.specs.Faults.{turn_fault, walk_fault, word_fault}
-use Rattle.dme_program.specs.CommandLine.{whole_line}
 use Rattle.clap.specs.declared.error.kind.ErrorKind.TheVariants as kind
 
 -- no list with an element is empty
-not_empty : {A : Type 0} (x : A) (xs : List A) → x ∷ xs ≡ [] → ⊥
+pub not_empty : {A : Type 0} (x : A) (xs : List A) → x ∷ xs ≡ [] → ⊥
 not_empty x xs e = let none : length (x ∷ xs) ≡ 0 = ap length e in omega arith
 
 pub first_none : (a b : Kinds) → or_else a b ≡ [] → a ≡ []
@@ -115,7 +112,7 @@ walk_stops s names w (word ∷ words) on before none =
     (second_none _ _ none)
 
 -- where a built command's level has no fault, a required subcommand was entered
-entered_there : (a : App) (h : Held) (words : List Text) (met : Option (Text × List Row)) (below : Kinds)
+pub entered_there : (a : App) (h : Held) (words : List Text) (met : Option (Text × List Row)) (below : Kinds)
     → a.top.arg_required_else_help ≡ false → a.top.subcommand_required ≡ true
     → level_fault a.top (names_of a) h words (is_some met) below ≡ [] → is_some met ≡ true
 entered_there a h words (Some p) below unasked required none = refl
@@ -125,39 +122,3 @@ entered_there a h words None below unasked required none =
     (settle_fault a.top.rules a.top.args_override_self (walk a.top.rules (names_of a) h words).held)
     (defaults_fault (settled a.top.rules (walk a.top.rules (names_of a) h words).held).rows a.top.rules) _ none in
     absurd (not_empty kind.MissingSubcommand [] (rw (unasked, required) at checks))
-
--- of two subcommands that a walk may enter, where it does not stop at the second, the first
-first_entered : (a : App) (first second : Shape) (stop : Option (Text × List Text)) → a.subs ≡ first ∷ second ∷ []
-    → second.name ≡ codes "help" → second.aliases ≡ [] → NotAtHelp stop → is_some (entered a stop) ≡ true
-    → option_map (λ (p : Text × List Row). p.0) (entered a stop) ≡ Some first.name
-first_entered a first second None subs named single free there = absurd (true≢false (sym there))
-first_entered a first second (Some p) subs named single free there =
-    let chosen : Option Shape → Option (Text × List Row) = option_map (λ s. rows_at s p.1) in
-    let reads : entered a (Some p) ≡ chosen (find (λ s. answers_to p.0 (label_of s)) (first ∷ second ∷ [])) = rw subs refl in
-    ap (option_map (λ (q : Text × List Row). q.0)) reads
-    ∙ go (answers_to p.0 (label_of first)) (answers_to p.0 (label_of second)) refl (ap is_some (sym reads) ∙ there)
-  where
-    at_help : (d : Bool) → bytes_eq second.name p.0 ≡ d → (d || list_any (λ alias. bytes_eq alias p.0) []) ≡ true → ⊥
-    at_help true is e = free p.1 (ap (λ (name : Text). Some (name, p.1)) (sym ((bytes_eq-Decides second.name p.0).0 is) ∙ named))
-    at_help false is e = true≢false (sym e)
-
-    go : (b d : Bool) → answers_to p.0 (label_of second) ≡ d
-        → is_some (option_map (λ s. rows_at s p.1) (cond b (Some first) (cond d (Some second) None))) ≡ true
-        → option_map (λ (q : Text × List Row). q.0) (option_map (λ s. rows_at s p.1) (cond b (Some first) (cond d (Some second) None)))
-        ≡ Some first.name
-    go true d is there = refl
-    go false true is there = absurd (at_help (bytes_eq second.name p.0) refl (rw single at is))
-    go false false is there = absurd (true≢false (sym there))
-
--- words of `dme` without a fault name `check`
-pub check_named : (words : List Text) → fault_of whole_line words ≡ []
-    → option_map (λ (p : Text × List Row). p.0) (subcommand_of whole_line words) ≡ Some (codes "check")
-check_named words none =
-    let a : App = built whole_line in
-    let given : List Text = argument_words whole_line words in
-    let stop : Option (Text × List Text) = (walk a.top.rules (names_of a) nothing_held given).stopped in
-    let level : level_fault a.top (names_of a) nothing_held given (is_some (entered a stop)) (entered_fault a stop) ≡ [] = none in
-    first_entered a _ _ stop refl refl refl
-    (walk_stops a.top (names_of a) (walk_from nothing_held) given refl (λ rest e. none-some _ e)
-    (first_none (walk_fault a.top (names_of a) (walk_from nothing_held) given) _ level))
-    (entered_there a nothing_held given (entered a stop) (entered_fault a stop) refl refl level)

@@ -5,3 +5,7 @@ pub mod Printed
 pub mod Ordered
 pub mod CommandLine
 pub mod UnderSetup
+pub mod Verdicts
+pub mod Reading
+pub mod Simulating
+pub mod Auditing

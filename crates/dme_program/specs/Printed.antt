@@ -5,8 +5,15 @@ use Rattle.dmis_program.specs.declared.faults.ProgramFault.TheVariants as progra
 use Rattle.dme_program.specs.declared.check.CheckFault.TheVariants as check
 use Rattle.dme_program.specs.declared.orders.OrderFault.{OrderFault}
 use Rattle.dme_program.specs.declared.orders.OrderFault.TheVariants as order
+use Rattle.link_world.specs.declared.schedule_faults.ScheduleFault.TheVariants as schedule
+use Rattle.dme_program.specs.declared.reading.FilesFault.{FilesFault}
+use Rattle.dme_program.specs.declared.reading.FilesFault.TheVariants as files
+use Rattle.dme_program.specs.declared.reading.Role.{Role}
+use Rattle.dme_program.specs.declared.reading.Role.TheVariants as role
 use Rattle.dme_program.specs.declared.words.WordsFault.{WordsFault}
 use Rattle.dme_program.specs.declared.words.WordsFault.TheVariants as words
+use Rattle.contact_ledger.specs.declared.faults.TextFault.TheVariants as ledger
+use Rattle.dme_program.specs.declared.faults.FileNames.{FileNames}
 use Rattle.dme_program.specs.declared.faults.Fault.{Fault}
 use Rattle.dme_program.specs.declared.faults.Fault.TheVariants as fault
 
@@ -20,6 +27,9 @@ abbrev pub status_of : Fault → ℕ
 status_of (fault.Words error) = 2
 status_of (fault.Program cause) = 1
 status_of (fault.Setup cause) = 1
+status_of (fault.Schedule cause) = 1
+status_of (fault.Features cause) = 1
+status_of (fault.Contacts cause) = 1
 status_of (fault.CannotRead file) = 1
 status_of fault.CannotWriteOutput = 1
 status_of fault.Memory = 4
@@ -39,3 +49,27 @@ IsShown (order.Check (check.Program cause)) setup_name name shown = shown ≡ fa
 IsShown (order.Check check.Read) setup_name name shown = ShowsFile (Some name) shown
 IsShown (order.Check check.Write) setup_name name shown = shown ≡ fault.CannotWriteOutput
 IsShown (order.Check check.Memory) setup_name name shown = shown ≡ fault.Memory
+
+-- the name of an order's file, by what it is to the order
+abbrev pub name_in : FileNames → Role → List ℕ
+name_in names role.Setup = string_bytes names.setup
+name_in names role.Schedule = string_bytes names.schedule
+name_in names role.Features = string_bytes names.features
+name_in names role.Contacts = string_bytes names.contacts
+name_in names role.Program = string_bytes names.program
+
+-- what is shown for the fault of an order of several files, by their names: the refusal, or the file
+abbrev pub AreFilesShown : FilesFault → (Role → List ℕ) → Fault → Type 0
+AreFilesShown (files.Setup setup.Memory) names shown = shown ≡ fault.Memory
+AreFilesShown (files.Setup cause) names shown = shown ≡ fault.Setup cause
+AreFilesShown (files.Schedule schedule.Memory) names shown = shown ≡ fault.Memory
+AreFilesShown (files.Schedule cause) names shown = shown ≡ fault.Schedule cause
+AreFilesShown (files.Features ledger.Memory) names shown = shown ≡ fault.Memory
+AreFilesShown (files.Features cause) names shown = shown ≡ fault.Features cause
+AreFilesShown (files.Contacts ledger.Memory) names shown = shown ≡ fault.Memory
+AreFilesShown (files.Contacts cause) names shown = shown ≡ fault.Contacts cause
+AreFilesShown (files.Program program.Memory) names shown = shown ≡ fault.Memory
+AreFilesShown (files.Program cause) names shown = shown ≡ fault.Program cause
+AreFilesShown (files.Unread role) names shown = ShowsFile (Some (names role)) shown
+AreFilesShown files.Write names shown = shown ≡ fault.CannotWriteOutput
+AreFilesShown files.Memory names shown = shown ≡ fault.Memory

@@ -2,13 +2,16 @@
 
 ghost use Rattle.std.specs.Prelude.{◌≡◌, true, is_some, string_bytes};
 ghost use Rattle.std.specs.Option.{option_map};
-ghost use Rattle.dme_program.specs.Printed.{status_of, IsShown};
+ghost use Rattle.dme_program.specs.Printed.{status_of, IsShown, name_in, AreFilesShown};
 
 use crate::check::CheckFault;
 use crate::orders::OrderFault;
+use crate::reading::{FilesFault, Role};
 use crate::words::WordsFault;
 use clap::Error as WordsError;
+use contact_ledger::TextFault;
 use dmis_program::ProgramFault;
+use link_world::ScheduleFault;
 use std::alloc::{AllocError, AllocFailed};
 use thiserror::Error;
 use tool_rack::SetupFault;
@@ -25,6 +28,15 @@ pub enum Fault {
     /// A setup that is refused; never for want of memory.
     #[error("dme: {0} in setup\n")]
     Setup(SetupFault),
+    /// A schedule that is refused; never for want of memory.
+    #[error("dme: {0} in schedule\n")]
+    Schedule(ScheduleFault),
+    /// Features that are refused; never for want of memory.
+    #[error("dme: {0} in features\n")]
+    Features(TextFault),
+    /// Contacts that are refused; never for want of memory.
+    #[error("dme: {0} in contacts\n")]
+    Contacts(TextFault),
     /// A file that cannot be opened or read; `-` is standard input.
     #[error("dme: cannot read {0}\n")]
     CannotRead(String),
@@ -79,7 +91,8 @@ impl Fault {
     {
         match self {
             Fault::Words(_) => 2,
-            Fault::Program(_) | Fault::Setup(_) => 1,
+            Fault::Program(_) | Fault::Setup(_) | Fault::Schedule(_) => 1,
+            Fault::Features(_) | Fault::Contacts(_) => 1,
             Fault::CannotRead(_) | Fault::CannotWriteOutput => 1,
             Fault::Memory => 4,
         }
@@ -104,5 +117,51 @@ pub fn shown_fault(fault: OrderFault, setup: Option<String>, program: String) ->
         OrderFault::Check(CheckFault::Program(cause)) => Fault::Program(cause),
         OrderFault::Check(CheckFault::Read) => Fault::CannotRead(program),
         OrderFault::Check(CheckFault::Write) => Fault::CannotWriteOutput,
+    }
+}
+
+/// The names of an order's files. A file that the order does not have has an empty name.
+#[derive(Debug, Drop)]
+pub struct FileNames {
+    pub setup: String,
+    pub schedule: String,
+    pub features: String,
+    pub contacts: String,
+    pub program: String,
+}
+
+impl FileNames {
+    /// The name of the file that is this to the order.
+    fn of(self, role: Role) -> String
+        ensures { string_bytes result ≡ name_in self role }
+    {
+        match role {
+            Role::Setup => self.setup,
+            Role::Schedule => self.schedule,
+            Role::Features => self.features,
+            Role::Contacts => self.contacts,
+            Role::Program => self.program,
+        }
+    }
+}
+
+/// What is shown for the fault of an order of several files, with their names.
+pub fn shown_files(fault: FilesFault, names: FileNames) -> Fault
+    ensures { AreFilesShown fault (name_in names) result }
+{
+    match fault {
+        FilesFault::Setup(SetupFault::Memory)
+        | FilesFault::Schedule(ScheduleFault::Memory)
+        | FilesFault::Features(TextFault::Memory)
+        | FilesFault::Contacts(TextFault::Memory)
+        | FilesFault::Program(ProgramFault::Memory)
+        | FilesFault::Memory => Fault::Memory,
+        FilesFault::Setup(cause) => Fault::Setup(cause),
+        FilesFault::Schedule(cause) => Fault::Schedule(cause),
+        FilesFault::Features(cause) => Fault::Features(cause),
+        FilesFault::Contacts(cause) => Fault::Contacts(cause),
+        FilesFault::Program(cause) => Fault::Program(cause),
+        FilesFault::Unread(role) => Fault::CannotRead(names.of(role)),
+        FilesFault::Write => Fault::CannotWriteOutput,
     }
 }

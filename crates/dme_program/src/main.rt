@@ -1,30 +1,41 @@
 //! The program `dme`: DMIS inspection programs (ISO 22093) over the I++ DME Interface version 1. Its command line and what it prints
 //! are this profile's.
 //!
-//! - `words`: the command line
+//! - `line`: the command line, as the crate `clap` is told it; `words`: what its words ask for
 //! - `orders`: an order as a whole, over ports; `files`: the files of an order as ports
+//! - `reading`: the files of an order are read and understood
+//! - `simulating`: a program is run by a schedule on a simulated machine, over ports
+//! - `auditing`: a client's features are judged by a server's contacts, over ports
 //! - `check`: the command lines of a program, from any reader to any writer
 //! - `plan`: the commands of a program on a new connection, as text
+//! - `verdicts`: the verdict of an audit as a line, and the exit statuses of orders that were carried out
 //! - `running`: an order is carried out on files and the standard streams
 //! - `faults`: what is printed on standard error, and the exit status
 #![tactic(auto)]
 
+mod auditing;
 mod check;
 mod faults;
 mod files;
+mod line;
 mod orders;
 mod plan;
+mod reading;
 mod running;
+mod simulating;
+mod verdicts;
 mod words;
 
 use std::process::ExitCode;
 
 #[cfg(test)]
+mod simulation_tests;
+#[cfg(test)]
 mod tests;
 
 fn main(rt: HostRuntime) -> ExitCode {
     match running::run(&rt) {
-        Ok(()) => ExitCode::from(0),
+        Ok(status) => ExitCode::from(status),
         Err(fault) => {
             let _ = eprint!(rt; "{fault}");
             ExitCode::from(fault.status())

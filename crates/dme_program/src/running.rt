@@ -1,18 +1,27 @@
 // An order is carried out on files and the standard streams.
 
-ghost use Rattle.std.specs.Prelude.{◌≡◌, true, is_some, IsErrOf};
+ghost use Rattle.std.specs.Prelude.{◌≡◌, true, is_some, IfOk, IsErrOf};
+ghost use Rattle.client_core.specs.Clients.{is_window};
+ghost use Rattle.dme_program.specs.Ordered.{IsReady};
 
-use crate::faults::{Fault, shown_fault};
+use crate::auditing::audit_files;
+use crate::faults::{Fault, FileNames, shown_fault, shown_files};
 use crate::files::NamedSource;
 use crate::orders::{OrderFault, check_under_setup};
+use crate::reading::FilesFault;
+use crate::simulating::simulate;
+use crate::verdicts::status;
 use crate::words::{Order, read_words};
 use byte_ports::Writing;
+use client_core::State;
 use std::env::{self, Env};
 use std::io;
 use std::rt::Files;
 
 /// The words of the command line; the first names the program in `clap`'s texts, whatever file it runs from.
-fn read_order<R: Env + AllocGlobal>(rt: &R) -> Result<Order, Fault> {
+fn read_order<R: Env + AllocGlobal>(rt: &R) -> Result<Order, Fault>
+    ensures { IfOk result IsReady }
+{
     let alloc = rt.alloc();
     let Ok(given) = env::args(rt) else {
         return Err(Fault::Memory);
@@ -59,9 +68,132 @@ fn check<R: Files + Input + Print + AllocGlobal>(
     }
 }
 
-/// Reads the command line and does what it asks for.
-pub fn run<R: Env + Files + Input + Print + AllocGlobal>(rt: &R) -> Result<(), Fault> {
+/// The setup of a file is read, then the schedule, then the program; `-` is standard input, which is empty for those behind the first that
+/// was read from it.
+fn simulate_files<'a, R: Files + Input + Print + AllocGlobal>(
+    rt: &'a R,
+    setup: &'a str,
+    schedule: &'a str,
+    window: u8,
+    program: &'a str,
+) -> Result<State, FilesFault>
+    requires { is_window window ≡ true }
+{
+    let mut setup_source = NamedSource::new(rt, setup, false);
+    let mut schedule_source = NamedSource::new(rt, schedule, setup == "-");
+    let mut source = NamedSource::new(rt, program, setup == "-" || schedule == "-");
+    let mut sink = Writing::new(io::writer(rt));
+    simulate(
+        rt.alloc(),
+        &mut setup_source,
+        &mut schedule_source,
+        window,
+        &mut source,
+        &mut sink,
+    )
+}
+
+fn simulate_named<R: Files + Input + Print + AllocGlobal>(
+    rt: &R,
+    setup: String,
+    schedule: String,
+    window: u8,
+    program: String,
+) -> Result<u8, Fault>
+    requires { is_window window ≡ true }
+{
+    match simulate_files(
+        rt,
+        setup.as_str(),
+        schedule.as_str(),
+        window,
+        program.as_str(),
+    ) {
+        Ok(state) => Ok(status(state)),
+        Err(fault) => {
+            let names = FileNames {
+                setup,
+                schedule,
+                features: String::new(rt.alloc()),
+                contacts: String::new(rt.alloc()),
+                program,
+            };
+            Err(shown_files(fault, names))
+        }
+    }
+}
+
+/// The setup of a file is read, then the features, then the contacts, then the program; `-` is standard input, which is empty for those
+/// behind the first that was read from it.
+fn audit_named_files<'a, R: Files + Input + Print + AllocGlobal>(
+    rt: &'a R,
+    setup: &'a str,
+    features: &'a str,
+    contacts: &'a str,
+    program: &'a str,
+) -> Result<u8, FilesFault> {
+    let mut setup_source = NamedSource::new(rt, setup, false);
+    let mut features_source = NamedSource::new(rt, features, setup == "-");
+    let is_taken = setup == "-" || features == "-";
+    let mut contacts_source = NamedSource::new(rt, contacts, is_taken);
+    let mut source = NamedSource::new(rt, program, is_taken || contacts == "-");
+    let mut sink = Writing::new(io::writer(rt));
+    audit_files(
+        rt.alloc(),
+        &mut setup_source,
+        &mut features_source,
+        &mut contacts_source,
+        &mut source,
+        &mut sink,
+    )
+}
+
+fn audit_named<R: Files + Input + Print + AllocGlobal>(
+    rt: &R,
+    setup: String,
+    features: String,
+    contacts: String,
+    program: String,
+) -> Result<u8, Fault> {
+    match audit_named_files(
+        rt,
+        setup.as_str(),
+        features.as_str(),
+        contacts.as_str(),
+        program.as_str(),
+    ) {
+        Ok(status) => Ok(status),
+        Err(fault) => {
+            let names = FileNames {
+                setup,
+                schedule: String::new(rt.alloc()),
+                features,
+                contacts,
+                program,
+            };
+            Err(shown_files(fault, names))
+        }
+    }
+}
+
+/// Reads the command line and does what it asks for. The exit status of an order that was carried out.
+pub fn run<R: Env + Files + Input + Print + AllocGlobal>(rt: &R) -> Result<u8, Fault> {
     match read_order(rt)? {
-        Order::Check { setup, program } => check(rt, setup, program),
+        Order::Check { setup, program } => {
+            check(rt, setup, program)?;
+            Ok(0)
+        }
+        Order::Simulate {
+            setup,
+            schedule,
+            window,
+            program,
+        } => simulate_named(rt, setup, schedule, window, program),
+        Order::Audit {
+            setup,
+            features,
+            contacts,
+            program,
+        } => audit_named(rt, setup, features, contacts, program),
     }
 }

@@ -10,7 +10,7 @@ use std::alloc::Global;
 use std::test::Fail;
 use tool_rack::{Setup, SetupFault};
 
-const ONE: &str =
+pub(crate) const ONE: &str =
     "DMISMN/'ONE',05.2\nSNSLCT/S(P1)\nMEAS/POINT,F(A),1\nGOTO/10,20,30\nPTMEAS/CART,10,20,25,0,0,1\nENDMES\nENDFIL\n";
 
 const ONE_LINES: &str = "00001 StartSession()
@@ -69,7 +69,7 @@ fn accepted_programs_print_their_plan(rt: HostRuntime) -> Result<(), Fail> {
     Ok(())
 }
 
-const SETUP: &str =
+pub(crate) const SETUP: &str =
     "TOOL P1\nTOOL P2\nFRAME PART 100 0 0\nSHIFT 0.002 0 0\nSHIFT 0 0 0.004\nSHIFT -0.001 0.001 0\n";
 
 const FRAMES: &str =
@@ -208,12 +208,14 @@ fn faults_print_code_name_and_line(rt: HostRuntime) -> Result<(), Fail> {
 fn named_files<'a>(alloc: Global, words: &'a [&'a str]) -> Option<(Option<String>, String)> {
     match read_words(alloc, words) {
         Ok(Order::Check { setup, program }) => Some((setup, program)),
+        Ok(Order::Simulate { .. }) => None,
+        Ok(Order::Audit { .. }) => None,
         Err(_fault) => None,
     }
 }
 
 /// Whether words are a bad command line, or a call for help.
-fn is_bad_line<'a>(alloc: Global, words: &'a [&'a str]) -> bool {
+pub(crate) fn is_bad_line<'a>(alloc: Global, words: &'a [&'a str]) -> bool {
     match read_words(alloc, words) {
         Ok(_order) => false,
         Err(WordsFault::Line(_text)) => true,

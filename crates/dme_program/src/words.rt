@@ -1,14 +1,14 @@
 // The command line.
 
-ghost use Rattle.std.specs.Prelude.{◌≡◌, IfOk, IfErr, OnOk, IsErrAnd, Some, true, false, map, codes, string_bytes};
+ghost use Rattle.std.specs.Prelude.{◌≡◌, IfOk, IfErr, OnOk, IsErrAnd, IsSomeAnd, map, codes, string_bytes};
 ghost use Rattle.std.specs.Option.{option_map};
-ghost use Rattle.clap.specs.declared.builder.command.Command.TheViews.{out-Command};
-ghost use Rattle.clap.specs.Words.{first_value, found_of, app_of, rule_of, subcommand_name_of, subcommand_rows_of};
-ghost use Rattle.dme_program.specs.CommandLine.{setup_rule, program_rule, check_line, whole_line};
-ghost use Rattle.dme_program.specs.Ordered.{IsCheckOf, IsOrderOf, Asks, IsRefusal, IsCalled};
+ghost use Rattle.clap.specs.Words.{first_of, found_of, rows_of, subcommand_rows_of};
+ghost use Rattle.dme_program.specs.Ordered.{IsValueOf, IsProgramOf, IsWindow, IsCheckOf, IsSimulateOf, IsAuditOf, IsOrderOf, HasValue};
+ghost use Rattle.dme_program.specs.Ordered.{HasWindow, HasSimulation, HasAudit, IsAskable, IsReady, Asks, IsRefusal, IsCalled};
 
+use crate::line::whole_command;
 use clap::error::ErrorKind;
-use clap::{Arg, ArgMatches, Command, Error};
+use clap::{ArgMatches, Error};
 use std::alloc::{AllocError, Global};
 
 /// What the words of a command line ask for, with its values.
@@ -18,6 +18,28 @@ pub enum Order {
     Check {
         /// The file of the machine's setup, whose frames the program may recall; `-` is standard input.
         setup: Option<String>,
+        /// The file of the program; `-` is standard input.
+        program: String,
+    },
+    /// Run a program on a simulated machine by a schedule, and print the report.
+    Simulate {
+        /// The file of the machine's setup; `-` is standard input.
+        setup: String,
+        /// The file of the schedule; `-` is standard input.
+        schedule: String,
+        /// How many commands may be open at once, from 1 to 16.
+        window: u8,
+        /// The file of the program; `-` is standard input.
+        program: String,
+    },
+    /// Say in which runs of the server's contacts the client's features were measured.
+    Audit {
+        /// The file of the machine's setup; `-` is standard input.
+        setup: String,
+        /// The file of the features that the client holds; `-` is standard input.
+        features: String,
+        /// The file of the contacts that the server made; `-` is standard input.
+        contacts: String,
         /// The file of the program; `-` is standard input.
         program: String,
     },
@@ -43,50 +65,6 @@ impl From<AllocError> for WordsFault {
     }
 }
 
-/// `--setup FILE`.
-fn setup_option<'a>(alloc: Global) -> Arg<'a>
-    ensures rule { rule_of result ≡ setup_rule }
-    ensures local { result.global ≡ false }
-{
-    Arg::new(alloc, "setup")
-        .long("setup")
-        .value_name("FILE")
-        .help("The machine's setup; - is standard input")
-}
-
-/// `PROGRAM`.
-fn program_argument<'a>(alloc: Global) -> Arg<'a>
-    ensures rule { rule_of result ≡ program_rule }
-    ensures local { result.global ≡ false }
-{
-    Arg::new(alloc, "PROGRAM")
-        .help("The DMIS program; - is standard input")
-        .default_value("-")
-}
-
-/// `check [--setup FILE] [PROGRAM]`.
-fn check_command<'a>(alloc: Global) -> Result<Command<'a>, AllocError>
-    ensures shape { IfOk result (λ command. app_of command ≡ check_line) }
-    ensures local { IfOk result (λ command. (out-Command command).has_globals ≡ false) }
-{
-    Command::new(alloc, "check")
-        .about("Prints the I++ DME command lines of a DMIS program")
-        .arg(setup_option(alloc))?
-        .arg(program_argument(alloc))
-}
-
-/// `dme COMMAND ..`.
-fn whole_command<'a>(alloc: Global) -> Result<Command<'a>, AllocError>
-    ensures shape { IfOk result (λ command. app_of command ≡ whole_line) }
-    ensures local { IfOk result (λ command. (out-Command command).has_globals ≡ false) }
-    ensures required { IfOk result (λ command. (out-Command command).subcommand_required ≡ true) }
-{
-    Command::new(alloc, "dme")
-        .about("Runs DMIS inspection programs over the I++ DME interface")
-        .subcommand_required(true)
-        .subcommand(check_command(alloc)?)
-}
-
 /// A copy of a value, where there is one.
 fn copied(alloc: Global, value: Option<&str>) -> Result<Option<String>, AllocError>
     ensures { IfOk result (λ copy. option_map string_bytes copy
@@ -98,23 +76,98 @@ fn copied(alloc: Global, value: Option<&str>) -> Result<Option<String>, AllocErr
     }
 }
 
+/// The first value of an argument, where it has one.
+fn value_of<'a>(values: &ArgMatches<'a>, id: &str) -> Option<&'a str>
+    ensures { option_map (λ text. text.now) result
+        ≡ first_of id.now (rows_of (found_of values.now)) }
+{
+    values.get_str(id)
+}
+
+/// A copy of the value of an option that has one.
+fn copied_value(alloc: Global, values: &ArgMatches, id: &str) -> Result<String, AllocError>
+    requires { HasValue id.now (rows_of (found_of values.now)) }
+    ensures { IfOk result (λ copy. IsValueOf id.now (rows_of (found_of values.now))
+        (string_bytes copy)) }
+{
+    match value_of(values, id) {
+        Some(text) => String::from_str(alloc, text),
+        None => unreachable!(),
+    }
+}
+
+/// A copy of the value of `PROGRAM`.
+fn copied_program(alloc: Global, values: &ArgMatches) -> Result<String, AllocError>
+    ensures { IfOk result (λ copy. IsProgramOf (rows_of (found_of values.now))
+        (string_bytes copy)) }
+{
+    String::from_str(alloc, value_of(values, "PROGRAM").unwrap_or("-"))
+}
+
+/// The value of `--window`, which `clap` has found in range.
+fn window_of(values: &ArgMatches) -> u8
+    requires { HasWindow (rows_of (found_of values.now)) }
+    ensures { IsSomeAnd (first_of (codes "window") (rows_of (found_of values.now)))
+        (IsWindow result) }
+{
+    match values.get_one::<u8>("window") {
+        Some(window) => window,
+        None => unreachable!(),
+    }
+}
+
 /// The order of `check` with these values.
 fn check_order(alloc: Global, values: &ArgMatches) -> Result<Order, AllocError>
-    ensures { IfOk result (IsCheckOf (first_value (found_of values.now) (codes "setup"))
-        (first_value (found_of values.now) (codes "PROGRAM"))) }
+    ensures { IfOk result (IsCheckOf (rows_of (found_of values.now))) }
 {
-    let setup = copied(alloc, values.get_str("setup"))?;
-    let program = String::from_str(alloc, values.get_str("PROGRAM").unwrap_or("-"))?;
+    let setup = copied(alloc, value_of(values, "setup"))?;
+    let program = copied_program(alloc, values)?;
     Ok(Order::Check { setup, program })
+}
+
+/// The order of `simulate` with these values.
+fn simulate_order(alloc: Global, values: &ArgMatches) -> Result<Order, AllocError>
+    requires { HasSimulation (rows_of (found_of values.now)) }
+    ensures { IfOk result (IsSimulateOf (rows_of (found_of values.now))) }
+{
+    let setup = copied_value(alloc, values, "setup")?;
+    let schedule = copied_value(alloc, values, "schedule")?;
+    let window = window_of(values);
+    let program = copied_program(alloc, values)?;
+    Ok(Order::Simulate {
+        setup,
+        schedule,
+        window,
+        program,
+    })
+}
+
+/// The order of `audit` with these values.
+fn audit_order(alloc: Global, values: &ArgMatches) -> Result<Order, AllocError>
+    requires { HasAudit (rows_of (found_of values.now)) }
+    ensures { IfOk result (IsAuditOf (rows_of (found_of values.now))) }
+{
+    let setup = copied_value(alloc, values, "setup")?;
+    let features = copied_value(alloc, values, "features")?;
+    let contacts = copied_value(alloc, values, "contacts")?;
+    let program = copied_program(alloc, values)?;
+    Ok(Order::Audit {
+        setup,
+        features,
+        contacts,
+        program,
+    })
 }
 
 /// The order of the subcommand that `clap` found, with its values.
 fn order_of(alloc: Global, matches: &ArgMatches) -> Result<Order, AllocError>
-    requires { subcommand_name_of matches.now ≡ Some (codes "check") }
+    requires { IsSomeAnd (subcommand_rows_of matches.now) IsAskable }
     ensures { IfOk result (IsOrderOf (subcommand_rows_of matches.now)) }
 {
     match matches.subcommand() {
         Some(("check", values)) => check_order(alloc, values),
+        Some(("simulate", values)) => simulate_order(alloc, values),
+        Some(("audit", values)) => audit_order(alloc, values),
         _ => unreachable!(),
     }
 }
@@ -131,7 +184,7 @@ fn refusal_of(error: Error) -> WordsFault
 
 /// What `clap`'s answer asks for. Words that it takes are refused only for want of memory, in copying a value.
 fn answered(alloc: Global, answer: Result<ArgMatches, Error>) -> Result<Order, WordsFault>
-    requires { IfOk answer (λ matches. subcommand_name_of matches ≡ Some (codes "check")) }
+    requires { IfOk answer (λ matches. IsSomeAnd (subcommand_rows_of matches) IsAskable) }
     ensures order { IfOk answer.entry (λ matches. IfOk result
         (IsOrderOf (subcommand_rows_of matches))) }
     ensures taken { OnOk answer.entry (IfErr result (λ fault. fault ≡ WordsFault.Memory)) }
@@ -150,6 +203,7 @@ fn answered(alloc: Global, answer: Result<ArgMatches, Error>) -> Result<Order, W
 pub fn read_words<'a>(alloc: Global, words: &'a [&'a str]) -> Result<Order, WordsFault>
     ensures order { IfOk result (Asks (map (λ word. word.now) words.now)) }
     ensures refused { IfErr result (IsRefusal (map (λ word. word.now) words.now)) }
+    ensures ready { IfOk result IsReady }
 {
     let command = whole_command(alloc)?;
     answered(alloc, command.try_get_matches_from(words))

@@ -1,0 +1,33 @@
+-- What is printed of an audit, and the exit statuses of orders that were carried out (this profile).
+use Rattle.std.specs.Prelude.{ℕ, ◌-◌, List, [], ◌++◌, codes, decimal, slice_get}
+use Rattle.std.specs.List.{flat_map}
+use Rattle.std.specs.Option.{option_map_or}
+use Rattle.contact_ledger.specs.declared.features.Feature.{Feature}
+use Rattle.ledger_audit.specs.declared.verdicts.Verdict.{Verdict}
+use Rattle.ledger_audit.specs.declared.verdicts.Verdict.TheVariants.{Starts, NoRun}
+use Rattle.protocol_model.specs.declared.states.State.{State}
+use Rattle.protocol_model.specs.declared.states.State.TheVariants.{Halted, Faulted}
+
+-- 3 where the client was stopped, or met a line or a mark that has no place
+abbrev pub status_of_state : State → ℕ
+status_of_state Halted = 3
+status_of_state Faulted = 3
+status_of_state _ = 0
+
+-- the numbers at which runs begin, a space before each
+abbrev pub start_fields : List ℕ → List ℕ
+start_fields starts = flat_map (λ start. codes " " ++ decimal start) starts
+
+-- the label of the feature of this number, counted from 1
+abbrev pub label_at : List Feature → ℕ → List ℕ
+label_at features count = option_map_or (λ f. f.label) (slice_get features (count - 1)) []
+
+-- a verdict as a line
+abbrev pub verdict_text : List Feature → Verdict → List ℕ
+verdict_text features (Starts starts) = codes "RUNS" ++ (start_fields starts ++ codes "\n")
+verdict_text features (NoRun count) = codes "NONE " ++ (decimal count ++ (codes " " ++ (label_at features count ++ codes "\n")))
+
+-- 3 for an audit without runs
+abbrev pub verdict_status : Verdict → ℕ
+verdict_status (Starts starts) = 0
+verdict_status (NoRun count) = 3
