@@ -107,7 +107,8 @@ fn add_entry(text: &mut Vec<u8>, connection: u64, act: &Act) -> Result<(), Alloc
 
 /// Adds the lines of acts.
 fn add_entries(text: &mut Vec<u8>, entries: &[(u64, Act)]) -> Result<(), AllocError>
-    ensures text { OnOk result (text.new.items ≡ text.old.items ++ text_of (map act_line entries.now)) }
+    ensures text { OnOk result (text.new.items
+        ≡ text.old.items ++ text_of (map act_line entries.now)) }
     ensures acts { OnOk result (AllByRecursion (λ entry. IsWrittenAct entry.1) entries.now) }
 {
     for entry in entries {

@@ -68,127 +68,29 @@ fn words_name_the_files_of_a_simulation(rt: HostRuntime) -> Result<(), Fail> {
 #[test]
 fn words_name_a_window_from_1_to_16(rt: HostRuntime) -> Result<(), Fail> {
     let alloc = rt.alloc();
-    let cases: [(&[&str], Option<u8>); 9] = [
-        (
-            &[
-                "dme",
-                "simulate",
-                "--setup",
-                "s",
-                "--schedule",
-                "t",
-                "--window",
-                "1",
-            ],
-            Some(1),
-        ),
-        (
-            &[
-                "dme",
-                "simulate",
-                "--setup",
-                "s",
-                "--schedule",
-                "t",
-                "--window",
-                "16",
-            ],
-            Some(16),
-        ),
-        (
-            &[
-                "dme",
-                "simulate",
-                "--setup",
-                "s",
-                "--schedule",
-                "t",
-                "--window",
-                "04",
-            ],
-            Some(4),
-        ),
-        (
-            &[
-                "dme",
-                "simulate",
-                "--setup",
-                "s",
-                "--schedule",
-                "t",
-                "--window",
-                "+4",
-            ],
-            Some(4),
-        ),
-        (
-            &[
-                "dme",
-                "simulate",
-                "--setup",
-                "s",
-                "--schedule",
-                "t",
-                "--window",
-                "0",
-            ],
-            None,
-        ),
-        (
-            &[
-                "dme",
-                "simulate",
-                "--setup",
-                "s",
-                "--schedule",
-                "t",
-                "--window",
-                "17",
-            ],
-            None,
-        ),
-        (
-            &[
-                "dme",
-                "simulate",
-                "--setup",
-                "s",
-                "--schedule",
-                "t",
-                "--window",
-                "x",
-            ],
-            None,
-        ),
-        (
-            &[
-                "dme",
-                "simulate",
-                "--setup",
-                "s",
-                "--schedule",
-                "t",
-                "--window",
-                "-1",
-            ],
-            None,
-        ),
-        (
-            &[
-                "dme",
-                "simulate",
-                "--setup",
-                "s",
-                "--schedule",
-                "t",
-                "--window",
-                "",
-            ],
-            None,
-        ),
+    let cases = [
+        ("1", Some(1u8)),
+        ("16", Some(16)),
+        ("04", Some(4)),
+        ("+4", Some(4)),
+        ("0", None),
+        ("17", None),
+        ("x", None),
+        ("-1", None),
+        ("", None),
     ];
-    for (words, window) in cases {
-        assert_eq!(rt; named_window(alloc, words), window);
+    for (text, window) in cases {
+        let words = [
+            "dme",
+            "simulate",
+            "--setup",
+            "s",
+            "--schedule",
+            "t",
+            "--window",
+            text,
+        ];
+        assert_eq!(rt; named_window(alloc, &words), window, "{text}");
     }
     Ok(())
 }
