@@ -2,6 +2,7 @@
 
 The programs are made by `tests/run`, or by `rt run` in their crates.
 """
+import functools
 import os
 import re
 import subprocess
@@ -11,6 +12,14 @@ import tempfile
 def built(crate):
     """The executable of a crate."""
     return os.path.join(os.path.dirname(os.path.abspath(__file__)), "..", "crates", crate, "out", crate)
+
+
+@functools.cache
+def plain():
+    """The plain program of bench/plain/, built anew where its sources have changed."""
+    folder = os.path.join(os.path.dirname(os.path.abspath(__file__)), "plain")
+    subprocess.run(["cargo", "build", "--release", "--offline", "--quiet"], cwd=folder, check=True)
+    return os.path.join(folder, "target", "release", "plain")
 
 
 def counted(words, own):

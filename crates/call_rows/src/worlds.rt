@@ -1,15 +1,11 @@
 // Worlds behind schedules, and both ends that are driven by hand.
 
-ghost use Rattle.std.specs.Prelude.{◌≡◌, true};
-ghost use Rattle.std.specs.List.{AllByRecursion};
-ghost use Rattle.contact_ledger.specs.FeatureTexts.{CanBeWritten};
-
 use crate::client::{Made, new_client};
 use crate::server::new_server;
 use crate::shown::{lined, push_lines, push_text};
 use crate::stop::Stop;
 use client_core::Client;
-use contact_ledger::{CONNECTION_MAX, Feature, ServerLedger, write_contacts, write_features};
+use contact_ledger::{ServerLedger, write_contacts, write_features};
 use dmis_program::Program;
 use link_world::{
     Machine, Schedule, Simulated, World, report_of, write_contact_rows, write_report,
@@ -173,38 +169,10 @@ pub(crate) fn schedule_answer(alloc: Global, row: &str) -> Result<Vec<u8>, Stop>
     Ok(answer)
 }
 
-/// Whether a feature has a count of points and an origin that can be written.
-fn can_be_written(feature: &Feature) -> bool
-    ensures { result ≡ true → CanBeWritten feature.now }
-{
-    let count = feature.points.len();
-    if count == 0 || count > 10_000 {
-        return false;
-    }
-    match feature.origin {
-        None => true,
-        Some(origin) => origin.connection >= 1 && origin.connection <= CONNECTION_MAX,
-    }
-}
-
-/// The same of each of these features.
-fn all_can_be_written(features: &[Feature]) -> bool
-    ensures { result ≡ true → AllByRecursion CanBeWritten features.now }
-{
-    match features {
-        [] => true,
-        [first, rest @ ..] => can_be_written(first) && all_can_be_written(rest),
-    }
-}
-
 /// The texts of the features and of the contacts of a world.
 fn files_of(alloc: Global, world: &World) -> Result<Vec<u8>, Stop> {
-    let features = world.features();
-    if !all_can_be_written(features) {
-        return Err(Stop::Row);
-    }
     let mut files = Vec::new(alloc);
-    write_features(&mut files, features)?;
+    write_features(&mut files, world.features())?;
     write_contacts(&mut files, world.ledger())?;
     Ok(files)
 }

@@ -1,12 +1,14 @@
 -- The features that a client holds, and the points of the unfinished one, fit the touches that are left of its plan.
 use Rattle.std.proofs.Common.{◌≡◌, ℕ, zero, suc, ◌+◌, ◌≤◌, ◌==◌, Bool, true, false, ◌&&◌, List, [], ◌∷◌, ◌++◌, length, take, drop, refl}
 use Rattle.std.proofs.Common.{sym, ◌∙◌, ap, subst, arith, length-append, Option}
-use Rattle.std.proofs.lemmas.Bool.{false≢true, eq-eqb}
+use Rattle.std.proofs.lemmas.Bool.{false≢true, eq-eqb, eqb-true}
 use Rattle.std.specs.Prelude.{bytes_eq}
 use Rattle.std.specs.List.{AllByRecursion}
 use Rattle.fixed_um.specs.declared.lengths.Point.{Point}
 use Rattle.contact_ledger.specs.declared.features.Origin.{Origin}
 use Rattle.contact_ledger.specs.declared.features.Feature.{Feature}
+use Rattle.contact_ledger.specs.Ledgers.{HaveOrigins}
+use Rattle.contact_ledger.specs.FeatureTexts.{CanBeWritten, IsPointCount}
 use Rattle.dmis_program.specs.Programs.{IsFeature}
 use Rattle.dmis_program.specs.declared.features.Touch.{Touch}
 use Rattle.dmis_program.specs.declared.features.Wanted.{Wanted}
@@ -156,3 +158,16 @@ fewer_are_ours ws [] (suc k) h = refl
 fewer_are_ours [] (f ∷ fs) (suc k) h = absurd (false≢true h)
 fewer_are_ours (w ∷ ws) (f ∷ fs) (suc k) h = let two = both (is_ours w f) (are_ours ws fs) h
     in ap (λ (b : Bool). b && are_ours ws (take k fs)) two.0 ∙ fewer_are_ours ws fs k two.1
+
+-- features of a program have as many points as it has touches for them, so that they can be written
+pub ours_writable : (ws : List Wanted) (fs : List Feature) → AllByRecursion IsFeature ws → are_ours ws fs ≡ true → HaveOrigins fs
+    → AllByRecursion CanBeWritten fs
+ours_writable ws [] h ours origins = tt
+ours_writable [] (f ∷ fs) h ours origins = absurd (false≢true ours)
+ours_writable (w ∷ ws) (f ∷ fs) h ours origins =
+    let two = both (is_ours w f) (are_ours ws fs) ours in
+    let same : length f.points ≡ length w.touches =
+    eqb-true (length f.points) (length w.touches) (both (bytes_eq f.label w.label) (length f.points == length w.touches) two.0).1 in (
+      (subst IsPointCount (sym same) (IsFeature.some h.0, IsFeature.few h.0), origins 0 f (omega (arith))),
+      ours_writable ws fs h.1 two.1 (λ i d below. origins (suc i) d (omega (arith, below))),
+    )

@@ -4,7 +4,9 @@ use Rattle.std.proofs.Common.{◌∙◌, ap, subst}
 use Rattle.std.proofs.lemmas.Bool.{false≢true, le-leb}
 use Rattle.contact_ledger.specs.Ledgers.{connection_most}
 use Rattle.contact_ledger.specs.declared.features.Feature.{Feature}
-use Rattle.contact_ledger.specs.Ledgers.{IsConnection}
+use Rattle.contact_ledger.specs.Ledgers.{HaveOrigins, IsConnection}
+use Rattle.contact_ledger.specs.FeatureTexts.{CanBeWritten}
+use Rattle.std.specs.List.{AllByRecursion}
 use Rattle.dmis_program.specs.Meaning.{Meaning}
 use Rattle.dmis_program.specs.Programs.{IsProgram}
 use Rattle.line_framing.specs.Framing.{Framing, no_bytes, fed, after_next}
@@ -21,6 +23,7 @@ use Rattle.client_core.specs.Calls.{behind_call, behind_calls}
 use Rattle.client_core.specs.Clients.{are_ours, is_faulted, may_connect, may_read}
 use Rattle.client_core.specs.Always.{IsReached, FitsState, IsQuiet}
 use Rattle.client_core.proofs.Always.{IsSteady, IsSound, sound, Reads, reads_by}
+use Rattle.client_core.proofs.Fits.{ours_writable}
 use Rattle.client_core.proofs.Runs.{behind_holds, Holds}
 use Rattle.client_core.specs.Calls.{plans_begun}
 
@@ -211,3 +214,8 @@ holds e h = subst (λ (c : Client). Holds h.program c (plans_begun h.readers h.c
 
 pub features_ours : (e : ClientEnd) → IsReached e → are_ours e.client.program.features e.client.table.tally.features ≡ true
 features_ours e h = Holds.ours (holds e h)
+
+pub features_writable : (e : ClientEnd) → IsReached e → HaveOrigins e.client.table.tally.features
+    → AllByRecursion CanBeWritten e.client.table.tally.features
+features_writable e h origins = ours_writable e.client.program.features e.client.table.tally.features
+    (IsProgram.features (subst IsProgram (sym (Holds.same (holds e h))) h.is_program)) (features_ours e h) origins

@@ -3,6 +3,8 @@
 ghost use Rattle.std.specs.Prelude.{◌≡◌, ◌≢◌, ◌↔◌, ◌⊎◌, ◌≤◌, ◌+◌, ◌&&◌, not, nat_le, true, false, None, Some, Ok, Err, length, IsTrue, IsOk, IfOk, IfErr, OnOk, OnErr, IfSome, IsSome, IsNone, is_some, MatchOption};
 ghost use Rattle.std.specs.Result.{IsErrOf};
 ghost use Rattle.fixed_um.specs.Calls.{Leads, Shows};
+ghost use Rattle.std.specs.List.{AllByRecursion};
+ghost use Rattle.contact_ledger.specs.FeatureTexts.{CanBeWritten};
 ghost use Rattle.contact_ledger.specs.Ledgers.{HaveOrigins, connection_most};
 ghost use Rattle.line_framing.specs.Next.{next_of};
 ghost use Rattle.line_framing.specs.Framing.{IsLineDue};
@@ -327,9 +329,12 @@ impl Client {
         self.executor.state()
     }
 
-    /// The completed features. Each has an origin as a list of features owes it.
+    /// The completed features. Each has an origin as a list of features owes it, and from 1 to 10,000 points, so that they can be
+    /// written to a file.
+    #[tactic(auto, using(crate::proofs::Reached::features_writable))]
     pub fn features(&self) -> &[Feature]
-        ensures { Shows result.now self.now.client.table.tally.features HaveOrigins }
+        ensures shown { Shows result.now self.now.client.table.tally.features HaveOrigins }
+        ensures writable { AllByRecursion CanBeWritten self.now.client.table.tally.features }
     {
         self.executor.features()
     }

@@ -2,6 +2,7 @@
 
 ghost use Rattle.std.specs.Prelude.{◌≡◌, OnOk, OnErr};
 ghost use Rattle.contact_ledger.specs.Ledgers.{IsConnection};
+ghost use Rattle.dme_line.specs.Responses.{the_mark};
 ghost use Rattle.protocol_model.specs.Lines.{Readers, AreReaders};
 ghost use Rattle.protocol_model.specs.Ends.{given, response_read, line_read};
 ghost use Rattle.client_core.specs.Reads.{LeadsRead};
@@ -9,8 +10,7 @@ ghost use Rattle.client_core.specs.Reads.{LeadsRead};
 use crate::executor::Executor;
 use crate::hearing::is_unasked;
 use dme_line::{
-    Kind, Mark, NotHomedText, NotPoint, NotResponse, Response, Tag, read_homed, read_point,
-    read_response,
+    Kind, MarkSlice, NotHomedText, NotPoint, NotResponse, Tag, cut_response, read_homed, read_point,
 };
 use protocol_model::{Cause, Datum};
 use std::alloc::AllocError;
@@ -40,22 +40,21 @@ impl Executor {
     }
 
     /// A response is read. Only want of memory is an `Err`.
-    fn hear(&mut self, response: &Response) -> Result<(), AllocError>
+    fn hear(&mut self, tag: Tag, mark: MarkSlice<'_>) -> Result<(), AllocError>
         requires connection { IsConnection self.old.last }
         ensures { LeadsRead result self.old self.new
-            (λ readers. response_read readers self.old response.now.tag response.now.mark) }
+            (λ readers. response_read readers self.old tag (the_mark mark.entry)) }
     {
-        let tag = response.tag;
-        match &response.mark {
-            Mark::Ack => self.hear_received(tag),
-            Mark::Given(text) => self.hear_data(tag, text.as_slice()),
-            Mark::Done => return self.hear_done(tag),
-            Mark::Error(_) => self.hear_error(tag),
+        match mark {
+            MarkSlice::Ack => self.hear_received(tag),
+            MarkSlice::Given(text) => self.hear_data(tag, text),
+            MarkSlice::Done => return self.hear_done(tag),
+            MarkSlice::Error(_) => self.hear_error(tag),
         }
         Ok(())
     }
 
-    /// A line is read. Only want of memory is an `Err`.
+    /// A line is read, its text where it stands. Only want of memory is an `Err`.
     #[tactic(auto, using(crate::proofs::Readings::one_response))]
     pub(crate) fn hear_line(&mut self, line: &[u8]) -> Result<(), AllocError>
         requires connection { IsConnection self.old.last }
@@ -63,8 +62,8 @@ impl Executor {
             → self.new ≡ line_read readers self.old (readers.response line.now)) }
         ensures err { OnErr result (self.new ≡ self.old) }
     {
-        match read_response(self.alloc, line)? {
-            Ok(response) => self.hear(&response),
+        match cut_response(line) {
+            Ok(response) => self.hear(response.tag, response.mark),
             Err(NotResponse) => {
                 self.fault(Cause::NotResponse);
                 Ok(())

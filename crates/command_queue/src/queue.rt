@@ -7,6 +7,7 @@ ghost use Rattle.command_queue.specs.Limits.{places};
 ghost use Rattle.protocol_model.specs.Replies.{tag_is};
 ghost use Rattle.protocol_model.specs.Server.{waits_under};
 
+use circular_buffer::HeapCircularBuffer;
 use dme_line::Tag;
 use protocol_model::Waiting;
 use std::alloc::{AllocError, Global};
@@ -16,10 +17,11 @@ use std::marker::Model;
 pub const PLACES: usize = 64;
 
 /// The commands that wait at a server for their turn, at most 64, the one that came first in front (this profile).
-/// Contracts see their list.
+/// Contracts see their list. They wait in a ring, so taking one moves no other.
 #[derive(Debug, Drop)]
 pub struct Queue {
-    commands: Vec<Waiting>,
+    alloc: Global,
+    ring: HeapCircularBuffer<Waiting>,
 }
 
 impl Model for Queue {
@@ -28,19 +30,18 @@ impl Model for Queue {
 
     ghost Value = { List Waiting };
 
-    ghost use Rattle.std.specs.Prelude.{◌≤◌, length, vec_capacity};
+    ghost use Rattle.std.specs.Prelude.{◌≡◌};
     ghost use Rattle.command_queue.specs.Limits.{places};
 
-    ghost view = { λ q. q.commands.items };
+    ghost view = { λ q. q.ring.items };
 
-    ghost invariant = { λ q. (length q.commands.items ≤ places)
-        × (places ≤ vec_capacity q.commands) };
+    ghost invariant = { λ q. q.ring.capacity ≡ places };
 }
 
-fn is_any_under(commands: &[Waiting], tag: Tag) -> bool
-    ensures { result ≡ list_any (λ command. tag_is command.tag tag) commands.now }
+fn is_any_under(ring: &HeapCircularBuffer<Waiting>, tag: Tag) -> bool
+    ensures { result ≡ list_any (λ command. tag_is command.tag tag) ring.now.items }
 {
-    commands.iter().any(|command| command.tag == tag)
+    ring.iter().any(|command| command.tag == tag)
 }
 
 impl Queue {
@@ -49,8 +50,8 @@ impl Queue {
         ensures none { IfOk result (λ queue. queue ≡ []) }
         ensures places { PLACES ≡ places }
     {
-        let commands = Vec::with_capacity(alloc, PLACES)?;
-        Ok(Queue { commands })
+        let ring = HeapCircularBuffer::with_capacity(alloc, PLACES)?;
+        Ok(Queue { alloc, ring })
     }
 
     /// Puts a command behind the others. Where 64 wait it hands the command back, and the queue is as before.
@@ -60,11 +61,7 @@ impl Queue {
         ensures ok { OnOk result (self.new ≡ self.old ++ command ∷ []) }
         ensures err { IfErr result (λ given. (given ≡ command) × (self.new ≡ self.old)) }
     {
-        if self.commands.len() >= PLACES {
-            return Err(command);
-        }
-        self.commands.push_reserved(command);
-        Ok(())
+        self.ring.try_push_back(command)
     }
 
     /// The command that came first, which stays; none where none waits. Takes no memory.
@@ -72,10 +69,7 @@ impl Queue {
         ensures { MatchOption result (self.now ≡ [])
             (λ command. self.now ≡ command.now ∷ drop 1 self.now) }
     {
-        match self.commands.as_slice() {
-            [] => None,
-            [command, ..] => Some(command),
-        }
+        self.ring.front()
     }
 
     /// Takes the command that came first; none where none waits. Takes no memory.
@@ -84,10 +78,7 @@ impl Queue {
             ((self.old ≡ []) × (self.new ≡ []))
             (λ command. self.old ≡ command ∷ self.new) }
     {
-        if self.commands.is_empty() {
-            return None;
-        }
-        Some(self.commands.remove(0))
+        self.ring.pop_front()
     }
 
     /// Takes all commands, in order. Only want of memory is an `Err`, and the queue is then as before.
@@ -95,14 +86,18 @@ impl Queue {
         ensures all { IfOk result (λ commands. commands.items ≡ self.old) }
         ensures leads { Leads result self.old self.new [] }
     {
-        self.commands.split_off(0)
+        let mut commands = Vec::with_capacity(self.alloc, self.ring.len())?;
+        while let Some(command) = self.ring.pop_front() {
+            commands.push_reserved(command);
+        }
+        Ok(commands)
     }
 
     /// Gives up all commands. Takes no memory.
     pub fn clear(&mut self)
         ensures { self.new ≡ [] }
     {
-        self.commands.clear();
+        self.ring.clear();
     }
 
     /// Whether a command waits under this tag. Takes no memory.
@@ -110,7 +105,7 @@ impl Queue {
     pub fn holds(&self, tag: Tag) -> bool
         ensures { result ≡ waits_under tag self.now }
     {
-        is_any_under(self.commands.as_slice(), tag)
+        is_any_under(&self.ring, tag)
     }
 
     /// How many commands wait, at most 64.
@@ -118,13 +113,13 @@ impl Queue {
         ensures count { result ≡ length self.now }
         ensures within { length self.now ≤ places }
     {
-        self.commands.len()
+        self.ring.len()
     }
 
     /// Whether none waits.
     pub fn is_empty(&self) -> bool
         ensures { IsTrue result ↔ (self.now ≡ []) }
     {
-        self.commands.is_empty()
+        self.ring.is_empty()
     }
 }

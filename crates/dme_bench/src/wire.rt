@@ -4,7 +4,7 @@ use crate::values::{Stop, place};
 use dme_line::{
     Command, Mark, Response, Tag, read_command, read_response, write_command, write_response,
 };
-use line_framing::{Line, Lines, LinesFault};
+use line_framing::{FramingFault, Lines, LinesFault};
 use std::alloc::Global;
 
 /// What is read.
@@ -28,6 +28,12 @@ impl Side {
             Side::Commands => "commands",
             Side::Responses => "responses",
         }
+    }
+}
+
+impl From<FramingFault> for Stop {
+    fn from(_fault: FramingFault) -> Stop {
+        Stop::Refused
     }
 }
 
@@ -58,21 +64,22 @@ fn push_line(out: &mut Vec<u8>, side: Side, number: u64) -> Result<(), Stop> {
     Ok(())
 }
 
-fn read_line(alloc: Global, side: Side, line: &Line) -> Result<(), Stop> {
+fn read_line(alloc: Global, side: Side, line: &[u8]) -> Result<(), Stop> {
     let is_read = match side {
-        Side::Commands => read_command(alloc, line.as_slice())?.is_ok(),
-        Side::Responses => read_response(alloc, line.as_slice())?.is_ok(),
+        Side::Commands => read_command(alloc, line)?.is_ok(),
+        Side::Responses => read_response(alloc, line)?.is_ok(),
     };
     if is_read { Ok(()) } else { Err(Stop::Refused) }
 }
 
-/// Reads each whole line that stands in the buffer, and answers how many they were.
+/// Reads each whole line where it stands in the buffer, as both ends do, and answers how many they were.
 fn read_lines(alloc: Global, side: Side, lines: &mut Lines) -> Result<u64, Stop> {
     for count in 0..u64::MAX {
-        match lines.next_line()? {
-            Some(line) => read_line(alloc, side, &line)?,
-            None => return Ok(count),
-        }
+        let Some(length) = lines.first_line()? else {
+            return Ok(count);
+        };
+        read_line(alloc, side, &lines.rest()[..length])?;
+        lines.drop_line(length);
     }
     Err(Stop::Refused)
 }

@@ -7,6 +7,7 @@ pub mod NameCutLemmas
 pub mod TagLemmas
 pub mod KindLemmas
 pub mod CommandLemmas
+pub mod WrittenLemmas
 pub mod PointLemmas
 pub mod HomedLemmas
 pub mod ErrorLemmas

@@ -65,6 +65,14 @@ pub record IsAlong (arguments : List Argument) (d : Direction) : Type 0 where
   pub found : triple_named (codes "IJK") arguments ≡ Some words
   pub reads : ReadsDirection words.0 words.1 words.2 (Ok (Some d))
 
+-- a comma, a direction and the last parenthesis
+pub record EndsWithAlong (ts : List Token) (d : Direction) : Type 0 where
+  pub argument : Argument
+  pub words : List ℕ × List ℕ × List ℕ
+  pub found : triple_of (codes "IJK") argument ≡ Some words
+  pub spelled : ts ≡ Comma ∷ (argument_tokens argument ++ (Close ∷ []))
+  pub reads : ReadsDirection words.0 words.1 words.2 (Ok (Some d))
+
 -- beside the axes nothing, or a direction
 abbrev pub HasIjk : List Argument → Option Direction → Type 0
 HasIjk arguments None = length arguments ≡ 3

@@ -28,6 +28,14 @@ pub record HasCoordinates (x y z : List ℕ) (p : Point) : Type 0 where
   pub y_reads : Reads 3 wire_limit y (Ok p.y)
   pub z_reads : Reads 3 wire_limit z (Ok p.z)
 
+-- the three axes stand in front of the rest of a text
+pub record BeginsWithPoint (text rest : List ℕ) (p : Point) : Type 0 where
+  pub x : List ℕ
+  pub y : List ℕ
+  pub z : List ℕ
+  pub spelled : tokens text ≡ point_tokens x y z ++ tokens rest
+  pub reads : HasCoordinates x y z p
+
 -- a point text: the three axes, with spaces as in commands but none in front (this profile)
 pub record IsPointText (text : List ℕ) (p : Point) : Type 0 where
   pub x : List ℕ

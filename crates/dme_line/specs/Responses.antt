@@ -11,6 +11,9 @@ use Rattle.dme_line.specs.declared.tags.Tag.{Tag}
 use Rattle.dme_line.specs.declared.responses.Mark.{Mark}
 use Rattle.dme_line.specs.declared.responses.Mark.TheVariants.{Ack, Given, Done, Error}
 use Rattle.dme_line.specs.declared.responses.Response.{Response}
+use Rattle.dme_line.specs.declared.responses.MarkSlice.{MarkSlice}
+use Rattle.dme_line.specs.declared.responses.MarkSlice.TheVariants as marks
+use Rattle.dme_line.specs.declared.responses.ResponseSlice.{ResponseSlice}
 use Rattle.dme_line.specs.declared.responses.NotResponse.{NotResponse}
 
 -- a mark as it is written: & received, # data, % complete, ! error
@@ -68,6 +71,21 @@ HoldsResponseText line = (r : Response) × IsResponseLine line r × HoldsText r.
 abbrev pub ReadsResponse : List ℕ → Result Response NotResponse → Type 0
 ReadsResponse line (Ok r) = IsResponseLine line r
 ReadsResponse line (Err fault) = (r : Response) → IsResponseLine line r → ⊥
+
+-- a mark with the text that stands in a line
+abbrev pub the_mark : MarkSlice → Mark
+the_mark marks.Ack = Ack
+the_mark (marks.Given text) = Given text.now
+the_mark marks.Done = Done
+the_mark (marks.Error text) = Error text.now
+
+-- the response whose text stands in a line, and the reading that gives it
+abbrev pub the_response : ResponseSlice → Response
+the_response r = record { tag = r.tag; mark = the_mark r.mark }
+
+abbrev pub the_reading : Result ResponseSlice NotResponse → Result Response NotResponse
+the_reading (Ok r) = Ok (the_response r)
+the_reading (Err fault) = Err fault
 
 -- the response that carries a point
 abbrev pub data_response : Tag → Point → Response

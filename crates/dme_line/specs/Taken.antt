@@ -5,10 +5,6 @@ use Rattle.std.specs.Borrow.{Bor}
 use Rattle.dme_line.specs.Arguments.{Argument, Single, Triple, Seven}
 use Rattle.dme_line.specs.declared.arguments.Argument.{Argument as Slices}
 use Rattle.dme_line.specs.declared.arguments.Argument.TheVariants as slices
-use Rattle.dme_line.specs.declared.responses.Mark.{Mark}
-use Rattle.dme_line.specs.declared.responses.Mark.TheVariants.{Ack, Given, Done, Error}
-use Rattle.dme_line.specs.declared.responses.MarkSlice.{MarkSlice}
-use Rattle.dme_line.specs.declared.responses.MarkSlice.TheVariants as marks
 use Rattle.dme_line.specs.declared.arguments.Place.{Place}
 use Rattle.dme_line.specs.declared.arguments.Transformation.{Transformation}
 
@@ -38,10 +34,3 @@ the_words w = (w.0.now, w.1.now, w.2.now)
 abbrev pub bare_word : List ℕ → List ℕ
 bare_word word = if nat_le 2 (length word) && ((slice_index word 0 == 34) && (slice_index word (length word - 1) == 34)) then take
     (length word - 2) (drop 1 word) else word
-
--- a mark with the text that stands in a line
-abbrev pub the_mark : MarkSlice → Mark
-the_mark marks.Ack = Ack
-the_mark (marks.Given text) = Given text.now
-the_mark marks.Done = Done
-the_mark (marks.Error text) = Error text.now

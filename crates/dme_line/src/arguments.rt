@@ -54,7 +54,7 @@ pub(crate) fn is_closed(bytes: &[u8]) -> bool
 }
 
 /// A comma and a named argument, and what stands behind them.
-fn take_next(bytes: &[u8]) -> Option<(Argument<'_>, &[u8])>
+pub(crate) fn take_next(bytes: &[u8]) -> Option<(Argument<'_>, &[u8])>
     ensures { MatchOption result
         ((a : GivenArgument) (ts : List Token) → tokens bytes.now ≡ Comma
         ∷ (argument_tokens a ++ ts) → ⊥)

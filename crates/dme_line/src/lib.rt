@@ -3,7 +3,7 @@
 //!
 //! - `tags`, `commands`: `Tag`; `Command`, its `Kind`, `Csy`
 //! - `writing`, `reading`: `write_command` and the end of a line; `read_command` and `LineFault`
-//! - `responses`, `text`: `Response`, `Mark`, `Text`, and their lines
+//! - `responses`, `text`: `Response`, `Mark`, `Text`, and their lines; `cut_response` copies no text
 //! - `points`, `homed`: the texts of data lines; `errors`: `ErrorNumber` and the line of an error
 //! - `tokens`, `arguments`, `places`, `settings`, `lengths`: the steps by which arguments are read
 //! - `appending`: texts where there is room for them
@@ -33,9 +33,10 @@ pub use homed::{HOMED_MAX, NotHomedText, read_homed, write_homed, write_homed_re
 pub use points::{NotPoint, POINT_MAX, read_point, write_point, write_point_reserved};
 pub use reading::{LineFault, read_command};
 pub use responses::{
-    DATA_MAX, HOMED_DATA_MAX, Mark, NotResponse, RESPONSE_MAX, Response, read_response,
-    write_complete_reserved, write_data, write_data_reserved, write_homed_data,
-    write_homed_data_reserved, write_received_reserved, write_response, write_response_reserved,
+    DATA_MAX, HOMED_DATA_MAX, Mark, MarkSlice, NotResponse, RESPONSE_MAX, Response, ResponseSlice,
+    cut_response, read_response, write_complete_reserved, write_data, write_data_reserved,
+    write_homed_data, write_homed_data_reserved, write_received_reserved, write_response,
+    write_response_reserved,
 };
 pub use tags::Tag;
 pub use text::Text;

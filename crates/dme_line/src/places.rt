@@ -1,16 +1,17 @@
 // What the arguments of a move, a touch or a transformation say.
 
-ghost use Rattle.std.specs.Prelude.{◌≡◌, MatchOption, Option, Some, None};
+ghost use Rattle.std.specs.Prelude.{◌≡◌, MatchOption, IfSome, Option, Some, None};
 ghost use Rattle.fixed_um.specs.Calls.{Finds};
 ghost use Rattle.std.specs.Option.{option_copied, option_map};
 ghost use Rattle.fixed_um.specs.Shapes.{Direction};
-ghost use Rattle.dme_line.specs.Arguments.{single_of, triple_of, single_named, triple_named, IsAxis, IsAlong, IsTarget, IsPlace};
+ghost use Rattle.dme_line.specs.Arguments.{single_of, triple_of, single_named, triple_named, IsAxis, IsAlong, IsTarget, IsPlace, EndsWithAlong};
 ghost use Rattle.dme_line.specs.Taken.{the_argument, the_list, the_words};
 ghost use Rattle.dme_line.specs.Tokens.{tokens};
 
-use crate::arguments::{Argument, Place, read_place};
+use crate::arguments::{Argument, Place, is_closed, read_place, take_next};
 use crate::lengths::wire_length;
-use crate::tokens::is_word;
+use crate::points::cut_written_point;
+use crate::tokens::{is_word, take_mark};
 use fixed_um::{Dir, Point, Um, read_dir};
 
 impl<'a> Argument<'a> {
@@ -101,8 +102,37 @@ impl<'a> Place<'a> {
     }
 }
 
-/// The target and the direction, if one is given, of a touch.
-pub(crate) fn read_touch(bytes: &[u8]) -> Option<(Point, Option<Dir>)>
+/// The direction behind the three axes, and nothing behind it.
+fn read_direction(bytes: &[u8]) -> Option<Dir>
+    ensures { IfSome result (λ d. EndsWithAlong (tokens bytes.now) d) }
+{
+    let (argument, rest) = take_next(bytes)?;
+    let (i, j, k) = argument.triple(b"IJK")?;
+    if !is_closed(rest) {
+        return None;
+    }
+    match read_dir(i, j, k) {
+        Ok(direction) => direction,
+        Err(_) => None,
+    }
+}
+
+/// A touch whose axes stand in their written form, read at once. `None` says nothing: it may stand there in another form, or be none.
+fn read_written_touch(bytes: &[u8]) -> Option<(Point, Option<Dir>)>
+    ensures { IfSome result (λ t. IsPlace (tokens bytes.now) t.0 t.1) }
+{
+    let Some((target, rest)) = cut_written_point(take_mark(bytes, b'(')?) else {
+        return None;
+    };
+    if is_closed(rest) {
+        return Some((target, None));
+    }
+    let along = read_direction(rest)?;
+    Some((target, Some(along)))
+}
+
+/// The target and the direction, if one is given, of a touch whose arguments stand in any order and form.
+fn read_any_touch(bytes: &[u8]) -> Option<(Point, Option<Dir>)>
     ensures { MatchOption result
         ((p : Point) (d : Option Direction) → IsPlace (tokens bytes.now) p d → ⊥)
         (λ t. IsPlace (tokens bytes.now) t.0 t.1) }
@@ -115,6 +145,18 @@ pub(crate) fn read_touch(bytes: &[u8]) -> Option<(Point, Option<Dir>)>
             let direction = place.along()?;
             Some((target, Some(direction)))
         }
+    }
+}
+
+/// The target and the direction, if one is given, of a touch.
+pub(crate) fn read_touch(bytes: &[u8]) -> Option<(Point, Option<Dir>)>
+    ensures { MatchOption result
+        ((p : Point) (d : Option Direction) → IsPlace (tokens bytes.now) p d → ⊥)
+        (λ t. IsPlace (tokens bytes.now) t.0 t.1) }
+{
+    match read_written_touch(bytes) {
+        Some(touch) => Some(touch),
+        None => read_any_touch(bytes),
     }
 }
 

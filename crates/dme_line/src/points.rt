@@ -1,16 +1,16 @@
 // The text of a point: what a data line carries, and the front of the arguments of moves and touches.
 
-ghost use Rattle.std.specs.Prelude.{◌≡◌, ◌+◌, ◌++◌, ◌∷◌, [], ℕ, List, OnOk, MatchOption};
+ghost use Rattle.std.specs.Prelude.{◌≡◌, ◌+◌, ◌++◌, ◌∷◌, [], ℕ, List, true, OnOk, IfSome, MatchOption};
 ghost use Rattle.fixed_um.specs.Calls.{Finds, Grows, HasRoom, Writes};
 ghost use Rattle.dme_line.specs.Limits.{point_most};
-ghost use Rattle.dme_line.specs.Tokens.{Token, tokens};
+ghost use Rattle.dme_line.specs.Tokens.{Token, Comma, tokens, is_word_byte};
 ghost use Rattle.dme_line.specs.Arguments.{Single, argument_tokens};
-ghost use Rattle.dme_line.specs.Points.{written_point, IsOnWire, HasCoordinates, ReadsPoint, point_tokens};
+ghost use Rattle.dme_line.specs.Points.{written_point, IsOnWire, HasCoordinates, IsPointText, ReadsPoint, BeginsWithPoint, point_tokens};
 
 use crate::appending::append_reserved;
 use crate::arguments::{Argument, take_argument};
 use crate::lengths::{wire_length, write_length_reserved};
-use crate::tokens::{is_end, take_mark};
+use crate::tokens::{is_end, take_mark, take_word};
 use fixed_um::Point;
 use std::alloc::AllocError;
 
@@ -47,6 +47,36 @@ pub fn write_point(out: &mut Vec<u8>, point: Point) -> Result<(), AllocError>
     out.reserve(POINT_MAX)?;
     write_point_reserved(out, point);
     Ok(())
+}
+
+/// The word of an axis that stands in front in its written form, with no spaces, and what stands behind it.
+/// `None` says nothing: the axis may stand there in another form.
+fn cut_written_axis(bytes: &[u8], letter: u8) -> Option<(&[u8], &[u8])>
+    requires { is_word_byte letter ≡ true }
+    ensures { IfSome result
+        (λ p. tokens bytes.now ≡ argument_tokens (Single (letter ∷ []) p.0.now) ++ tokens p.1.now) }
+{
+    let [own, b'(', rest @ ..] = bytes else {
+        return None;
+    };
+    if *own != letter {
+        return None;
+    }
+    let (word, rest) = take_word(rest)?;
+    let [b')', rest @ ..] = rest else {
+        return None;
+    };
+    Some((word, rest))
+}
+
+/// What stands behind a comma and a space.
+fn cut_written_comma(bytes: &[u8]) -> Option<&[u8]>
+    ensures { IfSome result (λ rest. tokens bytes.now ≡ Comma ∷ tokens rest.now) }
+{
+    match bytes {
+        [b',', b' ', rest @ ..] => Some(rest),
+        _ => None,
+    }
 }
 
 /// The word of an axis that is named by one capital letter, and what stands behind it.
@@ -92,6 +122,47 @@ fn point_within(x: &[u8], y: &[u8], z: &[u8]) -> Option<Point>
     Some(Point { x, y, z })
 }
 
+/// A point that stands in front in its written form, and what stands behind it, read at once. `None` says nothing: the point may stand
+/// there in another form, or be none.
+pub(crate) fn cut_written_point(text: &[u8]) -> Option<(Point, &[u8])>
+    ensures { IfSome result (λ p. BeginsWithPoint text.now p.1.now p.0) }
+{
+    let (x, rest) = cut_written_axis(text, b'X')?;
+    let (y, rest) = cut_written_axis(cut_written_comma(rest)?, b'Y')?;
+    let (z, rest) = cut_written_axis(cut_written_comma(rest)?, b'Z')?;
+    let point = point_within(x, y, z)?;
+    Some((point, rest))
+}
+
+/// The point of a text with no space in front whose axes stand in their written form. `None` says nothing: they may stand in another
+/// form, or there may be none.
+fn read_written_point(text: &[u8]) -> Option<Point>
+    requires { (more : List ℕ) → text.now ≡ 32 ∷ more → ⊥ }
+    ensures { IfSome result (λ p. IsPointText text.now p) }
+{
+    let Some((point, rest)) = cut_written_point(text) else {
+        return None;
+    };
+    if is_end(rest) {
+        return Some(point);
+    }
+    None
+}
+
+/// The point of a text with no space in front, its axes in any form.
+fn read_any_point(text: &[u8]) -> Result<Point, NotPoint>
+    requires { (more : List ℕ) → text.now ≡ 32 ∷ more → ⊥ }
+    ensures { ReadsPoint text.now result }
+{
+    let Some((x, y, z)) = point_words(text) else {
+        return Err(NotPoint);
+    };
+    match point_within(x, y, z) {
+        Some(point) => Ok(point),
+        None => Err(NotPoint),
+    }
+}
+
 /// The point of a text in millimetres, as `X(10.000), Y(20.000), Z(-0.001)`. The axes stand in this order, named by capital letters,
 /// with any number of spaces beside parentheses and commas and at the end, but none in front. Takes no memory.
 pub fn read_point(text: &[u8]) -> Result<Point, NotPoint>
@@ -100,11 +171,8 @@ pub fn read_point(text: &[u8]) -> Result<Point, NotPoint>
     if text.first() == Some(&b' ') {
         return Err(NotPoint);
     }
-    let Some((x, y, z)) = point_words(text) else {
-        return Err(NotPoint);
-    };
-    match point_within(x, y, z) {
+    match read_written_point(text) {
         Some(point) => Ok(point),
-        None => Err(NotPoint),
+        None => read_any_point(text),
     }
 }

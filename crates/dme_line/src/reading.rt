@@ -81,10 +81,37 @@ fn find_kind(name: &[u8]) -> Option<Kind>
         .find(|kind| is_word(kind.name(), name))
 }
 
+/// The kind that a name most likely is of, by its first letter and its length. It is looked at first: a wrong one costs time alone.
+fn likely_kind(name: &[u8]) -> Kind {
+    match name.first() {
+        Some(b'G') => Kind::GoTo,
+        Some(b'P') => Kind::PtMeas,
+        Some(b'H') => Kind::Home,
+        Some(b'I') => Kind::IsHomed,
+        Some(b'E') => Kind::EndSession,
+        Some(b'O') => Kind::OnPtMeasReport,
+        Some(b'A') => Kind::AbortE,
+        Some(b'C') => if name.len() == 10 {
+            Kind::ChangeTool
+        } else {
+            Kind::ClearAllErrors
+        }
+        _ => match name.len() {
+            14 => Kind::SetCoordSystem,
+            20 => Kind::SetCsyTransformation,
+            _ => Kind::StartSession,
+        },
+    }
+}
+
 /// The kind of command by a name.
 fn kind_named(name: &[u8]) -> Option<Kind>
     ensures { Finds result (λ kind. is_word (kind_name kind) name.now ≡ true) }
 {
+    let likely = likely_kind(name);
+    if is_word(likely.name(), name) {
+        return Some(likely);
+    }
     find_kind(name)
 }
 

@@ -5,8 +5,7 @@ ghost use Rattle.fixed_um.specs.Calls.{Grows, HasRoom, Writes};
 ghost use Rattle.dme_line.specs.Limits.{bare_most, data_most, homed_data_most, response_most, text_most};
 ghost use Rattle.dme_line.specs.Tags.{written_tag, HasRoomUnder, IsTag};
 ghost use Rattle.dme_line.specs.declared.responses.Mark.TheVariants as mark;
-ghost use Rattle.dme_line.specs.Taken.{the_mark};
-ghost use Rattle.dme_line.specs.Responses.{written_mark, written_response, IsWritableResponse, HasText, are_spaces, IsMarkText, HoldsText, HoldsResponseText, ReadsResponse, data_response, homed_response};
+ghost use Rattle.dme_line.specs.Responses.{written_mark, written_response, IsWritableResponse, HasText, are_spaces, IsMarkText, HoldsText, HoldsResponseText, ReadsResponse, data_response, homed_response, the_mark, the_response, the_reading};
 ghost use Rattle.dme_line.specs.Points.{IsOnWire};
 
 use crate::appending::append_reserved;
@@ -195,13 +194,24 @@ fn are_spaces(text: &[u8]) -> bool
     text.iter().all(|byte| *byte == b' ')
 }
 
-/// A mark whose text stands in a line.
-#[derive(Clone, Copy)]
-enum MarkSlice<'a> {
+/// A mark whose text stands in the line that it was read from.
+#[derive(Clone, Copy, Debug)]
+pub enum MarkSlice<'a> {
+    /// `&`: the command was received.
     Ack,
+    /// `#`: data.
     Given(&'a [u8]),
+    /// `%`: the command is complete.
     Done,
+    /// `!`: an error.
     Error(&'a [u8]),
+}
+
+/// A response whose text stands in the line that it was read from.
+#[derive(Clone, Copy, Debug)]
+pub struct ResponseSlice<'a> {
+    pub tag: Tag,
+    pub mark: MarkSlice<'a>,
 }
 
 /// The mark that stands behind a response's tag and space.
@@ -220,6 +230,21 @@ fn cut_mark(text: &[u8]) -> Option<MarkSlice<'_>>
     }
 }
 
+/// The response that a line without its end stands for, its text left where it stands. Takes no memory.
+///
+/// Spaces behind `&` and `%` are accepted; a `!` with nothing behind it has an empty text.
+pub fn cut_response(line: &[u8]) -> Result<ResponseSlice<'_>, NotResponse>
+    ensures { ReadsResponse line.now (the_reading result) }
+{
+    let Some((tag, text)) = cut_tag(line) else {
+        return Err(NotResponse);
+    };
+    match cut_mark(text) {
+        Some(mark) => Ok(ResponseSlice { tag, mark }),
+        None => Err(NotResponse),
+    }
+}
+
 /// A mark with a text of its own. Only want of memory is an `Err`.
 fn copied(alloc: Global, mark: MarkSlice<'_>) -> Result<Mark, AllocError>
     ensures read { IfOk result (λ m. m ≡ the_mark mark.entry) }
@@ -233,10 +258,10 @@ fn copied(alloc: Global, mark: MarkSlice<'_>) -> Result<Mark, AllocError>
     }
 }
 
-/// The response that a line without its end stands for.
+/// The response that a line without its end stands for, with a text of its own.
 ///
-/// Spaces behind `&` and `%` are accepted; a `!` with nothing behind it has an empty text. Only want of memory is an outer `Err`, and only
-/// for the text of a response; the same line may be read again.
+/// It is that of `cut_response`. Only want of memory is an outer `Err`, and only for the text of a response; the same line may be
+/// read again.
 pub fn read_response(
     alloc: Global,
     line: &[u8],
@@ -244,12 +269,11 @@ pub fn read_response(
     ensures reads { IfOk result (λ reading. ReadsResponse line.now reading) }
     ensures memory { OnErr result (HoldsResponseText line.now) }
 {
-    let Some((tag, text)) = cut_tag(line) else {
-        return Ok(Err(NotResponse));
-    };
-    let Some(mark) = cut_mark(text) else {
-        return Ok(Err(NotResponse));
-    };
-    let mark = copied(alloc, mark)?;
-    Ok(Ok(Response { tag, mark }))
+    match cut_response(line) {
+        Ok(cut) => {
+            let mark = copied(alloc, cut.mark)?;
+            Ok(Ok(Response { tag: cut.tag, mark }))
+        }
+        Err(NotResponse) => Ok(Err(NotResponse)),
+    }
 }

@@ -1,9 +1,2 @@
 pub mod PlanLemmas
-pub mod WordsLemmas
 pub mod ReadingLemmas
-pub mod LineLemmas
-pub mod WindowLemmas
-pub mod HelpLemmas
-pub mod LevelLemmas
-pub mod FoundLemmas
-pub mod AskedLemmas

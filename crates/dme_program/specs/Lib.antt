@@ -2,8 +2,6 @@ pub mod Plan
 pub mod Numbered
 pub mod Checked
 pub mod Printed
-pub mod Ordered
-pub mod CommandLine
 pub mod UnderSetup
 pub mod Verdicts
 pub mod Reading

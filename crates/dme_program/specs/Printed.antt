@@ -2,16 +2,13 @@
 use Rattle.std.specs.Prelude.{◌≡◌, ℕ, List, string_bytes, Option, Some}
 use Rattle.tool_rack.specs.declared.faults.SetupFault.TheVariants as setup
 use Rattle.dmis_program.specs.declared.faults.ProgramFault.TheVariants as program
-use Rattle.dme_program.specs.declared.check.CheckFault.TheVariants as check
-use Rattle.dme_program.specs.declared.orders.OrderFault.{OrderFault}
-use Rattle.dme_program.specs.declared.orders.OrderFault.TheVariants as order
 use Rattle.link_world.specs.declared.schedule_faults.ScheduleFault.TheVariants as schedule
 use Rattle.dme_program.specs.declared.reading.FilesFault.{FilesFault}
 use Rattle.dme_program.specs.declared.reading.FilesFault.TheVariants as files
 use Rattle.dme_program.specs.declared.reading.Role.{Role}
 use Rattle.dme_program.specs.declared.reading.Role.TheVariants as role
-use Rattle.dme_program.specs.declared.words.WordsFault.{WordsFault}
-use Rattle.dme_program.specs.declared.words.WordsFault.TheVariants as words
+use Rattle.dme_words.specs.declared.words.WordsFault.{WordsFault}
+use Rattle.dme_words.specs.declared.words.WordsFault.TheVariants as words
 use Rattle.contact_ledger.specs.declared.faults.TextFault.TheVariants as ledger
 use Rattle.dme_program.specs.declared.faults.FileNames.{FileNames}
 use Rattle.dme_program.specs.declared.faults.Fault.{Fault}
@@ -39,17 +36,6 @@ abbrev pub ShowsFile : Option (List ℕ) → Fault → Type 0
 ShowsFile name (fault.CannotRead file) = name ≡ Some (string_bytes file)
 ShowsFile name _ = ⊥
 
--- what is shown for the fault of an order, by the names of its setup and of its program: the refusal, or the file
-abbrev pub IsShown : OrderFault → Option (List ℕ) → List ℕ → Fault → Type 0
-IsShown (order.Setup setup.Memory) setup_name name shown = shown ≡ fault.Memory
-IsShown (order.Setup cause) setup_name name shown = shown ≡ fault.Setup cause
-IsShown order.SetupRead setup_name name shown = ShowsFile setup_name shown
-IsShown (order.Check (check.Program program.Memory)) setup_name name shown = shown ≡ fault.Memory
-IsShown (order.Check (check.Program cause)) setup_name name shown = shown ≡ fault.Program cause
-IsShown (order.Check check.Read) setup_name name shown = ShowsFile (Some name) shown
-IsShown (order.Check check.Write) setup_name name shown = shown ≡ fault.CannotWriteOutput
-IsShown (order.Check check.Memory) setup_name name shown = shown ≡ fault.Memory
-
 -- the name of an order's file, by what it is to the order
 abbrev pub name_in : FileNames → Role → List ℕ
 name_in names role.Setup = string_bytes names.setup
@@ -58,7 +44,7 @@ name_in names role.Features = string_bytes names.features
 name_in names role.Contacts = string_bytes names.contacts
 name_in names role.Program = string_bytes names.program
 
--- what is shown for the fault of an order of several files, by their names: the refusal, or the file
+-- what is shown for the fault of an order, by the names of its files: the refusal, or the file
 abbrev pub AreFilesShown : FilesFault → (Role → List ℕ) → Fault → Type 0
 AreFilesShown (files.Setup setup.Memory) names shown = shown ≡ fault.Memory
 AreFilesShown (files.Setup cause) names shown = shown ≡ fault.Setup cause

@@ -14,10 +14,19 @@ use Rattle.link_world.specs.declared.schedule_faults.ScheduleFault.TheVariants a
 use Rattle.dmis_program.specs.Meaning.{Meaning, program_of}
 use Rattle.dmis_program.specs.declared.faults.ProgramFault.TheVariants as program
 use Rattle.dme_program.specs.Checked.{IsUnread}
+use Rattle.dme_program.specs.declared.check.CheckFault.{CheckFault}
+use Rattle.dme_program.specs.declared.check.CheckFault.TheVariants as check
 use Rattle.dme_program.specs.declared.reading.Role.{Role}
 use Rattle.dme_program.specs.declared.reading.Role.TheVariants as role
 use Rattle.dme_program.specs.declared.reading.FilesFault.{FilesFault}
 use Rattle.dme_program.specs.declared.reading.FilesFault.TheVariants as fault
+
+-- what the fault of a check is to an order
+abbrev pub told_of_program : CheckFault → FilesFault
+told_of_program (check.Program cause) = fault.Program cause
+told_of_program check.Read = fault.Unread role.Program
+told_of_program check.Write = fault.Write
+told_of_program check.Memory = fault.Memory
 
 -- a source that told this text was read to its end, and this holds of the text
 pub record WasRead (left : Option (List ℕ)) (Holds : List ℕ → Type 0) (text : List ℕ) : Type 0 where
@@ -89,31 +98,23 @@ module _ {S : Type 0} (left : S → Option (List ℕ)) (has_failed : S → Bool)
       Reads left has_failed (λ text. program_of frames text ≡ Err (refusal, line)) old new
   WhyNoProgram frames given = WhyNoText role.Program given
 
--- a fact for each fault of the setup, of the schedule, of the features, of the contacts, of the program
-abbrev pub OnSetup : (FilesFault → Type 0) → FilesFault → Type 0
-OnSetup Holds (fault.Setup cause) = Holds (fault.Setup cause)
-OnSetup Holds (fault.Unread role.Setup) = Holds (fault.Unread role.Setup)
-OnSetup Holds _ = Unit {0}
+-- a fact for each fault of the file that is this to the order
+abbrev pub On : Role → (FilesFault → Type 0) → FilesFault → Type 0
+On role.Setup Holds (fault.Setup cause) = Holds (fault.Setup cause)
+On role.Setup Holds (fault.Unread role.Setup) = Holds (fault.Unread role.Setup)
+On role.Schedule Holds (fault.Schedule cause) = Holds (fault.Schedule cause)
+On role.Schedule Holds (fault.Unread role.Schedule) = Holds (fault.Unread role.Schedule)
+On role.Features Holds (fault.Features cause) = Holds (fault.Features cause)
+On role.Features Holds (fault.Unread role.Features) = Holds (fault.Unread role.Features)
+On role.Contacts Holds (fault.Contacts cause) = Holds (fault.Contacts cause)
+On role.Contacts Holds (fault.Unread role.Contacts) = Holds (fault.Unread role.Contacts)
+On role.Program Holds (fault.Program cause) = Holds (fault.Program cause)
+On role.Program Holds (fault.Unread role.Program) = Holds (fault.Unread role.Program)
+On part Holds given = Unit {0}
 
-abbrev pub OnSchedule : (FilesFault → Type 0) → FilesFault → Type 0
-OnSchedule Holds (fault.Schedule cause) = Holds (fault.Schedule cause)
-OnSchedule Holds (fault.Unread role.Schedule) = Holds (fault.Unread role.Schedule)
-OnSchedule Holds _ = Unit {0}
-
-abbrev pub OnFeatures : (FilesFault → Type 0) → FilesFault → Type 0
-OnFeatures Holds (fault.Features cause) = Holds (fault.Features cause)
-OnFeatures Holds (fault.Unread role.Features) = Holds (fault.Unread role.Features)
-OnFeatures Holds _ = Unit {0}
-
-abbrev pub OnContacts : (FilesFault → Type 0) → FilesFault → Type 0
-OnContacts Holds (fault.Contacts cause) = Holds (fault.Contacts cause)
-OnContacts Holds (fault.Unread role.Contacts) = Holds (fault.Unread role.Contacts)
-OnContacts Holds _ = Unit {0}
-
-abbrev pub OnProgram : (FilesFault → Type 0) → FilesFault → Type 0
-OnProgram Holds (fault.Program cause) = Holds (fault.Program cause)
-OnProgram Holds (fault.Unread role.Program) = Holds (fault.Unread role.Program)
-OnProgram Holds _ = Unit {0}
+-- a fault of another file than the one that is this to an order, of the sink, or want of memory
+abbrev pub IsNotOf : Role → FilesFault → Type 0
+IsNotOf part = On part (λ _. ⊥)
 
 -- a fact for each fault but that of the sink
 abbrev pub UnlessUnwritten : Type 0 → FilesFault → Type 0

@@ -5,7 +5,7 @@ ghost use Rattle.contact_ledger.specs.declared.acts.Act.{Act};
 ghost use Rattle.contact_ledger.specs.declared.features.Feature.{Feature as OneFeature};
 ghost use Rattle.tool_rack.specs.Setups.{SetupValue};
 ghost use Rattle.dme_program.specs.Reading.{ReadsSetup, WhyNoSetup, ReadsFeatures, WhyNoFeatures, ReadsContacts, WhyNoContacts, WhyNoProgram};
-ghost use Rattle.dme_program.specs.Reading.{OnSetup, OnFeatures, OnContacts, OnProgram, UnlessUnwritten};
+ghost use Rattle.dme_program.specs.Reading.{On, IsNotOf, UnlessUnwritten};
 ghost use Rattle.dme_program.specs.Auditing.{LeavesVerdict, OfFour, PrintsVerdict, PrintsVerdictFront};
 
 use crate::reading::{FilesFault, Role, contacts_from, features_from, read_program, read_setup};
@@ -56,31 +56,34 @@ pub fn audit_files<S: Source, F: Source, C: Source, R: Source, W: Sink>(
         × (R.has_failed program.new ≡ false) × (W.has_failed sink.new ≡ false)) }
 
     // The setup is blamed only for what is wrong with it, and then nothing else is read.
-    ensures no_setup { IfErr result (OnSetup (WhyNoSetup S.left S.has_failed
+    ensures no_setup { IfErr result (On Role.Setup (WhyNoSetup S.left S.has_failed
         setup.old setup.new)) }
-    ensures setup_first { IfErr result (OnSetup (λ _. (features.new ≡ features.old)
+    ensures setup_first { IfErr result (On Role.Setup (λ _. (features.new ≡ features.old)
         × (contacts.new ≡ contacts.old) × (program.new ≡ program.old))) }
 
     // The features are blamed only where the setup is accepted, and then no more is read.
-    ensures no_features { IfErr result (OnFeatures (WhyNoFeatures F.left F.has_failed
+    ensures no_features { IfErr result (On Role.Features (WhyNoFeatures F.left F.has_failed
         features.old features.new)) }
-    ensures features_second { IfErr result (OnFeatures (λ _. (contacts.new ≡ contacts.old)
+    ensures features_second { IfErr result (On Role.Features (λ _. (contacts.new ≡ contacts.old)
         × (program.new ≡ program.old)
         × ((said : SetupValue) × ReadsSetup S.left S.has_failed setup.old setup.new said))) }
 
     // The contacts are blamed only where both are accepted, and then the program is not read.
-    ensures no_contacts { IfErr result (OnContacts (WhyNoContacts C.left C.has_failed
+    ensures no_contacts { IfErr result (On Role.Contacts (WhyNoContacts C.left C.has_failed
         contacts.old contacts.new)) }
-    ensures contacts_third { IfErr result (OnContacts (λ _. (program.new ≡ program.old)
+    ensures contacts_third { IfErr result (On Role.Contacts (λ _. (program.new ≡ program.old)
         × ((held : List OneFeature)
         × ReadsFeatures F.left F.has_failed features.old features.new held))) }
 
     // The program is blamed only where all are accepted, and only under the setup's frames.
-    ensures no_program { IfErr result (OnProgram (λ fault. (said : SetupValue)
+    ensures no_program { IfErr result (On Role.Program (λ fault. (said : SetupValue)
         × ReadsSetup S.left S.has_failed setup.old setup.new said
         × WhyNoProgram R.left R.has_failed program.old program.new said.frames fault)) }
-    ensures program_last { IfErr result (OnProgram (λ _. (made : List (ℕ × Act))
+    ensures program_last { IfErr result (On Role.Program (λ _. (made : List (ℕ × Act))
         × ReadsContacts C.left C.has_failed contacts.old contacts.new made)) }
+
+    // No other file is blamed.
+    ensures others { IfErr result (IsNotOf Role.Schedule) }
 
     // A source that fails is blamed.
     ensures setup_unread { S.has_failed setup.old ≡ false → S.has_failed setup.new ≡ true

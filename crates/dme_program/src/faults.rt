@@ -1,15 +1,12 @@
 // What is printed on standard error, and the status that goes with it.
 
-ghost use Rattle.std.specs.Prelude.{◌≡◌, true, is_some, string_bytes};
-ghost use Rattle.std.specs.Option.{option_map};
-ghost use Rattle.dme_program.specs.Printed.{status_of, IsShown, name_in, AreFilesShown};
+ghost use Rattle.std.specs.Prelude.{◌≡◌, string_bytes};
+ghost use Rattle.dme_program.specs.Printed.{status_of, name_in, AreFilesShown};
 
-use crate::check::CheckFault;
-use crate::orders::OrderFault;
 use crate::reading::{FilesFault, Role};
-use crate::words::WordsFault;
 use clap::Error as WordsError;
 use contact_ledger::TextFault;
+use dme_words::WordsFault;
 use dmis_program::ProgramFault;
 use link_world::ScheduleFault;
 use std::alloc::{AllocError, AllocFailed};
@@ -99,27 +96,6 @@ impl Fault {
     }
 }
 
-/// What is shown for the fault of an order, with the names of its files. The caller owes a setup's name where its source failed.
-pub fn shown_fault(fault: OrderFault, setup: Option<String>, program: String) -> Fault
-    requires { fault ≡ OrderFault.SetupRead → is_some setup ≡ true }
-    ensures { IsShown fault (option_map string_bytes setup) (string_bytes program) result }
-{
-    match fault {
-        OrderFault::Setup(SetupFault::Memory) => Fault::Memory,
-        OrderFault::Setup(cause) => Fault::Setup(cause),
-        OrderFault::SetupRead => match setup {
-            Some(file) => Fault::CannotRead(file),
-            None => unreachable!(),
-        },
-        OrderFault::Check(CheckFault::Program(ProgramFault::Memory) | CheckFault::Memory) => {
-            Fault::Memory
-        }
-        OrderFault::Check(CheckFault::Program(cause)) => Fault::Program(cause),
-        OrderFault::Check(CheckFault::Read) => Fault::CannotRead(program),
-        OrderFault::Check(CheckFault::Write) => Fault::CannotWriteOutput,
-    }
-}
-
 /// The names of an order's files. A file that the order does not have has an empty name.
 #[derive(Debug, Drop)]
 pub struct FileNames {
@@ -145,7 +121,7 @@ impl FileNames {
     }
 }
 
-/// What is shown for the fault of an order of several files, with their names.
+/// What is shown for the fault of an order, with the names of its files.
 pub fn shown_files(fault: FilesFault, names: FileNames) -> Fault
     ensures { AreFilesShown fault (name_in names) result }
 {

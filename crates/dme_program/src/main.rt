@@ -1,8 +1,7 @@
 //! The program `dme`: DMIS inspection programs (ISO 22093) over the I++ DME Interface version 1. Its command line and what it prints
 //! are this profile's.
 //!
-//! - `line`: the command line, as the crate `clap` is told it; `words`: what its words ask for
-//! - `orders`: an order as a whole, over ports; `files`: the files of an order as ports
+//! - `orders`: a program is checked under a setup, where one is named, over ports; `files`: the files of an order as ports
 //! - `reading`: the files of an order are read and understood
 //! - `simulating`: a program is run by a schedule on a simulated machine, over ports
 //! - `auditing`: a client's features are judged by a server's contacts, over ports
@@ -17,14 +16,12 @@ mod auditing;
 mod check;
 mod faults;
 mod files;
-mod line;
 mod orders;
 mod plan;
 mod reading;
 mod running;
 mod simulating;
 mod verdicts;
-mod words;
 
 use std::process::ExitCode;
 

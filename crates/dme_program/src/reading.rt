@@ -27,7 +27,7 @@ pub enum Role {
     Program,
 }
 
-/// Why an order of several files was not carried out.
+/// Why an order was not carried out.
 #[derive(Clone, Copy, Debug, PartialEq, Eq)]
 pub enum FilesFault {
     /// The setup is refused; never for want of memory.
@@ -46,6 +46,22 @@ pub enum FilesFault {
     Write,
     /// Want of memory.
     Memory,
+}
+
+impl From<CheckFault> for FilesFault {
+    ghost use Rattle.std.specs.Prelude.{◌≡◌};
+    ghost use Rattle.dme_program.specs.Reading.{told_of_program};
+
+    ghost from_gives = { λ fault e. e ≡ told_of_program fault };
+
+    fn from(fault: CheckFault) -> FilesFault {
+        match fault {
+            CheckFault::Program(cause) => FilesFault::Program(cause),
+            CheckFault::Read => FilesFault::Unread(Role::Program),
+            CheckFault::Write => FilesFault::Write,
+            CheckFault::Memory => FilesFault::Memory,
+        }
+    }
 }
 
 impl From<AllocError> for FilesFault {

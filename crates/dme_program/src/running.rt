@@ -1,19 +1,20 @@
 // An order is carried out on files and the standard streams.
 
-ghost use Rattle.std.specs.Prelude.{◌≡◌, true, is_some, IfOk, IsErrOf};
+ghost use Rattle.std.specs.Prelude.{◌≡◌, true, is_some, IfOk, IfErr};
 ghost use Rattle.client_core.specs.Clients.{is_window};
-ghost use Rattle.dme_program.specs.Ordered.{IsReady};
+ghost use Rattle.dme_words.specs.Ordered.{IsReady};
+ghost use Rattle.dme_program.specs.Reading.{On};
 
 use crate::auditing::audit_files;
-use crate::faults::{Fault, FileNames, shown_fault, shown_files};
+use crate::faults::{Fault, FileNames, shown_files};
 use crate::files::NamedSource;
-use crate::orders::{OrderFault, check_under_setup};
-use crate::reading::FilesFault;
+use crate::orders::check_under_setup;
+use crate::reading::{FilesFault, Role};
 use crate::simulating::simulate;
 use crate::verdicts::status;
-use crate::words::{Order, read_words};
 use byte_ports::Writing;
 use client_core::State;
+use dme_words::{Order, read_words};
 use std::env::{self, Env};
 use std::io;
 use std::rt::Files;
@@ -41,8 +42,8 @@ fn check_files<'a, R: Files + Input + Print + AllocGlobal>(
     rt: &'a R,
     setup: Option<&'a str>,
     program: &'a str,
-) -> Result<(), OrderFault>
-    ensures { IsErrOf result OrderFault.SetupRead → is_some setup.entry ≡ true }
+) -> Result<(), FilesFault>
+    ensures { IfErr result (On Role.Setup (λ _. is_some setup.entry ≡ true)) }
 {
     let input_is_taken = match setup {
         Some(name) => name == "-",
@@ -64,7 +65,17 @@ fn check<R: Files + Input + Print + AllocGlobal>(
 ) -> Result<(), Fault> {
     match check_files(rt, setup.as_deref(), program.as_str()) {
         Ok(()) => Ok(()),
-        Err(fault) => Err(shown_fault(fault, setup, program)),
+        Err(fault) => {
+            let alloc = rt.alloc();
+            let names = FileNames {
+                setup: setup.unwrap_or(String::new(alloc)),
+                schedule: String::new(alloc),
+                features: String::new(alloc),
+                contacts: String::new(alloc),
+                program,
+            };
+            Err(shown_files(fault, names))
+        }
     }
 }
 

@@ -9,7 +9,7 @@ ghost use Rattle.link_world.specs.Reports.{report_text};
 ghost use Rattle.client_core.specs.Clients.{is_window};
 ghost use Rattle.protocol_model.specs.World.{start};
 ghost use Rattle.dme_program.specs.Reading.{ReadsSetup, WhyNoSetup, ReadsSchedule, WhyNoSchedule, WhyNoProgram};
-ghost use Rattle.dme_program.specs.Reading.{OnSetup, OnSchedule, OnProgram, UnlessUnwritten};
+ghost use Rattle.dme_program.specs.Reading.{On, IsNotOf, UnlessUnwritten};
 ghost use Rattle.dme_program.specs.Simulating.{IsPlayed, shown_of, LeavesReport, OfThree, PrintsReport, PrintsReportFront};
 
 use crate::reading::{FilesFault, Role, read_program, read_schedule, read_setup};
@@ -116,23 +116,27 @@ pub fn simulate<S: Source, C: Source, R: Source, W: Sink>(
         × (W.has_failed sink.new ≡ false)) }
 
     // The setup is blamed only for what is wrong with it, and then nothing else is read.
-    ensures no_setup { IfErr result (OnSetup (WhyNoSetup S.left S.has_failed
+    ensures no_setup { IfErr result (On Role.Setup (WhyNoSetup S.left S.has_failed
         setup.old setup.new)) }
-    ensures setup_first { IfErr result (OnSetup (λ _. (schedule.new ≡ schedule.old)
+    ensures setup_first { IfErr result (On Role.Setup (λ _. (schedule.new ≡ schedule.old)
         × (program.new ≡ program.old))) }
 
     // The schedule is blamed only where the setup is accepted, and then the program is not read.
-    ensures no_schedule { IfErr result (OnSchedule (WhyNoSchedule C.left C.has_failed
+    ensures no_schedule { IfErr result (On Role.Schedule (WhyNoSchedule C.left C.has_failed
         schedule.old schedule.new)) }
-    ensures schedule_second { IfErr result (OnSchedule (λ _. (program.new ≡ program.old)
+    ensures schedule_second { IfErr result (On Role.Schedule (λ _. (program.new ≡ program.old)
         × ((said : SetupValue) × ReadsSetup S.left S.has_failed setup.old setup.new said))) }
 
     // The program is blamed only where both are accepted, and only under the setup's frames.
-    ensures no_program { IfErr result (OnProgram (λ fault. (said : SetupValue)
+    ensures no_program { IfErr result (On Role.Program (λ fault. (said : SetupValue)
         × ReadsSetup S.left S.has_failed setup.old setup.new said
         × WhyNoProgram R.left R.has_failed program.old program.new said.frames fault)) }
-    ensures program_last { IfErr result (OnProgram (λ _. (asked : List Instruction)
+    ensures program_last { IfErr result (On Role.Program (λ _. (asked : List Instruction)
         × ReadsSchedule C.left C.has_failed schedule.old schedule.new asked)) }
+
+    // No other file is blamed.
+    ensures others { IfErr result (λ fault. IsNotOf Role.Features fault
+        × IsNotOf Role.Contacts fault) }
 
     // A source that fails is blamed.
     ensures setup_unread { S.has_failed setup.old ≡ false → S.has_failed setup.new ≡ true

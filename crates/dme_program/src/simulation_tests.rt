@@ -3,8 +3,8 @@
 use crate::simulating::simulate;
 use crate::tests::{ONE, SETUP, is_bad_line};
 use crate::verdicts::status;
-use crate::words::{Order, read_words};
 use byte_ports::{Reading, Writing};
+use dme_words::{Order, read_words};
 use std::alloc::Global;
 use std::test::Fail;
 

@@ -2,8 +2,8 @@
 
 use crate::check::{CheckFault, check_plan};
 use crate::faults::Fault;
-use crate::words::{Order, WordsFault, read_words};
 use byte_ports::{Pieces, Reading, Takes, Writing};
+use dme_words::{Order, WordsFault, read_words};
 use dmis_program::{Frames, ProgramFault, Refusal};
 use fixed_um::NumeralFault;
 use std::alloc::Global;

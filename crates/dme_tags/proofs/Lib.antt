@@ -9,3 +9,4 @@ pub mod Dues
 pub mod Ends
 pub mod Followed
 pub mod Passing
+pub mod Kept

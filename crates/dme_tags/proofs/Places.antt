@@ -1,7 +1,7 @@
 -- What a mark does at the place of its command.
 use Rattle.std.proofs.Common.{◌≡◌, ℕ, suc, ◌<◌, Bool, true, false, cond, ◌&&◌, ◌||◌, not, Option, Some, None, List, []}
 use Rattle.std.proofs.Common.{◌∷◌, ◌++◌, length, get_or}
-use Rattle.std.proofs.Common.{take, drop, set, Ok, Err, ◌+◌, refl, sym, ◌∙◌, ap, arith, add-one}
+use Rattle.std.proofs.Common.{◌==◌, take, drop, set, Ok, Err, ◌+◌, refl, sym, ◌∙◌, ap, arith, add-one}
 use Rattle.std.specs.List.{count_by, list_any, remove}
 use Rattle.std.proofs.lemmas.Bool.{true≢false}
 use Rattle.std.proofs.lemmas.List.Recursion.{is_count_by}
@@ -14,9 +14,11 @@ use Rattle.protocol_model.specs.declared.held.Held.{Held}
 use Rattle.protocol_model.specs.declared.held.Stage.{Stage}
 use Rattle.protocol_model.specs.declared.states.Cause.{Cause}
 use Rattle.protocol_model.specs.declared.states.Cause.TheVariants.{UnknownTag}
-use Rattle.std.proofs.lemmas.List.{set_split, take_more, drop_more, take-append-drop}
+use Rattle.std.proofs.lemmas.List.{get_or_default, set_split, take_more, drop_more, take-append-drop}
 use Rattle.dme_tags.specs.Answers.{IsRefused, failure_of}
-use Rattle.dme_tags.specs.Places.{IsAt, ahead_of, all_failed}
+use Rattle.dme_tags.specs.Kept.{is_open, is_open_question}
+use Rattle.dme_tags.proofs.Kept.{any_counted}
+use Rattle.dme_tags.specs.Places.{IsAt, IsFound, ahead_of, all_failed}
 
 -- a command further back
 abbrev pub behind : List Held → Heard → Heard
@@ -75,8 +77,8 @@ nobody front (h ∷ hs) t m none = go (nobody (front && is_failed h.stage) hs t 
     go deeper false f = ap (put_before h) (deeper f)
 
 -- the open commands by std's count
-pub count_open_by : (hs : List Held) → count_open hs ≡ count_by (λ h. not (is_failed h.stage)) hs
-count_open_by hs = is_count_by count_open (λ h. not (is_failed h.stage)) refl (λ h gs. turned (is_failed h.stage) (count_open gs)) hs
+pub count_open_by : (hs : List Held) → count_open hs ≡ count_by is_open hs
+count_open_by hs = is_count_by count_open is_open refl (λ h gs. turned (is_failed h.stage) (count_open gs)) hs
   where
     turned : (b : Bool) (n : ℕ) → cond b n (suc n) ≡ cond (not b) (1 + n) n
     turned true n = refl
@@ -86,6 +88,10 @@ count_open_by hs = is_count_by count_open (λ h. not (is_failed h.stage)) refl (
 pub is_asking_by : (hs : List Held) → is_asking hs ≡ list_any (λ h. asks_homed h.kind && not (is_failed h.stage)) hs
 is_asking_by [] = refl
 is_asking_by (h ∷ hs) = ap (λ (b : Bool). (asks_homed h.kind && not (is_failed h.stage)) || b) (is_asking_by hs)
+
+-- the same by their count
+pub is_asking_counted : (hs : List Held) → is_asking hs ≡ not (count_by is_open_question hs == 0)
+is_asking_counted hs = is_asking_by hs ∙ any_counted is_open_question hs
 
 -- ---- at the place of a command
 
@@ -225,3 +231,18 @@ place_at t hs i h within is first same = record {
   its_tag = same;
   first = first;
 }
+
+pub found_at : (t : Tag) (hs : List Held) (i : ℕ) (h : Held) → i < length hs → get_or hs i h ≡ h → is_held t (take i hs) ≡ false
+    → tag_is h.tag t ≡ true
+    → IsFound t hs i
+found_at t hs i h within is first same = record {
+  within = within;
+  at = λ g e. place_at t hs i g within (sym e) first
+      (ap (λ (k : Held). tag_is k.tag t) (sym e ∙ get_or_default hs i g h within ∙ is) ∙ same);
+}
+
+pub held_found : (t : Tag) (hs : List Held) (i : ℕ) → IsFound t hs i → true ≡ is_held t hs
+held_found t [] i found = absurd (omega (arith, found.within))
+held_found t (h ∷ hs) i found =
+    let g : Held = get_or (h ∷ hs) i h in
+    sym (held_at t (h ∷ hs) i g (found.at g (get_or_default (h ∷ hs) i g h found.within)))

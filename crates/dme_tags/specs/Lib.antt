@@ -7,4 +7,5 @@ pub mod Endings
 pub mod Calls
 pub mod Sorts
 pub mod Places
+pub mod Kept
 pub mod Tables

@@ -1,5 +1,5 @@
 -- Where a command stands among those of its sort of tags.
-use Rattle.std.specs.Prelude.{◌≡◌, ℕ, suc, ◌<◌, Bool, true, false, if◌then◌else◌, List, [], ◌∷◌, ◌++◌, length, take, drop}
+use Rattle.std.specs.Prelude.{◌≡◌, ℕ, suc, ◌<◌, Bool, true, false, if◌then◌else◌, List, [], ◌∷◌, ◌++◌, length, get_or, take, drop}
 use Rattle.std.specs.List.{list_all}
 use Rattle.dme_line.specs.declared.tags.Tag.{Tag}
 use Rattle.protocol_model.specs.Replies.{tag_is}
@@ -12,6 +12,11 @@ pub record IsAt (t : Tag) (hs : List Held) (i : ℕ) (h : Held) : Type 0 where
   pub here : hs ≡ take i hs ++ h ∷ drop (suc i) hs
   pub its_tag : tag_is h.tag t ≡ true
   pub first : is_held t (take i hs) ≡ false
+
+-- the first command of a tag stands at this place
+pub record IsFound (t : Tag) (hs : List Held) (i : ℕ) : Type 0 where
+  pub within : i < length hs
+  pub at : (h : Held) → get_or hs i h ≡ h → IsAt t hs i h
 
 -- whether each of these commands has failed
 abbrev pub all_failed : List Held → Bool

@@ -9,10 +9,10 @@ ghost use Rattle.dme_tags.specs.Limits.{last_number};
 ghost use Rattle.dme_tags.specs.Opened.{tagged, number_of};
 ghost use Rattle.dme_tags.specs.Sorts.{numbered, is_event_sort, AreSpent};
 
+use crate::commands::Commands;
 use crate::faults::TagFault;
 use crate::marks::is_held;
 use dme_line::{Kind, Tag};
-use protocol_model::Held;
 
 /// The number of the last tag of each sort that a client draws (this profile).
 const LAST_NUMBER: u32 = 9999;
@@ -58,7 +58,7 @@ impl Sort {
 }
 
 /// The first number from here on whose tag is not held.
-fn first_free(commands: &[Held], sort: Sort, from: u32) -> Option<u32>
+fn first_free(commands: &Commands, sort: Sort, from: u32) -> Option<u32>
     requires { from ≤ last_number + 1 }
     ensures free { result ≡ first_free (numbered sort) commands.now from (last_number + 1 - from) }
     ensures within { IfSome result (λ n. (from ≤ n) × (n ≤ last_number)) }
@@ -76,7 +76,7 @@ fn first_free(commands: &[Held], sort: Sort, from: u32) -> Option<u32>
 
 /// The number that is drawn next behind this one: the numbers come one after another, and again from 1 on.
 #[tactic(auto, using(crate::proofs::Numbers::next_again))]
-fn next_number(commands: &[Held], sort: Sort, drawn: u32) -> Option<u32>
+fn next_number(commands: &Commands, sort: Sort, drawn: u32) -> Option<u32>
     requires { drawn ≤ last_number }
     ensures next { result ≡ next_number (numbered sort) commands.now drawn }
     ensures within { IfSome result (λ n. (1 ≤ n) × (n ≤ last_number)) }
@@ -90,7 +90,7 @@ fn next_number(commands: &[Held], sort: Sort, drawn: u32) -> Option<u32>
 }
 
 /// The tag that is drawn next behind the one with this number.
-pub(crate) fn next_tag(commands: &[Held], sort: Sort, drawn: u32) -> Result<Tag, TagFault>
+pub(crate) fn next_tag(commands: &Commands, sort: Sort, drawn: u32) -> Result<Tag, TagFault>
     requires { drawn ≤ last_number }
     ensures next { IfOk result (λ tag. tagged (numbered sort)
         (next_number (numbered sort) commands.now drawn) ≡ Some tag) }

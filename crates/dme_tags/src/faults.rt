@@ -3,8 +3,8 @@
 ghost use Rattle.std.specs.Prelude.{◌≡◌};
 ghost use Rattle.dme_tags.specs.Answers.{cause_of};
 
-use protocol_model::{Cause, Held};
-use std::alloc::AllocFailed;
+use protocol_model::Cause;
+use std::alloc::AllocError;
 
 /// Why a tag is not drawn, or a mark has no place (this profile).
 #[derive(Clone, Copy, Debug, PartialEq, Eq)]
@@ -39,13 +39,13 @@ impl TagFault {
     }
 }
 
-impl From<AllocFailed<Held>> for TagFault {
+impl From<AllocError> for TagFault {
     ghost use Rattle.std.specs.Prelude.{◌≡◌};
     ghost use Rattle.dme_tags.specs.declared.faults.TagFault.TheVariants.{Memory};
 
     ghost from_gives = { λ _ e. e ≡ Memory };
 
-    fn from(_error: AllocFailed<Held>) -> TagFault {
+    fn from(_error: AllocError) -> TagFault {
         TagFault::Memory
     }
 }

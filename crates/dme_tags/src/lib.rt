@@ -1,6 +1,7 @@
 //! The commands that a client has sent and whose end it has not read, with their tags (this profile).
 //!
 //! - `open_commands`: `Open`, the open commands on standard tags and on event tags
+//! - `commands`: the open commands of one sort of tags, kept in a slab
 //! - `marks`: what each mark does to the list of open commands of one sort of tags
 //! - `drawing`: the tag that is drawn next
 //! - `faults`, `endings`: what the calls answer
@@ -9,6 +10,7 @@
 //! The definitions are those of `protocol_model`: the table of marks against stages, the next number, the first command of a tag.
 #![tactic(auto)]
 
+mod commands;
 mod drawing;
 mod endings;
 mod faults;

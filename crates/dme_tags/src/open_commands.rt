@@ -11,12 +11,13 @@ ghost use Rattle.dme_tags.specs.Limits.{last_number};
 ghost use Rattle.dme_tags.specs.Opened.{heard, held_beside, kind_under, next_tag, none_open, number_of, with_drawn, ArePassedOver, IsNext, IsSpentFor};
 ghost use Rattle.dme_tags.specs.Standing.{AwaitsData, HasData, IsUnread};
 
+use crate::commands::Commands;
 use crate::drawing::{Sort, next_tag};
 use crate::endings::Ended;
 use crate::faults::TagFault;
-use crate::marks::{count_open, end, end_of, fail, give, is_asking, kind_of, receive};
+use crate::marks::{end, end_of, fail, give, kind_of, receive};
 use dme_line::{Kind, Tag};
-use protocol_model::{Datum, Held, Stage};
+use protocol_model::Datum;
 use std::alloc::Global;
 use std::marker::Model;
 
@@ -28,8 +29,8 @@ use std::marker::Model;
 /// is its own affair.
 #[derive(Debug, Drop)]
 pub struct Open {
-    standard: Vec<Held>,
-    event: Vec<Held>,
+    standard: Commands,
+    event: Commands,
     failed: bool,
     drawn: u32,
     event_drawn: u16,
@@ -45,15 +46,15 @@ impl Model for Open {
     ghost use Rattle.dme_tags.specs.Data.{AreFit};
 
     ghost view = { λ o. record {
-      standard = o.standard.items;
-      event = o.event.items;
+      standard = o.standard;
+      event = o.event;
       failed = o.failed;
       drawn = o.drawn;
       event_drawn = o.event_drawn;
     } };
 
     ghost invariant = { λ o. (o.drawn ≤ last_number) × (o.event_drawn ≤ last_number)
-        × AreFit o.standard.items × AreFit o.event.items };
+        × AreFit o.standard × AreFit o.event };
 }
 
 impl Open {
@@ -62,8 +63,8 @@ impl Open {
         ensures { result ≡ none_open }
     {
         Open {
-            standard: Vec::new(alloc),
-            event: Vec::new(alloc),
+            standard: Commands::new(alloc),
+            event: Commands::new(alloc),
             failed: false,
             drawn: 0,
             event_drawn: 0,
@@ -117,18 +118,13 @@ impl Open {
         ensures passed { IfOk result (λ tag. ArePassedOver tag self.old) }
     {
         let tag = self.next_tag(kind)?;
-        let held = Held {
-            tag,
-            kind,
-            stage: Stage::Sent,
-        };
         match tag {
             Tag::Std(number) => {
-                self.standard.push(held)?;
+                self.standard.push(tag, kind)?;
                 self.drawn = number;
             }
             Tag::Event(number) => {
-                self.event.push(held)?;
+                self.event.push(tag, kind)?;
                 self.event_drawn = number;
             }
         }
@@ -248,21 +244,21 @@ impl Open {
     pub fn count(&self) -> usize
         ensures { result ≡ count_open self.now.standard }
     {
-        count_open(&self.standard)
+        self.standard.count_open()
     }
 
     /// Whether an `IsHomed` is open: neither its `!` nor its `%` was read. No command is due meanwhile. Takes no memory.
     pub fn is_asking(&self) -> bool
         ensures { result ≡ is_asking self.now.standard }
     {
-        is_asking(&self.standard)
+        self.standard.is_asking()
     }
 
     /// Whether an event command is open. Takes no memory.
     pub fn event_open(&self) -> bool
         ensures { result ≡ not (count_open self.now.event == 0) }
     {
-        count_open(&self.event) != 0
+        self.event.count_open() != 0
     }
 
     /// Whether a standard command has failed since the plan began. Takes no memory.

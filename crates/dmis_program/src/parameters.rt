@@ -96,13 +96,15 @@ pub(crate) fn count_of(text: &[u8]) -> Option<u64>
 }
 
 /// The parameters behind a first `CART`.
-pub(crate) fn without_cart(params: &[Text]) -> &[Text]
+pub(crate) fn without_cart<'p, 'a>(params: &'p [Text<'a>]) -> &'p [Text<'a>]
     ensures { result.now ≡ without_cart params.now }
 {
-    match params.split_first() {
-        Some((first, rest)) if is_text(first, "CART") => rest,
-        _ => params,
-    }
+    let count = match params.split_first() {
+        Some((first, _)) if is_text(first, "CART") => 1,
+        _ => 0,
+    };
+    let (_, rest) = params.split_at(count);
+    rest
 }
 
 /// Whether the first byte is a letter.

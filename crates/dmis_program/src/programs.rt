@@ -38,7 +38,9 @@ impl Model for Program {
 }
 
 /// The next statement of a text, or none at its end.
-fn next_statement(statements: &mut Statements<'_>) -> Result<Option<Statement>, ProgramFault>
+fn next_statement<'a>(
+    statements: &mut Statements<'a>,
+) -> Result<Option<Statement<'a>>, ProgramFault>
     ensures statement { IfOk result (λ given. IfSome given
         (λ s. statements.old.left ≡ s ∷ statements.new.left)) }
     ensures end { IfOk result (λ given. IfNone given ((statements.old.left ≡ [])

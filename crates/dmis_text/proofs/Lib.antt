@@ -8,3 +8,5 @@ pub mod CommentLaws
 pub mod ElementLaws
 pub mod LineLaws
 pub mod NumberLaws
+pub mod Lanes
+pub mod Skipping

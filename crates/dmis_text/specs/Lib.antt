@@ -8,3 +8,5 @@ pub mod Contents
 pub mod Numbers
 pub mod Look
 pub mod Found
+pub mod Runs
+pub mod Lent

@@ -1,7 +1,11 @@
-ghost use Rattle.std.specs.Prelude.{◌≡◌, ◌++◌, ◌==◌, ◌≤◌, ◌+◌, ◌<◌, length, take, drop, Bool, true, false, MatchOption, IfSome};
-ghost use Rattle.std.specs.List.{list_all};
-ghost use Rattle.dmis_text.specs.Elements.{cut_at};
+ghost use Rattle.std.specs.Prelude.{◌≡◌, ◌++◌, ◌==◌, ◌≤◌, ◌+◌, ◌<◌, length, take, drop, Bool, true, false, not, ◌&&◌, MatchOption, IfSome, IsTrue};
+ghost use Rattle.std.specs.List.{list_all, prefix_len};
+ghost use Rattle.std.specs.Char.{to_ascii_uppercase};
+ghost use Rattle.dmis_text.specs.Runs.{is_unmarked, is_within, is_kept};
+ghost use Rattle.dmis_text.specs.Elements.{cut_at, folded};
 ghost use Rattle.dmis_text.specs.Texts.{turned, inside_after, is_blank, all_blank, begins_comment, may_stand, without_front_blanks, without_end_blanks};
+
+use crate::runs::{InComment, Settled, Unmarked, Unquoted, run_end};
 
 /// Whether what follows the byte stands in a text.
 pub(crate) fn turned(inside: bool, byte: u8) -> bool
@@ -15,8 +19,10 @@ pub(crate) fn ends_inside(bytes: &[u8]) -> bool
     ensures { result ≡ inside_after false bytes.now }
 {
     let mut inside = false;
-    for byte in bytes {
-        inside = turned(inside, *byte);
+    let mut at = run_end(&Unquoted, bytes, 0);
+    while at < bytes.len() {
+        inside = turned(inside, bytes[at]);
+        at = run_end(&Unquoted, bytes, at + 1);
     }
     inside
 }
@@ -56,7 +62,7 @@ pub(crate) fn is_all_blank(bytes: &[u8]) -> bool
 pub(crate) fn may_be_comment(bytes: &[u8]) -> bool
     ensures { result ≡ list_all (may_stand true) bytes.now }
 {
-    bytes.iter().all(|byte| may_stand(true, *byte))
+    run_end(&InComment, bytes, 0) == bytes.len()
 }
 
 /// The bytes from the first that is not blank on.
@@ -95,20 +101,85 @@ pub(crate) fn split_end_blanks(bytes: &[u8]) -> (&[u8], &[u8])
     bytes.split_at(count_to_last(bytes))
 }
 
-/// What stands before and behind the first mark outside texts.
+/// The end of the bytes from this place on at which no element ends, where a text is open there or not.
+#[inline(always)]
+fn within_end(bytes: &[u8], at: usize, inside: bool) -> usize
+    requires { at ≤ length bytes.now }
+    ensures run { result ≡ at + prefix_len (is_within inside) (drop at bytes.now) }
+    ensures within { result ≤ length bytes.now }
+{
+    if inside {
+        run_end(&Unquoted, bytes, at)
+    } else {
+        run_end(&Unmarked, bytes, at)
+    }
+}
+
+/// Whether an element ends at the byte: the mark, outside texts.
+#[inline(always)]
+fn is_cut(byte: u8, mark: u8, inside: bool) -> bool
+    ensures { result ≡ (not inside && byte == mark) }
+{
+    !inside && byte == mark
+}
+
+/// What stands before and behind the first mark outside texts: a `/`, a `=` or a comma.
 pub(crate) fn cut_at(bytes: &[u8], mark: u8) -> Option<(&[u8], &[u8])>
+    requires { is_unmarked mark ≡ false }
     ensures cut { MatchOption result (cut_at mark false bytes.now ≡ None)
         (λ p. cut_at mark false bytes.now ≡ Some (p.0.now, p.1.now)) }
     ensures shorter { IfSome result (λ p. length p.1.now < length bytes.now) }
 {
     let mut inside = false;
-    for (at, byte) in bytes.iter().enumerate() {
-        if !inside && *byte == mark {
+    let mut at = within_end(bytes, 0, false);
+    while at < bytes.len() {
+        let byte = bytes[at];
+        if is_cut(byte, mark, inside) {
             let (front, rest) = bytes.split_at(at);
             let (_, behind) = rest.split_at(1);
             return Some((front, behind));
         }
-        inside = turned(inside, *byte);
+        inside = turned(inside, byte);
+        at = within_end(bytes, at + 1, inside);
     }
     None
+}
+
+/// The end of the bytes from this place on that are handed out as they are, where a text is open there or not.
+#[inline(always)]
+fn kept_end(bytes: &[u8], at: usize, inside: bool) -> usize
+    requires { at ≤ length bytes.now }
+    ensures run { result ≡ at + prefix_len (is_kept inside) (drop at bytes.now) }
+    ensures within { result ≤ length bytes.now }
+{
+    if inside {
+        run_end(&Unquoted, bytes, at)
+    } else {
+        run_end(&Settled, bytes, at)
+    }
+}
+
+/// Whether the byte is a small letter outside texts.
+#[inline(always)]
+fn is_small(byte: u8, inside: bool) -> bool
+    ensures { result ≡ (not inside && not (to_ascii_uppercase byte == byte)) }
+{
+    !inside && byte.to_ascii_uppercase() != byte
+}
+
+/// Whether no small letter stands outside texts.
+pub(crate) fn is_folded(bytes: &[u8]) -> bool
+    ensures { IsTrue result → folded false bytes.now ≡ bytes.now }
+{
+    let mut inside = false;
+    let mut at = kept_end(bytes, 0, false);
+    while at < bytes.len() {
+        let byte = bytes[at];
+        if is_small(byte, inside) {
+            return false;
+        }
+        inside = turned(inside, byte);
+        at = kept_end(bytes, at + 1, inside);
+    }
+    true
 }

@@ -1,26 +1,43 @@
 ghost use Rattle.std.specs.Prelude.{◌≡◌, ℕ, Bool, true, false, List, [], ◌∷◌, ◌++◌, map, IfOk, length};
 ghost use Rattle.dmis_text.specs.Texts.{inside_after};
-ghost use Rattle.dmis_text.specs.Elements.{element_of, pieces};
+ghost use Rattle.dmis_text.specs.Elements.{element_of, folded, pieces};
 
-use crate::bytes::{cut_at, ends_inside, split_end_blanks, turned, without_front_blanks};
+use crate::bytes::{
+    cut_at, ends_inside, is_folded, split_end_blanks, turned, without_front_blanks,
+};
 use std::alloc::{AllocError, Global};
 use std::marker::Model;
 use std::ops::DerefSlice;
 
+/// The room that a list of parameters has from the start: a `PTMEAS` has seven.
+const USUAL_PARAMS: usize = 8;
+
+/// Bytes of the text that is read, or bytes of their own.
+#[derive(Debug, Drop)]
+enum Bytes<'a> {
+    Lent(&'a [u8]),
+    Own(Vec<u8>),
+}
+
 /// The bytes of a label, a word or a parameter, which contracts see as their list: without blanks at both ends, capitals outside texts,
 /// and texts as written, with their apostrophes. It is read as a slice.
+///
+/// They are lent by the text that is read, where they stand in it as they are handed out.
 #[derive(Debug, Drop)]
-pub struct Text {
-    bytes: Vec<u8>,
+pub struct Text<'a> {
+    bytes: Bytes<'a>,
 }
 
-impl Model for Text {
+impl<'a> Model for Text<'a> {
+    ghost use Rattle.std.specs.Prelude.{ℕ, List};
+    ghost use Rattle.dmis_text.specs.Lent.{bytes_of};
+
     ghost Value = { List ℕ };
 
-    ghost view = { λ t. t.bytes.items };
+    ghost view = { λ t. bytes_of t.bytes };
 }
 
-impl DerefSlice for Text {
+impl<'a> DerefSlice for Text<'a> {
     ghost use Rattle.std.specs.Prelude.{◌≡◌};
 
     type Elem = u8;
@@ -28,59 +45,96 @@ impl DerefSlice for Text {
     ghost deref_gives = { λ text bytes. bytes ≡ text };
 
     fn deref(&self) -> &[u8] {
-        self.bytes.as_slice()
+        match &self.bytes {
+            Bytes::Lent(bytes) => *bytes,
+            Bytes::Own(bytes) => bytes.as_slice(),
+        }
     }
 }
 
-impl Text {
+/// Small letters as capitals outside texts.
+fn fold(alloc: Global, bytes: &[u8]) -> Result<Vec<u8>, AllocError>
+    ensures { IfOk result (λ made. made.items ≡ folded false bytes.now) }
+{
+    let mut made = Vec::with_capacity(alloc, bytes.len())?;
+    let mut inside = false;
+    for byte in bytes {
+        made.push(if inside {
+            *byte
+        } else {
+            byte.to_ascii_uppercase()
+        })?;
+        inside = turned(inside, *byte);
+    }
+    Ok(made)
+}
+
+impl<'a> Text<'a> {
     /// The bytes without blanks at both ends, small letters as capitals outside texts.
-    fn element(alloc: Global, bytes: &[u8]) -> Result<Text, AllocError>
+    fn element(alloc: Global, bytes: &'a [u8]) -> Result<Text<'a>, AllocError>
         ensures { IfOk result (λ text. text ≡ element_of bytes.now) }
     {
         let (kept, _) = split_end_blanks(without_front_blanks(bytes));
-        let mut folded = Vec::with_capacity(alloc, kept.len())?;
-        let mut inside = false;
-        for byte in kept {
-            folded.push(if inside {
-                *byte
-            } else {
-                byte.to_ascii_uppercase()
-            })?;
-            inside = turned(inside, *byte);
-        }
-        Ok(Text { bytes: folded })
+        let bytes = if is_folded(kept) {
+            Bytes::Lent(kept)
+        } else {
+            Bytes::Own(fold(alloc, kept)?)
+        };
+        Ok(Text { bytes })
     }
+
+    /// An equal text with bytes of its own.
+    fn owned<'b>(&self, alloc: Global) -> Result<Text<'b>, AllocError>
+        ensures { IfOk result (λ text. text ≡ self.now) }
+    {
+        let bytes: &[u8] = self;
+        let own = Vec::from_slice(alloc, bytes)?;
+        Ok(Text {
+            bytes: Bytes::Own(own),
+        })
+    }
+}
+
+/// Equal texts with bytes of their own.
+fn owned_texts<'b>(alloc: Global, texts: &[Text<'_>]) -> Result<Vec<Text<'b>>, AllocError>
+    ensures { IfOk result (λ made. made.items ≡ texts.now) }
+{
+    let mut made = Vec::with_capacity(alloc, texts.len())?;
+    for text in texts {
+        made.push(text.owned(alloc)?)?;
+    }
+    Ok(made)
 }
 
 /// The parameters of a statement in order, which contracts see as a list of lists of bytes. They are read as a slice.
 ///
 /// There are none only where the statement has no `/`: behind a `/` stands at least one, which may be empty.
 #[derive(Debug, Drop)]
-pub struct Params {
-    texts: Vec<Text>,
+pub struct Params<'a> {
+    texts: Vec<Text<'a>>,
 }
 
-impl Model for Params {
+impl<'a> Model for Params<'a> {
     ghost Value = { List (List ℕ) };
 
     ghost view = { λ p. p.texts.items };
 }
 
-impl DerefSlice for Params {
+impl<'a> DerefSlice for Params<'a> {
     ghost use Rattle.std.specs.Prelude.{◌≡◌};
 
-    type Elem = Text;
+    type Elem = Text<'a>;
 
     ghost deref_gives = { λ params texts. texts ≡ params };
 
-    fn deref(&self) -> &[Text] {
+    fn deref(&self) -> &[Text<'a>] {
         self.texts.as_slice()
     }
 }
 
-impl Params {
+impl<'a> Params<'a> {
     /// What a statement without a `/` has.
-    fn none(alloc: Global) -> Params
+    fn none(alloc: Global) -> Params<'a>
         ensures { result ≡ [] }
     {
         Params {
@@ -90,10 +144,10 @@ impl Params {
 
     /// The pieces between the commas outside texts.
     #[tactic(auto, using(crate::proofs::Splitting::splits))]
-    fn split(alloc: Global, bytes: &[u8]) -> Result<Params, AllocError>
+    fn split(alloc: Global, bytes: &'a [u8]) -> Result<Params<'a>, AllocError>
         ensures { IfOk result (λ params. params ≡ map element_of (pieces false bytes.now)) }
     {
-        let mut texts = Vec::new(alloc);
+        let mut texts = Vec::with_capacity(alloc, USUAL_PARAMS)?;
         let mut rest = bytes;
         while let Some((piece, behind)) = cut_at(rest, b',') {
             texts.push(Text::element(alloc, piece)?)?;
@@ -102,24 +156,32 @@ impl Params {
         texts.push(Text::element(alloc, rest)?)?;
         Ok(Params { texts })
     }
+
+    /// Equal parameters with bytes of their own.
+    fn owned<'b>(&self, alloc: Global) -> Result<Params<'b>, AllocError>
+        ensures { IfOk result (λ params. params ≡ self.now) }
+    {
+        let texts = owned_texts(alloc, self.texts.as_slice())?;
+        Ok(Params { texts })
+    }
 }
 
 /// One statement of a DMIS text: `word`, `word/p1,p2,..` or `label=word/..` (ISO 22093).
 ///
 /// A text that was opened and not closed runs to the end of the last of these elements: `is_open` tells it.
 #[derive(Debug, Drop)]
-pub struct Statement {
+pub struct Statement<'a> {
     /// The number of the line on which it begins.
     pub line: u64,
     /// What stands before the first `=` outside texts; none where no such `=` stands before the `/`, or no `/` is there.
-    pub label: Option<Text>,
+    pub label: Option<Text<'a>>,
     /// What stands before the first `/` outside texts and behind the label, or the whole where there is no `/`.
-    pub word: Text,
+    pub word: Text<'a>,
     /// What stands behind that `/`, split at the commas outside texts.
-    pub params: Params,
+    pub params: Params<'a>,
 }
 
-impl Statement {
+impl<'a> Statement<'a> {
     ghost use Rattle.dmis_text.specs.Statements.{statement_of, has_open_text};
 
     /// Whether a text that was opened in the statement was not closed. Who reads the statement may refuse it for that.
@@ -134,7 +196,11 @@ impl Statement {
     }
 
     /// The statement of a joined text that begins on this line.
-    pub(crate) fn split(alloc: Global, line: u64, text: &[u8]) -> Result<Statement, AllocError>
+    pub(crate) fn split(
+        alloc: Global,
+        line: u64,
+        text: &'a [u8],
+    ) -> Result<Statement<'a>, AllocError>
         ensures { IfOk result (λ statement. statement ≡ statement_of line text.now) }
     {
         let Some((head, behind)) = cut_at(text, b'/') else {
@@ -160,6 +226,24 @@ impl Statement {
         let word = Text::element(alloc, word)?;
         Ok(Statement {
             line,
+            label,
+            word,
+            params,
+        })
+    }
+
+    /// An equal statement with bytes of its own.
+    pub(crate) fn owned<'b>(&self, alloc: Global) -> Result<Statement<'b>, AllocError>
+        ensures { IfOk result (λ statement. statement ≡ self.now) }
+    {
+        let label = match &self.label {
+            Some(label) => Some(label.owned(alloc)?),
+            None => None,
+        };
+        let word = self.word.owned(alloc)?;
+        let params = self.params.owned(alloc)?;
+        Ok(Statement {
+            line: self.line,
             label,
             word,
             params,

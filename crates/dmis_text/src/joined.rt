@@ -72,12 +72,12 @@ impl Joined {
     }
 
     /// The statement that ends with this content on this line.
-    pub(crate) fn finish(
+    pub(crate) fn finish<'a>(
         self,
         alloc: Global,
         line: u64,
-        content: &[u8],
-    ) -> Result<Statement, AllocError>
+        content: &'a [u8],
+    ) -> Result<Statement<'a>, AllocError>
         ensures { IfOk result (λ statement. statement ≡ finished (grown self line content.now)) }
     {
         let Joined {
@@ -89,13 +89,13 @@ impl Joined {
             None => Statement::split(alloc, line, content),
             Some(first) => {
                 text.extend_from_slice(content)?;
-                Statement::split(alloc, first, text.as_slice())
+                Statement::split(alloc, first, text.as_slice())?.owned(alloc)
             }
         }
     }
 
     /// The statement as far as it goes; none where there is none, or one of blanks alone.
-    pub(crate) fn end(self, alloc: Global) -> Result<Option<Statement>, AllocError>
+    pub(crate) fn end<'a>(self, alloc: Global) -> Result<Option<Statement<'a>>, AllocError>
         ensures { IfOk result (λ statement. (ended self).statements ≡ option_to_list statement) }
     {
         let Joined {
@@ -104,11 +104,10 @@ impl Joined {
             inside: _,
         } = self;
         match first {
-            Some(first) if !is_all_blank(text.as_slice()) => Ok(Some(Statement::split(
-                alloc,
-                first,
-                text.as_slice(),
-            )?)),
+            Some(first) if !is_all_blank(text.as_slice()) => {
+                let lent = Statement::split(alloc, first, text.as_slice())?;
+                Ok(Some(lent.owned(alloc)?))
+            }
             _ => Ok(None),
         }
     }

@@ -4,6 +4,8 @@ ghost use Rattle.std.specs.Prelude.{◌≡◌, ◌∷◌, [], ◌<◌, ◌==◌,
 ghost use Rattle.std.specs.List.{position};
 ghost use Rattle.std.specs.Str.Lines.{lines, strip_carriage_return};
 
+use crate::runs::{InLine, run_end};
+
 /// The bytes without one CR at their end.
 fn without_return(line: &[u8]) -> &[u8]
     ensures { result.now ≡ strip_carriage_return line.now }
@@ -19,7 +21,8 @@ fn line_feed(bytes: &[u8]) -> Option<usize>
     ensures place { result ≡ position (λ c. c == 10) bytes.now }
     ensures within { IfSome result (λ at. at < length bytes.now) }
 {
-    bytes.iter().position(|byte| *byte == b'\n')
+    let at = run_end(&InLine, bytes, 0);
+    if at < bytes.len() { Some(at) } else { None }
 }
 
 /// The first line of a text without its end, LF or CR LF, and the bytes behind that end; none where there is no byte. The last line may

@@ -1,11 +1,14 @@
-ghost use Rattle.std.specs.Prelude.{◌≡◌, ◌≤◌, Bool, true, false, length, MatchOption, IfSome};
+ghost use Rattle.std.specs.Prelude.{◌≡◌, ◌+◌, ◌≤◌, Bool, true, false, length, drop, MatchOption, IfSome};
+ghost use Rattle.std.specs.List.{prefix_len};
 ghost use Rattle.std.specs.Str.Lines.{lines};
 ghost use Rattle.dmis_text.specs.Texts.{inside_after, before_comment, is_clean};
+ghost use Rattle.dmis_text.specs.Runs.{is_passed};
 ghost use Rattle.dmis_text.specs.Look.{role_of, TellsFlag};
 ghost use Rattle.dmis_text.specs.Reading.{line_role, content_role};
 
 use crate::bytes::{begins_comment, may_be_comment, may_stand, split_end_blanks, turned};
 use crate::line_ends::cut_line;
+use crate::runs::{InText, Plain, run_end};
 
 /// The most bytes that a line may have without its end (this profile).
 const LONGEST_LINE: usize = 4096;
@@ -28,6 +31,20 @@ pub(crate) enum Look<'a> {
     Last(&'a [u8]),
 }
 
+/// The end of the bytes from this place on that neither open nor close a text, begin no comment and may stand there.
+#[inline(always)]
+fn passed_end(line: &[u8], at: usize, inside: bool) -> usize
+    requires { at ≤ length line.now }
+    ensures run { result ≡ at + prefix_len (is_passed inside) (drop at line.now) }
+    ensures within { result ≤ length line.now }
+{
+    if inside {
+        run_end(&InText, line, at)
+    } else {
+        run_end(&Plain, line, at)
+    }
+}
+
 /// What stands before the comment, and whether a text is open behind it; none where a byte may not stand in its place.
 #[tactic(auto, using(crate::proofs::Comments::steps))]
 fn content_of(line: &[u8], mut inside: bool) -> Option<(&[u8], bool)>
@@ -36,7 +53,9 @@ fn content_of(line: &[u8], mut inside: bool) -> Option<(&[u8], bool)>
     ensures content { IfSome result (λ p. p.0.now ≡ before_comment inside line.now) }
     ensures flag { IfSome result (λ p. p.1 ≡ inside_after inside p.0.now) }
 {
-    for (at, byte) in line.iter().enumerate() {
+    let mut at = passed_end(line, 0, inside);
+    while at < line.len() {
+        let byte = line[at];
         let (content, rest) = line.split_at(at);
         if begins_comment(inside, rest) {
             return if may_be_comment(rest) {
@@ -45,10 +64,11 @@ fn content_of(line: &[u8], mut inside: bool) -> Option<(&[u8], bool)>
                 None
             };
         }
-        if !may_stand(inside, *byte) {
+        if !may_stand(inside, byte) {
             return None;
         }
-        inside = turned(inside, *byte);
+        inside = turned(inside, byte);
+        at = passed_end(line, at + 1, inside);
     }
     Some((line, inside))
 }

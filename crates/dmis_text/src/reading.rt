@@ -38,7 +38,7 @@ impl From<AllocError> for TextFault {
 /// A statement or none, the bytes behind it, and the number of their first line.
 #[derive(Drop)]
 struct Found<'a> {
-    statement: Option<Statement>,
+    statement: Option<Statement<'a>>,
     rest: &'a [u8],
     number: u64,
 }
@@ -131,7 +131,7 @@ impl<'a> Statements<'a> {
     /// `LineTooLong` and `BadByte` come where no statement is left that ends before that line; one that reaches it is not
     /// given. After them, and after none, the next call answers the same. `Memory` comes where a growth was refused, and
     /// changes nothing.
-    pub fn next(&mut self) -> Result<Option<Statement>, TextFault>
+    pub fn next(&mut self) -> Result<Option<Statement<'a>>, TextFault>
         ensures statement { IfOk result (λ given.
             IfSome given (λ s. self.old.left ≡ s ∷ self.new.left)) }
         ensures end { IfOk result (λ given.

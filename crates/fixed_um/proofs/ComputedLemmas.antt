@@ -1,12 +1,12 @@
 -- The computing functions meet the relations.
-use Rattle.std.proofs.Common.{◌≡◌, ℕ, zero, suc, ◌+◌, ◌*◌, ◌/◌, ◌%◌, ◌^◌, ◌<◌, ◌≤◌, Bool, true, false, cond, ◌&&◌, List, length, Result, Ok}
-use Rattle.std.proofs.Common.{Err, Option, Some, None, refl, ap, sym, subst, ◌∙◌, arith, ℤ}
-use Rattle.std.specs.Prelude.{unsigned_abs, IsTrue, ◌↔◌, ◌==◌, nat_le, if◌then◌else◌}
+use Rattle.std.proofs.Common.{◌≡◌, ℕ, ◌+◌, ◌*◌, ◌/◌, ◌%◌, ◌^◌, ◌<◌, ◌≤◌, Bool, true, false, cond, List, length, Result, Ok}
+use Rattle.std.proofs.Common.{Err, Option, Some, None, refl, subst, arith, ℤ}
+use Rattle.std.specs.Prelude.{IsTrue, ◌↔◌, ◌==◌, nat_le}
 use Rattle.std.specs.Str.Parse.{digits_value}
 use Rattle.std.proofs.Math.Nat.{one-le-pow}
 use Rattle.std.proofs.lemmas.Bool.{leb-true, leb-false, le-leb, eqb-true, eq-eqb, and_parts, and_from, both_ways}
 use Rattle.fixed_um.specs.declared.numerals.NumeralFault.{NumeralFault}
-use Rattle.fixed_um.specs.declared.numerals.NumeralFault.TheVariants.{NotNumeral, TooManyDigits, TooLarge}
+use Rattle.fixed_um.specs.declared.numerals.NumeralFault.TheVariants.{TooManyDigits, TooLarge}
 use Rattle.fixed_um.specs.Numerals.{Numeral, IsNumeral, StandsFor, Reads, IsZero, signed}
 use Rattle.fixed_um.specs.Rounding.{RoundsUp}
 use Rattle.fixed_um.specs.Scan.{numeral_of}

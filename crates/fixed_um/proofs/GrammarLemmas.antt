@@ -1,19 +1,18 @@
 -- The steps of the readers find a numeral exactly where the grammar has one, so a text says one numeral at most.
-use Rattle.std.proofs.Common.{◌≡◌, ℕ, zero, suc, ◌+◌, ◌-◌, ◌*◌, ◌^◌, ◌<◌, ◌≤◌, ◌≢◌, Bool, true, false, cond, ◌&&◌, ◌||◌, ◌⊎◌, List, [], ◌∷◌}
-use Rattle.std.proofs.Common.{◌++◌, length, take, drop, Option, Some, None, refl, ap, sym, subst, ◌∙◌, arith, inl, inr, codes, append-nil}
-use Rattle.std.proofs.Common.{take-append-drop, length-append}
-use Rattle.std.specs.Prelude.{◌==◌, nat_le, nat_lt, slice_index, if◌then◌else◌}
+use Rattle.std.proofs.Common.{◌≡◌, ℕ, ◌<◌, ◌≤◌, ◌≢◌, Bool, true, false, cond, ◌||◌, ◌⊎◌, List, [], ◌∷◌}
+use Rattle.std.proofs.Common.{◌++◌, length, drop, Option, Some, None, refl, ap, sym, subst, ◌∙◌, arith, inl, inr, codes}
+use Rattle.std.proofs.Common.{take-append-drop}
+use Rattle.std.specs.Prelude.{◌==◌, nat_lt, slice_index, if◌then◌else◌}
 use Rattle.std.specs.Char.{digit_value, is_ascii_digit}
-use Rattle.std.specs.List.{list_all, prefix_len}
-use Rattle.std.specs.Str.Parse.{AllDigits, digits_value, starts_with_minus, without_leading_sign, without_leading_plus}
-use Rattle.std.proofs.lemmas.Bool.{eqb-true, eqb-false, ne_eqb, eq-eqb, or_cases, lt-ltb, le-leb, and_from, and_parts, leb-true, ltb-true}
-use Rattle.std.proofs.lemmas.Bool.Decides.{nat_tests}
+use Rattle.std.specs.List.{prefix_len}
+use Rattle.std.specs.Str.Parse.{AllDigits, digits_value, starts_with_minus, without_leading_sign}
+use Rattle.std.proofs.lemmas.Bool.{eqb-true, ne_eqb, or_cases, lt-ltb, le-leb, and_from, ltb-true}
 use Rattle.std.proofs.lemmas.List.{take_at, drop_at}
 use Rattle.std.proofs.lemmas.Option.{same_Some, cond_some}
 use Rattle.fixed_um.specs.Numerals.{Numeral, IsSign, none, plus, minus, IsFraction, absent, pointed, IsExponent, nothing, given, IsNumeral}
 use Rattle.fixed_um.specs.Scan.{digits_front, digits_behind, fraction_front, fraction_behind, is_short_number, exponent_digits, exponent_of}
-use Rattle.fixed_um.specs.Scan.{numeral_with, unsigned_numeral_of, numeral_of}
-use Rattle.fixed_um.proofs.DigitLemmas.{AllDigits-front, AllDigits-to_test, IsShortNumber, short_number, digit-to_test, value-digit}
+use Rattle.fixed_um.specs.Scan.{numeral_with, numeral_of}
+use Rattle.fixed_um.proofs.DigitLemmas.{AllDigits-front, AllDigits-to_test, short_number, digit-to_test, value-digit}
 
 -- ---- from the steps to the grammar
 

@@ -1,5 +1,6 @@
 pub mod NameLemmas
 pub mod DigitLemmas
+pub mod PlainLemmas
 pub mod RoundingLemmas
 pub mod GrammarLemmas
 pub mod ReadLemmas

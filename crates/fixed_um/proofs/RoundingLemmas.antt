@@ -1,11 +1,11 @@
 -- Rounded fractions: halves up without a sign is nearest and away from zero with one, and there is one nearest number.
 use Rattle.std.proofs.Common.{◌≡◌, ℕ, zero, suc, ◌+◌, ◌-◌, ◌*◌, ◌^◌, ◌<◌, ◌≤◌, Bool, true, false, ◌⊎◌, refl, ap, sym, subst, ◌∙◌, arith}
-use Rattle.std.proofs.Common.{inl, inr, ℤ, pos, negsuc, ◌*ℤ◌, ◌-ℤ◌, neg_ℤ}
+use Rattle.std.proofs.Common.{inl, inr, ℤ, pos, negsuc, ◌*ℤ◌, ◌-ℤ◌}
 use Rattle.std.specs.Prelude.{unsigned_abs, ◌<ℤ◌, ◌≤ℤ◌, ◌+ℤ◌, Option, Some, None, SomeIff, IfSome, IfNone}
 use Rattle.std.proofs.Math.Nat.{mul-le-mul_right, one-le-pow}
 use Rattle.std.proofs.lemmas.Nat.{pow-add}
 use Rattle.std.proofs.lemmas.Int.{ints, by_lt_z}
-use Rattle.std.proofs.lemmas.Bool.{cases_lt, cases_order}
+use Rattle.std.proofs.lemmas.Bool.{cases_lt}
 use Rattle.std.proofs.Math.IntN.{pos-*ℤ-pos, negsuc-*ℤ-pos}
 use Rattle.fixed_um.specs.Rounding.{RoundsUp}
 use Rattle.fixed_um.specs.Numerals.{IsRounded, signed}
@@ -138,4 +138,34 @@ scaled_none digits up down None le h = (
   digits * 10 ^ (up - down),
   rounds_up digits up down le,
   elim (cases_lt (digits * 10 ^ (up - down)) (2 ^ 128)) [ inl lt ↦ absurd (h lt) | inr ge ↦ ge ],
+)
+
+-- ---- in one machine word
+
+pub raised-ge : (digits zeros : ℕ) → digits ≤ digits * 10 ^ zeros
+raised-ge digits zeros =
+    let wide : 1 * digits ≤ 10 ^ zeros * digits = mul-le-mul_right digits (one-le-pow zeros 10 (omega arith)) in
+    omega (arith, wide)
+
+pub ten_some : (places : ℕ) → 0 < places → 1 < 10 ^ places
+ten_some zero some = absurd (omega (arith, some))
+ten_some (suc n) some = omega (arith, ten_pos n)
+
+pub raised_some : (digits up down limit : ℕ) (o : Option ℕ) → down ≤ up
+    → SomeIff o (digits * 10 ^ (up - down) ≤ limit) (digits * 10 ^ (up - down))
+    → IfSome o (λ m. (m ≤ limit) × RoundsUp (digits * 10 ^ up) (10 ^ down) m)
+raised_some digits up down limit None le h = tt
+raised_some digits up down limit (Some m) le h = (
+  omega (arith, h.0, h.1),
+  subst (λ (n : ℕ). RoundsUp (digits * 10 ^ up) (10 ^ down) n) (sym h.1) (rounds_up digits up down le),
+)
+
+pub raised_none : (digits up down limit : ℕ) (o : Option ℕ) → down ≤ up
+    → SomeIff o (digits * 10 ^ (up - down) ≤ limit) (digits * 10 ^ (up - down))
+    → IfNone o ((m : ℕ) × RoundsUp (digits * 10 ^ up) (10 ^ down) m × (limit < m))
+raised_none digits up down limit (Some m) le h = tt
+raised_none digits up down limit None le h = (
+  digits * 10 ^ (up - down),
+  rounds_up digits up down le,
+  elim (cases_lt limit (digits * 10 ^ (up - down))) [ inl past ↦ past | inr within ↦ absurd (h within) ],
 )

@@ -1,6 +1,6 @@
 -- What is written is short, and reads back.
-use Rattle.std.proofs.Common.{◌≡◌, ℕ, zero, suc, ◌+◌, ◌-◌, ◌*◌, ◌/◌, ◌%◌, ◌^◌, ◌<◌, ◌≤◌, Bool, true, false, List, [], ◌∷◌, ◌++◌, length}
-use Rattle.std.proofs.Common.{refl, ap, sym, subst, ◌∙◌, arith, codes, append_assoc, append-nil, add-zero, length-append, ℤ, pos, negsuc}
+use Rattle.std.proofs.Common.{◌≡◌, ℕ, ◌+◌, ◌/◌, ◌%◌, ◌^◌, ◌<◌, ◌≤◌, Bool, true, false, List, [], ◌∷◌, ◌++◌, length}
+use Rattle.std.proofs.Common.{refl, ap, sym, subst, ◌∙◌, arith, codes, append-nil, add-zero, length-append, ℤ, pos, negsuc}
 use Rattle.std.proofs.Common.{Ok, Some}
 use Rattle.std.specs.Prelude.{unsigned_abs, decimal}
 use Rattle.std.specs.Char.{digit_value}
@@ -9,10 +9,10 @@ use Rattle.std.proofs.lemmas.Fmt.{length-decimal-le, decimal_is_IsNumeral}
 use Rattle.std.proofs.lemmas.Bool.Decides.{nat_tests}
 use Rattle.fixed_um.specs.Limits.{wire_limit, component_limit}
 use Rattle.fixed_um.specs.Written.{minus_sign, last_digit, three_digits, six_digits, written, written_component}
-use Rattle.fixed_um.specs.Numerals.{Numeral, IsSign, none, minus, IsFraction, pointed, IsExponent, nothing, IsNumeral, StandsFor, Reads}
+use Rattle.fixed_um.specs.Numerals.{Numeral, IsSign, none, minus, pointed, nothing, IsNumeral, StandsFor, Reads}
 use Rattle.fixed_um.specs.Numerals.{ReadsDirection, signed}
 use Rattle.fixed_um.specs.Shapes.{Direction, IsDirection}
-use Rattle.fixed_um.proofs.DigitLemmas.{AllDigits-append, digits_value_after-append, digits_value_after-ge}
+use Rattle.fixed_um.proofs.DigitLemmas.{AllDigits-append, digits_value_after-append}
 use Rattle.fixed_um.proofs.RoundingLemmas.{rounds_exact}
 use Rattle.fixed_um.proofs.ReadLemmas.{stands}
 use Rattle.std.proofs.Math.Nat.{one-le-pow}
@@ -24,6 +24,16 @@ whole-short n small = length-decimal-le 7 n (omega arith) small (omega arith)
 -- six digits are three and three
 pub six_parts : (n : ℕ) → six_digits n ≡ three_digits (n / 1000) ++ three_digits n
 six_parts n = refl
+
+-- the last three digits of a number are those of what three digits can tell
+pub last_three-is : (n : ℕ) → three_digits n ≡ (48 + n % 1000 / 100) ∷ (48 + n % 1000 % 100 / 10) ∷ (48 + n % 1000 % 100 % 10) ∷ []
+last_three-is n =
+    let a : n / 100 % 10 ≡ n % 1000 / 100 = omega arith in
+    let b : n / 10 % 10 ≡ n % 1000 % 100 / 10 = omega arith in
+    let c : n % 10 ≡ n % 1000 % 100 % 10 = omega arith in
+    rw (a, b, c) refl
+
+pub ruleset last_three = (last_three-is)
 
 pub ruleset short = (whole-short, six_parts)
 

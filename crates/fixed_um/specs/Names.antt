@@ -1,5 +1,5 @@
 -- Names of features, tools and frames, in this profile.
-use Rattle.std.specs.Prelude.{ℕ, ◌≤◌, Bool, ◌&&◌, not, ◌≡◌, true, List, length, map, nat_le, codes}
+use Rattle.std.specs.Prelude.{ℕ, Bool, ◌&&◌, not, ◌≡◌, true, List, length, map, nat_le, codes}
 use Rattle.std.specs.List.{list_all, list_any}
 use Rattle.std.specs.Prelude.{◌==◌}
 use Rattle.std.specs.Char.{to_ascii_uppercase}

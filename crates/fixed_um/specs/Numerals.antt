@@ -1,6 +1,6 @@
 -- What a numeral says, and the whole number of micrometres or millionths that it stands for (this profile, for ISO 22093 and I++ DME
 -- alike).
-use Rattle.std.specs.Prelude.{◌≡◌, ℕ, ◌+◌, ◌*◌, ◌^◌, ◌<◌, ◌≤◌, Bool, true, false, ◌⊎◌, List, [], ◌∷◌, ◌++◌, length, ℤ, pos, ◌*ℤ◌, ◌-ℤ◌}
+use Rattle.std.specs.Prelude.{◌≡◌, ℕ, ◌+◌, ◌*◌, ◌^◌, ◌<◌, ◌≤◌, Bool, true, false, ◌⊎◌, List, [], ◌++◌, length, ℤ, pos, ◌*ℤ◌, ◌-ℤ◌}
 use Rattle.std.specs.Prelude.{neg_ℤ, unsigned_abs, codes, Result, Ok, Err, if◌then◌else◌}
 use Rattle.std.specs.Prelude.{Option, Some, None}
 use Rattle.std.specs.Str.Parse.{digits_value, AllDigits}

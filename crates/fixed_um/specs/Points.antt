@@ -1,5 +1,5 @@
 -- The zero point, and sums and differences of points, axis by axis.
-use Rattle.std.specs.Prelude.{◌≤◌, ℤ, pos, unsigned_abs, ◌+ℤ◌, ◌-ℤ◌, neg_ℤ}
+use Rattle.std.specs.Prelude.{◌≤◌, pos, unsigned_abs, ◌+ℤ◌, ◌-ℤ◌, neg_ℤ}
 use Rattle.fixed_um.specs.Limits.{volume_limit}
 use Rattle.fixed_um.specs.declared.lengths.Point.{Point}
 

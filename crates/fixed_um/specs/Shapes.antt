@@ -1,5 +1,5 @@
 -- Directions as contracts see them.
-use Rattle.std.specs.Prelude.{◌≡◌, ℕ, ◌≤◌, ℤ, pos, unsigned_abs}
+use Rattle.std.specs.Prelude.{◌≡◌, ◌≤◌, ℤ, pos, unsigned_abs}
 use Rattle.fixed_um.specs.Limits.{component_limit}
 
 -- the components of a direction, in millionths

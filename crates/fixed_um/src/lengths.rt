@@ -36,6 +36,14 @@ impl Um {
         }
     }
 
+    /// The length of so many micrometres, which are within the wire limit.
+    pub(crate) fn within(micrometres: i64) -> Um
+        requires { unsigned_abs micrometres ≤ wire_limit }
+        ensures { result ≡ micrometres }
+    {
+        Um { micrometres }
+    }
+
     /// The micrometres.
     pub fn get(self) -> i64
         ensures value { result ≡ self }

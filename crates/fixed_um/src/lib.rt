@@ -7,6 +7,7 @@
 //! - `frames`: `Frame`
 //! - `numerals`: `read_um`, `read_dir`, and why a text is refused
 //! - `scanning`: the steps by which a numeral is taken apart
+//! - `plain`: the numerals that one machine word takes, which nearly all are
 //! - `points`: sums and differences of points
 //! - `rounding`: the whole number nearest to a fraction
 //! - `display`: how lengths, points, directions and names are printed
@@ -19,6 +20,7 @@ pub mod frames;
 pub mod lengths;
 pub mod naming;
 pub mod numerals;
+mod plain;
 mod points;
 mod rounding;
 mod scanning;

@@ -8,7 +8,8 @@ ghost use Rattle.fixed_um.specs.Computed.{value_of, is_zero_text};
 
 use crate::directions::Dir;
 use crate::lengths::Um;
-use crate::rounding::{scaled_down, scaled_up};
+use crate::plain::read_plain;
+use crate::rounding::{raised_within, scaled_down, scaled_up, word_scaled_down};
 use crate::scanning::{Parts, read_parts};
 
 /// Why a text is not read as a numeral; of several reasons the first in this order.
@@ -62,8 +63,29 @@ fn with_sign(negative: bool, magnitude: u64) -> i64
     }
 }
 
-/// The value of a numeral in units of which ten to the power `scale` make one.
-fn read_scaled(bytes: &[u8], scale: u32, limit: u64) -> Result<i64, NumeralFault>
+/// The same of a plain numeral, in one machine word.
+fn plain_magnitude(digits: u64, up: usize, down: usize, limit: u64) -> Option<u64>
+    requires up { up ≤ 6 }
+    requires down { down ≤ 18 }
+    requires limit { limit ≤ wire_limit }
+    ensures within { IfSome result (λ m. (m ≤ limit) × RoundsUp (digits * 10 ^ up) (10 ^ down) m) }
+    ensures past { IfNone result ((m : ℕ) × RoundsUp (digits * 10 ^ up) (10 ^ down) m
+        × (limit < m)) }
+{
+    if up < down {
+        let magnitude = word_scaled_down(digits, down - up);
+        return if magnitude > limit {
+            None
+        } else {
+            Some(magnitude)
+        };
+    }
+    raised_within(digits, up - down, limit)
+}
+
+/// The value of a numeral of any form in units of which ten to the power `scale` make one.
+#[inline(never)]
+fn read_any(bytes: &[u8], scale: u32, limit: u64) -> Result<i64, NumeralFault>
     requires scale { scale ≤ 6 }
     requires limit { limit ≤ wire_limit }
     ensures { Reads scale limit bytes.now result }
@@ -82,6 +104,21 @@ fn read_scaled(bytes: &[u8], scale: u32, limit: u64) -> Result<i64, NumeralFault
     }
 }
 
+/// The value of a numeral in units of which ten to the power `scale` make one.
+fn read_scaled(bytes: &[u8], scale: u32, limit: u64) -> Result<i64, NumeralFault>
+    requires scale { scale ≤ 6 }
+    requires limit { limit ≤ wire_limit }
+    ensures { Reads scale limit bytes.now result }
+{
+    let Some(plain) = read_plain(bytes) else {
+        return read_any(bytes, scale, limit);
+    };
+    match plain_magnitude(plain.digits, scale as usize, plain.places, limit) {
+        Some(magnitude) => Ok(with_sign(plain.negative, magnitude)),
+        None => Err(NumeralFault::TooLarge),
+    }
+}
+
 /// The length that a numeral in millimetres stands for, rounded to whole micrometres, halves away from zero.
 ///
 /// The caller owes a limit from 0 to the wire limit. Takes no memory.
@@ -90,10 +127,7 @@ pub fn read_um(bytes: &[u8], limit: Um) -> Result<Um, NumeralFault>
     ensures { Reads 3 (unsigned_abs limit) bytes.now result }
 {
     let micrometres = read_scaled(bytes, 3, limit.get() as u64)?;
-    match Um::new(micrometres) {
-        Some(length) => Ok(length),
-        None => Err(NumeralFault::TooLarge),
-    }
+    Ok(Um::within(micrometres))
 }
 
 /// The direction whose components three numerals write, each rounded to whole millionths, halves away from zero;
@@ -110,13 +144,24 @@ pub fn read_dir(i: &[u8], j: &[u8], k: &[u8]) -> Result<Option<Dir>, NumeralFaul
     Ok(Some(Dir { i, j, k }))
 }
 
-/// Whether a text is a numeral of at most 30 digits whose digits before the exponent are all 0, as `0`, `-0.0` or `0E5`. Takes no memory.
-pub fn is_zero(bytes: &[u8]) -> bool
+/// Whether a numeral of any form has at most 30 digits, which are all 0.
+#[inline(never)]
+fn is_any_zero(bytes: &[u8]) -> bool
     ensures { IsTrue result ↔ IsZero bytes.now }
 {
     match read_parts(bytes) {
         Some(parts) => parts.is_short() && parts.digits_value() == 0,
         None => false,
+    }
+}
+
+/// Whether a text is a numeral of at most 30 digits whose digits before the exponent are all 0, as `0`, `-0.0` or `0E5`. Takes no memory.
+pub fn is_zero(bytes: &[u8]) -> bool
+    ensures { IsTrue result ↔ IsZero bytes.now }
+{
+    match read_plain(bytes) {
+        Some(plain) => plain.digits == 0,
+        None => is_any_zero(bytes),
     }
 }
 

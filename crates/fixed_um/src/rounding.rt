@@ -1,7 +1,68 @@
-// The whole number nearest to a fraction whose denominator is a power of ten.
+// The whole number nearest to a fraction whose denominator is a power of ten: in one machine word, and in two.
 
 ghost use Rattle.std.specs.Prelude.{◌≡◌, ◌<◌, ◌*◌, ◌^◌, ◌≤◌, SomeIff};
+ghost use Rattle.fixed_um.specs.Limits.{wire_limit};
 ghost use Rattle.fixed_um.specs.Rounding.{RoundsUp};
+
+/// Ten to the power of a count of digits.
+fn power_of_ten(count: usize) -> u64
+    requires { count ≤ 18 }
+    ensures { result ≡ 10 ^ count }
+{
+    match count {
+        0 => 1,
+        1 => 10,
+        2 => 100,
+        3 => 1_000,
+        4 => 10_000,
+        5 => 100_000,
+        6 => 1_000_000,
+        7 => 10_000_000,
+        8 => 100_000_000,
+        9 => 1_000_000_000,
+        10 => 10_000_000_000,
+        11 => 100_000_000_000,
+        12 => 1_000_000_000_000,
+        13 => 10_000_000_000_000,
+        14 => 100_000_000_000_000,
+        15 => 1_000_000_000_000_000,
+        16 => 10_000_000_000_000_000,
+        17 => 100_000_000_000_000_000,
+        18 => 1_000_000_000_000_000_000,
+        _ => unreachable!("at most eighteen places"),
+    }
+}
+
+/// The digits with so many zeros behind them; `None` where that is past the limit. Multiplied only where the product fits a word.
+pub fn raised_within(digits: u64, zeros: usize, limit: u64) -> Option<u64>
+    requires zeros { zeros ≤ 6 }
+    requires limit { limit ≤ wire_limit }
+    ensures { SomeIff result (digits * 10 ^ zeros ≤ limit) (digits * 10 ^ zeros) }
+{
+    if digits > limit {
+        return None;
+    }
+    let raised = digits * power_of_ten(zeros);
+    if raised > limit { None } else { Some(raised) }
+}
+
+fn rounded_word(numerator: u64, denominator: u64) -> u64
+    requires { 1 < denominator }
+    ensures { RoundsUp numerator denominator result }
+{
+    let quotient = numerator / denominator;
+    let remainder = numerator % denominator;
+    quotient + u64::from(remainder >= denominator - remainder)
+}
+
+/// The digits divided by a power of ten, rounded, halves up, in one machine word.
+pub fn word_scaled_down(digits: u64, places: usize) -> u64
+    requires some { 0 < places }
+    requires few { places ≤ 18 }
+    ensures { RoundsUp digits (10 ^ places) result }
+{
+    rounded_word(digits, power_of_ten(places))
+}
 
 /// The digits with so many zeros behind them; `None` where that does not fit 128 bits.
 pub fn scaled_up(digits: u128, zeros: u32) -> Option<u128>

@@ -19,7 +19,8 @@ pub struct Parts<'a> {
     pub lowered: u32,
 }
 
-fn cut_sign(bytes: &[u8]) -> (bool, &[u8])
+/// Whether a minus stands in front, and what stands behind a sign.
+pub fn cut_sign(bytes: &[u8]) -> (bool, &[u8])
     ensures sign { result.0 ≡ starts_with_minus bytes.now }
     ensures rest { result.1.now ≡ without_leading_sign bytes.now }
 {

@@ -6,7 +6,7 @@ use std::test::Fail;
 #[test]
 fn numerals_are_rounded_or_refused(rt: HostRuntime) -> Result<(), Fail> {
     let many = "0000000000000000000000000000001";
-    let cases: [(&str, Result<&str, NumeralFault>); 18] = [
+    let cases: [(&str, Result<&str, NumeralFault>); 38] = [
         ("0.0005", Ok("0.001")),
         ("-0.0005", Ok("-0.001")),
         ("-0.0004", Ok("0.000")),
@@ -25,6 +25,26 @@ fn numerals_are_rounded_or_refused(rt: HostRuntime) -> Result<(), Fail> {
         ("-", Err(NumeralFault::NotNumeral)),
         ("", Err(NumeralFault::NotNumeral)),
         ("1.2.3", Err(NumeralFault::NotNumeral)),
+        ("0.00049999", Ok("0.000")),
+        ("0.00049999999999999", Ok("0.000")),
+        ("0.000499999999999999", Ok("0.000")),
+        ("0.00050000000000000", Ok("0.001")),
+        ("0.000500000000000000", Ok("0.001")),
+        ("5e-4", Ok("0.001")),
+        ("0000000000000000001", Ok("1.000")),
+        ("-0000000000000000001", Ok("-1.000")),
+        ("00000000000000000001", Ok("1.000")),
+        ("000000000000000.125", Ok("0.125")),
+        ("0000000000000000.125", Ok("0.125")),
+        ("-999999.999", Ok("-999999.999")),
+        ("-1000000", Ok("-1000000.000")),
+        ("1000000.001", Err(NumeralFault::TooLarge)),
+        ("1000001", Err(NumeralFault::TooLarge)),
+        ("9999999999999999999", Err(NumeralFault::TooLarge)),
+        ("18446744073709551617", Err(NumeralFault::TooLarge)),
+        (".", Err(NumeralFault::NotNumeral)),
+        ("1.5x", Err(NumeralFault::NotNumeral)),
+        ("15x", Err(NumeralFault::NotNumeral)),
     ];
     for (text, wanted) in cases {
         match (read_um(text.as_bytes(), Um::volume_limit()), wanted) {
@@ -64,7 +84,16 @@ fn directions_are_rounded_to_millionths(rt: HostRuntime) -> Result<(), Fail> {
 
 #[test]
 fn zeros_are_recognised(rt: HostRuntime) {
-    for text in ["0", "0.0", "-0", "0E5", ".0", "00."] {
+    for text in [
+        "0",
+        "0.0",
+        "-0",
+        "0E5",
+        ".0",
+        "00.",
+        "0.00000000000000000",
+        "0.000000000000000000",
+    ] {
         assert!(rt; is_zero(text.as_bytes()), "{text}");
     }
     for text in [
@@ -74,6 +103,8 @@ fn zeros_are_recognised(rt: HostRuntime) {
         "x",
         "0000000000000000000000000000000",
         "0e1000",
+        "0.00000000000000001",
+        ".",
     ] {
         assert!(rt; !is_zero(text.as_bytes()), "{text}");
     }

@@ -3,16 +3,16 @@
 // A writer whose name ends in `_reserved` needs room that its caller has made, and cannot fail. The others make the room first,
 // so that want of memory changes nothing.
 
-ghost use Rattle.std.specs.Prelude.{◌≡◌, ◌≤◌, ◌+◌, ◌*◌, ◌%◌, ◌^◌, ◌++◌, ◌∷◌, [], ℕ, length, vec_len, vec_capacity, IfSome, IfNone, OnOk, OnErr, Ok, Some, unsigned_abs, decimal, ◌<◌};
+ghost use Rattle.std.specs.Prelude.{◌≡◌, ◌≤◌, ◌+◌, ◌*◌, ◌%◌, ◌^◌, ◌++◌, ◌∷◌, [], ℕ, length, vec_len, vec_capacity, IfSome, IfNone, OnOk, OnErr, Ok, Some, unsigned_abs, decimal, ◌<◌, drop};
 ghost use Rattle.fixed_um.specs.Calls.{Grows, HasRoom, Writes};
 ghost use Rattle.fixed_um.specs.Limits.{wire_limit, component_limit};
 ghost use Rattle.fixed_um.specs.Numerals.{Reads, ReadsDirection};
 ghost use Rattle.fixed_um.specs.Shapes.{IsDirection};
-ghost use Rattle.fixed_um.specs.Written.{minus_sign, three_digits, written, written_component, written_direction};
+ghost use Rattle.fixed_um.specs.Written.{minus_sign, three_digits, six_digits, written, written_component, written_direction};
 
 use crate::directions::Dir;
 use crate::lengths::Um;
-use itoa::Buffer;
+use itoa::write_digits;
 use std::alloc::AllocError;
 
 fn write_minus(out: &mut Vec<u8>, value: i64)
@@ -25,37 +25,45 @@ fn write_minus(out: &mut Vec<u8>, value: i64)
     }
 }
 
+/// The last three digits of a number, as they are written.
+#[tactic(auto, using(crate::proofs::WrittenLemmas::last_three))]
+fn three_digits(value: u64) -> [u8; 3]
+    ensures { result ≡ three_digits value }
+{
+    let last = (value % 1000) as u32;
+    let tens = last % 100;
+    [
+        b'0' + (last / 100) as u8,
+        b'0' + (tens / 10) as u8,
+        b'0' + (tens % 10) as u8,
+    ]
+}
+
+/// The last six digits of a number, as they are written.
+fn six_digits(value: u64) -> [u8; 6]
+    ensures { result ≡ six_digits value }
+{
+    let [a, b, c] = three_digits(value / 1000);
+    let [d, e, f] = three_digits(value);
+    [a, b, c, d, e, f]
+}
+
+/// Appends a whole part and, in one call with it, what stands behind the seventh byte of a text: the whole part is written before that.
 #[tactic(auto, using(crate::proofs::WrittenLemmas::short))]
-fn write_whole(out: &mut Vec<u8>, value: u64)
-    requires value { value < 10 ^ 7 }
-    requires room { HasRoom out.old 7 }
-    ensures text { out.new.items ≡ out.old.items ++ decimal value }
-    ensures grows { Grows out.old out.new 7 }
+#[inline(always)]
+fn write_before(out: &mut Vec<u8>, whole: u64, text: &mut [u8])
+    requires whole { whole < 10 ^ 7 }
+    requires seven { 7 ≤ length text.old }
+    requires room { HasRoom out.old (length text.old) }
+    ensures text { out.new.items ≡ out.old.items ++ (decimal whole ++ drop 7 text.old) }
+    ensures grows { Grows out.old out.new (length text.old) }
 {
-    let mut buffer = Buffer::new();
-    out.extend_from_slice(buffer.format(value).as_bytes())
-        .unwrap();
-}
-
-fn last_digit(value: u64) -> u8
-    ensures { result ≡ 48 + value % 10 }
-{
-    b'0' + (value % 10) as u8
-}
-
-fn write_three_digits(out: &mut Vec<u8>, value: u64)
-    requires { HasRoom out.old 3 }
-    ensures text { out.new.items ≡ out.old.items ++ three_digits value }
-    ensures len { vec_len out.new ≡ vec_len out.old + 3 }
-    ensures capacity { vec_capacity out.old ≤ vec_capacity out.new }
-{
-    out.push_reserved(last_digit(value / 100));
-    out.push_reserved(last_digit(value / 10));
-    out.push_reserved(last_digit(value));
+    let start = write_digits(whole, text, 7);
+    out.extend_from_slice(&text[start..]).unwrap();
 }
 
 /// Appends a length in millimetres with three decimals, as `-0.001`, at most 12 bytes, where the caller has made room for them.
-#[tactic(auto, unfolding(crate::specs::Written::written))]
+#[tactic(auto, unfolding(crate::specs::Written::written), using(crate::proofs::WrittenLemmas::short))]
 pub fn write_um_reserved(out: &mut Vec<u8>, value: Um)
     requires { HasRoom out.old 12 }
     ensures text { out.new.items ≡ out.old.items ++ written value }
@@ -64,12 +72,12 @@ pub fn write_um_reserved(out: &mut Vec<u8>, value: Um)
     let micrometres = value.get();
     let magnitude = micrometres.unsigned_abs();
     write_minus(out, micrometres);
-    write_whole(out, magnitude / 1000);
-    out.push_reserved(b'.');
-    write_three_digits(out, magnitude);
+    let [a, b, c] = three_digits(magnitude);
+    let mut text = [0, 0, 0, 0, 0, 0, 0, b'.', a, b, c];
+    write_before(out, magnitude / 1000, &mut text);
 }
 
-#[tactic(auto, unfolding(crate::specs::Written::written_component))]
+#[tactic(auto, unfolding(crate::specs::Written::written_component), using(crate::proofs::WrittenLemmas::short))]
 fn write_component_reserved(out: &mut Vec<u8>, value: i64)
     requires value { unsigned_abs value ≤ component_limit }
     requires room { HasRoom out.old 15 }
@@ -78,10 +86,9 @@ fn write_component_reserved(out: &mut Vec<u8>, value: i64)
 {
     let magnitude = value.unsigned_abs();
     write_minus(out, value);
-    write_whole(out, magnitude / 1_000_000);
-    out.push_reserved(b'.');
-    write_three_digits(out, magnitude / 1000);
-    write_three_digits(out, magnitude);
+    let [a, b, c, d, e, f] = six_digits(magnitude);
+    let mut text = [0, 0, 0, 0, 0, 0, 0, b'.', a, b, c, d, e, f];
+    write_before(out, magnitude / 1_000_000, &mut text);
 }
 
 /// Appends the three components of a direction with six decimals each, as `0.577350`, with a text between each two,

@@ -1,3 +1,4 @@
+pub mod Blocks
 pub mod Buffers
 pub mod CallLists
 pub mod Cuts

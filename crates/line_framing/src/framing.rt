@@ -5,10 +5,13 @@ ghost use Rattle.line_framing.specs.Framing.{IsSound, IsLineDue, no_bytes, fed, 
 
 use crate::faults::{FramingFault, LinesFault};
 use crate::owned::Line;
-use crate::queue::ByteQueue;
 use crate::search::{content_end, has_line};
+use bytes::BytesMut;
 use std::alloc::{AllocError, Global};
 use std::marker::Model;
+
+/// Room is made for so many bytes at least, since pieces may be as short as a byte.
+const LEAST_ROOM: usize = 1_024;
 
 /// Bytes on their way to lines. Contracts see the bytes that were fed and not handed out (`rest`), and the
 /// fault that was met in them (`fault`).
@@ -18,11 +21,10 @@ use std::marker::Model;
 /// `first_line` and `next_line` answer it, and the rest stays.
 ///
 /// Inside, the first `searched` bytes of the rest are known to be free of CR and LF, so that none is searched
-/// twice. No caller sees this.
+/// twice. The memory of what was taken is used again once no `Line` shares it. No caller sees this.
 #[derive(Drop)]
 pub struct Lines {
-    alloc: Global,
-    queue: ByteQueue,
+    buffer: BytesMut,
     searched: usize,
     fault: Option<FramingFault>,
 }
@@ -33,9 +35,21 @@ impl Model for Lines {
 
     ghost Value = { Framing };
 
-    ghost view = { λ l. record { rest = l.queue.waiting; fault = l.fault } };
+    ghost view = { λ l. record { rest = l.buffer.items; fault = l.fault } };
 
-    ghost invariant = { λ l. IsKept l.queue.waiting l.searched l.fault };
+    ghost invariant = { λ l. IsKept l.buffer.items l.searched l.fault };
+}
+
+/// Makes room for so many bytes more. Only want of memory is an `Err`.
+#[inline]
+fn make_room(buffer: &mut BytesMut, count: usize) -> Result<(), AllocError>
+    ensures items { buffer.new.items ≡ buffer.old.items }
+    ensures room { OnOk result (count ≤ buffer.new.spare) }
+{
+    if count <= buffer.capacity() - buffer.len() {
+        return Ok(());
+    }
+    buffer.reserve(count.max(LEAST_ROOM))
 }
 
 impl Lines {
@@ -44,18 +58,18 @@ impl Lines {
         ensures { result ≡ no_bytes }
     {
         Lines {
-            alloc,
-            queue: ByteQueue::new(alloc),
+            buffer: BytesMut::new(alloc),
             searched: 0,
             fault: None,
         }
     }
 
     /// The bytes that were fed and not handed out.
+    #[inline]
     pub fn rest(&self) -> &[u8]
         ensures { result.now ≡ self.now.rest }
     {
-        self.queue.waiting()
+        self.buffer.as_slice()
     }
 
     /// The fault that `first_line` or `next_line` has met, if any. It is what stands at the front of the rest.
@@ -70,7 +84,7 @@ impl Lines {
     pub fn clear(&mut self)
         ensures { self.new ≡ no_bytes }
     {
-        self.queue.clear();
+        self.buffer.clear();
         self.searched = 0;
         self.fault = None;
     }
@@ -80,6 +94,7 @@ impl Lines {
     /// It answers the fault that was met, if any; `Memory` where room was wanting. After each the buffer is as
     /// before.
     #[tactic(auto, using(crate::proofs::Buffers::longer_content))]
+    #[inline]
     pub fn feed(&mut self, piece: &[u8]) -> Result<(), LinesFault>
         ensures kept { IfSome self.old.fault (λ fault. result ≡ Err (LinesFault.Framing fault)) }
         ensures ok { OnOk result (self.new ≡ fed self.old piece.now) }
@@ -91,8 +106,12 @@ impl Lines {
         if let Some(fault) = self.fault {
             return Err(LinesFault::Framing(fault));
         }
-        self.queue.reserve(piece.len())?;
-        self.queue.append(piece);
+        make_room(&mut self.buffer, piece.len())?;
+        match piece {
+            // Lines may come byte by byte; one byte is written with no call.
+            [byte] => self.buffer.extend_reserved(&[*byte]),
+            _ => self.buffer.extend_reserved(piece),
+        }
         Ok(())
     }
 
@@ -100,6 +119,7 @@ impl Lines {
     /// is there yet. The line stays, so that it can be read in place before `drop_line` takes it.
     ///
     /// It answers `LineTooLong` or `BadByte` where that stands at the front, and keeps it. It takes no memory.
+    #[inline]
     pub fn first_line(&mut self) -> Result<Option<usize>, FramingFault>
         // The answer is what stands at the front of the rest, and from a fault on the same fault.
         ensures found { IfOk result (λ found. MatchOption found (next_of self.old.rest ≡ Ok None)
@@ -121,8 +141,8 @@ impl Lines {
         if let Some(fault) = self.fault {
             return Err(fault);
         }
-        self.searched = content_end(self.queue.waiting(), self.searched);
-        match has_line(self.queue.waiting(), self.searched) {
+        self.searched = content_end(self.buffer.as_slice(), self.searched);
+        match has_line(self.buffer.as_slice(), self.searched) {
             Ok(false) => Ok(None),
             Ok(true) => Ok(Some(self.searched)),
             Err(fault) => {
@@ -137,7 +157,7 @@ impl Lines {
     pub fn has_line(&self) -> bool
         ensures { IsTrue result ↔ IsLineDue (next_of self.now.rest) }
     {
-        let rest = self.queue.waiting();
+        let rest = self.buffer.as_slice();
         let end = content_end(rest, self.searched);
         matches!(has_line(rest, end), Ok(true))
     }
@@ -145,6 +165,7 @@ impl Lines {
     /// Takes the first line, of `length` bytes, and its CR LF off the front of the rest. The caller owes that
     /// such a line stands there, as `first_line` answers. It takes no memory.
     #[tactic(auto, using(crate::proofs::Buffers::line_fits))]
+    #[inline]
     pub fn drop_line(&mut self, length: usize)
         requires { next_of self.old.rest ≡ Ok (Some (
           take length self.old.rest,
@@ -154,7 +175,8 @@ impl Lines {
         ensures taken { self.new ≡ after_next self.old }
         ensures sound { IsSound self.new }
     {
-        self.queue.take(length + 2);
+        let _in_memory = self.buffer.as_slice();
+        self.buffer.advance(length + 2);
         self.searched = 0;
     }
 
@@ -182,8 +204,8 @@ impl Lines {
             Ok(None) => return Ok(None),
             Err(fault) => return Err(LinesFault::Framing(fault)),
         };
-        let line = Line::copied(self.alloc, &self.rest()[..length])?;
-        self.drop_line(length);
+        let line = Line::cut(&mut self.buffer, length)?;
+        self.searched = 0;
         Ok(Some(line))
     }
 }

@@ -3,6 +3,7 @@ ghost use Rattle.line_framing.specs.Next.{content_len};
 ghost use Rattle.line_framing.specs.Buffer.{HasVerdict, HasFront};
 
 use crate::faults::FramingFault;
+use memchr::memchr2;
 
 /// Stands before LF at a line's end.
 const CR: u8 = 13;
@@ -11,11 +12,31 @@ const LF: u8 = 10;
 /// The greatest length of a line without its end, in bytes (this profile).
 const LONGEST_LINE: usize = 65_536;
 
-/// How many bytes stand before the first CR or LF, or before the end.
+/// From so many bytes on they are searched in blocks, which costs more to begin than a few bytes do.
+const BLOCK: usize = 32;
+
+/// How many bytes stand before the first CR or LF, or before the end, by blocks.
+#[inline(never)]
+#[tactic(auto, using(crate::proofs::Blocks::first_ends_content, crate::proofs::Blocks::none_ends_content))]
+fn count_in_blocks(bytes: &[u8]) -> usize
+    ensures count { result ≡ content_len bytes.now }
+    ensures within { result ≤ length bytes.now }
+{
+    match memchr2(CR, LF, bytes) {
+        Some(count) => count,
+        None => bytes.len(),
+    }
+}
+
+/// The same, also of few bytes.
+#[inline]
 fn count_content(bytes: &[u8]) -> usize
     ensures count { result ≡ content_len bytes.now }
     ensures within { result ≤ length bytes.now }
 {
+    if bytes.len() >= BLOCK {
+        return count_in_blocks(bytes);
+    }
     bytes
         .iter()
         .take_while(|byte| **byte != CR && **byte != LF)
@@ -24,6 +45,7 @@ fn count_content(bytes: &[u8]) -> usize
 
 /// Where the content ends that goes on at `searched`. The bytes before are not looked at again.
 #[tactic(auto, using(crate::proofs::Buffers::search_goes_on, crate::proofs::Buffers::content_fits))]
+#[inline]
 pub(crate) fn content_end(bytes: &[u8], searched: usize) -> usize
     requires { searched ≤ content_len bytes.now }
     ensures { result ≡ content_len bytes.now }
@@ -33,6 +55,7 @@ pub(crate) fn content_end(bytes: &[u8], searched: usize) -> usize
 }
 
 /// Whether CR LF stands behind a content of `count` bytes; false where it may still come.
+#[inline]
 fn ends_line(count: usize, behind: &[u8]) -> Result<bool, FramingFault>
     ensures { (content : List ℕ) → length content ≡ count → HasVerdict content behind.now result }
 {
@@ -48,6 +71,7 @@ fn ends_line(count: usize, behind: &[u8]) -> Result<bool, FramingFault>
 
 /// Whether a line stands at the front, where the content there ends at `end`.
 #[tactic(auto, using(crate::proofs::Buffers::content_fits, crate::proofs::Buffers::has_front))]
+#[inline]
 pub(crate) fn has_line(bytes: &[u8], end: usize) -> Result<bool, FramingFault>
     requires { end ≡ content_len bytes.now }
     ensures { HasFront bytes.now end result }

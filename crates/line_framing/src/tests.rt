@@ -164,3 +164,20 @@ fn the_longest_line_has_65536_bytes(rt: HostRuntime) -> Result<(), Fail> {
     assert_eq!(rt; lines.rest().len(), 65_538);
     Ok(())
 }
+
+#[test]
+fn a_line_outlives_its_buffer(rt: HostRuntime) -> Result<(), Fail> {
+    let piece = vec![in rt.alloc(); b'A'; 65_536]?;
+    let mut lines = Lines::new(rt.alloc());
+    let first = fed(&mut lines, REPLIES);
+    let second = lines.next_line();
+    for _ in 0..3u32 {
+        assert!(rt; lines.feed(piece.as_slice()).is_ok());
+    }
+    lines.clear();
+    assert!(rt; is_line(&fed(&mut lines, b"B\r\n"), b"B"));
+    drop(lines);
+    assert!(rt; is_line(&first, b"00008 # X(10.002), Y(20.000), Z(25.000)"));
+    assert!(rt; is_line(&second, b"00008 %"));
+    Ok(())
+}

@@ -22,3 +22,7 @@ pub mod WorkLists
 pub mod Thens
 pub mod RoundLists
 pub mod Instructions
+pub mod PumpPorts
+pub mod ClientPumps
+pub mod ServerPumps
+pub mod ClientJoins

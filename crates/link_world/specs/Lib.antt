@@ -10,3 +10,8 @@ pub mod ScheduleTexts
 pub mod ScheduleCarrying
 pub mod ScheduleRows
 pub mod Parts
+pub mod Pumps
+pub mod PumpParts
+pub mod ServerPumps
+pub mod ServerPumpParts
+pub mod Joined

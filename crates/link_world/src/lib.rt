@@ -8,17 +8,22 @@
 //! - `machines`: what ends the jobs of a server, and the simulated machine
 //! - `schedules`: lists of instructions that events are made of; `schedule_reading`, `schedule_faults`: schedules read from a text
 //! - `playing`, `rounds`: schedules played on a world, and the quiet rounds in which all that can happens
+//! - `pumps`, `client_pump`, `server_pump`: turns of one side over the ports of its connection, beside the world
 //! - `reports`, `report_text`: what a world shows, and its text
 //! - `report_rows`, `schedule_rows`: worked reports and texts of schedules
 //! - `laws`: a server whose machine is homed is not told to home it again
+//! - `joined`: a client's turn over its ports is a list of events
 #![tactic(auto)]
 
 mod client_events;
+mod client_pump;
 mod connection;
 mod faults;
+pub mod joined;
 pub mod laws;
 mod machines;
 mod playing;
+mod pumps;
 pub mod report_rows;
 mod report_text;
 mod reports;
@@ -28,15 +33,20 @@ mod schedule_reading;
 pub mod schedule_rows;
 mod schedules;
 mod server_events;
+mod server_pump;
 mod world;
 
+pub use client_pump::client_turns;
 pub use faults::{NewFault, WorldFault};
+pub use joined::turns_of_a_client_are_events;
 pub use laws::homed_servers_are_not_homed_again;
 pub use machines::{Machine, Simulated};
 pub use protocol_model::{Event, Outcome};
+pub use pumps::{Moved, PIECE, PumpFault};
 pub use report_rows::contacts_are_numbered_as_they_were_made;
 pub use report_text::{write_contact_rows, write_report};
 pub use reports::{Contacts, Report, Reported, report_of};
 pub use schedule_faults::ScheduleFault;
 pub use schedules::{Instruction, Schedule};
+pub use server_pump::serve_turns;
 pub use world::{RunCount, World};

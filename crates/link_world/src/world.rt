@@ -2,6 +2,8 @@
 
 ghost use Rattle.std.specs.Prelude.{◌≡◌, ◌↔◌, ◌⊎◌, ◌+◌, length, true, false, [], IsOk, IsErrAnd, IfOk, IfErr, OnOk, OnErr, MatchOption, None, Some};
 ghost use Rattle.std.specs.Result.{IsErrOf};
+ghost use Rattle.std.specs.List.{AllByRecursion};
+ghost use Rattle.contact_ledger.specs.FeatureTexts.{CanBeWritten};
 ghost use Rattle.protocol_model.specs.Lines.{Readers, AreReaders};
 ghost use Rattle.protocol_model.specs.Server.{running_job};
 ghost use Rattle.protocol_model.specs.World.{start, can, happens, run_of};
@@ -246,11 +248,13 @@ impl World {
         self.server.ledger()
     }
 
-    /// The features that the client holds: they are true of what the server did.
+    /// The features that the client holds: they are true of what the server did, and can be written to a file.
     #[tactic(auto, using(crate::proofs::Reached::sound))]
     pub fn features(&self) -> &[Feature]
         ensures value { result.now ≡ self.now.world.client.client.table.tally.features }
         ensures sound { IsSound self.now.world }
+        ensures writable { AllByRecursion CanBeWritten
+            self.now.world.client.client.table.tally.features }
     {
         let _known = &self.alloc;
         self.client.features()

@@ -19,6 +19,7 @@ mod ledgers;
 #[cfg(test)]
 mod plans;
 #[cfg(test)]
+#[cfg(test)]
 mod queue;
 #[cfg(test)]
 mod tags;

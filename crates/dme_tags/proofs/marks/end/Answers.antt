@@ -9,27 +9,23 @@ use Rattle.dme_tags.proofs.marks.end.Goals as goal
 pub returns-in_err-index-clause-refused : goal.returns-in_err-index-clause-refused
 returns-in_err-index-clause-refused c =
     let p = err_from_is_err_and c.from_residual.result c.from_residual.ensures.1 in
-    rw (p.1, p.2, ← c.deref.ensures.value) (c.in_err-index.ensures.unknown c.args.front Mark.Done)
+    rw (p.1, p.2) (c.in_err-index.ensures.unknown c.args.front Mark.Done)
 
 pub returns-in_err-ended-clause-refused : goal.returns-in_err-ended-clause-refused
 returns-in_err-ended-clause-refused c =
     let p = err_from_is_err_and c.from_residual-in_err-ended.result c.from_residual-in_err-ended.ensures.1 in
-    let at = rw c.deref.ensures.value at c.in_ok-index.ensures.found in
-    let front = rw c.deref-2.ensures.value at c.is_front.ensures in
-    rw (p.1, p.2) (refused_at c.args.front _ _ Mark.Done _ _ _ _ at front (c.in_err-ended.ensures.refused _))
+    rw (p.1, p.2) (refused_at c.args.front _ _ Mark.Done _ _ _ _ (c.in_ok-index.ensures.found.at c.at.result.now c.at.ensures)
+    c.is_front.ensures (c.in_err-ended.ensures.refused _))
 
 pub returns-clause-ok : goal.returns-clause-ok
 returns-clause-ok c =
-    let at = rw c.deref.ensures.value at c.in_ok-index.ensures.found in
-    let front = rw c.deref-2.ensures.value at c.is_front.ensures in
-    rw c.remove.ensures.items (ended_at c.args.front _ _ Mark.Done _ _ (effect_of c.in_ok-ended.ended) _ at front
-    (c.in_ok-ended.ensures.ok _))
+    rw c.remove.ensures (ended_at c.args.front _ _ Mark.Done _ _ (effect_of c.in_ok-ended.ended) _
+    (c.in_ok-index.ensures.found.at c.at.result.now c.at.ensures) c.is_front.ensures (c.in_ok-ended.ensures.ok _))
 
 pub returns-clause-in_order : goal.returns-clause-in_order
 returns-clause-in_order c =
-    let at = rw c.deref.ensures.value at c.in_ok-index.ensures.found in
-    let front = rw c.deref-2.ensures.value at c.is_front.ensures in
-    λ counted. front_at c.args.front _ _ _ _ _ at front (c.in_ok-ended.ensures.counted counted)
+    λ counted. front_at c.args.front _ _ _ _ _ (c.in_ok-index.ensures.found.at c.at.result.now c.at.ensures) c.is_front.ensures
+    (c.in_ok-ended.ensures.counted counted)
 
 pub returns-clause-fit : goal.returns-clause-fit
 returns-clause-fit c = fit_heard c.args.front _ _ c.args.tag Mark.Done (effect_of c.in_ok-ended.ended) (returns-clause-ok c)

@@ -1,7 +1,12 @@
-use Rattle.std.proofs.Common.{◌≡◌, take, drop, false}
+use Rattle.std.proofs.Common.{◌≡◌, ◌-◌, ◌≤◌, take, drop, length, false}
 use Rattle.dmis_text.specs.Elements.{cut_at}
 use Rattle.dmis_text.proofs.Splitting.{put_before}
 use Rattle.dmis_text.proofs.bytes.cut_at.Given as goal
 
 abbrev pub invariant-loop-at : goal.invariant-loop-at
-invariant-loop-at l = put_before (take l.at l.bytes) (cut_at l.mark l.inside (drop l.at l.bytes)) ≡ cut_at l.mark false l.bytes
+invariant-loop-at l =
+    (put_before (take l.at l.bytes) (cut_at l.mark l.inside (drop l.at l.bytes)) ≡ cut_at l.mark false l.bytes)
+    × (l.at ≤ length l.bytes)
+
+abbrev pub decreases-loop-at : goal.decreases-loop-at
+decreases-loop-at l = length l.bytes - l.at

@@ -1,4 +1,4 @@
-use Rattle.std.proofs.Common.{◌≡◌, ◌++◌, take, drop}
+use Rattle.std.proofs.Common.{◌≡◌, ◌-◌, ◌≤◌, ◌++◌, take, drop, length}
 use Rattle.dmis_text.specs.Texts.{before_comment, is_clean, inside_after}
 use Rattle.dmis_text.proofs.lines.content_of.Given as goal
 
@@ -7,3 +7,7 @@ invariant-loop-at l =
     (take l.at l.line ++ before_comment l.inside (drop l.at l.line) ≡ before_comment l.fn.inside l.line)
     × (is_clean l.inside (drop l.at l.line) ≡ is_clean l.fn.inside l.line)
     × (l.inside ≡ inside_after l.fn.inside (take l.at l.line))
+    × (l.at ≤ length l.line)
+
+abbrev pub decreases-loop-at : goal.decreases-loop-at
+decreases-loop-at l = length l.line - l.at

@@ -1,57 +1,29 @@
-use Rattle.std.proofs.Common.{◌≡◌, ◌≤◌, length, rules, inl, inr, ◌*◌, ◌^◌, ◌+◌, ap, sym, ◌∙◌, Some, None, Option, arith, ℤ, subst}
+use Rattle.std.proofs.Common.{◌≤◌, rules, sym, ◌∙◌, ℤ, subst}
 use Rattle.std.specs.Prelude.{unsigned_abs, FitsSigned}
 use Rattle.std.specs.Int.{w64}
 use Rattle.std.proofs.lemmas.Int.{to_z-of_z}
-use Rattle.fixed_um.specs.Numerals.{Numeral, signed, StandsFor}
-use Rattle.std.proofs.lemmas.Bool.{cases_lt, iff_false}
-use Rattle.fixed_um.specs.Scan.{numeral_of}
-use Rattle.fixed_um.specs.Taken.{the_numeral}
-use Rattle.fixed_um.proofs.GrammarLemmas.{numeral_only, numeral_found}
-use Rattle.fixed_um.proofs.ReadLemmas.{stands}
+use Rattle.fixed_um.specs.Numerals.{signed, StandsFor}
+use Rattle.fixed_um.proofs.PlainLemmas.{plain_stands}
 use Rattle.fixed_um.proofs.RoundingLemmas.{abs-signed}
 use Rattle.fixed_um.proofs.numerals.read_scaled.Goals as goal
 
-pub returns-in_default : goal.returns-in_default
-returns-in_default c n h =
-    let found = numeral_only c.args.bytes.now n h in
-    let is = c.in_default.ensures.parts in
-    absurd cc
-
-pub returns-then-not-is_short : goal.returns-then-not-is_short
-returns-then-not-is_short c =
-    let found = numeral_found c.args.bytes.now (the_numeral c.in-Some.parts) (sym c.in-Some.ensures.parts) in (
-      the_numeral c.in-Some.parts,
-      found,
-      elim (cases_lt 30 (length (the_numeral c.in-Some.parts).digits)) [
-        | inl many ↦ many
-        | inr few ↦ absurd (iff_false c.is_short.ensures c.if-not-is_short.true few)
-      ],
-    )
-
-pub returns-in-Some-magnitude : goal.returns-in-Some-magnitude
-returns-in-Some-magnitude c =
-    let n = the_numeral c.in-Some.parts in
-    let found = numeral_found c.args.bytes.now n (sym c.in-Some.ensures.parts) in
-    let short : length n.digits ≤ 30 = search rules in
-    let value = stands c.args.scale c.args.bytes.now n c.digits_value.result c.in-Some-magnitude.magnitude found short
-    c.digits_value.ensures.value c.in-Some-magnitude.ensures.within.1 in
+pub returns-in-Some-plain_magnitude : goal.returns-in-Some-plain_magnitude
+returns-in-Some-plain_magnitude c =
+    let plain = c.in-Some.plain in
+    let found = c.in-Some-plain_magnitude.ensures.within in
+    let m = c.in-Some-plain_magnitude.magnitude in
     let fits : FitsSigned w64 c.with_sign.result = search rules in
     let same = to_z-of_z w64 c.with_sign.result fits ∙ c.with_sign.ensures in
-    subst (λ (z : ℤ). StandsFor c.args.scale c.args.bytes.now z
-    × (unsigned_abs z ≤ c.args.limit)) (sym same) (
-      value,
-      rw (abs-signed n.negative c.in-Some-magnitude.magnitude)
-          c.in-Some-magnitude.ensures.within.0,
+    subst (λ (z : ℤ). StandsFor c.args.scale c.args.bytes.now z × (unsigned_abs z ≤ c.args.limit)) (sym same) (
+      plain_stands c.args.scale c.args.bytes.now plain m c.in-Some.ensures found.1,
+      rw (abs-signed plain.negative m) found.0,
     )
 
 pub returns-in-None : goal.returns-in-None
 returns-in-None c =
-    let n = the_numeral c.in-Some.parts in
-    let found = numeral_found c.args.bytes.now n (sym c.in-Some.ensures.parts) in
-    let past = c.in-None.ensures.past in
-    let short : length n.digits ≤ 30 = search rules in (
-      signed n.negative past.0,
-      stands c.args.scale c.args.bytes.now n c.digits_value.result past.0 found short c.digits_value.ensures.value
-          past.1,
-      rw (abs-signed n.negative past.0) past.2,
+    let plain = c.in-Some.plain in
+    let past = c.in-None.ensures.past in (
+      signed plain.negative past.0,
+      plain_stands c.args.scale c.args.bytes.now plain past.0 c.in-Some.ensures past.1,
+      rw (abs-signed plain.negative past.0) past.2,
     )

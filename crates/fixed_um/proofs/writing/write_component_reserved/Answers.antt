@@ -9,12 +9,5 @@ pub returns-clause-text : goal.returns-clause-text
 unfolding written_component
 returns-clause-text c =
     let fits : FitsSigned w64 c.args.value = search rules in
-    rw (
-      c.write_three_digits-2.ensures.text,
-      c.write_three_digits.ensures.text,
-      c.push_reserved.ensures.items,
-      c.write_whole.ensures.text,
-      c.write_minus.ensures.text,
-      c.unsigned_abs-magnitude.ensures.value,
-    )
+    rw (c.write_before.ensures.text, c.six_digits.ensures, c.write_minus.ensures.text, c.unsigned_abs-magnitude.ensures.value)
     (simp (append_assoc, to_z-of_z w64 c.args.value fits))

@@ -6,7 +6,7 @@ pub invariant_of-self-in-Std : goal.invariant_of-self-in-Std
 invariant_of-self-in-Std c = (
   search rules,
   search rules,
-  rw c.in_ok-push-in-Std.ensures.items (fit_sent _ _ refl c.self.invariant.2),
+  rw c.in_ok-push-in-Std.ensures.ok (fit_sent _ _ refl c.self.invariant.2),
   c.self.invariant.3,
 )
 
@@ -15,5 +15,5 @@ invariant_of-self-in-Event c = (
   search rules,
   search rules,
   c.self.invariant.2,
-  rw c.in_ok-push-in-Event.ensures.items (fit_sent _ _ refl c.self.invariant.3),
+  rw c.in_ok-push-in-Event.ensures.ok (fit_sent _ _ refl c.self.invariant.3),
 )

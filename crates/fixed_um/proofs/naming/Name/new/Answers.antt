@@ -1,6 +1,14 @@
-use Rattle.std.proofs.Common.{rules}
+use Rattle.std.proofs.Common.{◌≡◌, true, length, rules}
+use Rattle.std.specs.List.{list_all}
+use Rattle.std.proofs.lemmas.Bool.{and_from, le-leb}
+use Rattle.fixed_um.specs.Names.{folded, is_name_byte, is_name_text}
 use Rattle.fixed_um.proofs.NameLemmas.{name-from_folded}
 use Rattle.fixed_um.proofs.naming.Name.new.Goals as goal
 
 pub invariant_of-result : goal.invariant_of-result
-invariant_of-result c = rw c.in_ok-bytes.ensures (name-from_folded _ (search rules))
+invariant_of-result c =
+    let text = c.args.text.now in
+    let found : (c.in-Some.bytes.items ≡ folded text) × (list_all is_name_byte text ≡ true) = search rules in
+    let named : is_name_text text ≡ true =
+    and_from _ _ (le-leb 1 (length text) c.if-text-lt1.false) (and_from _ _ (le-leb (length text) 64 c.if-text-gt64.false) found.1) in
+    rw (c.in_ok-bytes-2.ensures, found.0) (name-from_folded text named)

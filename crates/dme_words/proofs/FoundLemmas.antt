@@ -1,0 +1,259 @@
+-- What a subcommand without a fault has found: the values that it cannot do without, each passed by the parser of its argument.
+use Rattle.std.proofs.Common.{◌≡◌, ◌<◌, ◌&&◌, ◌||◌, not, Bool, true, false, List, [], ◌∷◌, ◌++◌, fold, find, length}
+use Rattle.std.proofs.Common.{Option, Some, None, is_some, cond, refl, arith, ap, sym, subst, true≢false, ◌∙◌}
+use Rattle.std.specs.Prelude.{codes, pos}
+use Rattle.std.specs.List.{list_any}
+use Rattle.std.specs.Option.{option_map_or}
+use Rattle.std.specs.Str.{bytes_eq}
+use Rattle.std.proofs.lemmas.Bool.{ne_eqb}
+use Rattle.std.proofs.lemmas.Option.{same_Some}
+use Rattle.std.proofs.lemmas.Slice.Eq.{bytes_eq-Decides}
+use Rattle.clap.specs.Facts.{explicit_source, parser_of_value}
+use Rattle.clap.specs.Values.{read_as, reading_of}
+use Rattle.clap.specs.Kinds.{check_kinds, or_else, request_kinds, value_kinds}
+use Rattle.clap.specs.Walk.{action_of, Held, Row, Rule, Text, arg_by_id, default_rows, finished, first_of, has_row, is_empty, more_values}
+use Rattle.clap.specs.Walk.{nothing_held}
+use Rattle.clap.specs.Walk.{one_of, reading_by, rows_after, settled, walk, walk_from, with_default, with_values}
+use Rattle.clap.specs.Simple.{Shape}
+use Rattle.clap.specs.Takes.{is_given}
+use Rattle.clap.specs.Faults.{check_fault, default_fault, defaults_fault, given_default_fault, level_fault, settle_fault, values_fault}
+use Rattle.clap.specs.Faults.{walk_fault}
+use Rattle.clap.specs.declared.error.kind.ErrorKind.{ErrorKind}
+use Rattle.clap.specs.declared.parser.matches.ValueSource.TheVariants.{DefaultValue}
+use Rattle.clap.specs.declared.builder.value_parser.Reading.{Reading}
+use Rattle.clap.specs.declared.builder.value_parser.ValueParser.{ValueParser}
+use Rattle.clap.specs.declared.builder.value_parser.ValueParser.TheVariants.{Signed}
+use Rattle.clap.proofs.ValueTestLemmas.{accepts-Accepts}
+use Rattle.dme_words.specs.Ordered.{HasValue, HasWindow}
+use Rattle.dme_words.proofs.HelpLemmas.{first_none, second_none, not_empty}
+use Rattle.dme_words.proofs.LevelLemmas.{AllFit, Fits, Known, Knows, fit_with, settle_fits, walk_fits}
+
+-- ---- defaults
+
+default_fits : (c : List Rule) (a : Rule) (rows : List Row) → Known c a → default_fault rows a ≡ [] → AllFit c rows
+    → AllFit c (with_default rows a)
+default_fits c a rows known none fit = go (has_row a.id rows) none
+  where
+    given : (values : List Text) → cond (is_empty values) [] (given_default_fault a values) ≡ []
+        → AllFit c (default_rows a.id (reading_by a) values rows)
+    given [] none = fit
+    given (v ∷ vs) none =
+        let some : is_empty (v ∷ vs) ≡ false = ne_eqb _ _ (λ e. omega arith) in
+        fit_with c a DefaultValue (v ∷ vs) rows known.0 (second_none (request_kinds (action_of a)) (values_fault a (v ∷ vs))
+        (subst (λ (b : Bool). cond b [] (given_default_fault a (v ∷ vs)) ≡ []) some none)) (omega arith) fit
+
+    go : (b : Bool) → cond (b || is_empty a.defaults) [] (given_default_fault a a.defaults) ≡ []
+        → AllFit c (cond b rows (default_rows a.id (reading_by a) a.defaults rows))
+    go true none = fit
+    go false none = given a.defaults none
+
+pub defaults_fit : (c rules : List Rule) (rows : List Row) → Knows c rules → defaults_fault rows rules ≡ [] → AllFit c rows
+    → AllFit c (fold with_default rows rules)
+unfolding defaults_fault
+defaults_fit c [] rows all none fit = fit
+defaults_fit c (a ∷ rest) rows all none fit = defaults_fit c rest (with_default rows a) all.1 (second_none (default_fault rows a) _ none)
+    (default_fits c a rows all.0 (first_none _ _ none) fit)
+
+either_kept : (d x y : Bool) → (d || x) ≡ true → (x ≡ true → y ≡ true) → (d || y) ≡ true
+either_kept true x y has kept = refl
+either_kept false x y has kept = kept has
+
+row_kept : (id other : Text) (how : Reading) (values : List Text) (rows : List Row) → has_row id rows ≡ true
+    → has_row id (with_values other how DefaultValue values rows) ≡ true
+row_kept id other how values [] has = absurd (true≢false (sym has))
+row_kept id other how values (r ∷ rs) has = go (bytes_eq r.id other) (row_kept id other how values rs)
+  where
+    go : (b : Bool) → (has_row id rs ≡ true → has_row id (with_values other how DefaultValue values rs) ≡ true)
+        → has_row id (cond b (more_values DefaultValue values r ++ rs) (r ∷ with_values other how DefaultValue values rs)) ≡ true
+    go true behind = has
+    go false behind = either_kept (bytes_eq r.id id) (has_row id rs) _ has behind
+
+row_made : (id : Text) (how : Reading) (values : List Text) (rows : List Row)
+    → has_row id (with_values id how DefaultValue values rows) ≡ true
+row_made id how values [] = ap (λ b. b || false) ((bytes_eq-Decides id id).1 refl)
+row_made id how values (r ∷ rs) = go (bytes_eq r.id id) refl (row_made id how values rs)
+  where
+    go : (b : Bool) → bytes_eq r.id id ≡ b → has_row id (with_values id how DefaultValue values rs) ≡ true
+        → has_row id (cond b (more_values DefaultValue values r ++ rs) (r ∷ with_values id how DefaultValue values rs)) ≡ true
+    go true is behind = ap (λ b. b || has_row id rs) is
+    go false is behind = ap (λ b. b || has_row id (with_values id how DefaultValue values rs)) is ∙ behind
+
+default_keeps : (id : Text) (rows : List Row) (a : Rule) → has_row id rows ≡ true → has_row id (with_default rows a) ≡ true
+default_keeps id rows a has = go (has_row a.id rows)
+  where
+    given : (values : List Text) → has_row id (default_rows a.id (reading_by a) values rows) ≡ true
+    given [] = has
+    given (v ∷ vs) = row_kept id a.id (reading_by a) (v ∷ vs) rows has
+
+    go : (b : Bool) → has_row id (cond b rows (default_rows a.id (reading_by a) a.defaults rows)) ≡ true
+    go true = has
+    go false = given a.defaults
+
+default_makes : (rows : List Row) (a : Rule) → 0 < length a.defaults → has_row a.id (with_default rows a) ≡ true
+default_makes rows a some = go (has_row a.id rows) refl
+  where
+    given : (values : List Text) → 0 < length values → has_row a.id (default_rows a.id (reading_by a) values rows) ≡ true
+    given [] some = absurd (omega arith)
+    given (v ∷ vs) some = row_made a.id (reading_by a) (v ∷ vs) rows
+
+    go : (b : Bool) → has_row a.id rows ≡ b → has_row a.id (cond b rows (default_rows a.id (reading_by a) a.defaults rows)) ≡ true
+    go true is = is
+    go false is = given a.defaults some
+
+defaults_keep : (id : Text) (rules : List Rule) (rows : List Row) → has_row id rows ≡ true
+    → has_row id (fold with_default rows rules) ≡ true
+defaults_keep id [] rows has = has
+defaults_keep id (a ∷ rest) rows has = defaults_keep id rest (with_default rows a) (default_keeps id rows a has)
+
+-- each argument with a default has a row
+abbrev pub HasDefaulted : List Row → List Rule → Type 0
+HasDefaulted rows [] = Unit {0}
+HasDefaulted rows (a ∷ rest) = (0 < length a.defaults → has_row a.id rows ≡ true) × HasDefaulted rows rest
+
+pub defaulted : (rules : List Rule) (rows : List Row) → HasDefaulted (fold with_default rows rules) rules
+defaulted [] rows = tt
+defaulted (a ∷ rest) rows =
+    (λ some. defaults_keep a.id rest (with_default rows a) (default_makes rows a some), defaulted rest (with_default rows a))
+
+-- ---- what is required
+
+abbrev pub HasNeeded : List Row → List Rule → Type 0
+HasNeeded rows [] = Unit {0}
+HasNeeded rows (a ∷ rest) = (a.required ≡ true → has_row a.id rows ≡ true) × HasNeeded rows rest
+
+given_there : (id : Text) (rows : List Row) → is_given id rows ≡ true → has_row id rows ≡ true
+given_there id [] given = absurd (true≢false (sym given))
+given_there id (r ∷ rs) given = go (bytes_eq r.id id) given (given_there id rs)
+  where
+    go : (b : Bool) → option_map_or (λ r. explicit_source r.source) (cond b (Some r) (find (λ r. bytes_eq r.id id) rs)) false ≡ true
+        → (is_given id rs ≡ true → has_row id rs ≡ true) → (b || has_row id rs) ≡ true
+    go true given behind = refl
+    go false given behind = behind given
+
+needed : (rules : List Rule) (rows : List Row) → list_any (λ a. a.required && not (is_given a.id rows)) rules ≡ false → HasNeeded rows rules
+needed [] rows none = tt
+needed (a ∷ rest) rows none = (
+  λ wanted. given_there a.id rows (first a.required (is_given a.id rows) none wanted),
+  needed rest rows (second (a.required && not (is_given a.id rows)) none),
+)
+  where
+    second : (b : Bool) → (b || list_any (λ a. a.required && not (is_given a.id rows)) rest) ≡ false
+        → list_any (λ a. a.required && not (is_given a.id rows)) rest ≡ false
+    second true none = absurd (true≢false none)
+    second false none = none
+
+    first : (b d : Bool) → ((b && not d) || list_any (λ a. a.required && not (is_given a.id rows)) rest) ≡ false → b ≡ true → d ≡ true
+    first b true none wanted = refl
+    first true false none wanted = absurd (true≢false none)
+    first false false none wanted = absurd (true≢false (sym wanted))
+
+wants_none : (a b d : Bool) → check_kinds a b d ≡ [] → d ≡ false
+wants_none true b d none = absurd (not_empty _ _ none)
+wants_none false true d none = absurd (not_empty _ _ none)
+wants_none false false true none = absurd (not_empty _ _ none)
+wants_none false false false none = refl
+
+-- ---- a level
+
+-- what a subcommand without a fault has found
+pub record Found (c : List Rule) (rows : List Row) : Type 0 where
+  pub fit : AllFit c rows
+  pub defaulted : HasDefaulted rows c
+  pub needed : HasNeeded rows c
+
+pub level_found : (s : Shape) (words : List Text) → s.subcommand_negates_reqs ≡ false → Knows s.rules s.rules
+    → level_fault s [] nothing_held words false [] ≡ [] → Found s.rules (rows_after s.rules [] words)
+level_found s words strict all none =
+    let end : Held = (walk s.rules [] nothing_held words).held in
+    let walked = walk_fits s [] all (walk_from nothing_held) words (first_none _ _ none) tt in
+    let behind : or_else (settle_fault s.rules s.args_override_self end) (or_else (defaults_fault (settled s.rules end).rows s.rules)
+    (check_fault s (finished s.rules end) false)) ≡ [] = second_none (walk_fault s [] (walk_from nothing_held) words) _ none in
+    let last = second_none (settle_fault s.rules s.args_override_self end) _ behind in
+    let checks : check_fault s (finished s.rules end) false ≡ [] = second_none (defaults_fault (settled s.rules end).rows s.rules) _ last in
+    let wanted : list_any (λ a. a.required && not (is_given a.id (finished s.rules end))) s.rules ≡ false =
+    wants_none _ _ _ (subst (λ (b : Bool). check_kinds (not false
+    && (s.arg_required_else_help && not (list_any (λ r. explicit_source r.source) (finished s.rules end))))
+    (not false && s.subcommand_required)
+    (not (b && false) && list_any (λ a. a.required && not (is_given a.id (finished s.rules end))) s.rules) ≡ []) strict checks) in
+    record {
+      fit = defaults_fit s.rules s.rules (settled s.rules end).rows all (first_none _ _ last)
+          (settle_fits s.rules s.args_override_self all end (first_none _ _ behind) walked);
+      defaulted = defaulted s.rules (settled s.rules end).rows;
+      needed = needed s.rules (finished s.rules end) wanted;
+    }
+
+-- ---- one value
+
+-- the first value of the argument a, which passed
+pub record HasPassed (a : Rule) (id : Text) (rows : List Row) : Type 0 where
+  pub text : Text
+  pub first : first_of id rows ≡ Some text
+  pub read : one_of id rows ≡ Some (read_as (reading_by a) text)
+  pub passed : value_kinds a.ignore_case (parser_of_value a.parser) text ≡ []
+
+row_passed : (c : List Rule) (a : Rule) (id : Text) (r : Row) (rows : List Row) → arg_by_id c id ≡ Some a → Fits c r → r.id ≡ id
+    → find (λ r. bytes_eq r.id id) rows ≡ Some r → HasPassed a id rows
+row_passed c a id r rows is fit same found = go r.values refl fit.filled
+  where
+    rule : fit.rule ≡ a
+    rule = same_Some _ _ (sym fit.known ∙ ap (arg_by_id c) same ∙ is)
+
+    go : (values : List Text) → r.values ≡ values → 0 < length values → HasPassed a id rows
+    go [] e some = absurd (omega arith)
+    go (v ∷ vs) e some = record {
+      text = v;
+      first = rw (found, e) refl;
+      read = rw (found, e, fit.reads, rule) refl;
+      passed = first_none _ _ (subst (λ (x : Rule). values_fault x (v ∷ vs) ≡ []) rule
+          (subst (λ (xs : List Text). values_fault fit.rule xs ≡ []) e fit.passed));
+    }
+
+pub value_passed : (c : List Rule) (a : Rule) (id : Text) (rows : List Row) → arg_by_id c id ≡ Some a → AllFit c rows
+    → has_row id rows ≡ true
+    → HasPassed a id rows
+value_passed c a id rows is fit has = go (find (λ r. bytes_eq r.id id) rows) refl (there rows fit has)
+  where
+    there : (rows : List Row) → AllFit c rows → has_row id rows ≡ true
+        → (r : Row) × (find (λ r. bytes_eq r.id id) rows ≡ Some r) × Fits c r × (r.id ≡ id)
+    there [] fit has = absurd (true≢false (sym has))
+    there (r ∷ rs) fit has = elim_head (bytes_eq r.id id) refl has (there rs fit.1)
+      where
+        elim_head : (b : Bool) → bytes_eq r.id id ≡ b → (b || has_row id rs) ≡ true
+            → (has_row id rs ≡ true → (r : Row) × (find (λ r. bytes_eq r.id id) rs ≡ Some r) × Fits c r × (r.id ≡ id))
+            → (x : Row) × (cond b (Some r) (find (λ r. bytes_eq r.id id) rs) ≡ Some x) × Fits c x × (x.id ≡ id)
+        elim_head true e has behind = (r, refl, fit.0, (bytes_eq-Decides r.id id).0 e)
+        elim_head false e has behind = behind has
+
+    go : (o : Option Row) → find (λ r. bytes_eq r.id id) rows ≡ o
+        → ((r : Row) × (find (λ r. bytes_eq r.id id) rows ≡ Some r) × Fits c r × (r.id ≡ id)) → HasPassed a id rows
+    go o e found = row_passed c a id found.0 rows is found.2 found.3 found.1
+
+-- an accepted value
+accepted : (a : Bool) (k : ErrorKind) → cond a [] (k ∷ []) ≡ [] → a ≡ true
+accepted true k none = refl
+accepted false k none = absurd (not_empty _ _ none)
+
+-- an option with a row has a value
+pub has_value : (c : List Rule) (id : Text) (rows : List Row) → is_some (arg_by_id c id) ≡ true → AllFit c rows → has_row id rows ≡ true
+    → HasValue id rows
+has_value c id rows known fit has = go (arg_by_id c id) refl known
+  where
+    go : (found : Option Rule) → arg_by_id c id ≡ found → is_some found ≡ true → HasValue id rows
+    go None is known = absurd (true≢false (sym known))
+    go (Some a) is known = ap is_some (value_passed c a id rows is fit has).first
+
+-- a window with a row is in range
+pub has_window : (c : List Rule) (a : Rule) (rows : List Row) → arg_by_id c (codes "window") ≡ Some a
+    → a.parser ≡ Some (Signed (pos 1) (pos 16)) → AllFit c rows → has_row (codes "window") rows ≡ true → HasWindow rows
+has_window c a rows is parser fit has =
+    let value = value_passed c a (codes "window") rows is fit has in
+    let ranged : value_kinds a.ignore_case (Signed (pos 1) (pos 16)) value.text ≡ [] =
+    subst (λ (o : Option ValueParser). value_kinds a.ignore_case (parser_of_value o) value.text ≡ []) parser value.passed in
+    record {
+      text = value.text;
+      written = value.first;
+      read = subst (λ (o : Option ValueParser). one_of (codes "window") rows ≡ Some (read_as (reading_of
+          (parser_of_value o)) value.text)) parser
+          value.read;
+      ranged = accepts-Accepts a.ignore_case (Signed (pos 1) (pos 16)) value.text (accepted _ _ ranged);
+    }

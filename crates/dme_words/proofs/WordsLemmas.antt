@@ -1,0 +1,71 @@
+-- The order of a subcommand, from its name and its values.
+use Rattle.std.proofs.Common.{◌≡◌, ◌&&◌, Result, Ok, Err, IfOk, IfErr, OnOk, inl, inr, List, [], subst, Option, Some, None, codes, true}
+use Rattle.std.proofs.Common.{refl, ap, ap₂, sym, le-leb, ◌∙◌}
+use Rattle.std.specs.Prelude.{IsErrAnd, IsSomeAnd, ◌≢◌}
+use Rattle.clap.specs.Words.{App, FailsBy, IsAmong, is_simple, subcommand_of, HasKind, kind_of, HasMatchesOf, Row, Text, fault_of}
+use Rattle.clap.specs.Words.{first_of, subcommand_rows_of}
+use Rattle.client_core.specs.Clients.{is_window}
+use Rattle.clap.specs.declared.parser.matches.ArgMatches.{ArgMatches}
+use Rattle.dme_words.specs.declared.words.Order.{Order}
+use Rattle.dme_words.specs.declared.words.Order.TheVariants.{Audit, Check, Simulate}
+use Rattle.dme_words.specs.CommandLine.{whole_line}
+use Rattle.dme_words.specs.Ordered.{Asks, HasFault, IsAskable, IsCalled, IsOrderOf, IsReady, IsRefusal, IsWindow}
+use Rattle.dme_words.specs.declared.words.WordsFault.{WordsFault}
+use Rattle.dme_words.specs.declared.words.WordsFault.TheVariants.{Line, Memory}
+use Rattle.clap.specs.declared.error.Error.{Error}
+use Rattle.clap.specs.declared.error.kind.ErrorKind.TheVariants.{OutOfMemory}
+use Rattle.dme_words.proofs.AskedLemmas.{asked}
+
+-- what a parse has found may be asked for
+found_askable : (a : App) (words : List Text) (m : ArgMatches) → a ≡ whole_line → FailsBy {T = ArgMatches} (fault_of a words) (Ok m)
+    → HasMatchesOf a words m → IsSomeAnd (subcommand_rows_of m) IsAskable
+found_askable a words m is none has = subst (λ (found : Option (Text × List Row)). IsSomeAnd found IsAskable)
+    (sym ((has (ap is_simple is ∙ refl)).1 ∙ ap (λ (x : App). subcommand_of x words) is))
+    (asked words (subst (λ (x : App). fault_of x words ≡ []) is none))
+
+-- the same of an answer of either kind
+pub names_askable : (a : App) (words : List Text) (answer : Result ArgMatches Error) → a ≡ whole_line
+    → FailsBy (fault_of a words) answer → IfOk answer (HasMatchesOf a words)
+    → IfOk answer (λ m. IsSomeAnd (subcommand_rows_of m) IsAskable)
+names_askable a words (Ok m) is none has = found_askable a words m is none has
+names_askable a words (Err e) is kinds has = tt
+
+of_this : (a : App) (words : List Text) (error told : Error) → a ≡ whole_line → HasKind (fault_of a words) error
+    → (kind_of error ≢ OutOfMemory) → told ≡ error → HasFault words told
+of_this a words error told is (inl memory) other same = absurd (other memory)
+of_this a words error told is (inr among) other same = rw same
+    (record { fault = subst (λ (x : App). IsAmong (kind_of error) (fault_of x words)) is among; told = other })
+
+-- what is asked or refused, by the answer of a parse
+pub asked_or_refused : (a : App) (words : List Text) (answer : Result ArgMatches Error) (result : Result Order WordsFault) → a ≡ whole_line
+    → FailsBy (fault_of a words) answer → IfOk answer (HasMatchesOf a words)
+    → IfOk answer (λ m. IfOk result (IsOrderOf (subcommand_rows_of m)))
+    → OnOk answer (IfErr result (λ fault. fault ≡ Memory))
+    → IfErr answer (λ error. IsErrAnd result (IsCalled error))
+    → IfOk result (Asks words) × IfErr result (IsRefusal words)
+asked_or_refused a words (Ok m) (Ok order) is none has order_is taken called = (
+  record {
+    faultless = subst (λ (x : App). fault_of x words ≡ []) is none;
+    named = subst (λ (found : Option (Text × List Row)). IsOrderOf found order) ((has (ap is_simple is ∙ refl)).1
+        ∙ ap (λ (x : App). subcommand_of x words) is) order_is;
+  },
+  tt,
+)
+asked_or_refused a words (Ok m) (Err fault) is none has order_is taken called = (tt, rw taken tt)
+asked_or_refused a words (Err error) (Ok order) is kinds has order_is taken called = absurd called
+asked_or_refused a words (Err error) (Err (Line told)) is kinds has order_is taken called =
+    (tt, of_this a words error told is kinds called.0 called.1)
+asked_or_refused a words (Err error) (Err Memory) is kinds has order_is taken called = (tt, tt)
+
+-- an order for a simulation has a window that a client takes
+pub ready : (found : Option (Text × List Row)) (order : Order) → IsOrderOf found order → IsReady order
+ready None order is = absurd is
+ready (Some p) (Check setup program) is = tt
+ready (Some p) (Simulate setup schedule window program) (inl is) = absurd is.1
+ready (Some p) (Audit setup features contacts program) is = tt
+ready (Some p) (Simulate setup schedule window program) (inr (inr is)) = absurd is.1
+ready (Some p) (Simulate setup schedule window program) (inr (inl is)) = go (first_of (codes "window") p.1) is.1.2
+  where
+    go : (text : Option Text) → IsSomeAnd text (IsWindow window) → is_window window ≡ true
+    go None is = absurd is
+    go (Some t) is = ap₂ (λ a b. a && b) (le-leb 1 window is.1) (le-leb window 16 is.2)

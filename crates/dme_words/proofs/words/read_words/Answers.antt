@@ -1,0 +1,25 @@
+use Rattle.std.proofs.Common.{◌≡◌, map, refl, ap, ◌∙◌}
+use Rattle.clap.specs.Words.{app_of, is_simple_and_free}
+use Rattle.dme_words.specs.CommandLine.{whole_line}
+use Rattle.std.proofs.lemmas.Result.{IfOk-weaker}
+use Rattle.dme_words.proofs.WordsLemmas.{asked_or_refused, names_askable, ready}
+use Rattle.dme_words.proofs.words.read_words.Goals as goal
+
+pub answered-requires : goal.answered-requires
+answered-requires c =
+    let shape : app_of c.in_ok-command.command ≡ whole_line = c.in_ok-command.ensures.shape in
+    names_askable (app_of c.in_ok-command.command) (map (λ word. word.now) c.args.words.now) c.try_get_matches_from.result shape
+    (c.try_get_matches_from.ensures.kinds (ap is_simple_and_free shape ∙ refl)) c.try_get_matches_from.ensures.matches
+
+pub returns : goal.returns
+returns c =
+    let shape : app_of c.in_ok-command.command ≡ whole_line = c.in_ok-command.ensures.shape in
+    let both = asked_or_refused (app_of c.in_ok-command.command) (map (λ word. word.now) c.args.words.now) c.try_get_matches_from.result
+    c.answered.result shape
+    (c.try_get_matches_from.ensures.kinds (ap is_simple_and_free shape ∙ refl)) c.try_get_matches_from.ensures.matches
+    c.answered.ensures.order c.answered.ensures.taken c.answered.ensures.refused in
+    record {
+      order = both.0;
+      refused = both.1;
+      ready = IfOk-weaker c.answered.result _ _ (λ order asks. ready _ order asks.named) both.0;
+    }

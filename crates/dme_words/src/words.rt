@@ -1,0 +1,210 @@
+// The command line.
+
+ghost use Rattle.std.specs.Prelude.{◌≡◌, IfOk, IfErr, OnOk, IsErrAnd, IsSomeAnd, map, codes, string_bytes};
+ghost use Rattle.std.specs.Option.{option_map};
+ghost use Rattle.clap.specs.Words.{first_of, found_of, rows_of, subcommand_rows_of};
+ghost use Rattle.dme_words.specs.Ordered.{IsValueOf, IsProgramOf, IsWindow, IsCheckOf, IsSimulateOf, IsAuditOf, IsOrderOf, HasValue};
+ghost use Rattle.dme_words.specs.Ordered.{HasWindow, HasSimulation, HasAudit, IsAskable, IsReady, Asks, IsRefusal, IsCalled};
+
+use crate::line::whole_command;
+use clap::error::ErrorKind;
+use clap::{ArgMatches, Error};
+use std::alloc::{AllocError, Global};
+
+/// What the words of a command line ask for, with its values.
+#[derive(Debug, Drop)]
+pub enum Order {
+    /// Print the command lines of a program's plan.
+    Check {
+        /// The file of the machine's setup, whose frames the program may recall; `-` is standard input.
+        setup: Option<String>,
+        /// The file of the program; `-` is standard input.
+        program: String,
+    },
+    /// Run a program on a simulated machine by a schedule, and print the report.
+    Simulate {
+        /// The file of the machine's setup; `-` is standard input.
+        setup: String,
+        /// The file of the schedule; `-` is standard input.
+        schedule: String,
+        /// How many commands may be open at once, from 1 to 16.
+        window: u8,
+        /// The file of the program; `-` is standard input.
+        program: String,
+    },
+    /// Say in which runs of the server's contacts the client's features were measured.
+    Audit {
+        /// The file of the machine's setup; `-` is standard input.
+        setup: String,
+        /// The file of the features that the client holds; `-` is standard input.
+        features: String,
+        /// The file of the contacts that the server made; `-` is standard input.
+        contacts: String,
+        /// The file of the program; `-` is standard input.
+        program: String,
+    },
+}
+
+/// Why words ask for nothing.
+#[derive(Debug, Drop)]
+pub enum WordsFault {
+    /// A bad command line, or a call for help, with `clap`'s text.
+    Line(Error),
+    /// Want of memory.
+    Memory,
+}
+
+impl From<AllocError> for WordsFault {
+    ghost use Rattle.std.specs.Prelude.{◌≡◌};
+    ghost use Rattle.dme_words.specs.declared.words.WordsFault.TheVariants as fault;
+
+    ghost from_gives = { λ _ e. e ≡ fault.Memory };
+
+    fn from(_error: AllocError) -> WordsFault {
+        WordsFault::Memory
+    }
+}
+
+/// A copy of a value, where there is one.
+fn copied(alloc: Global, value: Option<&str>) -> Result<Option<String>, AllocError>
+    ensures { IfOk result (λ copy. option_map string_bytes copy
+        ≡ option_map (λ v. v.now) value.entry) }
+{
+    match value {
+        Some(text) => Ok(Some(String::from_str(alloc, text)?)),
+        None => Ok(None),
+    }
+}
+
+/// The first value of an argument, where it has one.
+fn value_of<'a>(values: &ArgMatches<'a>, id: &str) -> Option<&'a str>
+    ensures { option_map (λ text. text.now) result
+        ≡ first_of id.now (rows_of (found_of values.now)) }
+{
+    values.get_str(id)
+}
+
+/// A copy of the value of an option that has one.
+fn copied_value(alloc: Global, values: &ArgMatches, id: &str) -> Result<String, AllocError>
+    requires { HasValue id.now (rows_of (found_of values.now)) }
+    ensures { IfOk result (λ copy. IsValueOf id.now (rows_of (found_of values.now))
+        (string_bytes copy)) }
+{
+    match value_of(values, id) {
+        Some(text) => String::from_str(alloc, text),
+        None => unreachable!(),
+    }
+}
+
+/// A copy of the value of `PROGRAM`.
+fn copied_program(alloc: Global, values: &ArgMatches) -> Result<String, AllocError>
+    ensures { IfOk result (λ copy. IsProgramOf (rows_of (found_of values.now))
+        (string_bytes copy)) }
+{
+    String::from_str(alloc, value_of(values, "PROGRAM").unwrap_or("-"))
+}
+
+/// The value of `--window`, which `clap` has found in range.
+fn window_of(values: &ArgMatches) -> u8
+    requires { HasWindow (rows_of (found_of values.now)) }
+    ensures { IsSomeAnd (first_of (codes "window") (rows_of (found_of values.now)))
+        (IsWindow result) }
+{
+    match values.get_one::<u8>("window") {
+        Some(window) => window,
+        None => unreachable!(),
+    }
+}
+
+/// The order of `check` with these values.
+fn check_order(alloc: Global, values: &ArgMatches) -> Result<Order, AllocError>
+    ensures { IfOk result (IsCheckOf (rows_of (found_of values.now))) }
+{
+    let setup = copied(alloc, value_of(values, "setup"))?;
+    let program = copied_program(alloc, values)?;
+    Ok(Order::Check { setup, program })
+}
+
+/// The order of `simulate` with these values.
+fn simulate_order(alloc: Global, values: &ArgMatches) -> Result<Order, AllocError>
+    requires { HasSimulation (rows_of (found_of values.now)) }
+    ensures { IfOk result (IsSimulateOf (rows_of (found_of values.now))) }
+{
+    let setup = copied_value(alloc, values, "setup")?;
+    let schedule = copied_value(alloc, values, "schedule")?;
+    let window = window_of(values);
+    let program = copied_program(alloc, values)?;
+    Ok(Order::Simulate {
+        setup,
+        schedule,
+        window,
+        program,
+    })
+}
+
+/// The order of `audit` with these values.
+fn audit_order(alloc: Global, values: &ArgMatches) -> Result<Order, AllocError>
+    requires { HasAudit (rows_of (found_of values.now)) }
+    ensures { IfOk result (IsAuditOf (rows_of (found_of values.now))) }
+{
+    let setup = copied_value(alloc, values, "setup")?;
+    let features = copied_value(alloc, values, "features")?;
+    let contacts = copied_value(alloc, values, "contacts")?;
+    let program = copied_program(alloc, values)?;
+    Ok(Order::Audit {
+        setup,
+        features,
+        contacts,
+        program,
+    })
+}
+
+/// The order of the subcommand that `clap` found, with its values.
+fn order_of(alloc: Global, matches: &ArgMatches) -> Result<Order, AllocError>
+    requires { IsSomeAnd (subcommand_rows_of matches.now) IsAskable }
+    ensures { IfOk result (IsOrderOf (subcommand_rows_of matches.now)) }
+{
+    match matches.subcommand() {
+        Some(("check", values)) => check_order(alloc, values),
+        Some(("simulate", values)) => simulate_order(alloc, values),
+        Some(("audit", values)) => audit_order(alloc, values),
+        _ => unreachable!(),
+    }
+}
+
+/// What an error of `clap` is called: want of memory where it is that, else a bad line.
+fn refusal_of(error: Error) -> WordsFault
+    ensures { IsCalled error result }
+{
+    if error.kind() == ErrorKind::OutOfMemory {
+        return WordsFault::Memory;
+    }
+    WordsFault::Line(error)
+}
+
+/// What `clap`'s answer asks for. Words that it takes are refused only for want of memory, in copying a value.
+fn answered(alloc: Global, answer: Result<ArgMatches, Error>) -> Result<Order, WordsFault>
+    requires { IfOk answer (λ matches. IsSomeAnd (subcommand_rows_of matches) IsAskable) }
+    ensures order { IfOk answer.entry (λ matches. IfOk result
+        (IsOrderOf (subcommand_rows_of matches))) }
+    ensures taken { OnOk answer.entry (IfErr result (λ fault. fault ≡ WordsFault.Memory)) }
+    ensures refused { IfErr answer.entry (λ error. IsErrAnd result (IsCalled error)) }
+{
+    match answer {
+        Ok(matches) => Ok(order_of(alloc, &matches)?),
+        Err(error) => Err(refusal_of(error)),
+    }
+}
+
+/// What the words of a command line ask for. The first word names the program in `clap`'s texts.
+///
+/// Words are a bad line only for a fault that they have. Want of memory is told as that alone, in building the command, in `clap`,
+/// or in copying a value.
+pub fn read_words<'a>(alloc: Global, words: &'a [&'a str]) -> Result<Order, WordsFault>
+    ensures order { IfOk result (Asks (map (λ word. word.now) words.now)) }
+    ensures refused { IfErr result (IsRefusal (map (λ word. word.now) words.now)) }
+    ensures ready { IfOk result IsReady }
+{
+    let command = whole_command(alloc)?;
+    answered(alloc, command.try_get_matches_from(words))
+}

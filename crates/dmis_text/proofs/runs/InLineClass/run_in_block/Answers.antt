@@ -1,0 +1,13 @@
+use Rattle.std.proofs.Common.{refl}
+use Rattle.std.proofs.lemmas.Simd.{zip2_splat, length-chunk}
+use lib.Lanes.{chunk}
+use Rattle.dmis_text.specs.Runs.{is_in_line}
+use Rattle.dmis_text.proofs.Lanes.{of_both, run_of}
+use Rattle.dmis_text.proofs.runs.InLineClass.run_in_block.Goals as goal
+
+pub returns : goal.returns
+returns c =
+    let v = chunk c.args.at 16 c.args.bytes.now in
+    let long = length-chunk c.args.at 16 c.args.bytes.now c.requires in
+    run_of is_in_line c.args.bytes.now c.args.at _ _ c.requires c.type_inv.bytes c.lowest_set.ensures _
+    (zip2_splat _ v 16 10 long) refl

@@ -1,0 +1,205 @@
+//! Runs of bytes of one class, passed over sixteen bytes at a time.
+
+ghost use Rattle.std.specs.Prelude.{◌≡◌, ◌+◌, ◌≤◌, ℕ, Bool, length, take, drop};
+ghost use Rattle.std.specs.List.{prefix_len};
+ghost use Rattle.dmis_text.specs.Runs.{lowest_set, is_in_line, is_in_comment, is_plain, is_in_text, is_unquoted, is_unmarked, is_settled};
+
+use crate::bytes::may_stand;
+use std::simd::prelude::*;
+
+/// How many bytes are looked at together.
+const LANES: usize = 16;
+
+/// Where the lowest bit is set, or the count of lanes where none is.
+#[inline(always)]
+fn lowest_set(mask: u64) -> usize
+    ensures { result ≡ lowest_set mask 16 }
+{
+    if mask == 0 {
+        LANES
+    } else {
+        mask.trailing_zeros() as usize
+    }
+}
+
+/// A class of bytes.
+pub(crate) trait Class {
+    ghost holds: { Self → ℕ → Bool };
+
+    /// Whether a byte is of the class.
+    fn has(&self, byte: u8) -> bool
+        ensures { result ≡ holds self.now byte };
+
+    /// How many of the sixteen bytes from this place on are of the class before one is not.
+    fn run_in_block(&self, bytes: &[u8], at: usize) -> usize
+        requires { at + 16 ≤ length bytes.now }
+        ensures { result ≡ prefix_len (holds self.now) (take 16 (drop at bytes.now)) };
+}
+
+/// The end of the run, one byte at a time.
+#[inline(always)]
+fn run_end_by_one<C: Class>(class: &C, bytes: &[u8], from: usize) -> usize
+    requires { from ≤ length bytes.now }
+    ensures run { result ≡ from + prefix_len (C.holds class.now) (drop from bytes.now) }
+    ensures within { result ≤ length bytes.now }
+{
+    let mut at = from;
+    while at < bytes.len() && class.has(bytes[at]) {
+        at += 1;
+    }
+    at
+}
+
+/// The end of the run of bytes of the class that begins at this place.
+#[inline(always)]
+pub(crate) fn run_end<C: Class>(class: &C, bytes: &[u8], from: usize) -> usize
+    requires { from ≤ length bytes.now }
+    ensures run { result ≡ from + prefix_len (C.holds class.now) (drop from bytes.now) }
+    ensures within { result ≤ length bytes.now }
+{
+    let mut at = from;
+    while bytes.len() - at >= LANES {
+        let run = class.run_in_block(bytes, at);
+        at += run;
+        if run < LANES {
+            return at;
+        }
+    }
+    run_end_by_one(class, bytes, at)
+}
+
+/// The bytes that do not end a line.
+pub(crate) struct InLine;
+
+impl Class for InLine {
+    ghost holds = { λ _. is_in_line };
+
+    #[inline(always)]
+    fn has(&self, byte: u8) -> bool {
+        byte != b'\n'
+    }
+
+    #[inline(always)]
+    fn run_in_block(&self, bytes: &[u8], at: usize) -> usize {
+        let block = u8x16::from_slice(&bytes[at..]);
+        lowest_set(block.simd_eq(u8x16::splat(b'\n')).to_bitmask())
+    }
+}
+
+/// The bytes that may stand in a comment.
+pub(crate) struct InComment;
+
+impl Class for InComment {
+    ghost holds = { λ _. is_in_comment };
+
+    #[inline(always)]
+    fn has(&self, byte: u8) -> bool {
+        may_stand(true, byte)
+    }
+
+    #[inline(always)]
+    fn run_in_block(&self, bytes: &[u8], at: usize) -> usize {
+        let block = u8x16::from_slice(&bytes[at..]);
+        let control = block.simd_lt(u8x16::splat(b' ')) & block.simd_ne(u8x16::splat(b'\t'));
+        lowest_set((control | block.simd_eq(u8x16::splat(127))).to_bitmask())
+    }
+}
+
+/// The bytes that may stand anywhere and begin neither a text nor a comment.
+pub(crate) struct Plain;
+
+impl Class for Plain {
+    ghost holds = { λ _. is_plain };
+
+    #[inline(always)]
+    fn has(&self, byte: u8) -> bool {
+        may_stand(false, byte) && byte != b'\'' && byte != b'$'
+    }
+
+    #[inline(always)]
+    fn run_in_block(&self, bytes: &[u8], at: usize) -> usize {
+        let block = u8x16::from_slice(&bytes[at..]);
+        let control = block.simd_lt(u8x16::splat(b' ')) & block.simd_ne(u8x16::splat(b'\t'));
+        let marks = block.simd_eq(u8x16::splat(b'\'')) | block.simd_eq(u8x16::splat(b'$'));
+        let stops = control | marks | block.simd_ge(u8x16::splat(127));
+        lowest_set(stops.to_bitmask())
+    }
+}
+
+/// The bytes that may stand in a text and do not end it.
+pub(crate) struct InText;
+
+impl Class for InText {
+    ghost holds = { λ _. is_in_text };
+
+    #[inline(always)]
+    fn has(&self, byte: u8) -> bool {
+        may_stand(true, byte) && byte != b'\''
+    }
+
+    #[inline(always)]
+    fn run_in_block(&self, bytes: &[u8], at: usize) -> usize {
+        let block = u8x16::from_slice(&bytes[at..]);
+        let control = block.simd_lt(u8x16::splat(b' ')) & block.simd_ne(u8x16::splat(b'\t'));
+        let stops = control | block.simd_eq(u8x16::splat(b'\'')) | block.simd_eq(u8x16::splat(127));
+        lowest_set(stops.to_bitmask())
+    }
+}
+
+/// The bytes that neither open nor close a text.
+pub(crate) struct Unquoted;
+
+impl Class for Unquoted {
+    ghost holds = { λ _. is_unquoted };
+
+    #[inline(always)]
+    fn has(&self, byte: u8) -> bool {
+        byte != b'\''
+    }
+
+    #[inline(always)]
+    fn run_in_block(&self, bytes: &[u8], at: usize) -> usize {
+        let block = u8x16::from_slice(&bytes[at..]);
+        lowest_set(block.simd_eq(u8x16::splat(b'\'')).to_bitmask())
+    }
+}
+
+/// The bytes that begin no text and are none of the marks between elements.
+pub(crate) struct Unmarked;
+
+impl Class for Unmarked {
+    ghost holds = { λ _. is_unmarked };
+
+    #[inline(always)]
+    fn has(&self, byte: u8) -> bool {
+        byte != b'\'' && byte != b',' && byte != b'/' && byte != b'='
+    }
+
+    #[inline(always)]
+    fn run_in_block(&self, bytes: &[u8], at: usize) -> usize {
+        let block = u8x16::from_slice(&bytes[at..]);
+        let ends = block.simd_eq(u8x16::splat(b'\'')) | block.simd_eq(u8x16::splat(b','));
+        let stops = ends | block.simd_eq(u8x16::splat(b'/')) | block.simd_eq(u8x16::splat(b'='));
+        lowest_set(stops.to_bitmask())
+    }
+}
+
+/// The bytes that begin no text and are no small letters.
+pub(crate) struct Settled;
+
+impl Class for Settled {
+    ghost holds = { λ _. is_settled };
+
+    #[inline(always)]
+    fn has(&self, byte: u8) -> bool {
+        byte != b'\'' && byte.to_ascii_uppercase() == byte
+    }
+
+    #[inline(always)]
+    fn run_in_block(&self, bytes: &[u8], at: usize) -> usize {
+        let block = u8x16::from_slice(&bytes[at..]);
+        let small = block.simd_ge(u8x16::splat(b'a')) & block.simd_le(u8x16::splat(b'z'));
+        let stops = small | block.simd_eq(u8x16::splat(b'\''));
+        lowest_set(stops.to_bitmask())
+    }
+}

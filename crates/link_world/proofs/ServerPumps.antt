@@ -1,0 +1,494 @@
+-- What a server's turn makes of its end.
+use Rattle.std.proofs.Common.{◌≡◌, ◌≢◌, inl, inr, ℕ, ◌+◌, ◌*◌, ◌<◌, ◌≤◌, Bool, true, false, not, ◌&&◌, ◌||◌, List, [], ◌∷◌, ◌++◌, length, take, drop}
+use Rattle.std.proofs.Common.{refl, sym, ◌∙◌, ap, subst, arith, append-nil, length-append, length-take-le, is_some, is_none, Option, Some, None, Ok, Err}
+use Rattle.std.proofs.Common.{option_map, Result}
+use Rattle.std.proofs.lemmas.Bool.{false≢true, and_parts}
+use Rattle.std.proofs.lemmas.List.{take-append-le}
+use Rattle.std.specs.Io.KnownBytes.{Appends, Consumes, IsAtEnd}
+use Rattle.std.proofs.KnownBytes.{Consumes-nil, Consumes-trans, Appends-nil}
+use Rattle.line_framing.specs.Next.{Front, next_of}
+use Rattle.line_framing.specs.Framing.{IsLineDue, IsSound, Framing, fed, fed_behind}
+use Rattle.line_framing.specs.declared.faults.FramingFault.{FramingFault}
+use Rattle.contact_ledger.specs.Ledgers.{contact_count}
+use Rattle.dmis_program.specs.Meaning.{Meaning}
+use Rattle.protocol_model.specs.Lines.{Readers, AreReaders}
+use Rattle.protocol_model.specs.Server.{Server, running_job, may_end}
+use Rattle.protocol_model.specs.Ends.{ServerEnd, serving_fed, serving_read, serving_turned, serving_machined, serving_taken, serving_left}
+use Rattle.protocol_model.specs.Ends.{new_client_end, front_served}
+use Rattle.protocol_model.specs.World.{World, is_line}
+use Rattle.protocol_model.specs.declared.lines.Line.{Line}
+use Rattle.protocol_model.specs.declared.machine.Job.{Job}
+use Rattle.protocol_model.specs.declared.machine.Outcome.{Outcome}
+use Rattle.protocol_model.proofs.written_lines.ReadersExist.{some_are_readers}
+use Rattle.server_core.specs.Serving.{Serving, with_end, may_feed, may_turn, IsFeedFault, IsReadFault}
+use Rattle.server_core.specs.Steady.{IsRunnable}
+use Rattle.server_core.specs.declared.faults.ServerFault.{ServerFault}
+use Rattle.server_core.specs.declared.faults.ServerFault.TheVariants as server_fault
+use Rattle.link_world.specs.declared.pumps.Moved.{Moved}
+use Rattle.link_world.specs.declared.pumps.PumpFault.{PumpFault}
+use Rattle.link_world.specs.declared.pumps.PumpFault.TheVariants as fault
+use Rattle.link_world.specs.Pumps.{Stage, Writing, Taking, Reading, Working, IsLost}
+use Rattle.link_world.specs.PumpParts.{Pushed, IsPushFault, IsPullFault, IsTakeFault}
+use Rattle.link_world.specs.ServerPumps.{ServerTurn, begins, takes, has, reads, knows, turns, ends, writes}
+use Rattle.link_world.specs.ServerPumps.{ServerMoved, ServerStopped, ServerWhy, IsServerRefusal, of_server}
+use Rattle.link_world.specs.ServerPumpParts.{ServerGoesOn, ServerCame, ServerCameShort, ServerReadStops, IsServerReadFault, ReadIn}
+use Rattle.link_world.specs.ServerPumpParts.{has_work, steps_of, steps_of_one, IsWorkFault}
+use Rattle.link_world.proofs.ServerWork.{one_if, turn_less, machine_less}
+use Rattle.link_world.proofs.ClientPumps.{fed_twice, fed_nothing, none_lost, pull_why, longer, two_less}
+
+-- ---- bytes come
+
+fed_none : (s : Serving) → with_end s (serving_fed [] s.end) ≡ s
+fed_none s = ap (λ (f : Framing). with_end s (record (s.end) { input = f })) (fed_nothing s.end.input.fault s.end.input.rest)
+
+pub server_came_none : (s : Serving) (left : Option (List ℕ)) (budget : ℕ) → ServerCame s s left left budget budget 0
+server_came_none s left budget = record {
+  read = [];
+  fed = sym (fed_none s);
+  consumed = Consumes-nil left;
+  counted = omega arith;
+  count_is = refl;
+}
+
+pub server_came_more : (a b c : Serving) (left mid left_now : Option (List ℕ)) (budget now then count more : ℕ) (piece tail : List ℕ)
+    → ServerCame a b left mid budget now count → Consumes mid left_now (take more piece)
+    → c ≡ with_end b (serving_fed (take more (piece ++ tail)) b.end)
+    → now ≡ then + 1 → 0 < more → more ≤ length piece → ServerCame a c left left_now budget then (count + more)
+server_came_more a b c left mid left_now budget now then count more piece tail h consumed same step some within =
+    let is : length (take more piece) ≡ more = length-take-le more piece within in
+    let total = length-append h.read (take more piece) in
+    let before = h.counted in
+    let counted = h.count_is in record {
+      read = h.read ++ take more piece;
+      fed = same ∙ (ap (λ (xs : List ℕ). with_end b (serving_fed xs b.end)) (take-append-le more piece tail within)
+          ∙ (ap (λ (s : Serving). with_end s (serving_fed (take more piece) s.end)) h.fed
+          ∙ ap (λ (f : Framing). with_end a (record (a.end) { input = f }))
+          (fed_twice a.end.input.fault a.end.input.rest h.read (take more piece))));
+      consumed = Consumes-trans left mid left_now h.read (take more piece) h.consumed consumed;
+      counted = omega (arith, before, step, some, is, total);
+      count_is = omega (arith, counted, is, total);
+    }
+
+pub server_pulls_none : (a b : Serving) (left mid left_now : Option (List ℕ)) (least budget now count : ℕ) (f : PumpFault ServerFault)
+    → ServerCame a b left mid budget now count → Consumes mid left_now [] → count < least → IsPullFault now left_now f
+    → ServerCameShort least a b left left_now budget f
+server_pulls_none a b left mid left_now least budget now count f h consumed few r = record {
+  read = h.read;
+  lost = [];
+  fed = h.fed;
+  consumed = Consumes-trans left mid left_now h.read [] h.consumed consumed;
+  is_lost = none_lost f;
+  why = pull_why least budget now count (length h.read) left_now f h.counted h.count_is few r;
+}
+
+fault_same : (f : Option FramingFault) (rest xs : List ℕ) → (fed_behind f rest xs).fault ≡ f
+fault_same None rest xs = refl
+fault_same (Some f) rest xs = refl
+
+pub may_stay : (a b : Serving) (read : List ℕ) → b ≡ with_end a (serving_fed read a.end) → may_feed a.end ≡ true → may_feed b.end ≡ true
+may_stay a b read fed may = ap (λ (s : Serving). may_feed s.end) fed
+    ∙ (ap (λ (f : Option FramingFault). a.end.server.on && is_none f) (fault_same a.end.input.fault a.end.input.rest read) ∙ may)
+
+pub server_feeds_none : (a b c : Serving) (left mid left_now : Option (List ℕ)) (least budget now count : ℕ) (bytes : List ℕ)
+    (why : ServerFault) → ServerCame a b left mid budget now count → Consumes mid left_now bytes → may_feed a.end ≡ true → c ≡ b
+    → IsFeedFault b.end why → ServerCameShort least a c left left_now budget (of_server why)
+server_feeds_none a b c left mid left_now least budget now count bytes server_fault.NotNow h consumed may same r =
+    absurd (false≢true (sym r ∙ (and_parts _ _ (may_stay a b h.read h.fed may)).0))
+server_feeds_none a b c left mid left_now least budget now count bytes (server_fault.Framing why) h consumed may same r =
+    absurd (false≢true (sym (ap is_none r) ∙ (and_parts _ _ (may_stay a b h.read h.fed may)).1))
+server_feeds_none a b c left mid left_now least budget now count bytes server_fault.NothingRuns h consumed may same r = absurd r
+server_feeds_none a b c left mid left_now least budget now count bytes server_fault.WrongOutcome h consumed may same r = absurd r
+server_feeds_none a b c left mid left_now least budget now count bytes server_fault.OutOfVolume h consumed may same r = absurd r
+server_feeds_none a b c left mid left_now least budget now count bytes server_fault.Memory h consumed may same r = record {
+  read = h.read;
+  lost = bytes;
+  fed = same ∙ h.fed;
+  consumed = Consumes-trans left mid left_now h.read bytes h.consumed consumed;
+  is_lost = tt;
+  why = tt;
+}
+
+-- ---- lines are read
+
+pub record ServerLinesRead (a b : Serving) (budget now : ℕ) : Type 0 where
+  pub goes : (answer : Job → ℕ → Outcome) → ServerGoesOn answer Reading a b
+  pub counted : 2 * budget + length b.end.input.rest ≤ 2 * now + length a.end.input.rest
+
+pub server_lines_none : (s : Serving) (budget : ℕ) → ServerLinesRead s s budget budget
+server_lines_none s budget = record {
+  goes = λ answer. record { setup = refl; turn = λ readers are least start read t. t };
+  counted = omega arith;
+}
+
+line_there : (f : Front) → IsLineDue f → is_line f ≡ true
+line_there (Ok None) due = absurd (false≢true due)
+line_there (Ok (Some found)) due = refl
+line_there (Err why) due = absurd due
+
+served_rest : (readers : Readers) (e : ServerEnd) (f : Front) → next_of e.input.rest ≡ f → IsLineDue f
+    → length (front_served readers e f).input.rest + 2 ≤ length e.input.rest
+served_rest readers e (Ok None) is line = absurd (false≢true line)
+served_rest readers e (Ok (Some (found, rest))) is line = two_less e.input (Ok (Some (found, rest))) is line
+served_rest readers e (Err why) is line = absurd line
+
+pub server_lines_more : (a b c : Serving) (budget now then : ℕ) → ServerLinesRead a b budget now → now ≡ then + 1
+    → b.end.server.on ≡ true → IsLineDue (next_of b.end.input.rest)
+    → ((readers : Readers) → AreReaders readers → c ≡ with_end b (serving_read readers b.end)) → ServerLinesRead a c budget then
+server_lines_more a b c budget now then h step on is same =
+    let less : length c.end.input.rest + 2 ≤ length b.end.input.rest =
+    subst (λ (s : Serving). length s.end.input.rest + 2 ≤ length b.end.input.rest) (sym (same some_are_readers.0 some_are_readers.1))
+    (served_rest some_are_readers.0 b.end (next_of b.end.input.rest) refl is) in
+    let before = h.counted in record {
+      goes = λ answer. record {
+        setup = ap (λ (s : Serving). s.setup) (same some_are_readers.0 some_are_readers.1) ∙ (h.goes answer).setup;
+        turn = λ readers are least start read t.
+            subst (λ (s : Serving). ServerTurn readers answer least start Reading read [] s.end) (sym (same readers are))
+            (reads b.end read ((h.goes answer).turn readers are least start read t) on (line_there (next_of b.end.input.rest) is));
+      };
+      counted = omega (arith, before, less, step);
+    }
+
+ok_err : (x : Bool) (f : ServerFault) → ◌≡◌ {A = Result Bool ServerFault} (Ok x) (Err f) → ⊥
+ok_err x f e = cc
+
+-- what is answered is answered on a connection
+pub is_on : (b x : Bool) (f : ServerFault) → (b ≡ false → ◌≡◌ {A = Result Bool ServerFault} (Ok x) (Err f)) → b ≡ true
+is_on true x f never = refl
+is_on false x f never = absurd (ok_err x f (never refl))
+
+-- no more lines are read
+pub server_read_stops : (a b c : Serving) (why : ServerFault) (budget now : ℕ) → ServerLinesRead a b budget now → IsReadFault b c why
+    → (why ≡ server_fault.NotNow → b.end.server.on ≡ false) → ServerReadStops a c budget (of_server why)
+server_read_stops a b c server_fault.NotNow budget now h r off = record {
+  last = b;
+  goes = h.goes;
+  setup = ap (λ (s : Serving). s.setup) r ∙ (h.goes (λ job n. Outcome.Fault)).setup;
+  same = ap (λ (s : Serving). serving_left s.end) r;
+  why = off refl;
+}
+server_read_stops a b c (server_fault.Framing why) budget now h r off = record {
+  last = b;
+  goes = h.goes;
+  setup = ap (λ (s : Serving). s.setup) r.1 ∙ (h.goes (λ job n. Outcome.Fault)).setup;
+  same = ap (λ (s : Serving). serving_left s.end) r.1;
+  why = r.0;
+}
+server_read_stops a b c server_fault.NothingRuns budget now h r off = absurd r
+server_read_stops a b c server_fault.WrongOutcome budget now h r off = absurd r
+server_read_stops a b c server_fault.OutOfVolume budget now h r off = absurd r
+server_read_stops a b c server_fault.Memory budget now h r off = record {
+  last = b;
+  goes = h.goes;
+  setup = ap (λ (s : Serving). s.setup) r.1 ∙ (h.goes (λ job n. Outcome.Fault)).setup;
+  same = ap (λ (s : Serving). serving_left s.end) r.1;
+  why = tt;
+}
+
+pub server_lines_spent : (a b : Serving) (budget now : ℕ) → ServerLinesRead a b budget now → now ≡ 0
+    → ServerReadStops a b budget fault.TurnsSpent
+server_lines_spent a b budget now h none = let counted = h.counted in record {
+  last = b;
+  goes = h.goes;
+  setup = (h.goes (λ job n. Outcome.Fault)).setup;
+  same = refl;
+  why = omega (arith, counted, none);
+}
+
+-- ---- bytes come in, and lines are read
+
+asked_why : (least bound : ℕ) (left_now : Option (List ℕ)) (e : ServerEnd) (why : ServerFault) (held : ℕ) → IsSound e.input
+    → IsFeedFault e why → ServerWhy least bound 0 0 held left_now e (of_server why)
+asked_why least bound left_now e server_fault.NotNow held sound r = r
+asked_why least bound left_now e (server_fault.Framing why) held sound r = sound.kept why r
+asked_why least bound left_now e server_fault.NothingRuns held sound r = absurd r
+asked_why least bound left_now e server_fault.WrongOutcome held sound r = absurd r
+asked_why least bound left_now e server_fault.OutOfVolume held sound r = absurd r
+asked_why least bound left_now e server_fault.Memory held sound r = tt
+
+pub server_stops_asking : (a b : Serving) (why : ServerFault) (answer : Job → ℕ → Outcome) (least bound : ℕ)
+    (left taken : Option (List ℕ)) → b ≡ a → IsSound a.end.input → IsFeedFault a.end why
+    → ServerStopped answer least bound a.end (serving_left b.end) left left taken taken (of_server why)
+server_stops_asking a b why answer least bound left taken same sound r = record {
+  stage = Taking;
+  read = [];
+  written = [];
+  lost = [];
+  last = a.end;
+  turn = λ readers are. begins;
+  leaves = ap (λ (s : Serving). serving_left s.end) same;
+  consumed = Consumes-nil left;
+  is_lost = none_lost (of_server why);
+  appended = Appends-nil taken;
+  why = asked_why least bound left a.end why (length a.end.input.rest) sound r;
+}
+
+take_why : (least bound read held : ℕ) (left_now : Option (List ℕ)) (e : ServerEnd) (f : PumpFault ServerFault)
+    → IsTakeFault least bound read left_now f → ServerWhy least bound read 0 held left_now e f
+take_why least bound read held left_now e fault.ReadFailed r = tt
+take_why least bound read held left_now e fault.WriteFailed r = absurd r
+take_why least bound read held left_now e fault.Ended r = r
+take_why least bound read held left_now e fault.TurnsSpent r = omega (arith, r)
+take_why least bound read held left_now e (fault.Core why) r = absurd r
+take_why least bound read held left_now e fault.Memory r = tt
+
+-- fed nothing, and then these
+fed_now : (a b c : Serving) (read : List ℕ) → b ≡ with_end a (serving_fed [] a.end) → c ≡ with_end b (serving_fed read b.end)
+    → c ≡ with_end a (serving_fed read a.end)
+fed_now a b c read same fed = fed ∙ ap (λ (s : Serving). with_end s (serving_fed read s.end)) (same ∙ fed_none a)
+
+pub server_stops_taking : (a b c : Serving) (f : PumpFault ServerFault) (answer : Job → ℕ → Outcome) (least bound : ℕ)
+    (left left_now taken : Option (List ℕ)) → may_feed a.end ≡ true → b ≡ with_end a (serving_fed [] a.end)
+    → ServerCameShort least b c left left_now bound f
+    → ServerStopped answer least bound a.end (serving_left c.end) left left_now taken taken f
+server_stops_taking a b c f answer least bound left left_now taken may same s = record {
+  stage = Taking;
+  read = s.read;
+  written = [];
+  lost = s.lost;
+  last = serving_fed s.read a.end;
+  turn = λ readers are. takes s.read may;
+  leaves = ap (λ (x : Serving). serving_left x.end) (fed_now a b c s.read same s.fed);
+  consumed = s.consumed;
+  is_lost = s.is_lost;
+  appended = Appends-nil taken;
+  why = take_why least bound (length s.read) (length a.end.input.rest) left_now (serving_fed s.read a.end) f s.why;
+}
+
+few : (a c : Serving) (read : List ℕ) → c ≡ with_end a (serving_fed read a.end)
+    → length c.end.input.rest ≤ length a.end.input.rest + length read
+few a c read same = subst (λ (s : Serving). length s.end.input.rest ≤ length a.end.input.rest + length read) (sym same)
+    (longer a.end.input.fault a.end.input.rest read)
+
+has_come : (a c : Serving) (answer : Job → ℕ → Outcome) (least come : ℕ) (read : List ℕ) → may_feed a.end ≡ true
+    → c ≡ with_end a (serving_fed read a.end) → come ≡ length read → least ≤ come → (readers : Readers)
+    → ServerTurn readers answer least a.end Reading read [] c.end
+has_come a c answer least come read may same many enough readers =
+    has c.end read (subst (λ (s : Serving). ServerTurn readers answer least a.end Taking read [] s.end) (sym same) (takes read may))
+    (omega (arith, many, enough))
+
+read_why : (least bound mid read held now : ℕ) (left_now : Option (List ℕ)) (e : ServerEnd) (f : PumpFault ServerFault)
+    → bound ≤ mid + read → now ≤ held + read → IsServerReadFault mid now e f → ServerWhy least bound read 0 held left_now e f
+read_why least bound mid read held now left_now e fault.ReadFailed come most r = absurd r
+read_why least bound mid read held now left_now e fault.WriteFailed come most r = absurd r
+read_why least bound mid read held now left_now e fault.Ended come most r = absurd r
+read_why least bound mid read held now left_now e fault.TurnsSpent come most r = omega (arith, come, most, r)
+read_why least bound mid read held now left_now e (fault.Core why) come most r = r
+read_why least bound mid read held now left_now e fault.Memory come most r = tt
+
+pub server_stops_reading : (a b c d : Serving) (f : PumpFault ServerFault) (answer : Job → ℕ → Outcome) (least bound mid come : ℕ)
+    (left left_now taken : Option (List ℕ)) → may_feed a.end ≡ true → b ≡ with_end a (serving_fed [] a.end)
+    → ServerCame b c left left_now bound mid come → least ≤ come → ServerReadStops c d mid f
+    → ServerStopped answer least bound a.end (serving_left d.end) left left_now taken taken f
+server_stops_reading a b c d f answer least bound mid come left left_now taken may same s enough r = record {
+  stage = Reading;
+  read = s.read;
+  written = [];
+  lost = [];
+  last = r.last.end;
+  turn = λ readers are. (r.goes answer).turn readers are least a.end s.read
+      (has_come a c answer least come s.read may (fed_now a b c s.read same s.fed) s.count_is enough readers);
+  leaves = r.same;
+  consumed = subst (Consumes left left_now) (sym (append-nil s.read)) s.consumed;
+  is_lost = none_lost f;
+  appended = Appends-nil taken;
+  why = read_why least bound mid (length s.read) (length a.end.input.rest) (length c.end.input.rest) left_now r.last.end f s.counted
+      (few a c s.read (fed_now a b c s.read same s.fed)) r.why;
+}
+
+pub reads_in : (a b c d : Serving) (least bound mid late come : ℕ) (left left_now : Option (List ℕ)) → may_feed a.end ≡ true
+    → b ≡ with_end a (serving_fed [] a.end) → ServerCame b c left left_now bound mid come → least ≤ come
+    → ((answer : Job → ℕ → Outcome) → ServerGoesOn answer Reading c d) → 2 * mid ≤ 2 * late + length c.end.input.rest
+    → next_of d.end.input.rest ≡ Ok None → ReadIn least a d left left_now bound late come
+reads_in a b c d least bound mid late come left left_now may same s enough goes counted none =
+    let most = few a c s.read (fed_now a b c s.read same s.fed) in
+    let before = s.counted in record {
+      read = s.read;
+      setup = (goes (λ job n. Outcome.Fault)).setup ∙ ap (λ (x : Serving). x.setup) (fed_now a b c s.read same s.fed);
+      turn = λ readers are answer. (goes answer).turn readers are least a.end s.read
+          (has_come a c answer least come s.read may (fed_now a b c s.read same s.fed) s.count_is enough readers);
+      none = none;
+      consumed = s.consumed;
+      counted = omega (arith, most, before, counted);
+      count_is = s.count_is;
+    }
+
+-- ---- the server works
+
+-- a server beside a client that was never there
+abbrev pub beside : ServerEnd → World
+beside e = record { client = new_client_end (record { features = []; steps = [] }) [] 1; server = e; links = []; written = [] }
+
+pub works_none : (answer : Job → ℕ → Outcome) (s : Serving) → ServerGoesOn answer Working s s
+works_none answer s = record { setup = refl; turn = λ readers are least start read t. t }
+
+pub works_same : (answer : Job → ℕ → Outcome) (a b : Serving) → b ≡ a → ServerGoesOn answer Working a b
+works_same answer a b same = subst (ServerGoesOn answer Working a) (sym same) (works_none answer a)
+
+pub works_on : (answer : Job → ℕ → Outcome) (a b c : Serving) → ServerGoesOn answer Working a b → ServerGoesOn answer Working b c
+    → ServerGoesOn answer Working a c
+works_on answer a b c p q = record {
+  setup = q.setup ∙ p.setup;
+  turn = λ readers are least start read t. q.turn readers are least start read (p.turn readers are least start read t);
+}
+
+pub works_turn : (answer : Job → ℕ → Outcome) (a b : Serving) → may_turn a.end.server ≡ true → b ≡ with_end a (serving_turned a.end)
+    → ServerGoesOn answer Working a b
+works_turn answer a b may same = subst (ServerGoesOn answer Working a) (sym same)
+    (record { setup = refl; turn = λ readers are least start read t. turns a.end read t may })
+
+pub works_end : (answer : Job → ℕ → Outcome) (a b : Serving) (o : Outcome)
+    → Some o ≡ option_map (λ job. answer job (contact_count a.end.server.ledger)) (running_job a.end.server)
+    → b ≡ with_end a (serving_machined o a.end) → ServerGoesOn answer Working a b
+works_end answer a b o is same = go (running_job a.end.server) refl is
+  where
+    go : (job : Option Job) → running_job a.end.server ≡ job
+        → Some o ≡ option_map (λ j. answer j (contact_count a.end.server.ledger)) job → ServerGoesOn answer Working a b
+    go None e found = absurd (cc)
+    go (Some job) e found =
+        let ended : o ≡ answer job (contact_count a.end.server.ledger) = cc in
+        subst (ServerGoesOn answer Working a) (sym (same ∙ ap (λ (x : Outcome). with_end a (serving_machined x a.end)) ended))
+        (record { setup = refl; turn = λ readers are least start read t. ends a.end read job t e })
+
+fewer : (r q : Option Line) (m n : ℕ) → one_if r + 2 * m < one_if q + 2 * n → steps_of_one r + 2 * m < steps_of_one q + 2 * n
+fewer None None m n h = h
+fewer None (Some line) m n h = h
+fewer (Some line) None m n h = h
+fewer (Some line) (Some other) m n h = h
+
+-- what is to be done where nothing runs is a turn
+pub has_turn : (answer : Job → ℕ → Outcome) (s : Server) → has_work s ≡ true
+    → None ≡ option_map (λ j. answer j (contact_count s.ledger)) (running_job s) → may_turn s ≡ true
+has_turn answer s work none = go (running_job s) (may_turn s) work none
+  where
+    go : (job : Option Job) (b : Bool) → (is_some job || b) ≡ true → None ≡ option_map (λ j. answer j (contact_count s.ledger)) job
+        → b ≡ true
+    go None b work none = work
+    go (Some job) b work none = absurd (cc)
+
+pub turn_fewer : (a b : Serving) → may_turn a.end.server ≡ true → b ≡ with_end a (serving_turned a.end)
+    → steps_of b.end.server < steps_of a.end.server
+turn_fewer a b may same = subst (λ (s : Serving). steps_of s.end.server < steps_of a.end.server) (sym same)
+    (fewer (serving_turned a.end).server.running a.end.server.running (length (serving_turned a.end).server.waiting)
+    (length a.end.server.waiting) (turn_less some_are_readers.0 (beside a.end) may))
+
+pub end_fewer : (a b : Serving) (o : Outcome) → may_end a.end.server.running o ≡ true
+    → ((line : Line) → a.end.server.running ≡ Some line → IsRunnable a.end.server line) → b ≡ with_end a (serving_machined o a.end)
+    → steps_of b.end.server < steps_of a.end.server
+end_fewer a b o may fine same = subst (λ (s : Serving). steps_of s.end.server < steps_of a.end.server) (sym same)
+    (fewer (serving_machined o a.end).server.running a.end.server.running (length (serving_machined o a.end).server.waiting)
+    (length a.end.server.waiting) (machine_less some_are_readers.0 (beside a.end) o may fine))
+
+steps_most : (running : Option Line) (n : ℕ) → n ≤ 64 → steps_of_one running + 2 * n ≤ 129
+steps_most None n few = omega (arith, few)
+steps_most (Some line) n few = omega (arith, few)
+
+pub most_steps : (s : Serving) → length s.end.server.waiting ≤ 64 → steps_of s.end.server ≤ 129
+most_steps s few = steps_most s.end.server.running (length s.end.server.waiting) few
+
+-- ---- the whole turn
+
+work_why : (least bound mid read held : ℕ) (left_now : Option (List ℕ)) (e : ServerEnd) (f : PumpFault ServerFault)
+    → 2 * bound ≤ 2 * mid + 3 * read + held → IsWorkFault mid f → ServerWhy least bound read 0 held left_now e f
+work_why least bound mid read held left_now e fault.ReadFailed most r = absurd r
+work_why least bound mid read held left_now e fault.WriteFailed most r = absurd r
+work_why least bound mid read held left_now e fault.Ended most r = absurd r
+work_why least bound mid read held left_now e fault.TurnsSpent most r = omega (arith, most, r)
+work_why least bound mid read held left_now e (fault.Core why) most r = absurd r
+work_why least bound mid read held left_now e fault.Memory most r = tt
+
+pub server_stops_working : (a b c : Serving) (f : PumpFault ServerFault) (answer : Job → ℕ → Outcome) (least bound mid come : ℕ)
+    (left left_now taken : Option (List ℕ)) → ReadIn least a b left left_now bound mid come → ServerGoesOn answer Working b c
+    → IsWorkFault mid f → ServerStopped answer least bound a.end (serving_left c.end) left left_now taken taken f
+server_stops_working a b c f answer least bound mid come left left_now taken h goes r = record {
+  stage = Working;
+  read = h.read;
+  written = [];
+  lost = [];
+  last = c.end;
+  turn = λ readers are. goes.turn readers are least a.end h.read (knows b.end h.read (h.turn readers are answer) h.none);
+  leaves = refl;
+  consumed = subst (Consumes left left_now) (sym (append-nil h.read)) h.consumed;
+  is_lost = none_lost f;
+  appended = Appends-nil taken;
+  why = work_why least bound mid (length h.read) (length a.end.input.rest) left_now c.end f h.counted r;
+}
+
+idle_turn : (s : Server) → has_work s ≡ false → may_turn s ≡ false
+idle_turn s idle = go (is_some (running_job s)) (may_turn s) idle
+  where
+    go : (a b : Bool) → (a || b) ≡ false → b ≡ false
+    go true b e = absurd (false≢true (sym e))
+    go false b e = e
+
+idle_job : (s : Server) → has_work s ≡ false → running_job s ≡ None
+idle_job s idle = go (running_job s) (may_turn s) idle
+  where
+    go : (a : Option Job) (b : Bool) → (is_some a || b) ≡ false → a ≡ None
+    go (Some job) b e = absurd (false≢true (sym e))
+    go None b e = refl
+
+push_why : (least bound mid late read written held n : ℕ) (left_now : Option (List ℕ)) (e : ServerEnd) (f : PumpFault ServerFault)
+    → 2 * bound ≤ 2 * mid + 3 * read + held → mid ≤ late + 129 → written ≡ n → IsPushFault late n f
+    → ServerWhy least bound read written held left_now e f
+push_why least bound mid late read written held n left_now e fault.ReadFailed most work same r = absurd r
+push_why least bound mid late read written held n left_now e fault.WriteFailed most work same r = tt
+push_why least bound mid late read written held n left_now e fault.Ended most work same r = absurd r
+push_why least bound mid late read written held n left_now e fault.TurnsSpent most work same r = omega (arith, most, work, same, r)
+push_why least bound mid late read written held n left_now e (fault.Core why) most work same r = absurd r
+push_why least bound mid late read written held n left_now e fault.Memory most work same r = absurd r
+
+pub server_stops_writing : (a b c : Serving) (f : PumpFault ServerFault) (answer : Job → ℕ → Outcome) (least bound mid late come : ℕ)
+    (left left_now taken taken_now : Option (List ℕ)) (bytes : List ℕ) → ReadIn least a b left left_now bound mid come
+    → ServerGoesOn answer Working b c → has_work c.end.server ≡ false → mid ≤ late + 129 → bytes ≡ c.end.out
+    → Pushed bytes taken taken_now late f → ServerStopped answer least bound a.end (serving_left c.end) left left_now taken taken_now f
+server_stops_writing a b c f answer least bound mid late come left left_now taken taken_now bytes h goes idle work are pushed =
+    let p : Pushed c.end.out taken taken_now late f = subst (λ (xs : List ℕ). Pushed xs taken taken_now late f) are pushed in record {
+      stage = Writing;
+      read = h.read;
+      written = take p.count c.end.out;
+      lost = [];
+      last = serving_taken p.count c.end;
+      turn = λ readers are. writes c.end h.read p.count
+          (goes.turn readers are least a.end h.read (knows b.end h.read (h.turn readers are answer) h.none))
+          (idle_turn c.end.server idle) (idle_job c.end.server idle) p.within;
+      leaves = refl;
+      consumed = subst (Consumes left left_now) (sym (append-nil h.read)) h.consumed;
+      is_lost = none_lost f;
+      appended = p.appended;
+      why = push_why least bound mid late (length h.read) (length (take p.count c.end.out)) (length a.end.input.rest) p.count left_now
+          (serving_taken p.count c.end) f h.counted work (length-take-le p.count c.end.out p.within) p.why;
+    }
+
+pub has_served : (a b c d : Serving) (answer : Job → ℕ → Outcome) (least bound mid come gone : ℕ)
+    (left left_now taken taken_now : Option (List ℕ)) (bytes : List ℕ) → ReadIn least a b left left_now bound mid come
+    → ServerGoesOn answer Working b c → has_work c.end.server ≡ false → bytes ≡ c.end.out → gone ≡ length c.end.out
+    → Appends taken taken_now bytes → d ≡ with_end c (serving_taken gone c.end)
+    → ServerMoved answer least a.end d.end left left_now taken taken_now (record { read = come; written = gone })
+has_served a b c d answer least bound mid come gone left left_now taken taken_now bytes h goes idle are is appended same = record {
+  read = h.read;
+  written = c.end.out;
+  turn = λ readers are.
+      subst (λ (s : Serving). ServerTurn readers answer least a.end Writing h.read c.end.out s.end) (sym same)
+      (subst (λ (xs : List ℕ). ServerTurn readers answer least a.end Writing h.read xs (serving_taken gone c.end))
+      (whole gone c.end.out is) (writes c.end h.read gone
+      (goes.turn readers are least a.end h.read (knows b.end h.read (h.turn readers are answer) h.none))
+      (idle_turn c.end.server idle) (idle_job c.end.server idle) (omega (arith, is))));
+  all = ap (λ (s : Serving). s.end.out) same ∙ nothing gone c.end.out is;
+  consumed = h.consumed;
+  appended = subst (Appends taken taken_now) are appended;
+  read_is = h.count_is;
+  written_is = is;
+}
+  where
+    whole : (n : ℕ) (bytes : List ℕ) → n ≡ length bytes → take n bytes ≡ bytes
+    whole n [] is = ap (λ (k : ℕ). take k []) is
+    whole n (x ∷ xs) is = ap (λ (k : ℕ). take k (x ∷ xs)) is ∙ ap (λ (ys : List ℕ). x ∷ ys) (whole (length xs) xs refl)
+
+    nothing : (n : ℕ) (bytes : List ℕ) → n ≡ length bytes → drop n bytes ≡ []
+    nothing n [] is = ap (λ (k : ℕ). drop k []) is
+    nothing n (x ∷ xs) is = ap (λ (k : ℕ). drop k (x ∷ xs)) is ∙ nothing (length xs) xs refl
+
+-- what the check needs where the server does one thing
+pub ruleset working = (works_same, works_turn, works_end, turn_fewer, end_fewer)
+
+pub ruleset worked = (works_none, works_on, most_steps)

@@ -1,0 +1,77 @@
+-- What calls say of the parts of a turn (this profile). A budget is how many steps may still be made.
+use Rattle.std.specs.Prelude.{◌≡◌, ℕ, ◌+◌, ◌*◌, ◌<◌, ◌≤◌, ⊤, Option, None, List, [], ◌++◌, length, take}
+use Rattle.std.specs.Io.KnownBytes.{Appends, Consumes, IsAtEnd}
+use Rattle.protocol_model.specs.Lines.{Readers, AreReaders}
+use Rattle.protocol_model.specs.Ends.{ClientEnd, end_fed}
+use Rattle.client_core.specs.declared.faults.ClientFault.{ClientFault}
+use Rattle.link_world.specs.declared.pumps.PumpFault.{PumpFault}
+use Rattle.link_world.specs.declared.pumps.PumpFault.TheVariants as fault
+use Rattle.link_world.specs.Pumps.{Stage, Writing, ClientTurn, HasRefused, IsLost}
+
+-- why no more was pushed than so many bytes: the budget is spent, of which each took a step at most
+abbrev pub IsPushFault : {F : Type 0} → (budget count : ℕ) → PumpFault F → Type 0
+IsPushFault budget count fault.WriteFailed = ⊤
+IsPushFault budget count fault.TurnsSpent = budget ≤ count
+IsPushFault budget count _ = ⊥
+
+-- a front of bytes was pushed, and then no more
+pub record Pushed {F : Type 0} (bytes : List ℕ) (taken taken_now : Option (List ℕ)) (budget : ℕ) (fault : PumpFault F) : Type 0 where
+  pub count : ℕ
+  pub within : count ≤ length bytes
+  pub appended : Appends taken taken_now (take count bytes)
+  pub why : IsPushFault budget count fault
+
+-- why no piece was pulled
+abbrev pub IsPullFault : {F : Type 0} → (budget : ℕ) → Option (List ℕ) → PumpFault F → Type 0
+IsPullFault budget left_now fault.ReadFailed = ⊤
+IsPullFault budget left_now fault.TurnsSpent = budget ≡ 0
+IsPullFault budget left_now fault.Ended = IsAtEnd left_now
+IsPullFault budget left_now _ = ⊥
+
+-- a stage of a client's turn goes on from one end to another, whatever the turn was before
+abbrev pub GoesOn : Stage → List ℕ → List ℕ → ClientEnd → ClientEnd → Type 0
+GoesOn stage read written old new = (readers : Readers) → AreReaders readers → (least : ℕ) (start : ClientEnd)
+    → ClientTurn readers least start stage read written old → ClientTurn readers least start stage read written new
+
+-- a client has sent all that was due, and all that it had written went out, each step one byte or more
+pub record AllOut (old new : ClientEnd) (taken taken_now : Option (List ℕ)) (budget budget_now count : ℕ) : Type 0 where
+  pub written : List ℕ
+  pub turn : (readers : Readers) → AreReaders readers → (least : ℕ) → ClientTurn readers least old Writing [] written new
+  pub out : new.out ≡ []
+  pub held : new.input ≡ old.input
+  pub appended : Appends taken taken_now written
+  pub counted : budget ≤ budget_now + length written
+  pub count_is : count ≡ length written
+
+-- a client was fed what was pulled, each step gave one byte or more
+pub record Came (old new : ClientEnd) (left left_now : Option (List ℕ)) (budget budget_now count : ℕ) : Type 0 where
+  pub read : List ℕ
+  pub fed : new ≡ end_fed read old
+  pub consumed : Consumes left left_now read
+  pub counted : budget ≤ budget_now + length read
+  pub count_is : count ≡ length read
+
+-- why no more than so many bytes have come
+abbrev pub IsTakeFault : {F : Type 0} → (least budget count : ℕ) → Option (List ℕ) → PumpFault F → Type 0
+IsTakeFault least budget count left_now fault.ReadFailed = ⊤
+IsTakeFault least budget count left_now fault.Ended = (count < least) × IsAtEnd left_now
+IsTakeFault least budget count left_now fault.TurnsSpent = budget ≤ count
+IsTakeFault least budget count left_now fault.Memory = ⊤
+IsTakeFault least budget count left_now _ = ⊥
+
+-- the same, short of so many bytes
+pub record CameShort (least : ℕ) (old new : ClientEnd) (left left_now : Option (List ℕ)) (budget : ℕ) (fault : PumpFault ClientFault) : Type 0
+  where
+    pub read : List ℕ
+    pub lost : List ℕ
+    pub fed : new ≡ end_fed read old
+    pub consumed : Consumes left left_now (read ++ lost)
+    pub is_lost : IsLost fault lost
+    pub why : IsTakeFault least budget (length read) left_now fault
+
+-- why no more lines are read, by how many bytes were held at first: each line has two or more
+abbrev pub IsReadFault : (budget held : ℕ) → ClientEnd → PumpFault ClientFault → Type 0
+IsReadFault budget held e fault.TurnsSpent = 2 * budget ≤ held
+IsReadFault budget held e (fault.Core why) = HasRefused e (fault.Core why)
+IsReadFault budget held e fault.Memory = ⊤
+IsReadFault budget held e _ = ⊥

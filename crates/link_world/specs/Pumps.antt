@@ -1,0 +1,95 @@
+-- Turns of one side of a connection over its ports (this profile): what a side does, in which order, which bytes move, and where it stops.
+use Rattle.std.specs.Prelude.{◌≡◌, ℕ, ◌+◌, ◌*◌, ◌<◌, ◌≤◌, Bool, true, false, ⊤, Option, None, List, [], ◌++◌, length, take, is_some, Ok}
+use Rattle.std.specs.Io.KnownBytes.{Appends, Consumes, IsAtEnd}
+use Rattle.line_framing.specs.Next.{next_of}
+use Rattle.protocol_model.specs.Lines.{Readers, AreReaders}
+use Rattle.protocol_model.specs.Client.{due}
+use Rattle.protocol_model.specs.Ends.{ClientEnd, end_sent, end_taken, end_fed, end_read, end_left}
+use Rattle.protocol_model.specs.World.{is_any}
+use Rattle.client_core.specs.Clients.{may_read}
+use Rattle.client_core.specs.Refusals.{IsRefused}
+use Rattle.client_core.specs.declared.faults.ClientFault.{ClientFault}
+use Rattle.client_core.specs.declared.faults.ClientFault.TheVariants as client_fault
+use Rattle.link_world.specs.declared.pumps.Moved.{Moved}
+use Rattle.link_world.specs.declared.pumps.PumpFault.{PumpFault}
+use Rattle.link_world.specs.declared.pumps.PumpFault.TheVariants as fault
+
+-- a client's refusal as the fault of a pump: want of memory is a fault of its own
+abbrev pub of_client : ClientFault → PumpFault ClientFault
+of_client client_fault.NotNow = fault.Core client_fault.NotNow
+of_client (client_fault.Faulted cause) = fault.Core (client_fault.Faulted cause)
+of_client client_fault.Memory = fault.Memory
+
+-- how far a turn has come: commands are sent, what was written goes out, bytes come in, lines are read, a server works
+pub data Stage : Type 0 where
+  Sending : Stage
+  Writing : Stage
+  Taking : Stage
+  Reading : Stage
+  Working : Stage
+
+-- a client's turn that has come so far, with the bytes that came in and those that went out, in this order: the client sends while a command
+-- is due; all that it has written goes out; bytes come in, at least so many; it reads what stands at their front
+pub data ClientTurn (readers : Readers) (least : ℕ) (start : ClientEnd) : Stage → List ℕ → List ℕ → ClientEnd → Type 0 where
+  begins : ClientTurn readers least start Sending [] [] start
+  sends : (e : ClientEnd) → ClientTurn readers least start Sending [] [] e → is_some (due e.client) ≡ true
+      → ClientTurn readers least start Sending [] [] (end_sent e)
+  writes : (e : ClientEnd) (count : ℕ) → ClientTurn readers least start Sending [] [] e → due e.client ≡ None → count ≤ length e.out
+      → ClientTurn readers least start Writing [] (take count e.out) (end_taken count e)
+  takes : (e : ClientEnd) (read written : List ℕ) → ClientTurn readers least start Writing [] written e → e.out ≡ []
+      → may_read e.client ≡ true → ClientTurn readers least start Taking read written (end_fed read e)
+  has : (e : ClientEnd) (read written : List ℕ) → ClientTurn readers least start Taking read written e → least ≤ length read
+      → ClientTurn readers least start Reading read written e
+  reads : (e : ClientEnd) (read written : List ℕ) → ClientTurn readers least start Reading read written e → may_read e.client ≡ true
+      → is_any (next_of e.input.rest) ≡ true → ClientTurn readers least start Reading read written (end_read readers e)
+
+-- a client's whole turn: nothing is left to be read, the source has lost the bytes that came in and no others, and the sink has taken those
+-- that went out
+pub record ClientMoved (least : ℕ) (old new : ClientEnd) (left left_now taken taken_now : Option (List ℕ)) (moved : Moved) : Type 0 where
+  pub read : List ℕ
+  pub written : List ℕ
+  pub turn : (readers : Readers) → AreReaders readers → ClientTurn readers least old Reading read written new
+  pub may : may_read new.client ≡ true
+  pub all : next_of new.input.rest ≡ Ok None
+  pub consumed : Consumes left left_now read
+  pub appended : Appends taken taken_now written
+  pub read_is : moved.read ≡ length read
+  pub written_is : moved.written ≡ length written
+
+-- the client has refused: for want of memory, or as it refuses to read and to send
+abbrev pub HasRefused : ClientEnd → PumpFault ClientFault → Type 0
+HasRefused e (fault.Core client_fault.NotNow) = IsRefused (may_read e.client) e client_fault.NotNow
+HasRefused e (fault.Core (client_fault.Faulted cause)) = IsRefused (may_read e.client) e (client_fault.Faulted cause)
+HasRefused e fault.Memory = ⊤
+HasRefused e _ = ⊥
+
+-- why a client's turn that asks for so many bytes has stopped, by the counts of bytes that came in, that went out and that it held unread
+-- at first, by what the source has left, and by the client's end before it left
+abbrev pub ClientWhy : (least bound : ℕ) → (read written held : ℕ) → Option (List ℕ) → ClientEnd → PumpFault ClientFault → Type 0
+ClientWhy least bound read written held left_now e fault.ReadFailed = ⊤
+ClientWhy least bound read written held left_now e fault.WriteFailed = ⊤
+ClientWhy least bound read written held left_now e fault.Ended = (read < least) × IsAtEnd left_now
+ClientWhy least bound read written held left_now e fault.TurnsSpent = bound ≤ written + 2 * (read + held)
+ClientWhy least bound read written held left_now e (fault.Core why) = HasRefused e (fault.Core why)
+ClientWhy least bound read written held left_now e fault.Memory = ⊤
+
+-- bytes that were given up come only with want of memory
+abbrev pub IsLost : {F : Type 0} → PumpFault F → List ℕ → Type 0
+IsLost fault.Memory lost = ⊤
+IsLost _ lost = lost ≡ []
+
+-- a client's turn that has stopped: it came so far, then the client left its connection
+pub record ClientStopped (least bound : ℕ) (old new : ClientEnd) (left left_now taken taken_now : Option (List ℕ))
+    (fault : PumpFault ClientFault) : Type 0
+  where
+    pub stage : Stage
+    pub read : List ℕ
+    pub written : List ℕ
+    pub lost : List ℕ
+    pub last : ClientEnd
+    pub turn : (readers : Readers) → AreReaders readers → ClientTurn readers least old stage read written last
+    pub leaves : new ≡ end_left last
+    pub consumed : Consumes left left_now (read ++ lost)
+    pub is_lost : IsLost fault lost
+    pub appended : Appends taken taken_now written
+    pub why : ClientWhy least bound (length read) (length written) (length old.input.rest) left_now last fault

@@ -1,0 +1,88 @@
+-- What calls say of the parts of a server's turn (this profile). A budget is how many steps may still be made.
+use Rattle.std.specs.Prelude.{◌≡◌, ℕ, ◌+◌, ◌*◌, ◌<◌, ◌≤◌, Bool, ◌||◌, ⊤, Option, None, Some, is_some, List, [], ◌++◌, length}
+use Rattle.std.specs.Prelude.{Ok}
+use Rattle.std.specs.Io.KnownBytes.{Consumes}
+use Rattle.line_framing.specs.Next.{next_of}
+use Rattle.protocol_model.specs.Lines.{Readers, AreReaders}
+use Rattle.protocol_model.specs.Server.{Server, running_job}
+use Rattle.protocol_model.specs.Ends.{ServerEnd, serving_fed, serving_left}
+use Rattle.protocol_model.specs.declared.lines.Line.{Line}
+use Rattle.protocol_model.specs.declared.machine.Job.{Job}
+use Rattle.protocol_model.specs.declared.machine.Outcome.{Outcome}
+use Rattle.server_core.specs.Serving.{Serving, with_end, may_turn}
+use Rattle.server_core.specs.declared.faults.ServerFault.{ServerFault}
+use Rattle.link_world.specs.declared.pumps.PumpFault.{PumpFault}
+use Rattle.link_world.specs.declared.pumps.PumpFault.TheVariants as fault
+use Rattle.link_world.specs.Pumps.{Stage, Taking, Reading, Working, IsLost}
+use Rattle.link_world.specs.PumpParts.{IsTakeFault}
+use Rattle.link_world.specs.ServerPumps.{ServerTurn, IsServerRefusal}
+
+-- a stage of a server's turn goes on from one end to another, whatever the turn was before; its setup stays
+pub record ServerGoesOn (answer : Job → ℕ → Outcome) (stage : Stage) (old new : Serving) : Type 0 where
+  pub setup : new.setup ≡ old.setup
+  pub turn : (readers : Readers) → AreReaders readers → (least : ℕ) (start : ServerEnd) (read : List ℕ)
+      → ServerTurn readers answer least start stage read [] old.end → ServerTurn readers answer least start stage read [] new.end
+
+-- a server was fed what was pulled, and each step gave one byte or more
+pub record ServerCame (old new : Serving) (left left_now : Option (List ℕ)) (budget budget_now count : ℕ) : Type 0 where
+  pub read : List ℕ
+  pub fed : new ≡ with_end old (serving_fed read old.end)
+  pub consumed : Consumes left left_now read
+  pub counted : budget ≤ budget_now + length read
+  pub count_is : count ≡ length read
+
+-- the same, short of so many bytes
+pub record ServerCameShort (least : ℕ) (old new : Serving) (left left_now : Option (List ℕ)) (budget : ℕ) (fault : PumpFault ServerFault)
+    : Type 0
+  where
+    pub read : List ℕ
+    pub lost : List ℕ
+    pub fed : new ≡ with_end old (serving_fed read old.end)
+    pub consumed : Consumes left left_now (read ++ lost)
+    pub is_lost : IsLost fault lost
+    pub why : IsTakeFault least budget (length read) left_now fault
+
+-- why no more lines are read, by how many bytes were held at first: each line has two or more
+abbrev pub IsServerReadFault : (budget held : ℕ) → ServerEnd → PumpFault ServerFault → Type 0
+IsServerReadFault budget held e fault.TurnsSpent = 2 * budget ≤ held
+IsServerReadFault budget held e (fault.Core why) = IsServerRefusal e why
+IsServerReadFault budget held e fault.Memory = ⊤
+IsServerReadFault budget held e _ = ⊥
+
+-- lines were read up to one that is none, or that wants memory, or that may not be read any more; but for its framing fault the server is as
+-- it was then
+pub record ServerReadStops (old new : Serving) (budget : ℕ) (fault : PumpFault ServerFault) : Type 0 where
+  pub last : Serving
+  pub goes : (answer : Job → ℕ → Outcome) → ServerGoesOn answer Reading old last
+  pub setup : new.setup ≡ old.setup
+  pub same : serving_left new.end ≡ serving_left last.end
+  pub why : IsServerReadFault budget (length old.end.input.rest) last.end fault
+
+-- bytes have come, at least so many, and each whole line was read, so many bytes and lines a step
+pub record ReadIn (least : ℕ) (old new : Serving) (left left_now : Option (List ℕ)) (budget budget_now count : ℕ) : Type 0 where
+  pub read : List ℕ
+  pub setup : new.setup ≡ old.setup
+  pub turn : (readers : Readers) → AreReaders readers → (answer : Job → ℕ → Outcome)
+      → ServerTurn readers answer least old.end Reading read [] new.end
+  pub none : next_of new.end.input.rest ≡ Ok None
+  pub consumed : Consumes left left_now read
+  pub counted : 2 * budget ≤ 2 * budget_now + 3 * length read + length old.end.input.rest
+  pub count_is : count ≡ length read
+
+-- there is something to do: a job runs, or what waits may have its turn
+abbrev pub has_work : Server → Bool
+has_work s = is_some (running_job s) || may_turn s
+
+-- how many steps that can take at most
+abbrev pub steps_of_one : Option Line → ℕ
+steps_of_one None = 0
+steps_of_one (Some line) = 1
+
+abbrev pub steps_of : Server → ℕ
+steps_of s = steps_of_one s.running + 2 * length s.waiting
+
+-- why no more is done: the budget is spent, of which so much work took a step for each
+abbrev pub IsWorkFault : (budget : ℕ) → PumpFault ServerFault → Type 0
+IsWorkFault budget fault.TurnsSpent = budget ≤ 129
+IsWorkFault budget fault.Memory = ⊤
+IsWorkFault budget _ = ⊥

@@ -1,0 +1,168 @@
+// A client over the ports of its connection.
+
+ghost use Rattle.std.specs.Prelude.{◌≡◌, ℕ, ◌<◌, ◌≤◌, ◌+◌, true, false, Option, List, length, None, [], Ok, IfOk, OnOk, IfErr};
+ghost use Rattle.std.specs.Result.{IsErrOf};
+ghost use Rattle.line_framing.specs.Next.{next_of};
+ghost use Rattle.protocol_model.specs.Client.{due};
+ghost use Rattle.client_core.specs.Clients.{may_read};
+ghost use Rattle.link_world.specs.Pumps.{Sending, Reading, ClientMoved, ClientStopped, HasRefused};
+ghost use Rattle.link_world.specs.PumpParts.{GoesOn, AllOut, Came, CameShort, IsReadFault};
+ghost use Rattle.protocol_model.specs.Ends.{end_left};
+
+use crate::pumps::{Budget, Moved, PIECE, PumpFault, pull_counted, push_counted};
+use byte_ports::{Sink, Source};
+use client_core::{Client, ClientFault};
+
+/// The client sends each command that is due.
+fn send_due(client: &mut Client) -> Result<(), PumpFault<ClientFault>>
+    ensures sent { GoesOn Sending [] [] client.old client.new }
+    ensures all { OnOk result (due client.new.client ≡ None) }
+    ensures refused { IfErr result (λ fault. HasRefused client.new fault) }
+    ensures held { client.new.input ≡ client.old.input }
+{
+    while client.due().is_some() {
+        client.send()?;
+    }
+    Ok(())
+}
+
+/// The client sends each command that is due, and all that it has written goes out. A front of it may have gone where this stops.
+fn give_out<W: Sink>(
+    client: &mut Client,
+    sink: &mut W,
+    budget: &mut Budget,
+) -> Result<usize, PumpFault<ClientFault>>
+    ensures out { IfOk result (λ count. AllOut client.old client.new (W.taken sink.old)
+        (W.taken sink.new) budget.old.left budget.new.left count) }
+    ensures stopped { IfErr result (λ fault. (least : ℕ) (left : Option (List ℕ))
+        → ClientStopped least budget.old.left client.old (end_left client.new) left left
+        (W.taken sink.old) (W.taken sink.new) fault) }
+    ensures failed { IsErrOf result PumpFault.WriteFailed → W.has_failed sink.new ≡ true }
+    ensures works { W.has_failed sink.old ≡ false → W.has_failed sink.new ≡ true
+        → IsErrOf result PumpFault.WriteFailed }
+    ensures unread { IsErrOf result PumpFault.ReadFailed → ⊥ }
+{
+    send_due(client)?;
+    let count = client.out().len();
+    push_counted(sink, client.out(), budget)?;
+    client.sent(count);
+    Ok(count)
+}
+
+/// Bytes come in and are fed to the client, until there are so many.
+fn take_in<R: Source>(
+    client: &mut Client,
+    source: &mut R,
+    at_least: usize,
+    budget: &mut Budget,
+) -> Result<usize, PumpFault<ClientFault>>
+    requires { may_read client.old.client ≡ true }
+    ensures came { IfOk result (λ count. Came client.old client.new (R.left source.old)
+        (R.left source.new) budget.old.left budget.new.left count) }
+    ensures enough { IfOk result (λ count. at_least ≤ count) }
+    ensures few { IfOk result (λ count. count < at_least + PIECE) }
+    ensures unasked { at_least ≡ 0 → source.new ≡ source.old }
+    ensures short { IfErr result (λ fault. CameShort at_least client.old client.new
+        (R.left source.old) (R.left source.new) budget.old.left fault) }
+    ensures failed { IsErrOf result PumpFault.ReadFailed → R.has_failed source.new ≡ true }
+    ensures works { R.has_failed source.old ≡ false → R.has_failed source.new ≡ true
+        → IsErrOf result PumpFault.ReadFailed }
+{
+    let mut piece = [0u8; PIECE];
+    let mut read = 0;
+    while read < at_least {
+        // So many bytes and no more, that their count fits.
+        let room = PIECE.min(usize::MAX - read);
+        let count = pull_counted(source, &mut piece[..room], budget)?;
+        client.feed(&piece[..count])?;
+        read += count;
+    }
+    Ok(read)
+}
+
+/// The client reads each whole line.
+fn read_lines(client: &mut Client, budget: &mut Budget) -> Result<(), PumpFault<ClientFault>>
+    ensures reads { (read written : List ℕ) → GoesOn Reading read written client.old client.new }
+    ensures all { OnOk result (next_of client.new.input.rest ≡ Ok None) }
+    ensures may { OnOk result (may_read client.new.client ≡ true) }
+    ensures faults { IfErr result (λ fault.
+        IsReadFault budget.old.left (length client.old.input.rest) client.new fault) }
+{
+    loop {
+        if client.has_line() {
+            budget.count()?;
+        }
+        if !client.read_one()? {
+            return Ok(());
+        }
+    }
+}
+
+/// The client's turn, which does not leave.
+fn turn<R: Source, W: Sink>(
+    client: &mut Client,
+    source: &mut R,
+    sink: &mut W,
+    at_least: usize,
+    bound: u64,
+) -> Result<Moved, PumpFault<ClientFault>>
+    ensures moved { IfOk result (λ moved. ClientMoved at_least client.old client.new
+        (R.left source.old) (R.left source.new) (W.taken sink.old) (W.taken sink.new) moved) }
+    ensures stopped { IfErr result (λ fault. ClientStopped at_least bound client.old
+        (end_left client.new) (R.left source.old) (R.left source.new)
+        (W.taken sink.old) (W.taken sink.new) fault) }
+    ensures few { IfOk result (λ moved. moved.read < at_least + PIECE) }
+    ensures unasked { at_least ≡ 0 → source.new ≡ source.old }
+    ensures read_failed { IsErrOf result PumpFault.ReadFailed
+        → R.has_failed source.new ≡ true }
+    ensures write_failed { IsErrOf result PumpFault.WriteFailed
+        → W.has_failed sink.new ≡ true }
+    ensures source_works { R.has_failed source.old ≡ false → R.has_failed source.new ≡ true
+        → IsErrOf result PumpFault.ReadFailed }
+    ensures sink_works { W.has_failed sink.old ≡ false → W.has_failed sink.new ≡ true
+        → IsErrOf result PumpFault.WriteFailed }
+{
+    let mut budget = Budget { left: bound };
+    let written = give_out(client, sink, &mut budget)?;
+    client.feed(&[])?;
+    let read = take_in(client, source, at_least, &mut budget)?;
+    read_lines(client, &mut budget)?;
+    Ok(Moved { read, written })
+}
+
+/// One turn of a client over the ports of its connection (this profile): it sends each command that is due; all that it has written goes
+/// out; bytes come in, in pieces of at most `PIECE`, until there are `at_least`, and none where that is 0; and it reads each whole line.
+/// What comes behind the last whole line is kept.
+///
+/// Each push, each pull and each line is a step, and `bound` is how many there may be. A fault stops the turn, and the client has then
+/// left its connection: `ReadFailed` and `WriteFailed` where that port has failed; `Ended` where the input has ended before `at_least`
+/// bytes had come; `TurnsSpent`; `Core` where the client itself refuses, as one on no connection does (`NotNow`), and one that was or is
+/// now Faulted; `Memory`, and only then may bytes that had come be lost.
+pub fn client_turns<R: Source, W: Sink>(
+    client: &mut Client,
+    source: &mut R,
+    sink: &mut W,
+    at_least: usize,
+    bound: u64,
+) -> Result<Moved, PumpFault<ClientFault>>
+    ensures moved { IfOk result (λ moved. ClientMoved at_least client.old client.new
+        (R.left source.old) (R.left source.new) (W.taken sink.old) (W.taken sink.new) moved) }
+    ensures stopped { IfErr result (λ fault. ClientStopped at_least bound client.old client.new
+        (R.left source.old) (R.left source.new) (W.taken sink.old) (W.taken sink.new) fault) }
+    ensures few { IfOk result (λ moved. moved.read < at_least + PIECE) }
+    ensures unasked { at_least ≡ 0 → source.new ≡ source.old }
+    ensures read_failed { IsErrOf result PumpFault.ReadFailed
+        → R.has_failed source.new ≡ true }
+    ensures write_failed { IsErrOf result PumpFault.WriteFailed
+        → W.has_failed sink.new ≡ true }
+    ensures source_works { R.has_failed source.old ≡ false → R.has_failed source.new ≡ true
+        → IsErrOf result PumpFault.ReadFailed }
+    ensures sink_works { W.has_failed sink.old ≡ false → W.has_failed sink.new ≡ true
+        → IsErrOf result PumpFault.WriteFailed }
+{
+    let result = turn(client, source, sink, at_least, bound);
+    if result.is_err() {
+        client.leave();
+    }
+    result
+}

@@ -1,0 +1,63 @@
+// The turns of a client over its ports, in the events of a world. The function has laws for its contract and does nothing.
+
+ghost use Rattle.std.specs.Prelude.{◌≡◌, ◌≤◌, ℕ, true, List, [], ◌∷◌, ◌++◌, length, take};
+ghost use Rattle.dmis_program.specs.Meaning.{Meaning};
+ghost use Rattle.dmis_program.specs.Programs.{IsProgram};
+ghost use Rattle.protocol_model.specs.Claims.{Sound, Told};
+ghost use Rattle.protocol_model.specs.Ends.{ClientEnd, end_left};
+ghost use Rattle.protocol_model.specs.Lines.{Readers, AreReaders};
+ghost use Rattle.protocol_model.specs.World.{World, client_link, start, run_of};
+ghost use Rattle.protocol_model.specs.declared.events.Event.{Event as OneEvent};
+ghost use Rattle.protocol_model.specs.declared.events.Event.TheVariants as event;
+ghost use Rattle.link_world.specs.Pumps.{Stage, Reading, ClientTurn};
+ghost use Rattle.link_world.specs.Joined.{IsJoined, client_events, client_joined};
+
+/// A client's turn over its ports is a list of events of the world. For every world whose client has nothing to send and stands on a
+/// connection that was made, and every turn of that client, as `client_turns` makes it, in which the bytes that came in are the first that
+/// wait for it on that connection:
+///
+/// - `joined`: however far the turn has come, there is a list of events (it sends, bytes come down, it reads) that leads the world to one
+///   with the client as the turn has left it, the server unchanged, and the connection without the bytes that came in; what the turn has
+///   written to its sink, and behind it what it has not yet, stands at the end of the connection's way up;
+/// - `written`: where it reads, nothing is left to be written: the connection has grown by what went to the sink, and by no other byte;
+/// - `leaves`: where the client, still on its connection, leaves it behind that, so does the client of the world; what joined the
+///   connection stands there, and what went to the sink is the front of that;
+/// - `sound`, `told`: where a list of events has led to the world, what `every_run` claims holds of the client behind its turn.
+#[tactic(auto, using(crate::proofs::ClientJoins::turn_joins, crate::proofs::ClientJoins::turn_written, crate::proofs::ClientJoins::turn_leaves, crate::proofs::ClientJoins::turn_sound, crate::proofs::ClientJoins::turn_told))]
+pub fn turns_of_a_client_are_events()
+    ensures joined { (readers : Readers) (least : ℕ) (w : World) (stage : Stage)
+        (read written : List ℕ) (e : ClientEnd)
+        → w.client.out ≡ [] → 1 ≤ w.client.client.last → w.client.client.last ≤ length w.links
+        → take (length read) (client_link w).down ≡ read
+        → ClientTurn readers least w.client stage read written e
+        → IsJoined readers w stage read written e }
+    ensures written { (readers : Readers) (least : ℕ) (w : World)
+        (read written : List ℕ) (e : ClientEnd)
+        → w.client.out ≡ [] → 1 ≤ w.client.client.last → w.client.client.last ≤ length w.links
+        → take (length read) (client_link w).down ≡ read
+        → ClientTurn readers least w.client Reading read written e → e.out ≡ [] }
+    ensures leaves { (readers : Readers) (w : World) (stage : Stage)
+        (read written : List ℕ) (e : ClientEnd)
+        → (j : IsJoined readers w stage read written e) → e.client.on ≡ true
+        → run_of readers (client_events stage j.sends (length read) j.reads
+        ++ event.ClientLeaves ∷ []) w
+        ≡ record (client_joined w e (written ++ e.out) (length read)) { client = end_left e } }
+    ensures sound { (readers : Readers) → AreReaders readers
+        → (least : ℕ) (w : World) (stage : Stage) (read written : List ℕ) (e : ClientEnd)
+        (program : Meaning) (rack : List (List ℕ)) (window : ℕ) (events : List OneEvent)
+        → IsProgram program → window ≤ 16
+        → w ≡ run_of readers events (start program rack window)
+        → w.client.out ≡ [] → 1 ≤ w.client.client.last → w.client.client.last ≤ length w.links
+        → take (length read) (client_link w).down ≡ read
+        → ClientTurn readers least w.client stage read written e
+        → Sound program.features e.client.table.tally.features w.server.server.ledger }
+    ensures told { (readers : Readers) → AreReaders readers
+        → (least : ℕ) (w : World) (stage : Stage) (read written : List ℕ) (e : ClientEnd)
+        (program : Meaning) (rack : List (List ℕ)) (window : ℕ) (events : List OneEvent)
+        → IsProgram program → window ≤ 16
+        → w ≡ run_of readers events (start program rack window)
+        → w.client.out ≡ [] → 1 ≤ w.client.client.last → w.client.client.last ≤ length w.links
+        → take (length read) (client_link w).down ≡ read
+        → ClientTurn readers least w.client stage read written e
+        → Told e.client.table.tally.counted w.server.server.ledger e.client.last }
+{}
