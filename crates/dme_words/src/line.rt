@@ -10,6 +10,9 @@ ghost use Rattle.dme_words.specs.CommandLine.{bare_line, whole_line};
 use clap::{Arg, ArgAction, Command};
 use std::alloc::{AllocError, Global};
 
+/// The window, and the count of connections, where none is named.
+const ONE: &str = "1";
+
 /// `--NAME FILE`.
 fn file_option<'a>(alloc: Global, name: &'a str, help: &'a str) -> Arg<'a>
     ensures rule { rule_of result ≡ text_rule name.entry.now }
@@ -47,7 +50,7 @@ fn window_option<'a>(alloc: Global) -> Arg<'a>
         .value_name("W")
         .help("How many commands may be open at once, from 1 to 16")
         .value_parser(clap::value_parser!(u8).range(1..=16))
-        .default_value("1")
+        .default_value(ONE)
 }
 
 /// `--host H`.
@@ -85,7 +88,7 @@ fn connections_option<'a>(alloc: Global) -> Arg<'a>
         .value_name("K")
         .help("How many connections are served, one after the other, from 1 to 4000000000")
         .value_parser(clap::value_parser!(u32).range(1..=4_000_000_000))
-        .default_value("1")
+        .default_value(ONE)
 }
 
 /// `--progress`.
