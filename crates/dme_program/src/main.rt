@@ -25,11 +25,6 @@ mod verdicts;
 
 use std::process::ExitCode;
 
-#[cfg(test)]
-mod simulation_tests;
-#[cfg(test)]
-mod tests;
-
 fn main(rt: HostRuntime) -> ExitCode {
     match running::run(&rt) {
         Ok(status) => ExitCode::from(status),

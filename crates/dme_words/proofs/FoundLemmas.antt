@@ -1,7 +1,7 @@
 -- What a subcommand without a fault has found: the values that it cannot do without, each passed by the parser of its argument.
 use Rattle.std.proofs.Common.{◌≡◌, ◌<◌, ◌&&◌, ◌||◌, not, Bool, true, false, List, [], ◌∷◌, ◌++◌, fold, find, length}
 use Rattle.std.proofs.Common.{Option, Some, None, is_some, cond, refl, arith, ap, sym, subst, true≢false, ◌∙◌}
-use Rattle.std.specs.Prelude.{codes, pos}
+use Rattle.std.specs.Prelude.{ℕ, codes, pos}
 use Rattle.std.specs.List.{list_any}
 use Rattle.std.specs.Option.{option_map_or}
 use Rattle.std.specs.Str.{bytes_eq}
@@ -9,7 +9,7 @@ use Rattle.std.proofs.lemmas.Bool.{ne_eqb}
 use Rattle.std.proofs.lemmas.Option.{same_Some}
 use Rattle.std.proofs.lemmas.Slice.Eq.{bytes_eq-Decides}
 use Rattle.clap.specs.Facts.{explicit_source, parser_of_value}
-use Rattle.clap.specs.Values.{read_as, reading_of}
+use Rattle.clap.specs.Values.{bool_text, read_as, reading_of}
 use Rattle.clap.specs.Kinds.{check_kinds, or_else, request_kinds, value_kinds}
 use Rattle.clap.specs.Walk.{action_of, Held, Row, Rule, Text, arg_by_id, default_rows, finished, first_of, has_row, is_empty, more_values}
 use Rattle.clap.specs.Walk.{nothing_held}
@@ -22,9 +22,9 @@ use Rattle.clap.specs.declared.error.kind.ErrorKind.{ErrorKind}
 use Rattle.clap.specs.declared.parser.matches.ValueSource.TheVariants.{DefaultValue}
 use Rattle.clap.specs.declared.builder.value_parser.Reading.{Reading}
 use Rattle.clap.specs.declared.builder.value_parser.ValueParser.{ValueParser}
-use Rattle.clap.specs.declared.builder.value_parser.ValueParser.TheVariants.{Signed}
+use Rattle.clap.specs.declared.builder.value_parser.ValueParser.TheVariants.{Bool as OfBool, Signed}
 use Rattle.clap.proofs.ValueTestLemmas.{accepts-Accepts}
-use Rattle.dme_words.specs.Ordered.{HasValue, HasWindow}
+use Rattle.dme_words.specs.Ordered.{HasNumber, HasProgress, HasValue}
 use Rattle.dme_words.proofs.HelpLemmas.{first_none, second_none, not_empty}
 use Rattle.dme_words.proofs.LevelLemmas.{AllFit, Fits, Known, Knows, fit_with, settle_fits, walk_fits}
 
@@ -242,18 +242,42 @@ has_value c id rows known fit has = go (arg_by_id c id) refl known
     go None is known = absurd (true≢false (sym known))
     go (Some a) is known = ap is_some (value_passed c a id rows is fit has).first
 
--- a window with a row is in range
-pub has_window : (c : List Rule) (a : Rule) (rows : List Row) → arg_by_id c (codes "window") ≡ Some a
-    → a.parser ≡ Some (Signed (pos 1) (pos 16)) → AllFit c rows → has_row (codes "window") rows ≡ true → HasWindow rows
-has_window c a rows is parser fit has =
-    let value = value_passed c a (codes "window") rows is fit has in
-    let ranged : value_kinds a.ignore_case (Signed (pos 1) (pos 16)) value.text ≡ [] =
+-- a number with a row is in range
+pub has_number : (c : List Rule) (a : Rule) (id : Text) (most : ℕ) (rows : List Row) → arg_by_id c id ≡ Some a
+    → a.parser ≡ Some (Signed (pos 1) (pos most)) → AllFit c rows → has_row id rows ≡ true → HasNumber id most rows
+has_number c a id most rows is parser fit has =
+    let value = value_passed c a id rows is fit has in
+    let ranged : value_kinds a.ignore_case (Signed (pos 1) (pos most)) value.text ≡ [] =
     subst (λ (o : Option ValueParser). value_kinds a.ignore_case (parser_of_value o) value.text ≡ []) parser value.passed in
     record {
       text = value.text;
       written = value.first;
-      read = subst (λ (o : Option ValueParser). one_of (codes "window") rows ≡ Some (read_as (reading_of
-          (parser_of_value o)) value.text)) parser
+      read = subst (λ (o : Option ValueParser). one_of id rows ≡ Some (read_as (reading_of (parser_of_value o)) value.text)) parser
           value.read;
-      ranged = accepts-Accepts a.ignore_case (Signed (pos 1) (pos 16)) value.text (accepted _ _ ranged);
+      ranged = accepts-Accepts a.ignore_case (Signed (pos 1) (pos most)) value.text (accepted _ _ ranged);
     }
+
+-- a text that is `true` or `false` writes one of the two
+written_bool : (text : Text) (rows : List Row) → (bytes_eq text (codes "true") || bytes_eq text (codes "false")) ≡ true
+    → first_of (codes "progress") rows ≡ Some text → one_of (codes "progress") rows ≡ Some text → HasProgress rows
+written_bool text rows is first read = go (bytes_eq text (codes "true")) refl (bytes_eq text (codes "false")) refl is
+  where
+    told : (b : Bool) → text ≡ bool_text b → HasProgress rows
+    told b e = record { is_set = b; written = first ∙ ap (λ (t : Text). Some t) e; read = read ∙ ap (λ (t : Text). Some t) e }
+
+    go : (a : Bool) → bytes_eq text (codes "true") ≡ a → (b : Bool) → bytes_eq text (codes "false") ≡ b → (a || b) ≡ true
+        → HasProgress rows
+    go true raised b lowered is = told true ((bytes_eq-Decides text (codes "true")).0 raised)
+    go false raised true lowered is = told false ((bytes_eq-Decides text (codes "false")).0 lowered)
+    go false raised false lowered is = absurd (true≢false (sym is))
+
+-- the flag with a row is set, or it is not
+pub has_progress : (c : List Rule) (a : Rule) (rows : List Row) → arg_by_id c (codes "progress") ≡ Some a → a.parser ≡ Some OfBool
+    → AllFit c rows → has_row (codes "progress") rows ≡ true → HasProgress rows
+has_progress c a rows is parser fit has =
+    let value = value_passed c a (codes "progress") rows is fit has in
+    let passed : value_kinds a.ignore_case OfBool value.text ≡ [] =
+    subst (λ (o : Option ValueParser). value_kinds a.ignore_case (parser_of_value o) value.text ≡ []) parser value.passed in
+    written_bool value.text rows (accepted _ _ passed) value.first
+    (subst (λ (o : Option ValueParser). one_of (codes "progress") rows ≡ Some (read_as (reading_of (parser_of_value o)) value.text)) parser
+    value.read)

@@ -20,22 +20,23 @@ use Rattle.clap.specs.Walk.{to_positional, trailing, used, used_as, value, value
 use Rattle.clap.specs.Walk.{with_values}
 use Rattle.clap.specs.Walk.{without, word_met}
 use Rattle.clap.specs.Simple.{Shape}
-use Rattle.clap.specs.Faults.{action_fault, repeat_fault, bundle_step_fault, defaults_fault, bundle_fault, flag_word_fault, flags_fault}
+use Rattle.clap.specs.Faults.{action_fault, repeat_fault, set_fault, bundle_step_fault, defaults_fault, bundle_fault, flag_word_fault, flags_fault}
 use Rattle.clap.specs.Faults.{long_fault, option_fault, other_fault}
 use Rattle.clap.specs.Faults.{positional_fault, react_fault, settle_fault, short_fault, step_fault, turn_fault, use_fault, values_fault}
 use Rattle.clap.specs.Faults.{walk_fault, word_fault}
 use Rattle.clap.specs.declared.builder.action.ArgAction.{ArgAction}
-use Rattle.clap.specs.declared.builder.action.ArgAction.TheVariants.{Help, Set}
+use Rattle.clap.specs.declared.builder.action.ArgAction.TheVariants.{Help, Set, SetTrue}
 use Rattle.clap.specs.declared.builder.range.ValueRange.{ValueRange}
 use Rattle.clap.specs.declared.builder.value_parser.ValueParser.{ValueParser}
 use Rattle.clap.specs.declared.parser.matches.ValueSource.{ValueSource}
 use Rattle.clap.specs.declared.parser.matches.ValueSource.TheVariants.{CommandLine}
 use Rattle.dme_words.proofs.HelpLemmas.{first_none, second_none, not_empty}
 
--- an argument that the rules know by its id, and that has one value, or asks for help
+-- an argument that the rules know by its id, and that has one value, or is a flag, or asks for help
 abbrev pub Known : List Rule → Rule → Type 0
 Known c a = (arg_by_id c a.id ≡ Some a)
-    × (((action_of a ≡ Set) × (a.range ≡ Some (record { start_inclusive = 1; end_inclusive = 1 }))) ⊎ (action_of a ≡ Help))
+    × (((action_of a ≡ Set) × (a.range ≡ Some (record { start_inclusive = 1; end_inclusive = 1 })))
+    ⊎ ((action_of a ≡ SetTrue) × (0 < length a.missing)) ⊎ (action_of a ≡ Help))
 
 abbrev pub Knows : List Rule → List Rule → Type 0
 Knows c [] = Unit {0}
@@ -111,22 +112,41 @@ module _ (c : List Rule) where
       → AllFit c rows → AllFit c (used a values rows)
   use_fits again a values rows known none fit = elim known.1 [
     | inl one ↦ set values one.0 one.1 none
-    | inr help ↦ absurd (not_empty _ _ (subst (λ (x : ArgAction). action_fault x again a (values_or_missing a values) rows ≡ []) help
-        (second_none (range_kinds (unwrap_or_range a.range).start_inclusive (most_values a) (length values)) _ none)))
+    | inr other ↦ elim other [
+      | inl flag ↦ raised values flag.0 flag.1 none
+      | inr help ↦ absurd (not_empty _ _ (subst (λ (x : ArgAction). action_fault x again a (values_or_missing a values) rows ≡ []) help
+          (second_none (range_kinds (unwrap_or_range a.range).start_inclusive (most_values a) (length values)) _ none)))
+    ]
   ]
     where
-      passes : (values : List Text) → action_of a ≡ Set → use_fault again a values rows ≡ []
-          → values_fault a (values_or_missing a values) ≡ []
+      passes : (values : List Text)
+          → action_fault (action_of a) again a (values_or_missing a values) rows ≡ set_fault again a (values_or_missing a values) rows
+          → use_fault again a values rows ≡ [] → values_fault a (values_or_missing a values) ≡ []
       passes values is none = second_none (repeat_fault again a.id rows) _
-          (subst (λ (x : ArgAction). action_fault x again a (values_or_missing a values) rows ≡ []) is
-          (second_none (range_kinds (unwrap_or_range a.range).start_inclusive (most_values a) (length values)) _ none))
+          (sym is ∙ second_none (range_kinds (unwrap_or_range a.range).start_inclusive (most_values a) (length values)) _ none)
+
+      as_set : (values : List Text) (x : ArgAction) → action_of a ≡ x
+          → action_fault (action_of a) again a values rows ≡ action_fault x again a values rows
+      as_set values x is = ap (λ (x : ArgAction). action_fault x again a values rows) is
+
+      there : (values : List Text) → 0 < length a.missing → 0 < length (values_or_missing a values)
+      there [] some = some
+      there (v ∷ vs) some = omega arith
+
+      raised : (values : List Text) → action_of a ≡ SetTrue → 0 < length a.missing → use_fault again a values rows ≡ []
+          → AllFit c (used a values rows)
+      raised values is some none =
+          subst (λ (x : ArgAction). AllFit c (used_as x a.id (reading_by a) (values_or_missing a values) rows)) (sym is)
+          (fit_with a CommandLine (values_or_missing a values) (without a.id rows) known.0
+          (passes values (as_set (values_or_missing a values) SetTrue is) none) (there values some) (fit_without a.id rows fit))
 
       set : (values : List Text) → action_of a ≡ Set → a.range ≡ Some (record { start_inclusive = 1; end_inclusive = 1 })
           → use_fault again a values rows ≡ [] → AllFit c (used a values rows)
       set [] is one none = absurd (not_empty _ _ (subst (λ (o : Option ValueRange).
           range_kinds (unwrap_or_range o).start_inclusive (unwrap_or_range o).end_inclusive 0 ≡ []) one (first_none _ _ none)))
       set (v ∷ vs) is one none = subst (λ (x : ArgAction). AllFit c (used_as x a.id (reading_by a) (v ∷ vs) rows)) (sym is)
-          (fit_with a CommandLine (v ∷ vs) (without a.id rows) known.0 (passes (v ∷ vs) is none) (omega arith) (fit_without a.id rows fit))
+          (fit_with a CommandLine (v ∷ vs) (without a.id rows) known.0
+          (passes (v ∷ vs) (as_set (v ∷ vs) Set is) none) (omega arith) (fit_without a.id rows fit))
 
   module _ (again : Bool) (all : Knows c c) where
     pub settle_fits : (h : Held) → settle_fault c again h ≡ [] → AllFit c h.rows → AllFit c (settled c h).rows

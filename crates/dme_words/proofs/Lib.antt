@@ -1,6 +1,6 @@
 pub mod WordsLemmas
 pub mod LineLemmas
-pub mod WindowLemmas
+pub mod NumberLemmas
 pub mod HelpLemmas
 pub mod LevelLemmas
 pub mod FoundLemmas

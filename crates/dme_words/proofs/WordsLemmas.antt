@@ -1,15 +1,13 @@
 -- The order of a subcommand, from its name and its values.
-use Rattle.std.proofs.Common.{◌≡◌, ◌&&◌, Result, Ok, Err, IfOk, IfErr, OnOk, inl, inr, List, [], subst, Option, Some, None, codes, true}
-use Rattle.std.proofs.Common.{refl, ap, ap₂, sym, le-leb, ◌∙◌}
+use Rattle.std.proofs.Common.{◌≡◌, Result, Ok, Err, IfOk, IfErr, OnOk, inl, inr, List, [], subst, Option}
+use Rattle.std.proofs.Common.{refl, ap, sym, ◌∙◌}
 use Rattle.std.specs.Prelude.{IsErrAnd, IsSomeAnd, ◌≢◌}
 use Rattle.clap.specs.Words.{App, FailsBy, IsAmong, is_simple, subcommand_of, HasKind, kind_of, HasMatchesOf, Row, Text, fault_of}
-use Rattle.clap.specs.Words.{first_of, subcommand_rows_of}
-use Rattle.client_core.specs.Clients.{is_window}
+use Rattle.clap.specs.Words.{subcommand_rows_of}
 use Rattle.clap.specs.declared.parser.matches.ArgMatches.{ArgMatches}
 use Rattle.dme_words.specs.declared.words.Order.{Order}
-use Rattle.dme_words.specs.declared.words.Order.TheVariants.{Audit, Check, Simulate}
 use Rattle.dme_words.specs.CommandLine.{whole_line}
-use Rattle.dme_words.specs.Ordered.{Asks, HasFault, IsAskable, IsCalled, IsOrderOf, IsReady, IsRefusal, IsWindow}
+use Rattle.dme_words.specs.Ordered.{Asks, HasFault, IsAskable, IsCalled, IsOrderOf, IsRefusal}
 use Rattle.dme_words.specs.declared.words.WordsFault.{WordsFault}
 use Rattle.dme_words.specs.declared.words.WordsFault.TheVariants.{Line, Memory}
 use Rattle.clap.specs.declared.error.Error.{Error}
@@ -56,16 +54,3 @@ asked_or_refused a words (Err error) (Ok order) is kinds has order_is taken call
 asked_or_refused a words (Err error) (Err (Line told)) is kinds has order_is taken called =
     (tt, of_this a words error told is kinds called.0 called.1)
 asked_or_refused a words (Err error) (Err Memory) is kinds has order_is taken called = (tt, tt)
-
--- an order for a simulation has a window that a client takes
-pub ready : (found : Option (Text × List Row)) (order : Order) → IsOrderOf found order → IsReady order
-ready None order is = absurd is
-ready (Some p) (Check setup program) is = tt
-ready (Some p) (Simulate setup schedule window program) (inl is) = absurd is.1
-ready (Some p) (Audit setup features contacts program) is = tt
-ready (Some p) (Simulate setup schedule window program) (inr (inr is)) = absurd is.1
-ready (Some p) (Simulate setup schedule window program) (inr (inl is)) = go (first_of (codes "window") p.1) is.1.2
-  where
-    go : (text : Option Text) → IsSomeAnd text (IsWindow window) → is_window window ≡ true
-    go None is = absurd is
-    go (Some t) is = ap₂ (λ a b. a && b) (le-leb 1 window is.1) (le-leb window 16 is.2)

@@ -1,15 +1,16 @@
 -- What the words of a command line ask for.
-use Rattle.std.specs.Prelude.{◌≡◌, ◌≢◌, ◌⊎◌, ◌≤◌, ℕ, List, [], Option, Some, None, IsSomeAnd, codes, is_some, pos, true, unwrap_or}
+use Rattle.std.specs.Prelude.{◌≡◌, ◌≢◌, ◌⊎◌, ◌≤◌, ℕ, Bool, List, [], Option, Some, None, IsSomeAnd, codes, is_some, pos, true, unwrap_or}
 use Rattle.std.specs.Prelude.{string_bytes}
 use Rattle.std.specs.Option.{option_map}
 use Rattle.std.specs.Str.Parse.{signed_digits_value}
 use Rattle.clap.specs.declared.error.Error.{Error}
 use Rattle.clap.specs.declared.error.kind.ErrorKind.TheVariants.{OutOfMemory}
+use Rattle.clap.specs.Values.{bool_text}
 use Rattle.clap.specs.Words.{IsAmong, IsSignedIn, Row, Text, fault_of, first_of, kind_of, one_of, subcommand_of, without_minus}
 use Rattle.client_core.specs.Clients.{is_window}
 use Rattle.dme_words.specs.CommandLine.{whole_line}
 use Rattle.dme_words.specs.declared.words.Order.{Order}
-use Rattle.dme_words.specs.declared.words.Order.TheVariants.{Audit, Check, Simulate}
+use Rattle.dme_words.specs.declared.words.Order.TheVariants.{Audit, Check, Loop, Run, Serve, Simulate}
 use Rattle.dme_words.specs.declared.words.WordsFault.{WordsFault}
 use Rattle.dme_words.specs.declared.words.WordsFault.TheVariants.{Line, Memory}
 
@@ -17,25 +18,47 @@ use Rattle.dme_words.specs.declared.words.WordsFault.TheVariants.{Line, Memory}
 abbrev pub IsValueOf : Text → List Row → Text → Type 0
 IsValueOf id rows name = first_of id rows ≡ Some name
 
+-- the name is the value of the option with this id, or none where none is named
+abbrev pub IsMaybeOf : Text → List Row → Option Text → Type 0
+IsMaybeOf id rows name = name ≡ first_of id rows
+
 -- the program is the named one, or standard input where none is named
 abbrev pub IsProgramOf : List Row → Text → Type 0
 IsProgramOf rows name = name ≡ unwrap_or (first_of (codes "PROGRAM") rows) (codes "-")
 
--- the text writes this window, as Rust reads a number, and it is in range
-abbrev pub IsWindow : ℕ → Text → Type 0
-IsWindow window text = (signed_digits_value 10 text ≡ pos window) × (1 ≤ window) × (window ≤ 16)
+-- the text writes this number, as Rust reads a number, and it is from 1 to `most`
+abbrev pub IsNumber : ℕ → ℕ → Text → Type 0
+IsNumber most number text = (signed_digits_value 10 text ≡ pos number) × (1 ≤ number) × (number ≤ most)
+
+-- the number is the value of the option with this id, and it is from 1 to `most`
+abbrev pub IsNumberOf : Text → ℕ → List Row → ℕ → Type 0
+IsNumberOf id most rows number = IsSomeAnd (first_of id rows) (IsNumber most number)
+
+-- the number is the value of `--window`, of `--port`, of `--connections`
+abbrev pub IsWindowOf : List Row → ℕ → Type 0
+IsWindowOf = IsNumberOf (codes "window") 16
+
+abbrev pub IsPortOf : List Row → ℕ → Type 0
+IsPortOf = IsNumberOf (codes "port") 65535
+
+abbrev pub IsCountOf : List Row → ℕ → Type 0
+IsCountOf = IsNumberOf (codes "connections") 4000000000
+
+-- the flag `--progress` is set, or it is not
+abbrev pub IsProgressOf : List Row → Bool → Type 0
+IsProgressOf rows is_set = first_of (codes "progress") rows ≡ Some (bool_text is_set)
 
 -- a check of the program with the named setup, or with none where none is named
 abbrev pub IsCheckOf : List Row → Order → Type 0
 IsCheckOf rows (Check setup program) =
-    (option_map string_bytes setup ≡ first_of (codes "setup") rows) × IsProgramOf rows (string_bytes program)
+    IsMaybeOf (codes "setup") rows (option_map string_bytes setup) × IsProgramOf rows (string_bytes program)
 IsCheckOf rows _ = ⊥
 
 -- a simulation of the program with the named setup and schedule, and the named window
 abbrev pub IsSimulateOf : List Row → Order → Type 0
 IsSimulateOf rows (Simulate setup schedule window program) =
     IsValueOf (codes "setup") rows (string_bytes setup) × IsValueOf (codes "schedule") rows (string_bytes schedule)
-    × IsSomeAnd (first_of (codes "window") rows) (IsWindow window) × IsProgramOf rows (string_bytes program)
+    × IsWindowOf rows window × IsProgramOf rows (string_bytes program)
 IsSimulateOf rows _ = ⊥
 
 -- an audit of the program with the named setup, features and contacts
@@ -45,22 +68,61 @@ IsAuditOf rows (Audit setup features contacts program) =
     × IsValueOf (codes "contacts") rows (string_bytes contacts) × IsProgramOf rows (string_bytes program)
 IsAuditOf rows _ = ⊥
 
+-- a run of the program over one connection to itself, with the named setup and window
+abbrev pub IsLoopOf : List Row → Order → Type 0
+IsLoopOf rows (Loop setup window progress program) =
+    IsValueOf (codes "setup") rows (string_bytes setup) × IsWindowOf rows window × IsProgressOf rows progress
+    × IsProgramOf rows (string_bytes program)
+IsLoopOf rows _ = ⊥
+
+-- a server with the named setup at the named port, for so many connections, with the named file for its contacts, if any
+abbrev pub IsServeOf : List Row → Order → Type 0
+IsServeOf rows (Serve setup port connections contacts progress) =
+    IsValueOf (codes "setup") rows (string_bytes setup) × IsPortOf rows port × IsCountOf rows connections
+    × IsMaybeOf (codes "contacts") rows (option_map string_bytes contacts) × IsProgressOf rows progress
+IsServeOf rows _ = ⊥
+
+-- a run of the program against the server at the named host and port, with the named setup and window, and the named file of features,
+-- if any
+abbrev pub IsRunOf : List Row → Order → Type 0
+IsRunOf rows (Run setup host port window features progress program) =
+    IsValueOf (codes "setup") rows (string_bytes setup) × IsValueOf (codes "host") rows (string_bytes host) × IsPortOf rows port
+    × IsWindowOf rows window × IsMaybeOf (codes "features") rows (option_map string_bytes features) × IsProgressOf rows progress
+    × IsProgramOf rows (string_bytes program)
+IsRunOf rows _ = ⊥
+
 -- the order of a subcommand with its values, by its name
 abbrev pub IsOrderOf : Option (Text × List Row) → Order → Type 0
 IsOrderOf None order = ⊥
 IsOrderOf (Some p) order = ((p.0 ≡ codes "check") × IsCheckOf p.1 order) ⊎ ((p.0 ≡ codes "simulate") × IsSimulateOf p.1 order)
-    ⊎ ((p.0 ≡ codes "audit") × IsAuditOf p.1 order)
+    ⊎ ((p.0 ≡ codes "audit") × IsAuditOf p.1 order) ⊎ ((p.0 ≡ codes "loop") × IsLoopOf p.1 order)
+    ⊎ ((p.0 ≡ codes "serve") × IsServeOf p.1 order) ⊎ ((p.0 ≡ codes "run") × IsRunOf p.1 order)
 
 -- the option with this id has a value
 abbrev pub HasValue : Text → List Row → Type 0
 HasValue id rows = is_some (first_of id rows) ≡ true
 
--- the window has a value, which is in range and is read as it is written, but for a minus
-pub record HasWindow (rows : List Row) : Type 0 where
+-- the option with this id has a number from 1 to `most`, which is read as it is written, but for a minus
+pub record HasNumber (id : Text) (most : ℕ) (rows : List Row) : Type 0 where
   pub text : Text
-  pub written : first_of (codes "window") rows ≡ Some text
-  pub read : one_of (codes "window") rows ≡ Some (without_minus text)
-  pub ranged : IsSignedIn (pos 1) (pos 16) text
+  pub written : first_of id rows ≡ Some text
+  pub read : one_of id rows ≡ Some (without_minus text)
+  pub ranged : IsSignedIn (pos 1) (pos most) text
+
+abbrev pub HasWindow : List Row → Type 0
+HasWindow = HasNumber (codes "window") 16
+
+abbrev pub HasPort : List Row → Type 0
+HasPort = HasNumber (codes "port") 65535
+
+abbrev pub HasCount : List Row → Type 0
+HasCount = HasNumber (codes "connections") 4000000000
+
+-- the flag has a value, which is read as it is written
+pub record HasProgress (rows : List Row) : Type 0 where
+  pub is_set : Bool
+  pub written : first_of (codes "progress") rows ≡ Some (bool_text is_set)
+  pub read : one_of (codes "progress") rows ≡ Some (bool_text is_set)
 
 -- the values that a simulation cannot do without are there
 pub record HasSimulation (rows : List Row) : Type 0 where
@@ -74,15 +136,40 @@ pub record HasAudit (rows : List Row) : Type 0 where
   pub features : HasValue (codes "features") rows
   pub contacts : HasValue (codes "contacts") rows
 
+-- the values that a run over a connection to itself cannot do without are there
+pub record HasLoop (rows : List Row) : Type 0 where
+  pub setup : HasValue (codes "setup") rows
+  pub window : HasWindow rows
+  pub progress : HasProgress rows
+
+-- the values that a server cannot do without are there
+pub record HasService (rows : List Row) : Type 0 where
+  pub setup : HasValue (codes "setup") rows
+  pub port : HasPort rows
+  pub connections : HasCount rows
+  pub progress : HasProgress rows
+
+-- the values that a run against a server cannot do without are there
+pub record HasRun (rows : List Row) : Type 0 where
+  pub setup : HasValue (codes "setup") rows
+  pub host : HasValue (codes "host") rows
+  pub port : HasPort rows
+  pub window : HasWindow rows
+  pub progress : HasProgress rows
+
 -- the name of a subcommand of `dme`, with the values that it cannot do without
 abbrev pub IsAskable : Text × List Row → Type 0
 IsAskable p = (p.0 ≡ codes "check") ⊎ ((p.0 ≡ codes "simulate") × HasSimulation p.1) ⊎ ((p.0 ≡ codes "audit") × HasAudit p.1)
+    ⊎ ((p.0 ≡ codes "loop") × HasLoop p.1) ⊎ ((p.0 ≡ codes "serve") × HasService p.1) ⊎ ((p.0 ≡ codes "run") × HasRun p.1)
 
--- the window of a simulation is one that a client takes
+-- the window is one that a client takes, the port is one that can be listened on, and the count is one of a server's connections
 abbrev pub IsReady : Order → Type 0
 IsReady (Simulate setup schedule window program) = is_window window ≡ true
 IsReady (Check setup program) = Unit {0}
 IsReady (Audit setup features contacts program) = Unit {0}
+IsReady (Loop setup window progress program) = is_window window ≡ true
+IsReady (Serve setup port connections contacts progress) = (1 ≤ port) × (1 ≤ connections) × (connections ≤ 4000000000)
+IsReady (Run setup host port window features progress program) = (1 ≤ port) × (is_window window ≡ true)
 
 -- the words are a command line without a fault, and this is the order of the subcommand that they name, with its values
 pub record Asks (words : List Text) (order : Order) : Type 0 where

@@ -3,15 +3,19 @@
 ghost use Rattle.std.specs.Prelude.{◌≡◌, IfOk, false, codes};
 ghost use Rattle.clap.specs.declared.builder.command.Command.TheViews.{out-Command};
 ghost use Rattle.clap.specs.Words.{app_of, rule_of};
-ghost use Rattle.dme_words.specs.CommandLine.{file_rule, needed_rule, window_rule, program_rule, check_line, simulate_line, audit_line};
-ghost use Rattle.dme_words.specs.CommandLine.{whole_line};
+ghost use Rattle.dme_words.specs.CommandLine.{text_rule, needed_rule, window_rule, port_rule, connections_rule, progress_rule};
+ghost use Rattle.dme_words.specs.CommandLine.{program_rule, check_line, simulate_line, audit_line, loop_line, serve_line, run_line};
+ghost use Rattle.dme_words.specs.CommandLine.{bare_line, whole_line};
 
-use clap::{Arg, Command};
+use clap::{Arg, ArgAction, Command};
 use std::alloc::{AllocError, Global};
+
+/// The window, and the count of connections, where none is named.
+const ONE: &str = "1";
 
 /// `--NAME FILE`.
 fn file_option<'a>(alloc: Global, name: &'a str, help: &'a str) -> Arg<'a>
-    ensures rule { rule_of result ≡ file_rule name.entry.now }
+    ensures rule { rule_of result ≡ text_rule name.entry.now }
     ensures local { result.global ≡ false }
 {
     Arg::new(alloc, name)
@@ -22,7 +26,7 @@ fn file_option<'a>(alloc: Global, name: &'a str, help: &'a str) -> Arg<'a>
 
 /// `--setup FILE`.
 fn setup_option<'a>(alloc: Global) -> Arg<'a>
-    ensures rule { rule_of result ≡ file_rule (codes "setup") }
+    ensures rule { rule_of result ≡ text_rule (codes "setup") }
     ensures local { result.global ≡ false }
 {
     file_option(alloc, "setup", "The machine's setup; - is standard input")
@@ -46,7 +50,56 @@ fn window_option<'a>(alloc: Global) -> Arg<'a>
         .value_name("W")
         .help("How many commands may be open at once, from 1 to 16")
         .value_parser(clap::value_parser!(u8).range(1..=16))
-        .default_value("1")
+        .default_value(ONE)
+}
+
+/// `--host H`.
+fn host_option<'a>(alloc: Global) -> Arg<'a>
+    ensures rule { rule_of result ≡ needed_rule (codes "host") }
+    ensures local { result.global ≡ false }
+{
+    Arg::new(alloc, "host")
+        .long("host")
+        .value_name("H")
+        .help("The server's host, as a name or as an address")
+        .required(true)
+}
+
+/// `--port N`.
+fn port_option<'a>(alloc: Global, help: &'a str) -> Arg<'a>
+    ensures rule { rule_of result ≡ port_rule }
+    ensures local { result.global ≡ false }
+{
+    Arg::new(alloc, "port")
+        .long("port")
+        .value_name("N")
+        .help(help)
+        .value_parser(clap::value_parser!(u16).range(1..))
+        .required(true)
+}
+
+/// `--connections K`.
+fn connections_option<'a>(alloc: Global) -> Arg<'a>
+    ensures rule { rule_of result ≡ connections_rule }
+    ensures local { result.global ≡ false }
+{
+    Arg::new(alloc, "connections")
+        .long("connections")
+        .value_name("K")
+        .help("How many connections are served, one after the other, from 1 to 4000000000")
+        .value_parser(clap::value_parser!(u32).range(1..=4_000_000_000))
+        .default_value(ONE)
+}
+
+/// `--progress`.
+fn progress_flag<'a>(alloc: Global) -> Arg<'a>
+    ensures rule { rule_of result ≡ progress_rule }
+    ensures local { result.global ≡ false }
+{
+    Arg::new(alloc, "progress")
+        .long("progress")
+        .help("Tells on standard error how far it is")
+        .action(ArgAction::SetTrue)
 }
 
 /// `PROGRAM`.
@@ -99,15 +152,75 @@ fn audit_command<'a>(alloc: Global) -> Result<Command<'a>, AllocError>
         .arg(program_argument(alloc))
 }
 
+/// `loop --setup FILE [--window W] [--progress] [PROGRAM]`.
+fn loop_command<'a>(alloc: Global) -> Result<Command<'a>, AllocError>
+    ensures shape { IfOk result (λ command. app_of command ≡ loop_line) }
+    ensures local { IfOk result (λ command. (out-Command command).has_globals ≡ false) }
+{
+    Command::new(alloc, "loop")
+        .about(
+            "Runs a DMIS program on a simulated machine over a connection to itself, and prints the report",
+        )
+        .arg(setup_option(alloc).required(true))?
+        .arg(window_option(alloc))?
+        .arg(progress_flag(alloc))?
+        .arg(program_argument(alloc))
+}
+
+/// `serve --setup FILE --port N [--connections K] [--contacts FILE] [--progress]`.
+fn serve_command<'a>(alloc: Global) -> Result<Command<'a>, AllocError>
+    ensures shape { IfOk result (λ command. app_of command ≡ serve_line) }
+    ensures local { IfOk result (λ command. (out-Command command).has_globals ≡ false) }
+{
+    let port = "The port of 127.0.0.1 that is listened on, from 1 to 65535";
+    let contacts = "The file that the contacts are written to";
+    Command::new(alloc, "serve")
+        .about("Is the server of a simulated machine, and prints the contacts that it made")
+        .arg(setup_option(alloc).required(true))?
+        .arg(port_option(alloc, port))?
+        .arg(connections_option(alloc))?
+        .arg(file_option(alloc, "contacts", contacts))?
+        .arg(progress_flag(alloc))
+}
+
+/// `run --setup FILE --host H --port N [--window W] [--features FILE] [--progress] [PROGRAM]`.
+fn run_command<'a>(alloc: Global) -> Result<Command<'a>, AllocError>
+    ensures shape { IfOk result (λ command. app_of command ≡ run_line) }
+    ensures local { IfOk result (λ command. (out-Command command).has_globals ≡ false) }
+{
+    let port = "The server's port, from 1 to 65535";
+    let features = "The features that are there already, and the file that they are written to";
+    Command::new(alloc, "run")
+        .about("Runs a DMIS program on the machine of a server, and prints the report")
+        .arg(setup_option(alloc).required(true))?
+        .arg(host_option(alloc))?
+        .arg(port_option(alloc, port))?
+        .arg(window_option(alloc))?
+        .arg(file_option(alloc, "features", features))?
+        .arg(progress_flag(alloc))?
+        .arg(program_argument(alloc))
+}
+
+/// `dme`, without its subcommands.
+fn bare_command<'a>(alloc: Global) -> Command<'a>
+    ensures shape { app_of result ≡ bare_line }
+    ensures local { (out-Command result).has_globals ≡ false }
+{
+    Command::new(alloc, "dme")
+        .about("Runs DMIS inspection programs over the I++ DME interface")
+        .subcommand_required(true)
+}
+
 /// `dme COMMAND ..`.
 pub(crate) fn whole_command<'a>(alloc: Global) -> Result<Command<'a>, AllocError>
     ensures shape { IfOk result (λ command. app_of command ≡ whole_line) }
     ensures local { IfOk result (λ command. (out-Command command).has_globals ≡ false) }
 {
-    Command::new(alloc, "dme")
-        .about("Runs DMIS inspection programs over the I++ DME interface")
-        .subcommand_required(true)
+    bare_command(alloc)
         .subcommand(check_command(alloc)?)?
         .subcommand(simulate_command(alloc)?)?
-        .subcommand(audit_command(alloc)?)
+        .subcommand(audit_command(alloc)?)?
+        .subcommand(loop_command(alloc)?)?
+        .subcommand(serve_command(alloc)?)?
+        .subcommand(run_command(alloc)?)
 }

@@ -1,10 +1,14 @@
 // The command line.
 
-ghost use Rattle.std.specs.Prelude.{◌≡◌, IfOk, IfErr, OnOk, IsErrAnd, IsSomeAnd, map, codes, string_bytes};
+ghost use Rattle.std.specs.Prelude.{◌≡◌, ◌≤◌, IfOk, IfErr, OnOk, IsErrAnd, IsSomeAnd, map, true, string_bytes};
 ghost use Rattle.std.specs.Option.{option_map};
 ghost use Rattle.clap.specs.Words.{first_of, found_of, rows_of, subcommand_rows_of};
-ghost use Rattle.dme_words.specs.Ordered.{IsValueOf, IsProgramOf, IsWindow, IsCheckOf, IsSimulateOf, IsAuditOf, IsOrderOf, HasValue};
-ghost use Rattle.dme_words.specs.Ordered.{HasWindow, HasSimulation, HasAudit, IsAskable, IsReady, Asks, IsRefusal, IsCalled};
+ghost use Rattle.client_core.specs.Clients.{is_window};
+ghost use Rattle.dme_words.specs.Ordered.{IsValueOf, IsMaybeOf, IsProgramOf, IsWindowOf, IsPortOf, IsCountOf, IsProgressOf};
+ghost use Rattle.dme_words.specs.Ordered.{IsCheckOf, IsSimulateOf, IsAuditOf, IsLoopOf, IsServeOf, IsRunOf, IsOrderOf};
+ghost use Rattle.dme_words.specs.Ordered.{HasValue, HasWindow, HasPort, HasCount, HasProgress};
+ghost use Rattle.dme_words.specs.Ordered.{HasSimulation, HasAudit, HasLoop, HasService, HasRun};
+ghost use Rattle.dme_words.specs.Ordered.{IsAskable, IsReady, Asks, IsRefusal, IsCalled};
 
 use crate::line::whole_command;
 use clap::error::ErrorKind;
@@ -40,6 +44,47 @@ pub enum Order {
         features: String,
         /// The file of the contacts that the server made; `-` is standard input.
         contacts: String,
+        /// The file of the program; `-` is standard input.
+        program: String,
+    },
+    /// Run a program on a simulated machine over one connection to itself, and print the report.
+    Loop {
+        /// The file of the machine's setup; `-` is standard input.
+        setup: String,
+        /// How many commands may be open at once, from 1 to 16.
+        window: u8,
+        /// Whether it tells how far it is.
+        progress: bool,
+        /// The file of the program; `-` is standard input.
+        program: String,
+    },
+    /// Be the server of a simulated machine, and print the contacts that it made.
+    Serve {
+        /// The file of the machine's setup; `-` is standard input.
+        setup: String,
+        /// The port that is listened on, at least 1.
+        port: u16,
+        /// How many connections are served, one after the other, from 1 to 4,000,000,000.
+        connections: u32,
+        /// The file that the contacts are written to; `-` is a file of that name.
+        contacts: Option<String>,
+        /// Whether it tells how far it is.
+        progress: bool,
+    },
+    /// Run a program on the machine of a server, and print the report.
+    Run {
+        /// The file of the machine's setup; `-` is standard input.
+        setup: String,
+        /// The server's host, as a name or as an address.
+        host: String,
+        /// The server's port, at least 1.
+        port: u16,
+        /// How many commands may be open at once, from 1 to 16.
+        window: u8,
+        /// The file of the features that are there already, to which they are written in the end; `-` is a file of that name.
+        features: Option<String>,
+        /// Whether it tells how far it is.
+        progress: bool,
         /// The file of the program; `-` is standard input.
         program: String,
     },
@@ -104,11 +149,19 @@ fn copied_program(alloc: Global, values: &ArgMatches) -> Result<String, AllocErr
     String::from_str(alloc, value_of(values, "PROGRAM").unwrap_or("-"))
 }
 
+/// A copy of the value of an option, where it has one.
+fn copied_maybe(alloc: Global, values: &ArgMatches, id: &str) -> Result<Option<String>, AllocError>
+    ensures { IfOk result (λ copy. IsMaybeOf id.now (rows_of (found_of values.now))
+        (option_map string_bytes copy)) }
+{
+    copied(alloc, value_of(values, id))
+}
+
 /// The value of `--window`, which `clap` has found in range.
 fn window_of(values: &ArgMatches) -> u8
     requires { HasWindow (rows_of (found_of values.now)) }
-    ensures { IsSomeAnd (first_of (codes "window") (rows_of (found_of values.now)))
-        (IsWindow result) }
+    ensures named { IsWindowOf (rows_of (found_of values.now)) result }
+    ensures ready { is_window result ≡ true }
 {
     match values.get_one::<u8>("window") {
         Some(window) => window,
@@ -116,11 +169,44 @@ fn window_of(values: &ArgMatches) -> u8
     }
 }
 
+/// The value of `--port`, which `clap` has found in range.
+fn port_of(values: &ArgMatches) -> u16
+    requires { HasPort (rows_of (found_of values.now)) }
+    ensures named { IsPortOf (rows_of (found_of values.now)) result }
+    ensures ready { 1 ≤ result }
+{
+    match values.get_one::<u16>("port") {
+        Some(port) => port,
+        None => unreachable!(),
+    }
+}
+
+/// The value of `--connections`, which `clap` has found in range.
+fn connections_of(values: &ArgMatches) -> u32
+    requires { HasCount (rows_of (found_of values.now)) }
+    ensures named { IsCountOf (rows_of (found_of values.now)) result }
+    ensures ready { (1 ≤ result) × (result ≤ 4000000000) }
+{
+    match values.get_one::<u32>("connections") {
+        Some(connections) => connections,
+        None => unreachable!(),
+    }
+}
+
+/// Whether `--progress` is set.
+fn progress_of(values: &ArgMatches) -> bool
+    requires { HasProgress (rows_of (found_of values.now)) }
+    ensures { IsProgressOf (rows_of (found_of values.now)) result }
+{
+    values.get_flag("progress")
+}
+
 /// The order of `check` with these values.
 fn check_order(alloc: Global, values: &ArgMatches) -> Result<Order, AllocError>
-    ensures { IfOk result (IsCheckOf (rows_of (found_of values.now))) }
+    ensures named { IfOk result (IsCheckOf (rows_of (found_of values.now))) }
+    ensures ready { IfOk result IsReady }
 {
-    let setup = copied(alloc, value_of(values, "setup"))?;
+    let setup = copied_maybe(alloc, values, "setup")?;
     let program = copied_program(alloc, values)?;
     Ok(Order::Check { setup, program })
 }
@@ -128,7 +214,8 @@ fn check_order(alloc: Global, values: &ArgMatches) -> Result<Order, AllocError>
 /// The order of `simulate` with these values.
 fn simulate_order(alloc: Global, values: &ArgMatches) -> Result<Order, AllocError>
     requires { HasSimulation (rows_of (found_of values.now)) }
-    ensures { IfOk result (IsSimulateOf (rows_of (found_of values.now))) }
+    ensures named { IfOk result (IsSimulateOf (rows_of (found_of values.now))) }
+    ensures ready { IfOk result IsReady }
 {
     let setup = copied_value(alloc, values, "setup")?;
     let schedule = copied_value(alloc, values, "schedule")?;
@@ -145,7 +232,8 @@ fn simulate_order(alloc: Global, values: &ArgMatches) -> Result<Order, AllocErro
 /// The order of `audit` with these values.
 fn audit_order(alloc: Global, values: &ArgMatches) -> Result<Order, AllocError>
     requires { HasAudit (rows_of (found_of values.now)) }
-    ensures { IfOk result (IsAuditOf (rows_of (found_of values.now))) }
+    ensures named { IfOk result (IsAuditOf (rows_of (found_of values.now))) }
+    ensures ready { IfOk result IsReady }
 {
     let setup = copied_value(alloc, values, "setup")?;
     let features = copied_value(alloc, values, "features")?;
@@ -159,15 +247,81 @@ fn audit_order(alloc: Global, values: &ArgMatches) -> Result<Order, AllocError>
     })
 }
 
+/// The order of `loop` with these values.
+fn loop_order(alloc: Global, values: &ArgMatches) -> Result<Order, AllocError>
+    requires { HasLoop (rows_of (found_of values.now)) }
+    ensures named { IfOk result (IsLoopOf (rows_of (found_of values.now))) }
+    ensures ready { IfOk result IsReady }
+{
+    let setup = copied_value(alloc, values, "setup")?;
+    let window = window_of(values);
+    let progress = progress_of(values);
+    let program = copied_program(alloc, values)?;
+    Ok(Order::Loop {
+        setup,
+        window,
+        progress,
+        program,
+    })
+}
+
+/// The order of `serve` with these values.
+fn serve_order(alloc: Global, values: &ArgMatches) -> Result<Order, AllocError>
+    requires { HasService (rows_of (found_of values.now)) }
+    ensures named { IfOk result (IsServeOf (rows_of (found_of values.now))) }
+    ensures ready { IfOk result IsReady }
+{
+    let setup = copied_value(alloc, values, "setup")?;
+    let port = port_of(values);
+    let connections = connections_of(values);
+    let contacts = copied_maybe(alloc, values, "contacts")?;
+    let progress = progress_of(values);
+    Ok(Order::Serve {
+        setup,
+        port,
+        connections,
+        contacts,
+        progress,
+    })
+}
+
+/// The order of `run` with these values.
+fn run_order(alloc: Global, values: &ArgMatches) -> Result<Order, AllocError>
+    requires { HasRun (rows_of (found_of values.now)) }
+    ensures named { IfOk result (IsRunOf (rows_of (found_of values.now))) }
+    ensures ready { IfOk result IsReady }
+{
+    let setup = copied_value(alloc, values, "setup")?;
+    let host = copied_value(alloc, values, "host")?;
+    let port = port_of(values);
+    let window = window_of(values);
+    let features = copied_maybe(alloc, values, "features")?;
+    let progress = progress_of(values);
+    let program = copied_program(alloc, values)?;
+    Ok(Order::Run {
+        setup,
+        host,
+        port,
+        window,
+        features,
+        progress,
+        program,
+    })
+}
+
 /// The order of the subcommand that `clap` found, with its values.
 fn order_of(alloc: Global, matches: &ArgMatches) -> Result<Order, AllocError>
     requires { IsSomeAnd (subcommand_rows_of matches.now) IsAskable }
-    ensures { IfOk result (IsOrderOf (subcommand_rows_of matches.now)) }
+    ensures named { IfOk result (IsOrderOf (subcommand_rows_of matches.now)) }
+    ensures ready { IfOk result IsReady }
 {
     match matches.subcommand() {
         Some(("check", values)) => check_order(alloc, values),
         Some(("simulate", values)) => simulate_order(alloc, values),
         Some(("audit", values)) => audit_order(alloc, values),
+        Some(("loop", values)) => loop_order(alloc, values),
+        Some(("serve", values)) => serve_order(alloc, values),
+        Some(("run", values)) => run_order(alloc, values),
         _ => unreachable!(),
     }
 }
@@ -187,6 +341,7 @@ fn answered(alloc: Global, answer: Result<ArgMatches, Error>) -> Result<Order, W
     requires { IfOk answer (λ matches. IsSomeAnd (subcommand_rows_of matches) IsAskable) }
     ensures order { IfOk answer.entry (λ matches. IfOk result
         (IsOrderOf (subcommand_rows_of matches))) }
+    ensures ready { IfOk result IsReady }
     ensures taken { OnOk answer.entry (IfErr result (λ fault. fault ≡ WordsFault.Memory)) }
     ensures refused { IfErr answer.entry (λ error. IsErrAnd result (IsCalled error)) }
 {

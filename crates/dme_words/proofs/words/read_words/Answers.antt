@@ -1,8 +1,7 @@
 use Rattle.std.proofs.Common.{◌≡◌, map, refl, ap, ◌∙◌}
 use Rattle.clap.specs.Words.{app_of, is_simple_and_free}
 use Rattle.dme_words.specs.CommandLine.{whole_line}
-use Rattle.std.proofs.lemmas.Result.{IfOk-weaker}
-use Rattle.dme_words.proofs.WordsLemmas.{asked_or_refused, names_askable, ready}
+use Rattle.dme_words.proofs.WordsLemmas.{asked_or_refused, names_askable}
 use Rattle.dme_words.proofs.words.read_words.Goals as goal
 
 pub answered-requires : goal.answered-requires
@@ -21,5 +20,5 @@ returns c =
     record {
       order = both.0;
       refused = both.1;
-      ready = IfOk-weaker c.answered.result _ _ (λ order asks. ready _ order asks.named) both.0;
+      ready = c.answered.ensures.ready;
     }

@@ -1,11 +1,11 @@
-use Rattle.std.proofs.Common.{◌∙◌, codes, subst, sym, Option, ℕ, List}
+use Rattle.std.proofs.Common.{◌∙◌, arith, codes, subst, sym, Option, ℕ, List}
 use Rattle.std.specs.Prelude.{IsSomeAnd}
 use Rattle.std.specs.Str.Parse.{ParsesUnsigned, ExplainsUnsignedError, HasUnsignedDigitsIfOk}
 use Rattle.std.proofs.lemmas.Option.{none-some, same_Some}
 use Rattle.clap.specs.Words.{found_of, without_minus}
 use Rattle.clap.proofs.WalkLemmas.{one_text-rows}
-use Rattle.dme_words.specs.Ordered.{IsWindow}
-use Rattle.dme_words.proofs.WindowLemmas.{window_reads}
+use Rattle.dme_words.specs.Ordered.{IsNumber}
+use Rattle.dme_words.proofs.NumberLemmas.{number-window, number_reads}
 use Rattle.dme_words.proofs.words.window_of.Goals as goal
 
 pub unreachable-requires : goal.unreachable-requires
@@ -13,8 +13,8 @@ unreachable-requires c =
     let one = c.get_one.ensures.value (without_minus c.requires.text) (one_text-rows (found_of c.args.values.now) (codes "window")
     ∙ c.requires.read)
     in
-    let got = window_reads _ (λ bs r. ParsesUnsigned 8 10 bs r × ExplainsUnsignedError 10 bs r × HasUnsignedDigitsIfOk bs r) c.requires.text
-    c.get_one.result one (λ u x g. g.0) c.requires.ranged in
+    let got = number_reads _ (λ bs r. ParsesUnsigned 8 10 bs r × ExplainsUnsignedError 10 bs r × HasUnsignedDigitsIfOk bs r) 8 16
+    c.requires.text c.get_one.result one (λ u x g. g.0) (omega arith) c.requires.ranged in
     none-some _ (sym c.in-None.is ∙ got.1)
 
 pub returns : goal.returns
@@ -22,8 +22,11 @@ returns c =
     let one = c.get_one.ensures.value (without_minus c.requires.text) (one_text-rows (found_of c.args.values.now) (codes "window")
     ∙ c.requires.read)
     in
-    let got = window_reads _ (λ bs r. ParsesUnsigned 8 10 bs r × ExplainsUnsignedError 10 bs r × HasUnsignedDigitsIfOk bs r) c.requires.text
-    c.get_one.result one (λ u x g. g.0) c.requires.ranged in
+    let got = number_reads _ (λ bs r. ParsesUnsigned 8 10 bs r × ExplainsUnsignedError 10 bs r × HasUnsignedDigitsIfOk bs r) 8 16
+    c.requires.text c.get_one.result one (λ u x g. g.0) (omega arith) c.requires.ranged in
     let same = same_Some _ _ (sym got.1 ∙ c.in-Some.is) in
-    subst (λ (o : Option (List ℕ)). IsSomeAnd o (IsWindow c.in-Some.window)) (sym c.requires.written)
-    (subst (λ (n : ℕ). IsWindow n c.requires.text) same got.2)
+    let is : IsNumber 16 c.in-Some.window c.requires.text = subst (λ (n : ℕ). IsNumber 16 n c.requires.text) same got.2 in
+    record {
+      named = subst (λ (o : Option (List ℕ)). IsSomeAnd o (IsNumber 16 c.in-Some.window)) (sym c.requires.written) is;
+      ready = number-window c.in-Some.window c.requires.text is;
+    }
