@@ -33,7 +33,7 @@ set_twice (k ∷ links) zero l m = refl
 set_twice (k ∷ links) (suc at) l m = ap (λ (x : List Link). k ∷ x) (set_twice links at l m)
 
 -- the connection that was given other bytes is given others again
-put_again : (f : Link → Link) (links : List Link) (n m : ℕ) (l : Link) → m ≡ n → 1 ≤ n → n ≤ length links
+pub put_again : (f : Link → Link) (links : List Link) (n m : ℕ) (l : Link) → m ≡ n → 1 ≤ n → n ≤ length links
     → with_link (with_link links n l) m (f (link_of (with_link links n l) m)) ≡ with_link links n (f l)
 put_again f links n m l same from to =
     ap (λ (k : ℕ). with_link (with_link links n l) k (f (link_of (with_link links n l) k))) same
@@ -54,7 +54,7 @@ fed_none_by : (fault : Option FramingFault) (rest : List ℕ) → fed_behind fau
 fed_none_by None rest = ap (λ (x : List ℕ). record { rest = x; fault = None }) (append-nil rest)
 fed_none_by (Some fault) rest = refl
 
-fed_none : (f : Framing) → fed f [] ≡ f
+pub fed_none : (f : Framing) → fed f [] ≡ f
 fed_none f = fed_none_by f.fault f.rest
 
 not_over : (s : State) → not (is_faulted s) ≡ true → not (is_over s) ≡ true
@@ -66,12 +66,12 @@ not_over State.Halted h = refl
 not_over State.Done h = refl
 not_over State.Faulted h = h
 
-never_none : (a b : Bool) → (a && (b && false)) ≡ false
+pub never_none : (a b : Bool) → (a && (b && false)) ≡ false
 never_none true true = refl
 never_none true false = refl
 never_none false b = refl
 
-fits : (xs ys : List ℕ) → take (length xs) ys ≡ xs → length xs ≤ length ys
+pub fits : (xs ys : List ℕ) → take (length xs) ys ≡ xs → length xs ≤ length ys
 fits [] ys front = omega arith
 fits (x ∷ xs) [] front = absurd (cc)
 fits (x ∷ xs) (y ∷ ys) front = omega (arith, fits xs ys (ap (drop 1) front))

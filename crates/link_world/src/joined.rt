@@ -1,16 +1,22 @@
-// The turns of a client over its ports, in the events of a world. The function has laws for its contract and does nothing.
+// The turns of both sides over their ports, in the events of a world. Each function has laws for its contract and does nothing.
 
-ghost use Rattle.std.specs.Prelude.{◌≡◌, ◌≤◌, ℕ, true, List, [], ◌∷◌, ◌++◌, length, take};
+ghost use Rattle.std.specs.Prelude.{◌≡◌, ◌≤◌, ℕ, true, None, List, [], ◌∷◌, ◌++◌, length, take};
 ghost use Rattle.dmis_program.specs.Meaning.{Meaning};
 ghost use Rattle.dmis_program.specs.Programs.{IsProgram};
+ghost use Rattle.fixed_um.specs.declared.lengths.Point.{Point as OnePoint};
 ghost use Rattle.protocol_model.specs.Claims.{Sound, Told};
-ghost use Rattle.protocol_model.specs.Ends.{ClientEnd, end_left};
+ghost use Rattle.protocol_model.specs.Ends.{ClientEnd, ServerEnd, end_left, serving_left};
 ghost use Rattle.protocol_model.specs.Lines.{Readers, AreReaders};
-ghost use Rattle.protocol_model.specs.World.{World, client_link, start, run_of};
+ghost use Rattle.protocol_model.specs.World.{World, client_link, server_link, start, run_of};
 ghost use Rattle.protocol_model.specs.declared.events.Event.{Event as OneEvent};
 ghost use Rattle.protocol_model.specs.declared.events.Event.TheVariants as event;
+ghost use Rattle.protocol_model.specs.declared.machine.Job.{Job as OneJob};
+ghost use Rattle.protocol_model.specs.declared.machine.Outcome.{Outcome as OneOutcome};
+ghost use Rattle.link_world.specs.Machines.{simulated};
 ghost use Rattle.link_world.specs.Pumps.{Stage, Reading, ClientTurn};
+ghost use Rattle.link_world.specs.ServerPumps.{ServerTurn};
 ghost use Rattle.link_world.specs.Joined.{IsJoined, client_events, client_joined};
+ghost use Rattle.link_world.specs.Joined.{AreFit, IsServed, events_heard, server_joined};
 
 /// A client's turn over its ports is a list of events of the world. For every world whose client has nothing to send and stands on a
 /// connection that was made, and every turn of that client, as `client_turns` makes it, in which the bytes that came in are the first that
@@ -60,4 +66,54 @@ pub fn turns_of_a_client_are_events()
         → take (length read) (client_link w).down ≡ read
         → ClientTurn readers least w.client stage read written e
         → Told e.client.table.tally.counted w.server.server.ledger e.client.last }
+{}
+
+/// A server's turn over its ports is a list of events of the world. For every world whose server has nothing to send, has met no framing
+/// fault and stands on a connection that was made, every machine whose answers fit the jobs, and every turn of that server, as
+/// `serve_turns` makes it, in which the bytes that came in are the first that wait for it on that connection:
+///
+/// - `joined`: however far the turn has come, there is a list of events (bytes come up, the server reads, then turns and ends of jobs, each
+///   what the server has to do next as its machine answers) that leads the world to one with the server as the turn has left it, the
+///   client unchanged, and the connection without the bytes that came in; what the turn has written to its sink, and behind it what it has
+///   not yet, stands at the end of the connection's way down;
+/// - `leaves`: where the server, still on its connection, leaves it behind that, so does the server of the world;
+/// - `sound`, `told`: where a list of events has led to the world, and its server stands on a connection, what `every_run` claims holds of
+///   the server behind its turn;
+/// - `fit`: the answers of the simulated machine fit the jobs.
+#[tactic(auto, using(crate::proofs::ServerJoins::serving_joins, crate::proofs::ServerJoins::serving_leaves, crate::proofs::ServerJoins::serving_sound, crate::proofs::ServerJoins::serving_told, crate::proofs::ServerJoins::simulated_fits))]
+pub fn turns_of_a_server_are_events()
+    ensures joined { (readers : Readers) (answer : OneJob → ℕ → OneOutcome) → AreFit answer
+        → (least : ℕ) (w : World) (stage : Stage) (read written : List ℕ) (e : ServerEnd)
+        → w.server.out ≡ [] → w.server.input.fault ≡ None
+        → 1 ≤ w.server.server.last → w.server.server.last ≤ length w.links
+        → take (length read) (server_link w).up ≡ read
+        → ServerTurn readers answer least w.server stage read written e
+        → IsServed readers answer w read written e }
+    ensures leaves { (readers : Readers) (answer : OneJob → ℕ → OneOutcome) (w : World)
+        (read written : List ℕ) (e : ServerEnd)
+        → (s : IsServed readers answer w read written e) → e.server.on ≡ true
+        → run_of readers ((events_heard (length read) s.reads ++ s.work)
+        ++ event.ServerLeaves ∷ []) w
+        ≡ record (server_joined w e (written ++ e.out) (length read)) { server = serving_left e } }
+    ensures sound { (readers : Readers) → AreReaders readers
+        → (answer : OneJob → ℕ → OneOutcome) → AreFit answer
+        → (least : ℕ) (w : World) (stage : Stage) (read written : List ℕ) (e : ServerEnd)
+        (program : Meaning) (rack : List (List ℕ)) (window : ℕ) (events : List OneEvent)
+        → IsProgram program → window ≤ 16
+        → w ≡ run_of readers events (start program rack window)
+        → w.server.server.on ≡ true
+        → take (length read) (server_link w).up ≡ read
+        → ServerTurn readers answer least w.server stage read written e
+        → Sound program.features w.client.client.table.tally.features e.server.ledger }
+    ensures told { (readers : Readers) → AreReaders readers
+        → (answer : OneJob → ℕ → OneOutcome) → AreFit answer
+        → (least : ℕ) (w : World) (stage : Stage) (read written : List ℕ) (e : ServerEnd)
+        (program : Meaning) (rack : List (List ℕ)) (window : ℕ) (events : List OneEvent)
+        → IsProgram program → window ≤ 16
+        → w ≡ run_of readers events (start program rack window)
+        → w.server.server.on ≡ true
+        → take (length read) (server_link w).up ≡ read
+        → ServerTurn readers answer least w.server stage read written e
+        → Told w.client.client.table.tally.counted e.server.ledger w.client.client.last }
+    ensures fit { (shifts : List OnePoint) → AreFit (simulated shifts) }
 {}

@@ -1,0 +1,434 @@
+-- A server's turn over its ports is a list of events of the world.
+use Rattle.std.proofs.Common.{◌≡◌, ℕ, suc, ◌-◌, ◌≤◌, Bool, true, false, cond, ◌&&◌, not, List, [], ◌∷◌, ◌++◌, length, take, drop}
+use Rattle.std.proofs.Common.{refl, sym, ◌∙◌, ap, subst, arith, append_assoc, append-nil, is_none, Option, Some, None, Ok, Err}
+use Rattle.std.proofs.lemmas.Bool.{false≢true, and_parts, and_from, le-leb}
+use Rattle.std.proofs.lemmas.List.{set-get_or, take-append-drop}
+use Rattle.line_framing.specs.Next.{Front, next_of}
+use Rattle.line_framing.specs.Framing.{Framing, fed, fed_behind}
+use Rattle.line_framing.specs.declared.faults.FramingFault.{FramingFault}
+use Rattle.fixed_um.specs.declared.frames.Frame.{Frame}
+use Rattle.fixed_um.specs.declared.lengths.Point.{Point}
+use Rattle.fixed_um.specs.Points.{point_sum}
+use Rattle.fixed_um.specs.Shapes.{Direction}
+use Rattle.tool_rack.specs.Setups.{shift_at}
+use Rattle.dme_line.specs.declared.commands.Command.{Command}
+use Rattle.dme_line.specs.declared.commands.Command.TheVariants as command
+use Rattle.contact_ledger.specs.Ledgers.{contact_count}
+use Rattle.dmis_program.specs.Programs.{IsProgram}
+use Rattle.dmis_program.specs.Meaning.{Meaning}
+use Rattle.protocol_model.specs.Lines.{Readers, AreReaders, reply_bytes, reading_of}
+use Rattle.protocol_model.specs.Claims.{Sound, Told}
+use Rattle.protocol_model.specs.Server.{Server, Answer, running_job, job_run, job_of, may_end, has_outcome, in_volume, offset}
+use Rattle.protocol_model.specs.Server.{server_turned, server_machined}
+use Rattle.protocol_model.specs.Ends.{ServerEnd, front_served, serving_fed, serving_read, serving_turned, serving_machined, serving_taken}
+use Rattle.protocol_model.specs.Ends.{serving_left}
+use Rattle.protocol_model.specs.World.{World, Link, no_link, server_link, link_of, with_link, has_some, is_line, start, can, after, run_of}
+use Rattle.protocol_model.specs.World.{happens, server_writes, moved_up}
+use Rattle.protocol_model.specs.declared.events.Event.{Event}
+use Rattle.protocol_model.specs.declared.events.Event.TheVariants as event
+use Rattle.protocol_model.specs.declared.lines.Line.{Line}
+use Rattle.protocol_model.specs.declared.machine.Job.{Job}
+use Rattle.protocol_model.specs.declared.machine.Job.TheVariants as job
+use Rattle.protocol_model.specs.declared.machine.Outcome.{Outcome}
+use Rattle.protocol_model.specs.declared.machine.Outcome.TheVariants as outcome
+use Rattle.protocol_model.proofs.invariant.Moves.{read_moves, turned_moves, machined_moves}
+use Rattle.protocol_model.proofs.whole_run.Carrying.{IsCarried}
+use Rattle.protocol_model.proofs.whole_run.WholeRun.{run_carried, start_carried, always_sound, always_told}
+use Rattle.server_core.specs.Serving.{may_feed, may_turn}
+use Rattle.link_world.specs.Machines.{fits_job, met, simulated}
+use Rattle.link_world.specs.Schedules.{AreWork, ending, ended, working}
+use Rattle.link_world.specs.Pumps.{Stage, Writing, Taking, Reading, Working}
+use Rattle.link_world.specs.ServerPumps.{ServerTurn, begins, takes, has, reads, knows, turns, ends, writes}
+use Rattle.link_world.specs.Joined.{times, AreFit, events_heard, server_joined, IsServed}
+use Rattle.link_world.proofs.EventLists.{run_append, done_now, not_done}
+use Rattle.link_world.proofs.ClientJoins.{put_again, fed_none, never_none, fits}
+
+-- ---- what a machine answers
+
+-- an outcome that fits the job of what runs ends it
+may_end_by : (f : Frame) (r : Option Line) (j : Job) (o : Outcome) → job_run f r ≡ Some j → fits_job j o ≡ true → may_end r o ≡ true
+may_end_by f None j o is fit = absurd (cc)
+may_end_by f (Some line) j o is fit = go line.command is
+  where
+    job_in : Option Job → Job
+    job_in (Some k) = k
+    job_in None = j
+
+    fits_as : (k : Job) → Some k ≡ Some j → fits_job k o ≡ true
+    fits_as k same = subst (λ (x : Job). fits_job x o ≡ true) (sym (ap job_in same)) fit
+
+    home : (o : Outcome) → fits_job job.Home o ≡ true → has_outcome command.Home o ≡ true
+    home outcome.Done fit = refl
+    home (outcome.Touched at) fit = absurd (false≢true fit)
+    home outcome.Missed fit = absurd (false≢true fit)
+    home outcome.Fault fit = refl
+
+    move : (p q : Point) (o : Outcome) → fits_job (job.Move q) o ≡ true → has_outcome (command.GoTo p) o ≡ true
+    move p q outcome.Done fit = refl
+    move p q (outcome.Touched at) fit = absurd (false≢true fit)
+    move p q outcome.Missed fit = absurd (false≢true fit)
+    move p q outcome.Fault fit = refl
+
+    change : (n m : List ℕ) (o : Outcome) → fits_job (job.Change m) o ≡ true → has_outcome (command.ChangeTool n) o ≡ true
+    change n m outcome.Done fit = refl
+    change n m (outcome.Touched at) fit = absurd (false≢true fit)
+    change n m outcome.Missed fit = absurd (false≢true fit)
+    change n m outcome.Fault fit = refl
+
+    touch : (p q : Point) (d : Option Direction) (o : Outcome) → fits_job (job.Touch q d) o ≡ true → has_outcome (command.PtMeas p d) o ≡ true
+    touch p q d outcome.Done fit = absurd (false≢true fit)
+    touch p q d (outcome.Touched at) fit = fit
+    touch p q d outcome.Missed fit = refl
+    touch p q d outcome.Fault fit = refl
+
+    go : (c : Command) → job_of f c ≡ Some j → has_outcome c o ≡ true
+    go command.Home is = home o (fits_as job.Home is)
+    go (command.ChangeTool n) is = change n n o (fits_as (job.Change n) is)
+    go (command.GoTo p) is = move p (point_sum p (offset f)) o (fits_as (job.Move (point_sum p (offset f))) is)
+    go (command.PtMeas p d) is = touch p (point_sum p (offset f)) d o (fits_as (job.Touch (point_sum p (offset f)) d) is)
+    go command.StartSession is = absurd (cc)
+    go command.EndSession is = absurd (cc)
+    go command.ClearAllErrors is = absurd (cc)
+    go command.OnPtMeasReport is = absurd (cc)
+    go command.IsHomed is = absurd (cc)
+    go (command.SetCsyTransformation p) is = absurd (cc)
+    go (command.SetCoordSystem system) is = absurd (cc)
+    go command.AbortE is = absurd (cc)
+
+none_run : (f : Frame) (r : Option Line) → is_none r ≡ true → job_run f r ≡ None
+none_run f None is = refl
+none_run f (Some line) is = absurd (false≢true is)
+
+met_fits : (p q : Point) (d : Option Direction) (b : Bool) → in_volume p ≡ b → fits_job (job.Touch q d) (cond b (outcome.Touched p) outcome.Missed) ≡ true
+met_fits p q d true is = is
+met_fits p q d false is = refl
+
+-- what the simulated machine answers fits
+pub simulated_fits : (shifts : List Point) → AreFit (simulated shifts)
+simulated_fits shifts (job.Touch p d) n = met_fits (point_sum p (shift_at shifts n)) p d (in_volume (point_sum p (shift_at shifts n))) refl
+simulated_fits shifts job.Home n = refl
+simulated_fits shifts (job.Move p) n = refl
+simulated_fits shifts (job.Change m) n = refl
+
+-- ---- what a server keeps
+
+served_last : (readers : Readers) (e : ServerEnd) (f : Front) → (front_served readers e f).server.last ≡ e.server.last
+served_last readers e (Ok None) = refl
+served_last readers e (Ok (Some (line, rest))) = (read_moves e.server (reading_of (readers.command line))).last
+served_last readers e (Err why) = refl
+
+served_fine : (readers : Readers) (e : ServerEnd) (f : Front) → is_line f ≡ true → (front_served readers e f).input.fault ≡ e.input.fault
+served_fine readers e (Ok None) is = refl
+served_fine readers e (Ok (Some (line, rest))) is = refl
+served_fine readers e (Err why) is = absurd (false≢true is)
+
+-- what is answered joins what is to be sent
+served_more : (readers : Readers) (e : ServerEnd) (f : Front) → is_line f ≡ true
+    → front_served readers e f ≡ record (front_served readers (record e { out = [] }) f) {
+      out = e.out ++ (front_served readers (record e { out = [] }) f).out;
+    }
+served_more readers e (Ok None) is = absurd (false≢true is)
+served_more readers e (Ok (Some (line, rest))) is = refl
+served_more readers e (Err why) is = absurd (false≢true is)
+
+fed_fine : (fault : Option FramingFault) (rest xs : List ℕ) → (fed_behind fault rest xs).fault ≡ fault
+fed_fine None rest xs = refl
+fed_fine (Some why) rest xs = refl
+
+-- ---- one event
+
+-- the server stands on a connection that was made, with nothing to send, and has met no fault
+pub record IsServing (w : World) : Type 0 where
+  pub out : w.server.out ≡ []
+  pub fine : w.server.input.fault ≡ None
+  pub from : 1 ≤ w.server.server.last
+  pub to : w.server.server.last ≤ length w.links
+
+begun : (w : World) → IsServing w → w ≡ server_joined w w.server w.server.out 0
+begun w h = sym (λ i. record {
+  client = w.client;
+  server = record (w.server) { out = sym h.out i };
+  links = (ap (λ (t : List ℕ). with_link w.links w.server.server.last
+      (record { up = (server_link w).up; down = (server_link w).down ++ t })) h.out
+      ∙ (ap (λ (u : List ℕ). with_link w.links w.server.server.last (record { up = (server_link w).up; down = u }))
+      (append-nil (server_link w).down)
+      ∙ set-get_or w.links (w.server.server.last - 1) no_link)) i;
+  written = w.written;
+})
+
+begun_on : (readers : Readers) (w : World) → IsServing w → after readers (event.Up 0) w ≡ server_joined w w.server w.server.out 0
+begun_on readers w h = not_done readers (event.Up 0) w (never_none w.server.server.on (is_none w.server.input.fault)) ∙ begun w h
+
+some_up : (w : World) (k : ℕ) → may_feed w.server ≡ true → 1 ≤ k → k ≤ length (server_link w).up → can (event.Up k) w ≡ true
+some_up w k may some le =
+    let parts = and_parts _ _ may in
+    and_from _ _ parts.0 (and_from _ _ parts.1 (and_from _ _ (le-leb 1 k some) (le-leb k (length (server_link w).up) le)))
+
+takes_on : (readers : Readers) (w : World) (read : List ℕ) → IsServing w → may_feed w.server ≡ true
+    → take (length read) (server_link w).up ≡ read
+    → after readers (event.Up (length read)) w ≡ server_joined w (serving_fed read w.server) w.server.out (length read)
+takes_on readers w [] h may front =
+    begun_on readers w h ∙ ap (λ (f : Framing). server_joined w (record (w.server) { input = f }) w.server.out 0) (sym (fed_none w.server.input))
+takes_on readers w (x ∷ xs) h may front =
+    let k : ℕ = length (x ∷ xs) in
+    done_now readers (event.Up k) w (some_up w k may (omega arith) (fits (x ∷ xs) (server_link w).up front))
+    ∙ (λ i. record {
+      client = w.client;
+      server = record (w.server) { input = fed w.server.input (front i); out = h.out i };
+      links = sym (ap (λ (t : List ℕ). with_link w.links w.server.server.last
+          (record { up = drop k (server_link w).up; down = (server_link w).down ++ t })) h.out
+          ∙ ap (λ (u : List ℕ). with_link w.links w.server.server.last (record { up = drop k (server_link w).up; down = u }))
+          (append-nil (server_link w).down)) i;
+      written = w.written;
+    })
+
+-- the server answers more
+writes_on : (w : World) (e f : ServerEnd) (more : List ℕ) (k : ℕ) → IsServing w → e.server.last ≡ w.server.server.last
+    → server_writes (server_joined w e e.out k) (record f { out = more })
+    ≡ server_joined w (record f { out = e.out ++ more }) (e.out ++ more) k
+writes_on w e f more k h last = λ i. record {
+  client = w.client;
+  server = record f { out = [] };
+  links = (put_again (λ (l : Link). record l { down = l.down ++ more }) w.links w.server.server.last e.server.last
+      (record { up = drop k (server_link w).up; down = (server_link w).down ++ e.out }) last h.from h.to
+      ∙ ap (λ (d : List ℕ). with_link w.links w.server.server.last (record { up = drop k (server_link w).up; down = d }))
+      (append_assoc (server_link w).down e.out more)) i;
+  written = w.written;
+}
+
+reads_on : (readers : Readers) (w : World) (e : ServerEnd) (k : ℕ) → IsServing w → e.server.last ≡ w.server.server.last
+    → e.input.fault ≡ None → e.server.on ≡ true → is_line (next_of e.input.rest) ≡ true
+    → after readers event.ServerReads (server_joined w e e.out k)
+    ≡ server_joined w (serving_read readers e) (serving_read readers e).out k
+reads_on readers w e k h last fine on is =
+    let f : ServerEnd = serving_read readers (record e { out = [] }) in
+    done_now readers event.ServerReads (server_joined w e e.out k) (and_from _ _ on (and_from _ _ (ap is_none fine) is))
+    ∙ (writes_on w e f f.out k h last
+    ∙ ap (λ (x : ServerEnd). server_joined w x x.out k) (sym (served_more readers e (next_of e.input.rest) is)))
+
+turns_on : (readers : Readers) (w : World) (e : ServerEnd) (k : ℕ) → IsServing w → e.server.last ≡ w.server.server.last
+    → may_turn e.server ≡ true
+    → after readers event.ServerTurn (server_joined w e e.out k) ≡ server_joined w (serving_turned e) (serving_turned e).out k
+turns_on readers w e k h last may =
+    done_now readers event.ServerTurn (server_joined w e e.out k) may
+    ∙ writes_on w e (serving_turned e) (reply_bytes (server_turned e.server).said) k h last
+
+ends_on : (readers : Readers) (w : World) (e : ServerEnd) (k : ℕ) (o : Outcome) → IsServing w → e.server.last ≡ w.server.server.last
+    → may_end e.server.running o ≡ true
+    → after readers (event.Machine o) (server_joined w e e.out k) ≡ server_joined w (serving_machined o e) (serving_machined o e).out k
+ends_on readers w e k o h last may =
+    done_now readers (event.Machine o) (server_joined w e e.out k) may
+    ∙ writes_on w e (serving_machined o e) (reply_bytes (server_machined e.server o).said) k h last
+
+-- ---- what the server has to do
+
+work_more : (readers : Readers) (answer : Job → ℕ → Outcome) (e : Event) (w : World) (es : List Event) → AreWork readers answer true w es
+    → working (ending answer (run_of readers es w)) (run_of readers es w) ≡ Some e → AreWork readers answer true w (es ++ e ∷ [])
+work_more readers answer e w [] h is = (is, tt)
+work_more readers answer e w (f ∷ fs) h is = (h.0, work_more readers answer e (after readers f w) fs h.1 is)
+
+next_turn : (answer : Job → ℕ → Outcome) (w : World) → may_turn w.server.server ≡ true
+    → working (ending answer w) w ≡ Some event.ServerTurn
+next_turn answer w may =
+    let s : Server = w.server.server in
+    ap (λ (o : Option Job). working (ended answer (contact_count s.ledger) o) w) (none_run s.frame s.running (and_parts _ _ may).0)
+    ∙ ap (λ (b : Bool). cond {A = Option Event} b (Some event.ServerTurn) None) may
+
+next_end : (answer : Job → ℕ → Outcome) (w : World) (j : Job) → running_job w.server.server ≡ Some j
+    → working (ending answer w) w ≡ Some (event.Machine (answer j (contact_count w.server.server.ledger)))
+next_end answer w j is = ap (λ (o : Option Job). working (ended answer (contact_count w.server.server.ledger) o) w) is
+
+-- ---- the turn
+
+-- besides: the server stays on its connection and meets no fault
+record Plays (readers : Readers) (answer : Job → ℕ → Outcome) (w : World) (read written : List ℕ) (e : ServerEnd) : Type 0 where
+  pub joined : IsServed readers answer w read written e
+  pub last : e.server.last ≡ w.server.server.last
+  pub fine : e.input.fault ≡ None
+
+-- until it works, the server has done nothing else
+record Hears (readers : Readers) (answer : Job → ℕ → Outcome) (w : World) (read : List ℕ) (e : ServerEnd) : Type 0 where
+  pub reads : ℕ
+  pub leads : run_of readers (events_heard (length read) reads) w ≡ server_joined w e e.out (length read)
+  pub last : e.server.last ≡ w.server.server.last
+  pub fine : e.input.fault ≡ None
+
+abbrev Goes : Readers → (Job → ℕ → Outcome) → Stage → World → List ℕ → List ℕ → ServerEnd → Type 0
+Goes readers answer Taking w read written e = Hears readers answer w read e × (written ≡ [])
+Goes readers answer Reading w read written e = Hears readers answer w read e × (written ≡ [])
+Goes readers answer _ w read written e = Plays readers answer w read written e
+
+-- a server that has only heard has done no work
+heard_only : (readers : Readers) (answer : Job → ℕ → Outcome) (w : World) (read written : List ℕ) (e : ServerEnd)
+    → Hears readers answer w read e → written ≡ [] → IsServed readers answer w read written e
+heard_only readers answer w read written e h none = record {
+  reads = h.reads;
+  work = [];
+  works = tt;
+  leads = run_append readers (events_heard (length read) h.reads) [] w
+      ∙ (h.leads ∙ ap (λ (x : List ℕ). server_joined w e (x ++ e.out) (length read)) (sym none));
+}
+
+-- the world behind what a server has done so far
+so_far : (readers : Readers) (answer : Job → ℕ → Outcome) (w : World) (read : List ℕ) (e : ServerEnd) → (s : IsServed readers answer w read [] e)
+    → run_of readers s.work (run_of readers (events_heard (length read) s.reads) w) ≡ server_joined w e e.out (length read)
+so_far readers answer w read e s = sym (run_append readers (events_heard (length read) s.reads) s.work w) ∙ s.leads
+
+-- one event more of what it has to do
+works_on : (readers : Readers) (answer : Job → ℕ → Outcome) (w : World) (read : List ℕ) (e f : ServerEnd) (next : Event)
+    → (s : IsServed readers answer w read [] e)
+    → working (ending answer (server_joined w e e.out (length read))) (server_joined w e e.out (length read)) ≡ Some next
+    → after readers next (server_joined w e e.out (length read)) ≡ server_joined w f f.out (length read)
+    → IsServed readers answer w read [] f
+works_on readers answer w read e f next s is leads =
+    let heard : List Event = events_heard (length read) s.reads in
+    let there : run_of readers s.work (run_of readers heard w) ≡ server_joined w e e.out (length read) =
+    so_far readers answer w read e s in record {
+      reads = s.reads;
+      work = s.work ++ next ∷ [];
+      works = work_more readers answer next (run_of readers heard w) s.work s.works
+          (subst (λ (v : World). working (ending answer v) v ≡ Some next) (sym there) is);
+      leads = run_append readers heard (s.work ++ next ∷ []) w
+          ∙ (run_append readers s.work (next ∷ []) (run_of readers heard w) ∙ (ap (after readers next) there ∙ leads));
+    }
+
+plays : (readers : Readers) (answer : Job → ℕ → Outcome) (least : ℕ) (w : World) (stage : Stage) (read written : List ℕ) (e : ServerEnd)
+    → IsServing w → AreFit answer → take (length read) (server_link w).up ≡ read
+    → ServerTurn readers answer least w.server stage read written e → Goes readers answer stage w read written e
+plays readers answer least w _ _ _ _ h fit front begins =
+    (record { reads = 0; leads = begun_on readers w h; last = refl; fine = h.fine }, refl)
+plays readers answer least w _ _ _ _ h fit front (takes read may) = (
+  record {
+    reads = 0;
+    leads = takes_on readers w read h may front;
+    last = refl;
+    fine = fed_fine w.server.input.fault w.server.input.rest read ∙ h.fine;
+  },
+  refl,
+)
+plays readers answer least w _ _ _ _ h fit front (has e read t enough) = plays readers answer least w Taking read [] e h fit front t
+plays readers answer least w _ _ _ _ h fit front (reads e read t on is) =
+    let p : Hears readers answer w read e = (plays readers answer least w Reading read [] e h fit front t).0 in (
+      record {
+        reads = suc p.reads;
+        leads = run_append readers (events_heard (length read) p.reads) (event.ServerReads ∷ []) w
+            ∙ (ap (after readers event.ServerReads) p.leads ∙ reads_on readers w e (length read) h p.last p.fine on is);
+        last = served_last readers e (next_of e.input.rest) ∙ p.last;
+        fine = served_fine readers e (next_of e.input.rest) is ∙ p.fine;
+      },
+      refl,
+    )
+plays readers answer least w _ _ _ _ h fit front (knows e read t none) =
+    let p : Hears readers answer w read e = (plays readers answer least w Reading read [] e h fit front t).0 in record {
+      joined = heard_only readers answer w read [] e p refl;
+      last = p.last;
+      fine = p.fine;
+    }
+plays readers answer least w _ _ _ _ h fit front (turns e read t may) =
+    let p : Plays readers answer w read [] e = plays readers answer least w Working read [] e h fit front t in record {
+      joined = works_on readers answer w read e (serving_turned e) event.ServerTurn p.joined
+          (next_turn answer (server_joined w e e.out (length read)) may) (turns_on readers w e (length read) h p.last may);
+      last = (turned_moves e.server).1.last ∙ p.last;
+      fine = p.fine;
+    }
+plays readers answer least w _ _ _ _ h fit front (ends e read j t is) =
+    let p : Plays readers answer w read [] e = plays readers answer least w Working read [] e h fit front t in
+    let o : Outcome = answer j (contact_count e.server.ledger) in record {
+      joined = works_on readers answer w read e (serving_machined o e) (event.Machine o) p.joined
+          (next_end answer (server_joined w e e.out (length read)) j is)
+          (ends_on readers w e (length read) o h p.last
+          (may_end_by e.server.frame e.server.running j o is (fit j (contact_count e.server.ledger))));
+      last = (machined_moves e.server o).1.last ∙ p.last;
+      fine = p.fine;
+    }
+plays readers answer least w _ _ _ _ h fit front (writes e read count t idle none within) =
+    let p : Plays readers answer w read [] e = plays readers answer least w Working read [] e h fit front t in record {
+      joined = record {
+        reads = p.joined.reads;
+        work = p.joined.work;
+        works = p.joined.works;
+        leads = p.joined.leads ∙ ap (λ (x : List ℕ). server_joined w e x (length read)) (sym (take-append-drop count e.out));
+      };
+      last = p.last;
+      fine = p.fine;
+    }
+
+served : (readers : Readers) (answer : Job → ℕ → Outcome) (w : World) (stage : Stage) (read written : List ℕ) (e : ServerEnd)
+    → Goes readers answer stage w read written e → IsServed readers answer w read written e
+served readers answer w Taking read written e g = heard_only readers answer w read written e g.0 g.1
+served readers answer w Reading read written e g = heard_only readers answer w read written e g.0 g.1
+served readers answer w Stage.Sending read written e g = g.joined
+served readers answer w Writing read written e g = g.joined
+served readers answer w Working read written e g = g.joined
+
+-- how far a server's turn has come, in events
+pub serving_joins : (readers : Readers) (answer : Job → ℕ → Outcome) → AreFit answer → (least : ℕ) (w : World) (stage : Stage)
+    (read written : List ℕ) (e : ServerEnd) → w.server.out ≡ [] → w.server.input.fault ≡ None
+    → 1 ≤ w.server.server.last → w.server.server.last ≤ length w.links
+    → take (length read) (server_link w).up ≡ read → ServerTurn readers answer least w.server stage read written e
+    → IsServed readers answer w read written e
+serving_joins readers answer fit least w stage read written e out fine from to front t =
+    served readers answer w stage read written e
+    (plays readers answer least w stage read written e (record { out = out; fine = fine; from = from; to = to }) fit front t)
+
+-- the server leaves its connection behind the turn
+pub serving_leaves : (readers : Readers) (answer : Job → ℕ → Outcome) (w : World) (read written : List ℕ) (e : ServerEnd)
+    → (s : IsServed readers answer w read written e) → e.server.on ≡ true
+    → run_of readers ((events_heard (length read) s.reads ++ s.work) ++ event.ServerLeaves ∷ []) w
+    ≡ record (server_joined w e (written ++ e.out) (length read)) { server = serving_left e }
+serving_leaves readers answer w read written e s on =
+    run_append readers (events_heard (length read) s.reads ++ s.work) (event.ServerLeaves ∷ []) w
+    ∙ (ap (after readers event.ServerLeaves) s.leads
+    ∙ done_now readers event.ServerLeaves (server_joined w e (written ++ e.out) (length read)) on)
+
+-- ---- behind a turn from a world to which events have led
+
+reached_serving : (w : World) → IsCarried w → w.server.server.on ≡ true → IsServing w
+reached_serving w c on =
+    let made = c.wired.made in
+    let numbers = c.wired.numbers in record {
+      out = c.server_out;
+      fine = c.server_fault;
+      from = c.wired.taken on;
+      to = omega (arith, made, numbers);
+    }
+
+-- the events of the whole, and the world behind them
+record Reaches (readers : Readers) (v w : World) : Type 0 where
+  pub events : List Event
+  pub leads : run_of readers events v ≡ w
+
+serving_reaches : (readers : Readers) → AreReaders readers → (answer : Job → ℕ → Outcome) → AreFit answer → (least : ℕ) (w : World)
+    (stage : Stage) (read written : List ℕ) (e : ServerEnd) (program : Meaning) (rack : List (List ℕ)) (window : ℕ) (events : List Event)
+    → IsProgram program → window ≤ 16 → w ≡ run_of readers events (start program rack window) → w.server.server.on ≡ true
+    → take (length read) (server_link w).up ≡ read → ServerTurn readers answer least w.server stage read written e
+    → Reaches readers (start program rack window) (server_joined w e (written ++ e.out) (length read))
+serving_reaches readers are answer fit least w stage read written e program rack window events is few reached on front t =
+    let c : IsCarried w =
+    subst IsCarried (sym reached) (run_carried readers are events (start program rack window) (start_carried program rack window is few)) in
+    let s : IsServed readers answer w read written e = served readers answer w stage read written e
+    (plays readers answer least w stage read written e (reached_serving w c on) fit front t) in
+    let now : List Event = events_heard (length read) s.reads ++ s.work in record {
+      events = events ++ now;
+      leads = run_append readers events now (start program rack window) ∙ (ap (run_of readers now) (sym reached) ∙ s.leads);
+    }
+
+pub serving_sound : (readers : Readers) → AreReaders readers → (answer : Job → ℕ → Outcome) → AreFit answer → (least : ℕ) (w : World)
+    (stage : Stage) (read written : List ℕ) (e : ServerEnd) (program : Meaning) (rack : List (List ℕ)) (window : ℕ) (events : List Event)
+    → IsProgram program → window ≤ 16 → w ≡ run_of readers events (start program rack window) → w.server.server.on ≡ true
+    → take (length read) (server_link w).up ≡ read → ServerTurn readers answer least w.server stage read written e
+    → Sound program.features w.client.client.table.tally.features e.server.ledger
+serving_sound readers are answer fit least w stage read written e program rack window events is few reached on front t =
+    let r = serving_reaches readers are answer fit least w stage read written e program rack window events is few reached on front t in
+    subst (λ (v : World). Sound program.features v.client.client.table.tally.features v.server.server.ledger) r.leads
+    (always_sound readers are program rack window r.events is few)
+
+pub serving_told : (readers : Readers) → AreReaders readers → (answer : Job → ℕ → Outcome) → AreFit answer → (least : ℕ) (w : World)
+    (stage : Stage) (read written : List ℕ) (e : ServerEnd) (program : Meaning) (rack : List (List ℕ)) (window : ℕ) (events : List Event)
+    → IsProgram program → window ≤ 16 → w ≡ run_of readers events (start program rack window) → w.server.server.on ≡ true
+    → take (length read) (server_link w).up ≡ read → ServerTurn readers answer least w.server stage read written e
+    → Told w.client.client.table.tally.counted e.server.ledger w.client.client.last
+serving_told readers are answer fit least w stage read written e program rack window events is few reached on front t =
+    let r = serving_reaches readers are answer fit least w stage read written e program rack window events is few reached on front t in
+    subst (λ (v : World). Told v.client.client.table.tally.counted v.server.server.ledger v.client.client.last) r.leads
+    (always_told readers are program rack window r.events is few)
