@@ -47,7 +47,7 @@ sends_last c [] n = refl
 sends_last c (p ∷ ps) None = refl
 sends_last c (p ∷ ps) (Some n) = refl
 
-sent_last : (e : ClientEnd) → (end_sent e).client.last ≡ e.client.last
+pub sent_last : (e : ClientEnd) → (end_sent e).client.last ≡ e.client.last
 sent_last e = sends_last e.client e.client.table.tally.unsent _
 
 fed_none_by : (fault : Option FramingFault) (rest : List ℕ) → fed_behind fault rest [] ≡ record { rest = rest; fault = fault }

@@ -16,6 +16,7 @@ pub mod ScheduleLines
 pub mod ScheduleNumbers
 pub mod EventLists
 pub mod ServerJoins
+pub mod PumpJoins
 pub mod EventsLeft
 pub mod AllBytes
 pub mod ServerWork

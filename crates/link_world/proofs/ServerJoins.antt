@@ -383,7 +383,7 @@ serving_leaves readers answer w read written e s on =
 
 -- ---- behind a turn from a world to which events have led
 
-reached_serving : (w : World) → IsCarried w → w.server.server.on ≡ true → IsServing w
+pub reached_serving : (w : World) → IsCarried w → w.server.server.on ≡ true → IsServing w
 reached_serving w c on =
     let made = c.wired.made in
     let numbers = c.wired.numbers in record {

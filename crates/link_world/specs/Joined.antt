@@ -1,5 +1,5 @@
 -- Turns over ports as lists of the events of a world (this profile).
-use Rattle.std.specs.Prelude.{◌≡◌, ℕ, zero, suc, true, List, [], ◌∷◌, ◌++◌, length, drop}
+use Rattle.std.specs.Prelude.{◌≡◌, ℕ, zero, suc, Bool, true, false, Option, List, [], ◌∷◌, ◌++◌, length, take, drop}
 use Rattle.protocol_model.specs.Lines.{Readers}
 use Rattle.protocol_model.specs.Ends.{ClientEnd, ServerEnd}
 use Rattle.protocol_model.specs.World.{World, client_link, server_link, with_link, run_of}
@@ -9,7 +9,12 @@ use Rattle.protocol_model.specs.declared.machine.Job.{Job}
 use Rattle.protocol_model.specs.declared.machine.Outcome.{Outcome}
 use Rattle.link_world.specs.Machines.{fits_job}
 use Rattle.link_world.specs.Schedules.{AreWork}
-use Rattle.link_world.specs.Pumps.{Stage, Sending, Writing, Taking, Reading, Working}
+use Rattle.client_core.specs.declared.faults.ClientFault.{ClientFault}
+use Rattle.server_core.specs.declared.faults.ServerFault.{ServerFault}
+use Rattle.link_world.specs.declared.pumps.Moved.{Moved}
+use Rattle.link_world.specs.declared.pumps.PumpFault.{PumpFault}
+use Rattle.link_world.specs.Pumps.{Stage, Sending, Writing, Taking, Reading, Working, ClientMoved, ClientStopped}
+use Rattle.link_world.specs.ServerPumps.{ServerMoved, ServerStopped}
 
 -- one event, so many times
 abbrev pub times : ℕ → Event → List Event
@@ -69,3 +74,62 @@ pub record IsServed (readers : Readers) (answer : Job → ℕ → Outcome) (w : 
   pub work : List Event
   pub works : AreWork readers answer true (run_of readers (events_heard (length read) reads) w) work
   pub leads : run_of readers (events_heard (length read) reads ++ work) w ≡ server_joined w e (written ++ e.out) (length read)
+
+-- ---- both sides
+
+-- both ends of one connection, and the bytes on their way: those that a side's pump has written and the other's has not yet taken
+pub record Pumped : Type 0 where
+  pub client : ClientEnd
+  pub server : ServerEnd
+  pub up : List ℕ
+  pub down : List ℕ
+
+-- the ends of a world, with the bytes that wait on the client's connection
+abbrev pub pumped_of : World → Pumped
+pumped_of w = record { client = w.client; server = w.server; up = (client_link w).up; down = (client_link w).down }
+
+-- behind a call of the client's pump: the bytes that it took are gone from the way down, and those that it wrote have joined the way up
+abbrev pub with_client : Pumped → ClientEnd → (read written : List ℕ) → Pumped
+with_client p e read written = record { client = e; server = p.server; up = p.up ++ written; down = drop (length read) p.down }
+
+-- the same of the server's pump
+abbrev pub with_server : Pumped → ServerEnd → (read written : List ℕ) → Pumped
+with_server p e read written = record { client = p.client; server = e; up = drop (length read) p.up; down = p.down ++ written }
+
+-- calls of both pumps, one after another in any order, each whole or stopped, with whatever bounds and over whatever ports, where the bytes
+-- that a call took are the first of those on their way to its side
+pub data PumpCalls (answer : Job → ℕ → Outcome) (start : Pumped) : Pumped → Type 0 where
+  no_calls : PumpCalls answer start start
+  client_moves : (p : Pumped) (e : ClientEnd) (least : ℕ) (left left_now taken taken_now : Option (List ℕ)) (moved : Moved)
+      → PumpCalls answer start p
+      → (h : ClientMoved least p.client e left left_now taken taken_now moved) → take (length h.read) p.down ≡ h.read
+      → PumpCalls answer start (with_client p e h.read h.written)
+  client_stops : (p : Pumped) (e : ClientEnd) (least bound : ℕ) (left left_now taken taken_now : Option (List ℕ))
+      (fault : PumpFault ClientFault) → PumpCalls answer start p
+      → (h : ClientStopped least bound p.client e left left_now taken taken_now fault) → take (length h.read) p.down ≡ h.read
+      → PumpCalls answer start (with_client p e h.read h.written)
+  server_moves : (p : Pumped) (e : ServerEnd) (least : ℕ) (left left_now taken taken_now : Option (List ℕ)) (moved : Moved)
+      → PumpCalls answer start p
+      → (h : ServerMoved answer least p.server e left left_now taken taken_now moved) → take (length h.read) p.up ≡ h.read
+      → PumpCalls answer start (with_server p e h.read h.written)
+  server_stops : (p : Pumped) (e : ServerEnd) (least bound : ℕ) (left left_now taken taken_now : Option (List ℕ))
+      (fault : PumpFault ServerFault) → PumpCalls answer start p
+      → (h : ServerStopped answer least bound p.server e left left_now taken taken_now fault) → take (length h.read) p.up ≡ h.read
+      → PumpCalls answer start (with_server p e h.read h.written)
+
+-- the bytes on their way from a side are those that wait on the connection; where that side has left, they are the first of these
+abbrev pub AreOnWay : (on : Bool) → (bytes waiting : List ℕ) → Type 0
+AreOnWay true bytes waiting = waiting ≡ bytes
+AreOnWay false bytes waiting = (more : List ℕ) × (waiting ≡ bytes ++ more)
+
+-- a world has both ends, and the bytes on their way wait on its connection
+pub record IsWorldOf (w : World) (p : Pumped) : Type 0 where
+  pub client : w.client ≡ p.client
+  pub server : w.server ≡ p.server
+  pub up : AreOnWay p.client.client.on p.up (client_link w).up
+  pub down : AreOnWay p.server.server.on p.down (client_link w).down
+
+-- a list of events leads a world there
+pub record IsOneWorld (readers : Readers) (w : World) (p : Pumped) : Type 0 where
+  pub events : List Event
+  pub is : IsWorldOf (run_of readers events w) p

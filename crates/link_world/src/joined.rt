@@ -1,6 +1,7 @@
 // The turns of both sides over their ports, in the events of a world. Each function has laws for its contract and does nothing.
 
-ghost use Rattle.std.specs.Prelude.{◌≡◌, ◌≤◌, ℕ, true, None, List, [], ◌∷◌, ◌++◌, length, take};
+ghost use Rattle.std.specs.Prelude.{◌≡◌, ◌≤◌, ℕ, true, Option, None, Some, List, [], ◌∷◌, ◌++◌, length, take};
+ghost use Rattle.std.specs.Io.KnownBytes.{Consumes};
 ghost use Rattle.dmis_program.specs.Meaning.{Meaning};
 ghost use Rattle.dmis_program.specs.Programs.{IsProgram};
 ghost use Rattle.fixed_um.specs.declared.lengths.Point.{Point as OnePoint};
@@ -17,6 +18,7 @@ ghost use Rattle.link_world.specs.Pumps.{Stage, Reading, ClientTurn};
 ghost use Rattle.link_world.specs.ServerPumps.{ServerTurn};
 ghost use Rattle.link_world.specs.Joined.{IsJoined, client_events, client_joined};
 ghost use Rattle.link_world.specs.Joined.{AreFit, IsServed, events_heard, server_joined};
+ghost use Rattle.link_world.specs.Joined.{Pumped, pumped_of, PumpCalls, IsOneWorld};
 
 /// A client's turn over its ports is a list of events of the world. For every world whose client has nothing to send and stands on a
 /// connection that was made, and every turn of that client, as `client_turns` makes it, in which the bytes that came in are the first that
@@ -116,4 +118,45 @@ pub fn turns_of_a_server_are_events()
         → ServerTurn readers answer least w.server stage read written e
         → Told w.client.client.table.tally.counted e.server.ledger w.client.client.last }
     ensures fit { (shifts : List OnePoint) → AreFit (simulated shifts) }
+{}
+
+/// Two pumps on one connection are a world. For every world to which a list of events has led and whose sides stand on one connection, every
+/// machine whose answers fit the jobs, and every list of calls of `client_turns` and `serve_turns` from there, in any order, each whole or
+/// stopped, with whatever bounds and ports, in which the bytes that a call took are the first of those on their way to its side (what waited
+/// there at first, and what the other side's calls have written since):
+///
+/// - `world`: one list of events leads the world to one with both sides as the calls have left them; what is on its way up and down waits on
+///   their connection, and where a side has left, what it had not yet written may stand behind that;
+/// - `sound`, `told`: so what `every_run` claims holds of the client and the server behind the calls;
+/// - `front`: a source that holds a front of the bytes on their way gives the first of them.
+#[tactic(auto, using(crate::proofs::PumpJoins::pumps_join, crate::proofs::PumpJoins::pumps_sound, crate::proofs::PumpJoins::pumps_told, crate::proofs::PumpJoins::source_front))]
+pub fn two_pumps_are_a_world()
+    ensures world { (readers : Readers) → AreReaders readers
+        → (answer : OneJob → ℕ → OneOutcome) → AreFit answer → (w : World) (p : Pumped)
+        (program : Meaning) (rack : List (List ℕ)) (window : ℕ) (events : List OneEvent)
+        → IsProgram program → window ≤ 16
+        → w ≡ run_of readers events (start program rack window)
+        → w.client.client.on ≡ true → w.server.server.on ≡ true
+        → w.server.server.last ≡ w.client.client.last
+        → PumpCalls answer (pumped_of w) p → IsOneWorld readers w p }
+    ensures sound { (readers : Readers) → AreReaders readers
+        → (answer : OneJob → ℕ → OneOutcome) → AreFit answer → (w : World) (p : Pumped)
+        (program : Meaning) (rack : List (List ℕ)) (window : ℕ) (events : List OneEvent)
+        → IsProgram program → window ≤ 16
+        → w ≡ run_of readers events (start program rack window)
+        → w.client.client.on ≡ true → w.server.server.on ≡ true
+        → w.server.server.last ≡ w.client.client.last
+        → PumpCalls answer (pumped_of w) p
+        → Sound program.features p.client.client.table.tally.features p.server.server.ledger }
+    ensures told { (readers : Readers) → AreReaders readers
+        → (answer : OneJob → ℕ → OneOutcome) → AreFit answer → (w : World) (p : Pumped)
+        (program : Meaning) (rack : List (List ℕ)) (window : ℕ) (events : List OneEvent)
+        → IsProgram program → window ≤ 16
+        → w ≡ run_of readers events (start program rack window)
+        → w.client.client.on ≡ true → w.server.server.on ≡ true
+        → w.server.server.last ≡ w.client.client.last
+        → PumpCalls answer (pumped_of w) p
+        → Told p.client.client.table.tally.counted p.server.server.ledger p.client.client.last }
+    ensures front { (left more read : List ℕ) (left_now : Option (List ℕ))
+        → Consumes (Some left) left_now read → take (length read) (left ++ more) ≡ read }
 {}

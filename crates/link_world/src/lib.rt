@@ -38,7 +38,9 @@ mod world;
 
 pub use client_pump::client_turns;
 pub use faults::{NewFault, WorldFault};
-pub use joined::{turns_of_a_client_are_events, turns_of_a_server_are_events};
+pub use joined::{
+    turns_of_a_client_are_events, turns_of_a_server_are_events, two_pumps_are_a_world,
+};
 pub use laws::homed_servers_are_not_homed_again;
 pub use machines::{Machine, Simulated};
 pub use protocol_model::{Event, Outcome};
