@@ -17,6 +17,7 @@ pub mod ScheduleNumbers
 pub mod EventLists
 pub mod ServerJoins
 pub mod PumpJoins
+pub mod PeerJoins
 pub mod EventsLeft
 pub mod AllBytes
 pub mod ServerWork

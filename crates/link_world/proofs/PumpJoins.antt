@@ -28,7 +28,7 @@ use Rattle.protocol_model.specs.Client.{first_due}
 use Rattle.protocol_model.specs.Open.{is_asking, count_open}
 use Rattle.protocol_model.specs.Server.{running_job}
 use Rattle.server_core.specs.Serving.{may_turn}
-use Rattle.protocol_model.specs.Ends.{ClientEnd, end_sent, end_read, end_left, held_under, given_point, given_homed, given_for, given_under}
+use Rattle.protocol_model.specs.Ends.{ClientEnd, end_left, held_under, given_point, given_homed, given_for, given_under}
 use Rattle.protocol_model.specs.Ends.{response_read, line_read, front_read}
 use Rattle.protocol_model.specs.Ends.{ServerEnd, front_served, serving_left}
 use Rattle.protocol_model.specs.World.{World, Link, client_link, server_link, link_of, with_link, start, run_of}

@@ -1,5 +1,5 @@
 -- A server's turn over its ports is a list of events of the world.
-use Rattle.std.proofs.Common.{◌≡◌, ℕ, suc, ◌-◌, ◌≤◌, Bool, true, false, cond, ◌&&◌, not, List, [], ◌∷◌, ◌++◌, length, take, drop}
+use Rattle.std.proofs.Common.{◌≡◌, ℕ, suc, ◌-◌, ◌≤◌, Bool, true, false, cond, List, [], ◌∷◌, ◌++◌, length, take, drop}
 use Rattle.std.proofs.Common.{refl, sym, ◌∙◌, ap, subst, arith, append_assoc, append-nil, is_none, Option, Some, None, Ok, Err}
 use Rattle.std.proofs.lemmas.Bool.{false≢true, and_parts, and_from, le-leb}
 use Rattle.std.proofs.lemmas.List.{set-get_or, take-append-drop}
@@ -18,12 +18,12 @@ use Rattle.dmis_program.specs.Programs.{IsProgram}
 use Rattle.dmis_program.specs.Meaning.{Meaning}
 use Rattle.protocol_model.specs.Lines.{Readers, AreReaders, reply_bytes, reading_of}
 use Rattle.protocol_model.specs.Claims.{Sound, Told}
-use Rattle.protocol_model.specs.Server.{Server, Answer, running_job, job_run, job_of, may_end, has_outcome, in_volume, offset}
+use Rattle.protocol_model.specs.Server.{Server, running_job, job_run, job_of, may_end, has_outcome, in_volume, offset}
 use Rattle.protocol_model.specs.Server.{server_turned, server_machined}
-use Rattle.protocol_model.specs.Ends.{ServerEnd, front_served, serving_fed, serving_read, serving_turned, serving_machined, serving_taken}
+use Rattle.protocol_model.specs.Ends.{ServerEnd, front_served, serving_fed, serving_read, serving_turned, serving_machined}
 use Rattle.protocol_model.specs.Ends.{serving_left}
-use Rattle.protocol_model.specs.World.{World, Link, no_link, server_link, link_of, with_link, has_some, is_line, start, can, after, run_of}
-use Rattle.protocol_model.specs.World.{happens, server_writes, moved_up}
+use Rattle.protocol_model.specs.World.{World, Link, no_link, server_link, with_link, is_line, start, can, after, run_of}
+use Rattle.protocol_model.specs.World.{server_writes}
 use Rattle.protocol_model.specs.declared.events.Event.{Event}
 use Rattle.protocol_model.specs.declared.events.Event.TheVariants as event
 use Rattle.protocol_model.specs.declared.lines.Line.{Line}
@@ -35,11 +35,11 @@ use Rattle.protocol_model.proofs.invariant.Moves.{read_moves, turned_moves, mach
 use Rattle.protocol_model.proofs.whole_run.Carrying.{IsCarried}
 use Rattle.protocol_model.proofs.whole_run.WholeRun.{run_carried, start_carried, always_sound, always_told}
 use Rattle.server_core.specs.Serving.{may_feed, may_turn}
-use Rattle.link_world.specs.Machines.{fits_job, met, simulated}
+use Rattle.link_world.specs.Machines.{fits_job, simulated}
 use Rattle.link_world.specs.Schedules.{AreWork, ending, ended, working}
 use Rattle.link_world.specs.Pumps.{Stage, Writing, Taking, Reading, Working}
 use Rattle.link_world.specs.ServerPumps.{ServerTurn, begins, takes, has, reads, knows, turns, ends, writes}
-use Rattle.link_world.specs.Joined.{times, AreFit, events_heard, server_joined, IsServed}
+use Rattle.link_world.specs.Joined.{AreFit, events_heard, server_joined, IsServed}
 use Rattle.link_world.proofs.EventLists.{run_append, done_now, not_done}
 use Rattle.link_world.proofs.ClientJoins.{put_again, fed_none, never_none, fits}
 

@@ -9,6 +9,7 @@ use Rattle.protocol_model.specs.declared.machine.Job.{Job}
 use Rattle.protocol_model.specs.declared.machine.Outcome.{Outcome}
 use Rattle.link_world.specs.Machines.{fits_job}
 use Rattle.link_world.specs.Schedules.{AreWork}
+use Rattle.client_core.specs.Calls.{Call, behind_call, behind_calls}
 use Rattle.client_core.specs.declared.faults.ClientFault.{ClientFault}
 use Rattle.server_core.specs.declared.faults.ServerFault.{ServerFault}
 use Rattle.link_world.specs.declared.pumps.Moved.{Moved}
@@ -133,3 +134,20 @@ pub record IsWorldOf (w : World) (p : Pumped) : Type 0 where
 pub record IsOneWorld (readers : Readers) (w : World) (p : Pumped) : Type 0 where
   pub events : List Event
   pub is : IsWorldOf (run_of readers events w) p
+
+-- ---- against any peer
+
+-- calls of a client, one after another: those of its pump, each whole or stopped, with whatever bounds and over whatever ports, and between
+-- them its own, as one that comes to the next connection
+pub data ClientCalls (readers : Readers) (start : ClientEnd) : ClientEnd → Type 0 where
+  not_called : ClientCalls readers start start
+  moves : (e f : ClientEnd) (least : ℕ) (left left_now taken taken_now : Option (List ℕ)) (moved : Moved) → ClientCalls readers start e
+      → ClientMoved least e f left left_now taken taken_now moved → ClientCalls readers start f
+  stops : (e f : ClientEnd) (least bound : ℕ) (left left_now taken taken_now : Option (List ℕ)) (fault : PumpFault ClientFault)
+      → ClientCalls readers start e → ClientStopped least bound e f left left_now taken taken_now fault → ClientCalls readers start f
+  called : (e : ClientEnd) (call : Call) → ClientCalls readers start e → ClientCalls readers start (behind_call readers call e)
+
+-- a list of a client's own calls leads there
+pub record AreCalls (readers : Readers) (start e : ClientEnd) : Type 0 where
+  pub calls : List Call
+  pub lead : e ≡ behind_calls readers calls start

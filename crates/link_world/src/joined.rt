@@ -2,11 +2,13 @@
 
 ghost use Rattle.std.specs.Prelude.{◌≡◌, ◌≤◌, ℕ, true, Option, None, Some, List, [], ◌∷◌, ◌++◌, length, take};
 ghost use Rattle.std.specs.Io.KnownBytes.{Consumes};
+ghost use Rattle.client_core.specs.Clients.{are_ours};
+ghost use Rattle.contact_ledger.specs.declared.features.Feature.{Feature as OneFeature};
 ghost use Rattle.dmis_program.specs.Meaning.{Meaning};
 ghost use Rattle.dmis_program.specs.Programs.{IsProgram};
 ghost use Rattle.fixed_um.specs.declared.lengths.Point.{Point as OnePoint};
 ghost use Rattle.protocol_model.specs.Claims.{Sound, Told};
-ghost use Rattle.protocol_model.specs.Ends.{ClientEnd, ServerEnd, end_left, serving_left};
+ghost use Rattle.protocol_model.specs.Ends.{ClientEnd, ServerEnd, new_client_end, end_left, serving_left};
 ghost use Rattle.protocol_model.specs.Lines.{Readers, AreReaders};
 ghost use Rattle.protocol_model.specs.World.{World, client_link, server_link, start, run_of};
 ghost use Rattle.protocol_model.specs.declared.events.Event.{Event as OneEvent};
@@ -18,7 +20,7 @@ ghost use Rattle.link_world.specs.Pumps.{Stage, Reading, ClientTurn};
 ghost use Rattle.link_world.specs.ServerPumps.{ServerTurn};
 ghost use Rattle.link_world.specs.Joined.{IsJoined, client_events, client_joined};
 ghost use Rattle.link_world.specs.Joined.{AreFit, IsServed, events_heard, server_joined};
-ghost use Rattle.link_world.specs.Joined.{Pumped, pumped_of, PumpCalls, IsOneWorld};
+ghost use Rattle.link_world.specs.Joined.{Pumped, pumped_of, PumpCalls, IsOneWorld, ClientCalls, AreCalls};
 
 /// A client's turn over its ports is a list of events of the world. For every world whose client has nothing to send and stands on a
 /// connection that was made, and every turn of that client, as `client_turns` makes it, in which the bytes that came in are the first that
@@ -159,4 +161,22 @@ pub fn two_pumps_are_a_world()
         → Told p.client.client.table.tally.counted p.server.server.ledger p.client.client.last }
     ensures front { (left more read : List ℕ) (left_now : Option (List ℕ))
         → Consumes (Some left) left_now read → take (length read) (left ++ more) ≡ read }
+{}
+
+/// A client under its pump holds the first features of its program, whatever its peer sends. Behind every list of calls of `client_turns`,
+/// each whole or stopped, with whatever bounds and over whatever ports, and of the client's own calls between them:
+///
+/// - `calls`: the client is as a list of its own calls leaves it, so that all that `client_core::whatever_the_peer_sends` says of such lists
+///   holds of it;
+/// - `features`: where it began with a program and features of it that were kept, those that it holds are the first of the program, by
+///   their labels and their counts of points.
+#[tactic(auto, using(crate::proofs::PeerJoins::pumped_calls, crate::proofs::PeerJoins::pumped_features))]
+pub fn a_pumped_client_holds_first_features()
+    ensures calls { (readers : Readers) → AreReaders readers → (first e : ClientEnd)
+        → ClientCalls readers first e → AreCalls readers first e }
+    ensures features { (readers : Readers) → AreReaders readers
+        → (program : Meaning) (kept : List OneFeature) (window : ℕ) (e : ClientEnd)
+        → IsProgram program → are_ours program.features kept ≡ true
+        → ClientCalls readers (new_client_end program kept window) e
+        → are_ours program.features e.client.table.tally.features ≡ true }
 {}

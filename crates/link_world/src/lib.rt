@@ -39,7 +39,8 @@ mod world;
 pub use client_pump::client_turns;
 pub use faults::{NewFault, WorldFault};
 pub use joined::{
-    turns_of_a_client_are_events, turns_of_a_server_are_events, two_pumps_are_a_world,
+    a_pumped_client_holds_first_features, turns_of_a_client_are_events,
+    turns_of_a_server_are_events, two_pumps_are_a_world,
 };
 pub use laws::homed_servers_are_not_homed_again;
 pub use machines::{Machine, Simulated};
