@@ -15,6 +15,7 @@ pub mod Numbering
 pub mod ScheduleLines
 pub mod ScheduleNumbers
 pub mod EventLists
+pub mod TurnJoins
 pub mod ServerJoins
 pub mod PumpJoins
 pub mod PeerJoins

@@ -51,7 +51,7 @@ use Rattle.link_world.specs.Pumps.{Stage, Sending, Writing, Taking, Reading, Wor
 use Rattle.link_world.specs.Pumps as client_turn
 use Rattle.link_world.specs.ServerPumps.{ServerTurn, ServerMoved, ServerStopped}
 use Rattle.link_world.specs.ServerPumps as server_turn
-use Rattle.link_world.specs.Joined.{client_events, client_joined, IsJoined, AreFit, events_heard, server_joined, IsServed}
+use Rattle.link_world.specs.Joined.{IsClientTurn, IsServerTurn, TurnLeads, client_joined, AreFit, server_joined}
 use Rattle.link_world.specs.Joined.{Pumped, pumped_of, with_client, with_server, PumpCalls, no_calls, client_moves, client_stops, server_moves}
 use Rattle.link_world.specs.Joined.{server_stops, AreOnWay, IsWorldOf, IsOneWorld}
 use Rattle.link_world.proofs.EventLists.{run_append}
@@ -329,7 +329,7 @@ server_rests p e read written same read_none written_none = λ i. record {
 
 -- the client's turn, from a connection on which it stands
 record ClientSteps (readers : Readers) (v : World) (p : Pumped) (stage : Stage) (read written : List ℕ) (e : ClientEnd) : Type 0 where
-  pub joined : IsJoined readers v stage read written e
+  pub joined : TurnLeads readers (IsClientTurn readers (length read)) true v (client_joined v e (written ++ e.out) (length read))
   pub stays : Stays p.client.client.on e.client.on p.client.client.last e.client.last
   pub out : stage ≡ Reading → e.out ≡ []
 
@@ -376,7 +376,7 @@ client_moved_on readers are v p c s least read written e on front t =
     let last : e.client.last ≡ v.client.client.last = client_last_now v p e s g.stays.last in
     let link = client_link_now v p e (written ++ e.out) (length read) c s g.stays.last in
     let now : World = client_joined v e (written ++ e.out) (length read) in record {
-      events = client_events Reading g.joined.sends (length read) g.joined.reads;
+      events = g.joined.events;
       now = now;
       leads = g.joined.leads;
       stands = record {
@@ -404,9 +404,9 @@ client_stopped_on readers are v p c s least stage read written e on front t =
     let last : e.client.last ≡ v.client.client.last = client_last_now v p e s g.stays.last in
     let link = client_link_now v p e (written ++ e.out) (length read) c s g.stays.last in
     let now : World = record (client_joined v e (written ++ e.out) (length read)) { client = end_left e } in record {
-      events = client_events stage g.joined.sends (length read) g.joined.reads ++ event.ClientLeaves ∷ [];
+      events = g.joined.events ++ event.ClientLeaves ∷ [];
       now = now;
-      leads = turn_leaves readers v stage read written e g.joined (g.stays.on ∙ on);
+      leads = turn_leaves readers v g.joined.events e (written ++ e.out) (length read) g.joined.leads (g.stays.on ∙ on);
       stands = record {
         is = record {
           client = refl;
@@ -458,7 +458,7 @@ client_stopped readers are v p c s least stage read written e false off front t 
 -- the server's turn
 record ServerSteps (readers : Readers) (answer : Job → ℕ → Outcome) (v : World) (p : Pumped) (read written : List ℕ) (e : ServerEnd) : Type 0
   where
-    pub joined : IsServed readers answer v read written e
+    pub joined : TurnLeads readers (IsServerTurn readers answer (length read)) true v (server_joined v e (written ++ e.out) (length read))
     pub stays : Stays p.server.server.on e.server.on p.server.server.last e.server.last
 
 server_goes : (readers : Readers) (answer : Job → ℕ → Outcome) → AreFit answer → (v : World) (p : Pumped) → IsCarried v → Stands v p
@@ -501,7 +501,7 @@ server_moved_on readers answer fit v p c s least stage read written e on out fro
     let still_on : e.server.on ≡ true = g.stays.on ∙ on in
     let link = server_link_now v p e (written ++ e.out) (length read) c s in
     let now : World = server_joined v e (written ++ e.out) (length read) in record {
-      events = events_heard (length read) g.joined.reads ++ g.joined.work;
+      events = g.joined.events;
       now = now;
       leads = g.joined.leads;
       stands = record {
@@ -529,9 +529,9 @@ server_stopped_on readers answer fit v p c s least stage read written e on front
     let g : ServerSteps readers answer v p read written e = server_goes readers answer fit v p c s least stage read written e on front t in
     let link = server_link_now v p e (written ++ e.out) (length read) c s in
     let now : World = record (server_joined v e (written ++ e.out) (length read)) { server = serving_left e } in record {
-      events = (events_heard (length read) g.joined.reads ++ g.joined.work) ++ event.ServerLeaves ∷ [];
+      events = g.joined.events ++ event.ServerLeaves ∷ [];
       now = now;
-      leads = serving_leaves readers answer v read written e g.joined (g.stays.on ∙ on);
+      leads = serving_leaves readers v g.joined.events e (written ++ e.out) (length read) g.joined.leads (g.stays.on ∙ on);
       stands = record {
         is = record {
           client = s.is.client;

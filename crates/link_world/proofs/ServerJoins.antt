@@ -1,5 +1,5 @@
 -- A server's turn over its ports is a list of events of the world.
-use Rattle.std.proofs.Common.{◌≡◌, ℕ, suc, ◌-◌, ◌≤◌, Bool, true, false, cond, List, [], ◌∷◌, ◌++◌, length, take, drop}
+use Rattle.std.proofs.Common.{◌≡◌, ℕ, suc, ◌-◌, ◌≤◌, Bool, true, false, ◌&&◌, cond, List, [], ◌∷◌, ◌++◌, length, take, drop}
 use Rattle.std.proofs.Common.{refl, sym, ◌∙◌, ap, subst, arith, append_assoc, append-nil, is_none, Option, Some, None, Ok, Err}
 use Rattle.std.proofs.lemmas.Bool.{false≢true, and_parts, and_from, le-leb}
 use Rattle.std.proofs.lemmas.List.{set-get_or, take-append-drop}
@@ -39,8 +39,9 @@ use Rattle.link_world.specs.Machines.{fits_job, simulated}
 use Rattle.link_world.specs.Schedules.{AreWork, ending, ended, working}
 use Rattle.link_world.specs.Pumps.{Stage, Writing, Taking, Reading, Working}
 use Rattle.link_world.specs.ServerPumps.{ServerTurn, begins, takes, has, reads, knows, turns, ends, writes}
-use Rattle.link_world.specs.Joined.{AreFit, events_heard, server_joined, IsServed}
+use Rattle.link_world.specs.Joined.{IsServerTurn, TurnLeads, AreFit, server_joined}
 use Rattle.link_world.proofs.EventLists.{run_append, done_now, not_done}
+use Rattle.link_world.proofs.TurnJoins.{SoFar, not_yet, once_more, Worked, no_work, more_work, all_worked, heard_only, served_whole}
 use Rattle.link_world.proofs.ClientJoins.{put_again, fed_none, never_none, fits}
 
 -- ---- what a machine answers
@@ -222,11 +223,6 @@ ends_on readers w e k o h last may =
 
 -- ---- what the server has to do
 
-work_more : (readers : Readers) (answer : Job → ℕ → Outcome) (e : Event) (w : World) (es : List Event) → AreWork readers answer true w es
-    → working (ending answer (run_of readers es w)) (run_of readers es w) ≡ Some e → AreWork readers answer true w (es ++ e ∷ [])
-work_more readers answer e w [] h is = (is, tt)
-work_more readers answer e w (f ∷ fs) h is = (h.0, work_more readers answer e (after readers f w) fs h.1 is)
-
 next_turn : (answer : Job → ℕ → Outcome) (w : World) → may_turn w.server.server ≡ true
     → working (ending answer w) w ≡ Some event.ServerTurn
 next_turn answer w may =
@@ -238,148 +234,187 @@ next_end : (answer : Job → ℕ → Outcome) (w : World) (j : Job) → running_
     → working (ending answer w) w ≡ Some (event.Machine (answer j (contact_count w.server.server.ledger)))
 next_end answer w j is = ap (λ (o : Option Job). working (ended answer (contact_count w.server.server.ledger) o) w) is
 
+next_none : (answer : Job → ℕ → Outcome) (w : World) → may_turn w.server.server ≡ false → running_job w.server.server ≡ None
+    → working (ending answer w) w ≡ None
+next_none answer w idle none =
+    ap (λ (o : Option Job). working (ended answer (contact_count w.server.server.ledger) o) w) none
+    ∙ ap (λ (b : Bool). cond {A = Option Event} b (Some event.ServerTurn) None) idle
+
 -- ---- the turn
 
 -- besides: the server stays on its connection and meets no fault
-record Plays (readers : Readers) (answer : Job → ℕ → Outcome) (w : World) (read written : List ℕ) (e : ServerEnd) : Type 0 where
-  pub joined : IsServed readers answer w read written e
+record Hears (readers : Readers) (w : World) (read written : List ℕ) (e : ServerEnd) : Type 0 where
+  pub fed : World
+  pub came : after readers (event.Up (length read)) w ≡ fed
+  pub so_far : SoFar readers event.ServerReads fed (server_joined w e e.out (length read))
+  pub none : written ≡ []
   pub last : e.server.last ≡ w.server.server.last
   pub fine : e.input.fault ≡ None
 
--- until it works, the server has done nothing else
-record Hears (readers : Readers) (answer : Job → ℕ → Outcome) (w : World) (read : List ℕ) (e : ServerEnd) : Type 0 where
-  pub reads : ℕ
-  pub leads : run_of readers (events_heard (length read) reads) w ≡ server_joined w e e.out (length read)
+-- and it has read all
+record Works (readers : Readers) (answer : Job → ℕ → Outcome) (w : World) (read written : List ℕ) (e : ServerEnd) : Type 0 where
+  pub fed : World
+  pub came : after readers (event.Up (length read)) w ≡ fed
+  pub first : ServerEnd
+  pub heard : SoFar readers event.ServerReads fed (server_joined w first first.out (length read))
+  pub all : can event.ServerReads (server_joined w first first.out (length read)) ≡ false
+  pub so_far : Worked readers answer (server_joined w first first.out (length read)) (server_joined w e (written ++ e.out) (length read))
   pub last : e.server.last ≡ w.server.server.last
-  pub fine : e.input.fault ≡ None
 
-abbrev Goes : Readers → (Job → ℕ → Outcome) → Stage → World → List ℕ → List ℕ → ServerEnd → Type 0
-Goes readers answer Taking w read written e = Hears readers answer w read e × (written ≡ [])
-Goes readers answer Reading w read written e = Hears readers answer w read e × (written ≡ [])
-Goes readers answer _ w read written e = Plays readers answer w read written e
+-- and where it writes it has done all
+record Whole (readers : Readers) (answer : Job → ℕ → Outcome) (w : World) (read written : List ℕ) (e : ServerEnd) : Type 0 where
+  pub works : Works readers answer w read written e
+  pub done : working (ending answer (server_joined w e (written ++ e.out) (length read))) (server_joined w e (written ++ e.out) (length read))
+      ≡ None
 
--- a server that has only heard has done no work
-heard_only : (readers : Readers) (answer : Job → ℕ → Outcome) (w : World) (read written : List ℕ) (e : ServerEnd)
-    → Hears readers answer w read e → written ≡ [] → IsServed readers answer w read written e
-heard_only readers answer w read written e h none = record {
-  reads = h.reads;
-  work = [];
-  works = tt;
-  leads = run_append readers (events_heard (length read) h.reads) [] w
-      ∙ (h.leads ∙ ap (λ (x : List ℕ). server_joined w e (x ++ e.out) (length read)) (sym none));
-}
-
--- the world behind what a server has done so far
-so_far : (readers : Readers) (answer : Job → ℕ → Outcome) (w : World) (read : List ℕ) (e : ServerEnd) → (s : IsServed readers answer w read [] e)
-    → run_of readers s.work (run_of readers (events_heard (length read) s.reads) w) ≡ server_joined w e e.out (length read)
-so_far readers answer w read e s = sym (run_append readers (events_heard (length read) s.reads) s.work w) ∙ s.leads
-
--- one event more of what it has to do
-works_on : (readers : Readers) (answer : Job → ℕ → Outcome) (w : World) (read : List ℕ) (e f : ServerEnd) (next : Event)
-    → (s : IsServed readers answer w read [] e)
-    → working (ending answer (server_joined w e e.out (length read))) (server_joined w e e.out (length read)) ≡ Some next
-    → after readers next (server_joined w e e.out (length read)) ≡ server_joined w f f.out (length read)
-    → IsServed readers answer w read [] f
-works_on readers answer w read e f next s is leads =
-    let heard : List Event = events_heard (length read) s.reads in
-    let there : run_of readers s.work (run_of readers heard w) ≡ server_joined w e e.out (length read) =
-    so_far readers answer w read e s in record {
-      reads = s.reads;
-      work = s.work ++ next ∷ [];
-      works = work_more readers answer next (run_of readers heard w) s.work s.works
-          (subst (λ (v : World). working (ending answer v) v ≡ Some next) (sym there) is);
-      leads = run_append readers heard (s.work ++ next ∷ []) w
-          ∙ (run_append readers s.work (next ∷ []) (run_of readers heard w) ∙ (ap (after readers next) there ∙ leads));
-    }
+abbrev Goes : Readers → (Job → ℕ → Outcome) → World → Stage → List ℕ → List ℕ → ServerEnd → Type 0
+Goes readers answer w Taking read written e = Hears readers w read written e
+Goes readers answer w Reading read written e = Hears readers w read written e
+Goes readers answer w Writing read written e = Whole readers answer w read written e
+Goes readers answer w _ read written e = Works readers answer w read written e
 
 plays : (readers : Readers) (answer : Job → ℕ → Outcome) (least : ℕ) (w : World) (stage : Stage) (read written : List ℕ) (e : ServerEnd)
     → IsServing w → AreFit answer → take (length read) (server_link w).up ≡ read
-    → ServerTurn readers answer least w.server stage read written e → Goes readers answer stage w read written e
-plays readers answer least w _ _ _ _ h fit front begins =
-    (record { reads = 0; leads = begun_on readers w h; last = refl; fine = h.fine }, refl)
-plays readers answer least w _ _ _ _ h fit front (takes read may) = (
-  record {
-    reads = 0;
-    leads = takes_on readers w read h may front;
-    last = refl;
-    fine = fed_fine w.server.input.fault w.server.input.rest read ∙ h.fine;
-  },
-  refl,
-)
+    → ServerTurn readers answer least w.server stage read written e → Goes readers answer w stage read written e
+plays readers answer least w _ _ _ _ h fit front begins = record {
+  fed = server_joined w w.server w.server.out 0;
+  came = begun_on readers w h;
+  so_far = not_yet readers event.ServerReads (server_joined w w.server w.server.out 0) (server_joined w w.server w.server.out 0) refl;
+  none = refl;
+  last = refl;
+  fine = h.fine;
+}
+plays readers answer least w _ _ _ _ h fit front (takes read may) =
+    let v : World = server_joined w (serving_fed read w.server) w.server.out (length read) in record {
+      fed = v;
+      came = takes_on readers w read h may front;
+      so_far = not_yet readers event.ServerReads v v refl;
+      none = refl;
+      last = refl;
+      fine = fed_fine w.server.input.fault w.server.input.rest read ∙ h.fine;
+    }
 plays readers answer least w _ _ _ _ h fit front (has e read t enough) = plays readers answer least w Taking read [] e h fit front t
 plays readers answer least w _ _ _ _ h fit front (reads e read t on is) =
-    let p : Hears readers answer w read e = (plays readers answer least w Reading read [] e h fit front t).0 in (
-      record {
-        reads = suc p.reads;
-        leads = run_append readers (events_heard (length read) p.reads) (event.ServerReads ∷ []) w
-            ∙ (ap (after readers event.ServerReads) p.leads ∙ reads_on readers w e (length read) h p.last p.fine on is);
-        last = served_last readers e (next_of e.input.rest) ∙ p.last;
-        fine = served_fine readers e (next_of e.input.rest) is ∙ p.fine;
-      },
-      refl,
-    )
+    let p : Hears readers w read [] e = plays readers answer least w Reading read [] e h fit front t in record {
+      fed = p.fed;
+      came = p.came;
+      so_far = once_more readers event.ServerReads p.fed (server_joined w e e.out (length read))
+          (server_joined w (serving_read readers e) (serving_read readers e).out (length read)) p.so_far
+          (and_from _ _ on (and_from _ _ (ap is_none p.fine) is)) (reads_on readers w e (length read) h p.last p.fine on is);
+      none = refl;
+      last = served_last readers e (next_of e.input.rest) ∙ p.last;
+      fine = served_fine readers e (next_of e.input.rest) is ∙ p.fine;
+    }
 plays readers answer least w _ _ _ _ h fit front (knows e read t none) =
-    let p : Hears readers answer w read e = (plays readers answer least w Reading read [] e h fit front t).0 in record {
-      joined = heard_only readers answer w read [] e p refl;
+    let p : Hears readers w read [] e = plays readers answer least w Reading read [] e h fit front t in
+    let v : World = server_joined w e e.out (length read) in record {
+      fed = p.fed;
+      came = p.came;
+      first = e;
+      heard = p.so_far;
+      all = ap (λ (f : Front). e.server.on && (is_none e.input.fault && is_line f)) none
+          ∙ never_none e.server.on (is_none e.input.fault);
+      so_far = no_work readers answer v v refl;
       last = p.last;
-      fine = p.fine;
     }
 plays readers answer least w _ _ _ _ h fit front (turns e read t may) =
-    let p : Plays readers answer w read [] e = plays readers answer least w Working read [] e h fit front t in record {
-      joined = works_on readers answer w read e (serving_turned e) event.ServerTurn p.joined
+    let p : Works readers answer w read [] e = plays readers answer least w Working read [] e h fit front t in record {
+      fed = p.fed;
+      came = p.came;
+      first = p.first;
+      heard = p.heard;
+      all = p.all;
+      so_far = more_work readers answer event.ServerTurn (server_joined w p.first p.first.out (length read))
+          (server_joined w e e.out (length read)) (server_joined w (serving_turned e) (serving_turned e).out (length read)) p.so_far
           (next_turn answer (server_joined w e e.out (length read)) may) (turns_on readers w e (length read) h p.last may);
       last = (turned_moves e.server).1.last ∙ p.last;
-      fine = p.fine;
     }
 plays readers answer least w _ _ _ _ h fit front (ends e read j t is) =
-    let p : Plays readers answer w read [] e = plays readers answer least w Working read [] e h fit front t in
+    let p : Works readers answer w read [] e = plays readers answer least w Working read [] e h fit front t in
     let o : Outcome = answer j (contact_count e.server.ledger) in record {
-      joined = works_on readers answer w read e (serving_machined o e) (event.Machine o) p.joined
+      fed = p.fed;
+      came = p.came;
+      first = p.first;
+      heard = p.heard;
+      all = p.all;
+      so_far = more_work readers answer (event.Machine o) (server_joined w p.first p.first.out (length read))
+          (server_joined w e e.out (length read)) (server_joined w (serving_machined o e) (serving_machined o e).out (length read)) p.so_far
           (next_end answer (server_joined w e e.out (length read)) j is)
           (ends_on readers w e (length read) o h p.last
           (may_end_by e.server.frame e.server.running j o is (fit j (contact_count e.server.ledger))));
       last = (machined_moves e.server o).1.last ∙ p.last;
-      fine = p.fine;
     }
 plays readers answer least w _ _ _ _ h fit front (writes e read count t idle none within) =
-    let p : Plays readers answer w read [] e = plays readers answer least w Working read [] e h fit front t in record {
-      joined = record {
-        reads = p.joined.reads;
-        work = p.joined.work;
-        works = p.joined.works;
-        leads = p.joined.leads ∙ ap (λ (x : List ℕ). server_joined w e x (length read)) (sym (take-append-drop count e.out));
+    let p : Works readers answer w read [] e = plays readers answer least w Working read [] e h fit front t in record {
+      works = record {
+        fed = p.fed;
+        came = p.came;
+        first = p.first;
+        heard = p.heard;
+        all = p.all;
+        so_far = subst (λ (x : List ℕ). Worked readers answer (server_joined w p.first p.first.out (length read))
+            (server_joined w e x (length read))) (sym (take-append-drop count e.out)) p.so_far;
+        last = p.last;
       };
-      last = p.last;
-      fine = p.fine;
+      done = next_none answer (server_joined w e (take count e.out ++ drop count e.out) (length read)) idle none;
     }
 
-served : (readers : Readers) (answer : Job → ℕ → Outcome) (w : World) (stage : Stage) (read written : List ℕ) (e : ServerEnd)
-    → Goes readers answer stage w read written e → IsServed readers answer w read written e
-served readers answer w Taking read written e g = heard_only readers answer w read written e g.0 g.1
-served readers answer w Reading read written e g = heard_only readers answer w read written e g.0 g.1
-served readers answer w Stage.Sending read written e g = g.joined
-served readers answer w Writing read written e g = g.joined
-served readers answer w Working read written e g = g.joined
+abbrev Turns : Readers → (Job → ℕ → Outcome) → World → (cut : Bool) → ℕ → World → Type 0
+Turns readers answer w cut count v = TurnLeads readers (IsServerTurn readers answer count) cut w v
+
+heard_leads : (readers : Readers) (answer : Job → ℕ → Outcome) (w : World) (read written : List ℕ) (e : ServerEnd)
+    → Hears readers w read written e → Turns readers answer w true (length read) (server_joined w e (written ++ e.out) (length read))
+heard_leads readers answer w read written e p =
+    subst (λ (x : List ℕ). Turns readers answer w true (length read) (server_joined w e (x ++ e.out) (length read))) (sym p.none)
+    (heard_only readers answer (length read) w p.fed (server_joined w e e.out (length read)) p.came p.so_far)
+
+worked_leads : (readers : Readers) (answer : Job → ℕ → Outcome) (w : World) (read written : List ℕ) (e : ServerEnd) (cut : Bool)
+    → (p : Works readers answer w read written e)
+    → AreWork readers answer cut (server_joined w p.first p.first.out (length read)) p.so_far.events
+    → Turns readers answer w cut (length read) (server_joined w e (written ++ e.out) (length read))
+worked_leads readers answer w read written e cut p work =
+    served_whole readers answer (length read) cut w p.fed (server_joined w p.first p.first.out (length read))
+    (server_joined w e (written ++ e.out) (length read)) p.came p.heard p.all p.so_far work
+
+goes_leads : (readers : Readers) (answer : Job → ℕ → Outcome) (w : World) (stage : Stage) (read written : List ℕ) (e : ServerEnd)
+    → Goes readers answer w stage read written e
+    → Turns readers answer w true (length read) (server_joined w e (written ++ e.out) (length read))
+goes_leads readers answer w Taking read written e g = heard_leads readers answer w read written e g
+goes_leads readers answer w Reading read written e g = heard_leads readers answer w read written e g
+goes_leads readers answer w Stage.Sending read written e g = worked_leads readers answer w read written e true g g.so_far.are
+goes_leads readers answer w Working read written e g = worked_leads readers answer w read written e true g g.so_far.are
+goes_leads readers answer w Writing read written e g = worked_leads readers answer w read written e true g.works g.works.so_far.are
 
 -- how far a server's turn has come, in events
 pub serving_joins : (readers : Readers) (answer : Job → ℕ → Outcome) → AreFit answer → (least : ℕ) (w : World) (stage : Stage)
     (read written : List ℕ) (e : ServerEnd) → w.server.out ≡ [] → w.server.input.fault ≡ None
     → 1 ≤ w.server.server.last → w.server.server.last ≤ length w.links
     → take (length read) (server_link w).up ≡ read → ServerTurn readers answer least w.server stage read written e
-    → IsServed readers answer w read written e
+    → TurnLeads readers (IsServerTurn readers answer (length read)) true w (server_joined w e (written ++ e.out) (length read))
 serving_joins readers answer fit least w stage read written e out fine from to front t =
-    served readers answer w stage read written e
+    goes_leads readers answer w stage read written e
     (plays readers answer least w stage read written e (record { out = out; fine = fine; from = from; to = to }) fit front t)
 
--- the server leaves its connection behind the turn
-pub serving_leaves : (readers : Readers) (answer : Job → ℕ → Outcome) (w : World) (read written : List ℕ) (e : ServerEnd)
-    → (s : IsServed readers answer w read written e) → e.server.on ≡ true
-    → run_of readers ((events_heard (length read) s.reads ++ s.work) ++ event.ServerLeaves ∷ []) w
-    ≡ record (server_joined w e (written ++ e.out) (length read)) { server = serving_left e }
-serving_leaves readers answer w read written e s on =
-    run_append readers (events_heard (length read) s.reads ++ s.work) (event.ServerLeaves ∷ []) w
-    ∙ (ap (after readers event.ServerLeaves) s.leads
-    ∙ done_now readers event.ServerLeaves (server_joined w e (written ++ e.out) (length read)) on)
+-- a turn in which the server writes is whole
+pub serving_whole : (readers : Readers) (answer : Job → ℕ → Outcome) → AreFit answer → (least : ℕ) (w : World)
+    (read written : List ℕ) (e : ServerEnd) → w.server.out ≡ [] → w.server.input.fault ≡ None
+    → 1 ≤ w.server.server.last → w.server.server.last ≤ length w.links
+    → take (length read) (server_link w).up ≡ read → ServerTurn readers answer least w.server Writing read written e
+    → TurnLeads readers (IsServerTurn readers answer (length read)) false w (server_joined w e (written ++ e.out) (length read))
+serving_whole readers answer fit least w read written e out fine from to front t =
+    let p : Whole readers answer w read written e =
+    plays readers answer least w Writing read written e (record { out = out; fine = fine; from = from; to = to }) fit front t in
+    worked_leads readers answer w read written e false p.works
+    (all_worked readers answer (server_joined w p.works.first p.works.first.out (length read))
+    (server_joined w e (written ++ e.out) (length read)) p.works.so_far p.done)
+
+-- the server leaves its connection behind events that have led so far
+pub serving_leaves : (readers : Readers) (w : World) (events : List Event) (e : ServerEnd) (text : List ℕ) (count : ℕ)
+    → run_of readers events w ≡ server_joined w e text count → e.server.on ≡ true
+    → run_of readers (events ++ event.ServerLeaves ∷ []) w ≡ record (server_joined w e text count) { server = serving_left e }
+serving_leaves readers w events e text count leads on =
+    run_append readers events (event.ServerLeaves ∷ []) w
+    ∙ (ap (after readers event.ServerLeaves) leads ∙ done_now readers event.ServerLeaves (server_joined w e text count) on)
 
 -- ---- behind a turn from a world to which events have led
 
@@ -406,11 +441,11 @@ serving_reaches : (readers : Readers) → AreReaders readers → (answer : Job �
 serving_reaches readers are answer fit least w stage read written e program rack window events is few reached on front t =
     let c : IsCarried w =
     subst IsCarried (sym reached) (run_carried readers are events (start program rack window) (start_carried program rack window is few)) in
-    let s : IsServed readers answer w read written e = served readers answer w stage read written e
-    (plays readers answer least w stage read written e (reached_serving w c on) fit front t) in
-    let now : List Event = events_heard (length read) s.reads ++ s.work in record {
-      events = events ++ now;
-      leads = run_append readers events now (start program rack window) ∙ (ap (run_of readers now) (sym reached) ∙ s.leads);
+    let s : Turns readers answer w true (length read) (server_joined w e (written ++ e.out) (length read)) =
+    goes_leads readers answer w stage read written e
+    (plays readers answer least w stage read written e (reached_serving w c on) fit front t) in record {
+      events = events ++ s.events;
+      leads = run_append readers events s.events (start program rack window) ∙ (ap (run_of readers s.events) (sym reached) ∙ s.leads);
     }
 
 pub serving_sound : (readers : Readers) → AreReaders readers → (answer : Job → ℕ → Outcome) → AreFit answer → (least : ℕ) (w : World)

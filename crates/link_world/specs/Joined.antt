@@ -1,5 +1,5 @@
 -- Turns over ports as lists of the events of a world (this profile).
-use Rattle.std.specs.Prelude.{◌≡◌, ℕ, zero, suc, Bool, true, false, Option, List, [], ◌∷◌, ◌++◌, length, take, drop}
+use Rattle.std.specs.Prelude.{◌≡◌, ℕ, Bool, true, false, Option, List, [], ◌∷◌, ◌++◌, length, take, drop}
 use Rattle.protocol_model.specs.Lines.{Readers}
 use Rattle.protocol_model.specs.Ends.{ClientEnd, ServerEnd}
 use Rattle.protocol_model.specs.World.{World, client_link, server_link, with_link, run_of}
@@ -8,27 +8,34 @@ use Rattle.protocol_model.specs.declared.events.Event.TheVariants as event
 use Rattle.protocol_model.specs.declared.machine.Job.{Job}
 use Rattle.protocol_model.specs.declared.machine.Outcome.{Outcome}
 use Rattle.link_world.specs.Machines.{fits_job}
-use Rattle.link_world.specs.Schedules.{AreWork}
+use Rattle.link_world.specs.Schedules.{Then, AreWhile, IsOne, possible, AreWork}
 use Rattle.client_core.specs.Calls.{Call, behind_call, behind_calls}
 use Rattle.client_core.specs.declared.faults.ClientFault.{ClientFault}
 use Rattle.server_core.specs.declared.faults.ServerFault.{ServerFault}
 use Rattle.link_world.specs.declared.pumps.Moved.{Moved}
 use Rattle.link_world.specs.declared.pumps.PumpFault.{PumpFault}
-use Rattle.link_world.specs.Pumps.{Stage, Sending, Writing, Taking, Reading, Working, ClientMoved, ClientStopped}
+use Rattle.link_world.specs.Pumps.{ClientMoved, ClientStopped}
 use Rattle.link_world.specs.ServerPumps.{ServerMoved, ServerStopped}
 
--- one event, so many times
-abbrev pub times : ℕ → Event → List Event
-times zero e = []
-times (suc n) e = times n e ++ e ∷ []
+-- a client's turn as events: it sends while it can, so many bytes come down, where any do, and it reads while it can; one that is cut is a
+-- front of that
+abbrev pub IsClientTurn : Readers → ℕ → Bool → World → List Event → Type 0
+IsClientTurn readers count =
+    Then readers (AreWhile readers event.ClientSends) (
+    Then readers (λ cut w. IsOne (possible (event.Down count) w) cut) (AreWhile readers event.ClientReads))
 
--- the events of a client's turn that has come so far: it sends, bytes come down once, it reads; no event moves no byte
-abbrev pub client_events : Stage → (sends count reads : ℕ) → List Event
-client_events Sending sends count reads = times sends event.ClientSends
-client_events Writing sends count reads = times sends event.ClientSends
-client_events Taking sends count reads = times sends event.ClientSends ++ event.Down count ∷ []
-client_events Reading sends count reads = (times sends event.ClientSends ++ event.Down count ∷ []) ++ times reads event.ClientReads
-client_events Working sends count reads = (times sends event.ClientSends ++ event.Down count ∷ []) ++ times reads event.ClientReads
+-- a server's turn as events: so many bytes come up, where any do, it reads while it can, and it does all that it has to do, as its machine
+-- answers; one that is cut is a front of that
+abbrev pub IsServerTurn : Readers → (Job → ℕ → Outcome) → ℕ → Bool → World → List Event → Type 0
+IsServerTurn readers answer count =
+    Then readers (λ cut w. IsOne (possible (event.Up count) w) cut) (
+    Then readers (AreWhile readers event.ServerReads) (AreWork readers answer))
+
+-- a turn as events leads from one world to another
+pub record TurnLeads (readers : Readers) (is : Bool → World → List Event → Type 0) (cut : Bool) (w v : World) : Type 0 where
+  pub events : List Event
+  pub made : is cut w events
+  pub leads : run_of readers events w ≡ v
 
 -- a world whose client is as this end, but that it has nothing to send: this text has joined its connection, and so many bytes have come down
 abbrev pub client_joined : World → ClientEnd → List ℕ → ℕ → World
@@ -40,23 +47,9 @@ client_joined w e text count = record {
   written = w.written ++ text;
 }
 
--- the events of a client's turn lead a world to where the turn has led the client's end: what the turn has written to its sink, and then what
--- it holds to be sent, has joined its connection
-pub record IsJoined (readers : Readers) (w : World) (stage : Stage) (read written : List ℕ) (e : ClientEnd) : Type 0 where
-  pub sends : ℕ
-  pub reads : ℕ
-  pub leads : run_of readers (client_events stage sends (length read) reads) w
-      ≡ client_joined w e (written ++ e.out) (length read)
-
--- ---- the server's side
-
 -- a machine's answers fit the jobs, as every machine owes them
 abbrev pub AreFit : (Job → ℕ → Outcome) → Type 0
 AreFit answer = (job : Job) (n : ℕ) → fits_job job (answer job n) ≡ true
-
--- the events of a server's turn before it works: bytes come up once, it reads; no event moves no byte
-abbrev pub events_heard : (count reads : ℕ) → List Event
-events_heard count reads = event.Up count ∷ times reads event.ServerReads
 
 -- a world whose server is as this end, but that it has nothing to send: this text has joined its connection, and so many bytes have come up
 abbrev pub server_joined : World → ServerEnd → List ℕ → ℕ → World
@@ -67,14 +60,6 @@ server_joined w e text count = record {
       (record { up = drop count (server_link w).up; down = (server_link w).down ++ text });
   written = w.written;
 }
-
--- the events of a server's turn lead a world to where the turn has led the server's end: each is what the server has to do next, as its
--- machine answers; what the turn has written to its sink, and then what it holds to be sent, has joined its connection
-pub record IsServed (readers : Readers) (answer : Job → ℕ → Outcome) (w : World) (read written : List ℕ) (e : ServerEnd) : Type 0 where
-  pub reads : ℕ
-  pub work : List Event
-  pub works : AreWork readers answer true (run_of readers (events_heard (length read) reads) w) work
-  pub leads : run_of readers (events_heard (length read) reads ++ work) w ≡ server_joined w e (written ++ e.out) (length read)
 
 -- ---- both sides
 

@@ -1,12 +1,13 @@
 // The turns of both sides over their ports, in the events of a world. Each function has laws for its contract and does nothing.
 
-ghost use Rattle.std.specs.Prelude.{◌≡◌, ◌≤◌, ℕ, true, Option, None, Some, List, [], ◌∷◌, ◌++◌, length, take};
+ghost use Rattle.std.specs.Prelude.{◌≡◌, ◌≤◌, ℕ, true, false, Option, None, Some, Ok, List, [], ◌∷◌, ◌++◌, length, take};
 ghost use Rattle.std.specs.Io.KnownBytes.{Consumes};
 ghost use Rattle.client_core.specs.Clients.{are_ours};
 ghost use Rattle.contact_ledger.specs.declared.features.Feature.{Feature as OneFeature};
 ghost use Rattle.dmis_program.specs.Meaning.{Meaning};
 ghost use Rattle.dmis_program.specs.Programs.{IsProgram};
 ghost use Rattle.fixed_um.specs.declared.lengths.Point.{Point as OnePoint};
+ghost use Rattle.line_framing.specs.Next.{next_of};
 ghost use Rattle.protocol_model.specs.Claims.{Sound, Told};
 ghost use Rattle.protocol_model.specs.Ends.{ClientEnd, ServerEnd, new_client_end, end_left, serving_left};
 ghost use Rattle.protocol_model.specs.Lines.{Readers, AreReaders};
@@ -16,42 +17,52 @@ ghost use Rattle.protocol_model.specs.declared.events.Event.TheVariants as event
 ghost use Rattle.protocol_model.specs.declared.machine.Job.{Job as OneJob};
 ghost use Rattle.protocol_model.specs.declared.machine.Outcome.{Outcome as OneOutcome};
 ghost use Rattle.link_world.specs.Machines.{simulated};
-ghost use Rattle.link_world.specs.Pumps.{Stage, Reading, ClientTurn};
+ghost use Rattle.link_world.specs.Pumps.{Stage, Writing, Reading, ClientTurn};
 ghost use Rattle.link_world.specs.ServerPumps.{ServerTurn};
-ghost use Rattle.link_world.specs.Joined.{IsJoined, client_events, client_joined};
-ghost use Rattle.link_world.specs.Joined.{AreFit, IsServed, events_heard, server_joined};
+ghost use Rattle.link_world.specs.Joined.{IsClientTurn, IsServerTurn, TurnLeads, client_joined};
+ghost use Rattle.link_world.specs.Joined.{AreFit, server_joined};
 ghost use Rattle.link_world.specs.Joined.{Pumped, pumped_of, PumpCalls, IsOneWorld, ClientCalls, AreCalls};
 
 /// A client's turn over its ports is a list of events of the world. For every world whose client has nothing to send and stands on a
 /// connection that was made, and every turn of that client, as `client_turns` makes it, in which the bytes that came in are the first that
 /// wait for it on that connection:
 ///
-/// - `joined`: however far the turn has come, there is a list of events (it sends, bytes come down, it reads) that leads the world to one
-///   with the client as the turn has left it, the server unchanged, and the connection without the bytes that came in; what the turn has
-///   written to its sink, and behind it what it has not yet, stands at the end of the connection's way up;
-/// - `written`: where it reads, nothing is left to be written: the connection has grown by what went to the sink, and by no other byte;
-/// - `leaves`: where the client, still on its connection, leaves it behind that, so does the client of the world; what joined the
-///   connection stands there, and what went to the sink is the front of that;
+/// - `joined`: however far the turn has come, there is a list of events, a front of one in which the client sends while it can, bytes come
+///   down and it reads while it can, that leads the world to one with the client as the turn has left it, the server unchanged, and the
+///   connection without the bytes that came in; what the turn has written to its sink, and behind it what it has not yet, stands at the end
+///   of the connection's way up;
+/// - `whole`: where it has read all, there is such a list that is whole, and the connection has grown by what went to the sink;
+/// - `written`: where it reads, nothing is left to be written;
+/// - `leaves`: where the client, still on its connection, leaves it behind such events, so does the client of the world; what joined the
+///   connection stands there;
 /// - `sound`, `told`: where a list of events has led to the world, what `every_run` claims holds of the client behind its turn.
-#[tactic(auto, using(crate::proofs::ClientJoins::turn_joins, crate::proofs::ClientJoins::turn_written, crate::proofs::ClientJoins::turn_leaves, crate::proofs::ClientJoins::turn_sound, crate::proofs::ClientJoins::turn_told))]
+#[tactic(auto, using(crate::proofs::ClientJoins::turn_joins, crate::proofs::ClientJoins::turn_whole, crate::proofs::ClientJoins::turn_written, crate::proofs::ClientJoins::turn_leaves, crate::proofs::ClientJoins::turn_sound, crate::proofs::ClientJoins::turn_told))]
 pub fn turns_of_a_client_are_events()
     ensures joined { (readers : Readers) (least : ℕ) (w : World) (stage : Stage)
         (read written : List ℕ) (e : ClientEnd)
         → w.client.out ≡ [] → 1 ≤ w.client.client.last → w.client.client.last ≤ length w.links
         → take (length read) (client_link w).down ≡ read
         → ClientTurn readers least w.client stage read written e
-        → IsJoined readers w stage read written e }
+        → TurnLeads readers (IsClientTurn readers (length read)) true w
+        (client_joined w e (written ++ e.out) (length read)) }
+    ensures whole { (readers : Readers) (least : ℕ) (w : World)
+        (read written : List ℕ) (e : ClientEnd)
+        → w.client.out ≡ [] → 1 ≤ w.client.client.last → w.client.client.last ≤ length w.links
+        → take (length read) (client_link w).down ≡ read
+        → ClientTurn readers least w.client Reading read written e
+        → next_of e.input.rest ≡ Ok None
+        → TurnLeads readers (IsClientTurn readers (length read)) false w
+        (client_joined w e written (length read)) }
     ensures written { (readers : Readers) (least : ℕ) (w : World)
         (read written : List ℕ) (e : ClientEnd)
         → w.client.out ≡ [] → 1 ≤ w.client.client.last → w.client.client.last ≤ length w.links
         → take (length read) (client_link w).down ≡ read
         → ClientTurn readers least w.client Reading read written e → e.out ≡ [] }
-    ensures leaves { (readers : Readers) (w : World) (stage : Stage)
-        (read written : List ℕ) (e : ClientEnd)
-        → (j : IsJoined readers w stage read written e) → e.client.on ≡ true
-        → run_of readers (client_events stage j.sends (length read) j.reads
-        ++ event.ClientLeaves ∷ []) w
-        ≡ record (client_joined w e (written ++ e.out) (length read)) { client = end_left e } }
+    ensures leaves { (readers : Readers) (w : World) (events : List OneEvent) (e : ClientEnd)
+        (text : List ℕ) (count : ℕ)
+        → run_of readers events w ≡ client_joined w e text count → e.client.on ≡ true
+        → run_of readers (events ++ event.ClientLeaves ∷ []) w
+        ≡ record (client_joined w e text count) { client = end_left e } }
     ensures sound { (readers : Readers) → AreReaders readers
         → (least : ℕ) (w : World) (stage : Stage) (read written : List ℕ) (e : ClientEnd)
         (program : Meaning) (rack : List (List ℕ)) (window : ℕ) (events : List OneEvent)
@@ -76,15 +87,16 @@ pub fn turns_of_a_client_are_events()
 /// fault and stands on a connection that was made, every machine whose answers fit the jobs, and every turn of that server, as
 /// `serve_turns` makes it, in which the bytes that came in are the first that wait for it on that connection:
 ///
-/// - `joined`: however far the turn has come, there is a list of events (bytes come up, the server reads, then turns and ends of jobs, each
-///   what the server has to do next as its machine answers) that leads the world to one with the server as the turn has left it, the
-///   client unchanged, and the connection without the bytes that came in; what the turn has written to its sink, and behind it what it has
-///   not yet, stands at the end of the connection's way down;
-/// - `leaves`: where the server, still on its connection, leaves it behind that, so does the server of the world;
+/// - `joined`: however far the turn has come, there is a list of events, a front of one in which bytes come up, the server reads while it
+///   can, and turns and ends of jobs come while there is one, each as the machine answers, that leads the world to one with the server as
+///   the turn has left it, the client unchanged, and the connection without the bytes that came in; what the turn has written to its sink,
+///   and behind it what it has not yet, stands at the end of the connection's way down;
+/// - `whole`: where it writes, there is such a list that is whole;
+/// - `leaves`: where the server, still on its connection, leaves it behind such events, so does the server of the world;
 /// - `sound`, `told`: where a list of events has led to the world, and its server stands on a connection, what `every_run` claims holds of
 ///   the server behind its turn;
 /// - `fit`: the answers of the simulated machine fit the jobs.
-#[tactic(auto, using(crate::proofs::ServerJoins::serving_joins, crate::proofs::ServerJoins::serving_leaves, crate::proofs::ServerJoins::serving_sound, crate::proofs::ServerJoins::serving_told, crate::proofs::ServerJoins::simulated_fits))]
+#[tactic(auto, using(crate::proofs::ServerJoins::serving_joins, crate::proofs::ServerJoins::serving_whole, crate::proofs::ServerJoins::serving_leaves, crate::proofs::ServerJoins::serving_sound, crate::proofs::ServerJoins::serving_told, crate::proofs::ServerJoins::simulated_fits))]
 pub fn turns_of_a_server_are_events()
     ensures joined { (readers : Readers) (answer : OneJob → ℕ → OneOutcome) → AreFit answer
         → (least : ℕ) (w : World) (stage : Stage) (read written : List ℕ) (e : ServerEnd)
@@ -92,13 +104,21 @@ pub fn turns_of_a_server_are_events()
         → 1 ≤ w.server.server.last → w.server.server.last ≤ length w.links
         → take (length read) (server_link w).up ≡ read
         → ServerTurn readers answer least w.server stage read written e
-        → IsServed readers answer w read written e }
-    ensures leaves { (readers : Readers) (answer : OneJob → ℕ → OneOutcome) (w : World)
-        (read written : List ℕ) (e : ServerEnd)
-        → (s : IsServed readers answer w read written e) → e.server.on ≡ true
-        → run_of readers ((events_heard (length read) s.reads ++ s.work)
-        ++ event.ServerLeaves ∷ []) w
-        ≡ record (server_joined w e (written ++ e.out) (length read)) { server = serving_left e } }
+        → TurnLeads readers (IsServerTurn readers answer (length read)) true w
+        (server_joined w e (written ++ e.out) (length read)) }
+    ensures whole { (readers : Readers) (answer : OneJob → ℕ → OneOutcome) → AreFit answer
+        → (least : ℕ) (w : World) (read written : List ℕ) (e : ServerEnd)
+        → w.server.out ≡ [] → w.server.input.fault ≡ None
+        → 1 ≤ w.server.server.last → w.server.server.last ≤ length w.links
+        → take (length read) (server_link w).up ≡ read
+        → ServerTurn readers answer least w.server Writing read written e
+        → TurnLeads readers (IsServerTurn readers answer (length read)) false w
+        (server_joined w e (written ++ e.out) (length read)) }
+    ensures leaves { (readers : Readers) (w : World) (events : List OneEvent) (e : ServerEnd)
+        (text : List ℕ) (count : ℕ)
+        → run_of readers events w ≡ server_joined w e text count → e.server.on ≡ true
+        → run_of readers (events ++ event.ServerLeaves ∷ []) w
+        ≡ record (server_joined w e text count) { server = serving_left e } }
     ensures sound { (readers : Readers) → AreReaders readers
         → (answer : OneJob → ℕ → OneOutcome) → AreFit answer
         → (least : ℕ) (w : World) (stage : Stage) (read written : List ℕ) (e : ServerEnd)
