@@ -1,9 +1,9 @@
 -- A client's turn over its ports is a list of events of the world.
 use Rattle.std.proofs.Common.{◌≡◌, ℕ, zero, suc, ◌-◌, ◌≤◌, Bool, true, false, not, ◌&&◌, List, [], ◌∷◌, ◌++◌, length, take, drop}
-use Rattle.std.proofs.Common.{refl, sym, ◌∙◌, ap, subst, arith, append_assoc, append-nil, is_some, Option, Some, None, slice_set}
+use Rattle.std.proofs.Common.{refl, sym, ◌∙◌, ap, subst, arith, append_assoc, append-nil, is_some, Option, Some, None, Ok, slice_set}
 use Rattle.std.proofs.lemmas.Bool.{and_parts, and_from, le-leb}
 use Rattle.std.proofs.lemmas.List.{set-get_or, take-append-drop}
-use Rattle.line_framing.specs.Next.{next_of}
+use Rattle.line_framing.specs.Next.{Front, next_of}
 use Rattle.line_framing.specs.Framing.{Framing, fed, fed_behind}
 use Rattle.line_framing.specs.declared.faults.FramingFault.{FramingFault}
 use Rattle.dmis_program.specs.Programs.{IsProgram}
@@ -11,7 +11,7 @@ use Rattle.dmis_program.specs.Meaning.{Meaning}
 use Rattle.protocol_model.specs.Lines.{Readers, AreReaders}
 use Rattle.protocol_model.specs.Claims.{Sound, Told}
 use Rattle.protocol_model.specs.Client.{Client, due, sends_next}
-use Rattle.protocol_model.specs.Ends.{ClientEnd, end_sent, end_fed, end_read, end_left}
+use Rattle.protocol_model.specs.Ends.{ClientEnd, end_sent, end_taken, end_fed, end_read, end_left}
 use Rattle.protocol_model.specs.World.{World, Link, no_link, client_link, link_of, with_link, has_some, is_any, start, can, after, run_of}
 use Rattle.protocol_model.specs.World.{is_faulted as is_over}
 use Rattle.protocol_model.specs.declared.events.Event.{Event}
@@ -22,8 +22,9 @@ use Rattle.protocol_model.proofs.whole_run.Links.{link_same}
 use Rattle.protocol_model.proofs.whole_run.WholeRun.{always_sound, always_told}
 use Rattle.client_core.specs.Clients.{is_faulted, may_read}
 use Rattle.link_world.specs.Pumps.{Stage, Sending, Writing, Taking, Reading, Working, ClientTurn, begins, sends, writes, takes, has, reads}
-use Rattle.link_world.specs.Joined.{times, client_events, client_joined, IsJoined}
+use Rattle.link_world.specs.Joined.{IsClientTurn, TurnLeads, client_joined}
 use Rattle.link_world.proofs.EventLists.{run_append, done_now, not_done}
+use Rattle.link_world.proofs.TurnJoins.{SoFar, not_yet, once_more, all_done, sent_only, client_turned}
 
 -- ---- connections
 
@@ -33,7 +34,7 @@ set_twice (k ∷ links) zero l m = refl
 set_twice (k ∷ links) (suc at) l m = ap (λ (x : List Link). k ∷ x) (set_twice links at l m)
 
 -- the connection that was given other bytes is given others again
-put_again : (f : Link → Link) (links : List Link) (n m : ℕ) (l : Link) → m ≡ n → 1 ≤ n → n ≤ length links
+pub put_again : (f : Link → Link) (links : List Link) (n m : ℕ) (l : Link) → m ≡ n → 1 ≤ n → n ≤ length links
     → with_link (with_link links n l) m (f (link_of (with_link links n l) m)) ≡ with_link links n (f l)
 put_again f links n m l same from to =
     ap (λ (k : ℕ). with_link (with_link links n l) k (f (link_of (with_link links n l) k))) same
@@ -47,14 +48,14 @@ sends_last c [] n = refl
 sends_last c (p ∷ ps) None = refl
 sends_last c (p ∷ ps) (Some n) = refl
 
-sent_last : (e : ClientEnd) → (end_sent e).client.last ≡ e.client.last
+pub sent_last : (e : ClientEnd) → (end_sent e).client.last ≡ e.client.last
 sent_last e = sends_last e.client e.client.table.tally.unsent _
 
 fed_none_by : (fault : Option FramingFault) (rest : List ℕ) → fed_behind fault rest [] ≡ record { rest = rest; fault = fault }
 fed_none_by None rest = ap (λ (x : List ℕ). record { rest = x; fault = None }) (append-nil rest)
 fed_none_by (Some fault) rest = refl
 
-fed_none : (f : Framing) → fed f [] ≡ f
+pub fed_none : (f : Framing) → fed f [] ≡ f
 fed_none f = fed_none_by f.fault f.rest
 
 not_over : (s : State) → not (is_faulted s) ≡ true → not (is_over s) ≡ true
@@ -66,12 +67,12 @@ not_over State.Halted h = refl
 not_over State.Done h = refl
 not_over State.Faulted h = h
 
-never_none : (a b : Bool) → (a && (b && false)) ≡ false
+pub never_none : (a b : Bool) → (a && (b && false)) ≡ false
 never_none true true = refl
 never_none true false = refl
 never_none false b = refl
 
-fits : (xs ys : List ℕ) → take (length xs) ys ≡ xs → length xs ≤ length ys
+pub fits : (xs ys : List ℕ) → take (length xs) ys ≡ xs → length xs ≤ length ys
 fits [] ys front = omega arith
 fits (x ∷ xs) [] front = absurd (cc)
 fits (x ∷ xs) (y ∷ ys) front = omega (arith, fits xs ys (ap (drop 1) front))
@@ -146,6 +147,14 @@ takes_on readers w e text (x ∷ xs) h last may front =
       written = w.written ++ text;
     })
 
+may_hear : (e : ClientEnd) → may_read e.client ≡ true → is_any (next_of e.input.rest) ≡ true
+    → (e.client.on && (not (is_over e.client.state) && is_any (next_of e.input.rest))) ≡ true
+may_hear e may is = let parts = and_parts _ _ may in and_from _ _ parts.0 (and_from _ _ (not_over e.client.state parts.1) is)
+
+-- all that was to be sent has gone out
+all_out : (written : List ℕ) (e : ClientEnd) → e.out ≡ [] → written ++ e.out ≡ written
+all_out written e out = ap (λ (x : List ℕ). written ++ x) out ∙ append-nil written
+
 reads_on : (readers : Readers) (w : World) (e : ClientEnd) (text : List ℕ) (k : ℕ) → may_read e.client ≡ true
     → is_any (next_of e.input.rest) ≡ true
     → after readers event.ClientReads (client_joined w e text k) ≡ client_joined w (end_read readers e) text k
@@ -156,104 +165,150 @@ reads_on readers w e text k may is =
 
 -- ---- the turn
 
--- besides: until bytes come in the client stands on its connection, and from then on it has nothing to send
-abbrev Keeps : Stage → World → ClientEnd → Type 0
-Keeps Sending w e = e.client.last ≡ w.client.client.last
-Keeps Writing w e = e.client.last ≡ w.client.client.last
-Keeps Taking w e = e.out ≡ []
-Keeps Reading w e = e.out ≡ []
-Keeps Working w e = e.out ≡ []
+-- besides: until bytes come in the client stands on its connection, and from then on it has nothing to send; it sends until nothing is due
+record Sends (readers : Readers) (w : World) (e : ClientEnd) : Type 0 where
+  pub so_far : SoFar readers event.ClientSends w (client_joined w e e.out 0)
+  pub last : e.client.last ≡ w.client.client.last
 
-record Plays (readers : Readers) (w : World) (stage : Stage) (read written : List ℕ) (e : ClientEnd) : Type 0 where
-  pub joined : IsJoined readers w stage read written e
-  pub keeps : Keeps stage w e
+record Writes (readers : Readers) (w : World) (written : List ℕ) (e : ClientEnd) : Type 0 where
+  pub so_far : SoFar readers event.ClientSends w (client_joined w e (written ++ e.out) 0)
+  pub last : e.client.last ≡ w.client.client.last
+  pub none : due e.client ≡ None
+
+record Hears (readers : Readers) (w : World) (read written : List ℕ) (e : ClientEnd) : Type 0 where
+  pub first : ClientEnd
+  pub sent : SoFar readers event.ClientSends w (client_joined w first written 0)
+  pub none : due first.client ≡ None
+  pub fed : World
+  pub came : after readers (event.Down (length read)) (client_joined w first written 0) ≡ fed
+  pub so_far : SoFar readers event.ClientReads fed (client_joined w e written (length read))
+  pub out : e.out ≡ []
+
+abbrev Goes : Readers → World → Stage → List ℕ → List ℕ → ClientEnd → Type 0
+Goes readers w Sending read written e = Sends readers w e × (written ≡ [])
+Goes readers w Writing read written e = Writes readers w written e
+Goes readers w _ read written e = Hears readers w read written e
 
 plays : (readers : Readers) (least : ℕ) (w : World) (stage : Stage) (read written : List ℕ) (e : ClientEnd) → IsOn w
     → take (length read) (client_link w).down ≡ read → ClientTurn readers least w.client stage read written e
-    → Plays readers w stage read written e
-plays readers least w _ _ _ _ h front begins = record {
-  joined = record { sends = 0; reads = 0; leads = begun w h };
-  keeps = refl;
-}
+    → Goes readers w stage read written e
+plays readers least w _ _ _ _ h front begins =
+    (record { so_far = not_yet readers event.ClientSends w (client_joined w w.client w.client.out 0) (begun w h); last = refl }, refl)
 plays readers least w _ _ _ _ h front (sends e t is) =
-    let p : Plays readers w Sending [] [] e = plays readers least w Sending [] [] e h front t in record {
-      joined = record {
-        sends = suc p.joined.sends;
-        reads = 0;
-        leads = run_append readers (times p.joined.sends event.ClientSends) (event.ClientSends ∷ []) w
-            ∙ (ap (after readers event.ClientSends) p.joined.leads ∙ sends_on readers w e h p.keeps is);
-      };
-      keeps = sent_last e ∙ p.keeps;
-    }
+    let p : Sends readers w e = (plays readers least w Sending [] [] e h front t).0 in (
+      record {
+        so_far = once_more readers event.ClientSends w (client_joined w e e.out 0) (client_joined w (end_sent e) (end_sent e).out 0) p.so_far
+            is (sends_on readers w e h p.last is);
+        last = sent_last e ∙ p.last;
+      },
+      refl,
+    )
 plays readers least w _ _ _ _ h front (writes e count t none within) =
-    let p : Plays readers w Sending [] [] e = plays readers least w Sending [] [] e h front t in record {
-      joined = record {
-        sends = p.joined.sends;
-        reads = 0;
-        leads = p.joined.leads ∙ ap (λ (x : List ℕ). client_joined w e x 0) (sym (take-append-drop count e.out));
-      };
-      keeps = p.keeps;
+    let p : Sends readers w e = (plays readers least w Sending [] [] e h front t).0 in record {
+      so_far = subst (λ (x : List ℕ). SoFar readers event.ClientSends w (client_joined w e x 0)) (sym (take-append-drop count e.out)) p.so_far;
+      last = p.last;
+      none = none;
     }
 plays readers least w _ _ _ _ h front (takes e read written t out may) =
-    let p : Plays readers w Writing [] written e = plays readers least w Writing [] written e h refl t in record {
-      joined = record {
-        sends = p.joined.sends;
-        reads = 0;
-        leads = run_append readers (times p.joined.sends event.ClientSends) (event.Down (length read) ∷ []) w
-            ∙ (ap (after readers (event.Down (length read))) p.joined.leads
-            ∙ takes_on readers w e (written ++ e.out) read h p.keeps may front);
-      };
-      keeps = out;
+    let p : Writes readers w written e = plays readers least w Writing [] written e h refl t in record {
+      first = e;
+      sent = subst (λ (x : List ℕ). SoFar readers event.ClientSends w (client_joined w e x 0)) (all_out written e out) p.so_far;
+      none = p.none;
+      fed = client_joined w (end_fed read e) written (length read);
+      came = takes_on readers w e written read h p.last may front;
+      so_far = not_yet readers event.ClientReads (client_joined w (end_fed read e) written (length read))
+          (client_joined w (end_fed read e) written (length read)) refl;
+      out = out;
     }
-plays readers least w _ _ _ _ h front (has e read written t enough) =
-    let p : Plays readers w Taking read written e = plays readers least w Taking read written e h front t in record {
-      joined = record {
-        sends = p.joined.sends;
-        reads = 0;
-        leads = run_append readers (client_events Taking p.joined.sends (length read) 0) [] w ∙ p.joined.leads;
-      };
-      keeps = p.keeps;
-    }
+plays readers least w _ _ _ _ h front (has e read written t enough) = plays readers least w Taking read written e h front t
 plays readers least w _ _ _ _ h front (reads e read written t may is) =
-    let p : Plays readers w Reading read written e = plays readers least w Reading read written e h front t in
-    let events : List Event = client_events Taking p.joined.sends (length read) 0 in
-    let before : List Event = times p.joined.reads event.ClientReads in record {
-      joined = record {
-        sends = p.joined.sends;
-        reads = suc p.joined.reads;
-        leads = run_append readers events (before ++ event.ClientReads ∷ []) w
-            ∙ (run_append readers before (event.ClientReads ∷ []) (run_of readers events w)
-            ∙ (ap (after readers event.ClientReads) (sym (run_append readers events before w) ∙ p.joined.leads)
-            ∙ reads_on readers w e (written ++ e.out) (length read) may is));
-      };
-      keeps = p.keeps;
+    let p : Hears readers w read written e = plays readers least w Reading read written e h front t in record {
+      first = p.first;
+      sent = p.sent;
+      none = p.none;
+      fed = p.fed;
+      came = p.came;
+      so_far = once_more readers event.ClientReads p.fed (client_joined w e written (length read))
+          (client_joined w (end_read readers e) written (length read)) p.so_far (may_hear e may is)
+          (reads_on readers w e written (length read) may is);
+      out = p.out;
     }
+
+-- nothing more is due
+none_due : (readers : Readers) (w : World) (e : ClientEnd) (text : List ℕ) → due e.client ≡ None
+    → can event.ClientSends (client_joined w e text 0) ≡ false
+none_due readers w e text none = ap is_some none
+
+abbrev Turns : Readers → World → (cut : Bool) → ℕ → World → Type 0
+Turns readers w cut count v = TurnLeads readers (IsClientTurn readers count) cut w v
+
+hears_leads : (readers : Readers) (w : World) (read written : List ℕ) (e : ClientEnd) → Hears readers w read written e
+    → Turns readers w true (length read) (client_joined w e (written ++ e.out) (length read))
+hears_leads readers w read written e p =
+    subst (λ (x : List ℕ). Turns readers w true (length read) (client_joined w e x (length read))) (sym (all_out written e p.out))
+    (client_turned readers (length read) true w (client_joined w p.first written 0) p.fed (client_joined w e written (length read)) p.sent
+    (none_due readers w p.first written p.none) p.came p.so_far p.so_far.while)
+
+-- so far, in events
+sent_leads : (readers : Readers) (least : ℕ) (w : World) (stage : Stage) (read written : List ℕ) (e : ClientEnd) → IsOn w
+    → take (length read) (client_link w).down ≡ read → ClientTurn readers least w.client stage read written e
+    → Turns readers w true (length read) (client_joined w e (written ++ e.out) (length read))
+sent_leads readers least w _ _ _ _ h front begins =
+    let p : Sends readers w w.client = (plays readers least w Sending [] [] w.client h front begins).0 in
+    sent_only readers 0 w (client_joined w w.client w.client.out 0) p.so_far
+sent_leads readers least w _ _ _ _ h front (sends e t is) =
+    let p : Sends readers w (end_sent e) = (plays readers least w Sending [] [] (end_sent e) h front (sends e t is)).0 in
+    sent_only readers 0 w (client_joined w (end_sent e) (end_sent e).out 0) p.so_far
+sent_leads readers least w _ _ _ _ h front (writes e count t none within) =
+    let p : Writes readers w (take count e.out) (end_taken count e) =
+    plays readers least w Writing [] (take count e.out) (end_taken count e) h front (writes e count t none within) in
+    sent_only readers 0 w (client_joined w (end_taken count e) (take count e.out ++ drop count e.out) 0) p.so_far
+sent_leads readers least w _ _ _ _ h front (takes e read written t out may) =
+    hears_leads readers w read written (end_fed read e)
+    (plays readers least w Taking read written (end_fed read e) h front (takes e read written t out may))
+sent_leads readers least w _ _ _ _ h front (has e read written t enough) =
+    hears_leads readers w read written e (plays readers least w Reading read written e h front (has e read written t enough))
+sent_leads readers least w _ _ _ _ h front (reads e read written t may is) =
+    hears_leads readers w read written (end_read readers e)
+    (plays readers least w Reading read written (end_read readers e) h front (reads e read written t may is))
 
 -- how far a client's turn has come, in events
 pub turn_joins : (readers : Readers) (least : ℕ) (w : World) (stage : Stage) (read written : List ℕ) (e : ClientEnd)
     → w.client.out ≡ [] → 1 ≤ w.client.client.last → w.client.client.last ≤ length w.links
     → take (length read) (client_link w).down ≡ read → ClientTurn readers least w.client stage read written e
-    → IsJoined readers w stage read written e
+    → TurnLeads readers (IsClientTurn readers (length read)) true w (client_joined w e (written ++ e.out) (length read))
 turn_joins readers least w stage read written e out from to front t =
-    let p : Plays readers w stage read written e =
-    plays readers least w stage read written e (record { out = out; from = from; to = to }) front t in p.joined
+    sent_leads readers least w stage read written e (record { out = out; from = from; to = to }) front t
 
--- a turn in which the client reads has written all
+-- a turn in which the client has read all
+pub turn_whole : (readers : Readers) (least : ℕ) (w : World) (read written : List ℕ) (e : ClientEnd)
+    → w.client.out ≡ [] → 1 ≤ w.client.client.last → w.client.client.last ≤ length w.links
+    → take (length read) (client_link w).down ≡ read → ClientTurn readers least w.client Reading read written e
+    → next_of e.input.rest ≡ Ok None
+    → TurnLeads readers (IsClientTurn readers (length read)) false w (client_joined w e written (length read))
+turn_whole readers least w read written e out from to front t none =
+    let p : Hears readers w read written e =
+    plays readers least w Reading read written e (record { out = out; from = from; to = to }) front t in
+    let v : World = client_joined w e written (length read) in
+    let never : can event.ClientReads v ≡ false =
+    ap (λ (f : Front). e.client.on && (not (is_over e.client.state) && is_any f)) none
+    ∙ never_none e.client.on (not (is_over e.client.state)) in
+    client_turned readers (length read) false w (client_joined w p.first written 0) p.fed v p.sent (none_due readers w p.first written p.none)
+    p.came p.so_far (all_done readers event.ClientReads p.fed v p.so_far never)
+
+-- it has then written all
 pub turn_written : (readers : Readers) (least : ℕ) (w : World) (read written : List ℕ) (e : ClientEnd)
     → w.client.out ≡ [] → 1 ≤ w.client.client.last → w.client.client.last ≤ length w.links
     → take (length read) (client_link w).down ≡ read → ClientTurn readers least w.client Reading read written e → e.out ≡ []
 turn_written readers least w read written e out from to front t =
-    let p : Plays readers w Reading read written e =
-    plays readers least w Reading read written e (record { out = out; from = from; to = to }) front t in p.keeps
+    let p : Hears readers w read written e =
+    plays readers least w Reading read written e (record { out = out; from = from; to = to }) front t in p.out
 
 -- ---- behind a turn from a world to which events have led
 
-at_end : (readers : Readers) (w : World) (stage : Stage) (read written : List ℕ) (e : ClientEnd) (events : List Event) (v : World)
-    → w ≡ run_of readers events v → (j : IsJoined readers w stage read written e)
-    → run_of readers (events ++ client_events stage j.sends (length read) j.reads) v ≡ client_joined w e (written ++ e.out) (length read)
-at_end readers w stage read written e events v is j =
-    run_append readers events (client_events stage j.sends (length read) j.reads) v
-    ∙ (ap (run_of readers (client_events stage j.sends (length read) j.reads)) (sym is) ∙ j.leads)
+at_end : (readers : Readers) (w x : World) (events more : List Event) (v : World) → w ≡ run_of readers events v
+    → run_of readers more w ≡ x → run_of readers (events ++ more) v ≡ x
+at_end readers w x events more v is leads = run_append readers events more v ∙ (ap (run_of readers more) (sym is) ∙ leads)
 
 pub turn_sound : (readers : Readers) → AreReaders readers → (least : ℕ) (w : World) (stage : Stage) (read written : List ℕ) (e : ClientEnd)
     (program : Meaning) (rack : List (List ℕ)) (window : ℕ) (events : List Event) → IsProgram program → window ≤ 16
@@ -262,10 +317,10 @@ pub turn_sound : (readers : Readers) → AreReaders readers → (least : ℕ) (w
     → take (length read) (client_link w).down ≡ read → ClientTurn readers least w.client stage read written e
     → Sound program.features e.client.table.tally.features w.server.server.ledger
 turn_sound readers are least w stage read written e program rack window events is few reached out from to front t =
-    let j : IsJoined readers w stage read written e = turn_joins readers least w stage read written e out from to front t in
+    let j = turn_joins readers least w stage read written e out from to front t in
     subst (λ (v : World). Sound program.features v.client.client.table.tally.features v.server.server.ledger)
-    (at_end readers w stage read written e events (start program rack window) reached j)
-    (always_sound readers are program rack window (events ++ client_events stage j.sends (length read) j.reads) is few)
+    (at_end readers w (client_joined w e (written ++ e.out) (length read)) events j.events (start program rack window) reached j.leads)
+    (always_sound readers are program rack window (events ++ j.events) is few)
 
 pub turn_told : (readers : Readers) → AreReaders readers → (least : ℕ) (w : World) (stage : Stage) (read written : List ℕ) (e : ClientEnd)
     (program : Meaning) (rack : List (List ℕ)) (window : ℕ) (events : List Event) → IsProgram program → window ≤ 16
@@ -274,17 +329,15 @@ pub turn_told : (readers : Readers) → AreReaders readers → (least : ℕ) (w 
     → take (length read) (client_link w).down ≡ read → ClientTurn readers least w.client stage read written e
     → Told e.client.table.tally.counted w.server.server.ledger e.client.last
 turn_told readers are least w stage read written e program rack window events is few reached out from to front t =
-    let j : IsJoined readers w stage read written e = turn_joins readers least w stage read written e out from to front t in
+    let j = turn_joins readers least w stage read written e out from to front t in
     subst (λ (v : World). Told v.client.client.table.tally.counted v.server.server.ledger v.client.client.last)
-    (at_end readers w stage read written e events (start program rack window) reached j)
-    (always_told readers are program rack window (events ++ client_events stage j.sends (length read) j.reads) is few)
+    (at_end readers w (client_joined w e (written ++ e.out) (length read)) events j.events (start program rack window) reached j.leads)
+    (always_told readers are program rack window (events ++ j.events) is few)
 
--- the client leaves its connection behind the turn
-pub turn_leaves : (readers : Readers) (w : World) (stage : Stage) (read written : List ℕ) (e : ClientEnd)
-    → (j : IsJoined readers w stage read written e) → e.client.on ≡ true
-    → run_of readers (client_events stage j.sends (length read) j.reads ++ event.ClientLeaves ∷ []) w
-    ≡ record (client_joined w e (written ++ e.out) (length read)) { client = end_left e }
-turn_leaves readers w stage read written e j on =
-    run_append readers (client_events stage j.sends (length read) j.reads) (event.ClientLeaves ∷ []) w
-    ∙ (ap (after readers event.ClientLeaves) j.leads
-    ∙ done_now readers event.ClientLeaves (client_joined w e (written ++ e.out) (length read)) on)
+-- the client leaves its connection behind events that have led so far
+pub turn_leaves : (readers : Readers) (w : World) (events : List Event) (e : ClientEnd) (text : List ℕ) (count : ℕ)
+    → run_of readers events w ≡ client_joined w e text count → e.client.on ≡ true
+    → run_of readers (events ++ event.ClientLeaves ∷ []) w ≡ record (client_joined w e text count) { client = end_left e }
+turn_leaves readers w events e text count leads on =
+    run_append readers events (event.ClientLeaves ∷ []) w
+    ∙ (ap (after readers event.ClientLeaves) leads ∙ done_now readers event.ClientLeaves (client_joined w e text count) on)

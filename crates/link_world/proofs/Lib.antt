@@ -15,6 +15,10 @@ pub mod Numbering
 pub mod ScheduleLines
 pub mod ScheduleNumbers
 pub mod EventLists
+pub mod TurnJoins
+pub mod ServerJoins
+pub mod PumpJoins
+pub mod PeerJoins
 pub mod EventsLeft
 pub mod AllBytes
 pub mod ServerWork

@@ -1,24 +1,41 @@
--- A client's turns over its ports as lists of the events of a world (this profile).
-use Rattle.std.specs.Prelude.{◌≡◌, ℕ, zero, suc, List, [], ◌∷◌, ◌++◌, length, drop}
+-- Turns over ports as lists of the events of a world (this profile).
+use Rattle.std.specs.Prelude.{◌≡◌, ℕ, Bool, true, false, Option, List, [], ◌∷◌, ◌++◌, length, take, drop}
 use Rattle.protocol_model.specs.Lines.{Readers}
-use Rattle.protocol_model.specs.Ends.{ClientEnd}
-use Rattle.protocol_model.specs.World.{World, client_link, with_link, run_of}
+use Rattle.protocol_model.specs.Ends.{ClientEnd, ServerEnd}
+use Rattle.protocol_model.specs.World.{World, client_link, server_link, with_link, run_of}
 use Rattle.protocol_model.specs.declared.events.Event.{Event}
 use Rattle.protocol_model.specs.declared.events.Event.TheVariants as event
-use Rattle.link_world.specs.Pumps.{Stage, Sending, Writing, Taking, Reading, Working}
+use Rattle.protocol_model.specs.declared.machine.Job.{Job}
+use Rattle.protocol_model.specs.declared.machine.Outcome.{Outcome}
+use Rattle.link_world.specs.Machines.{fits_job}
+use Rattle.link_world.specs.Schedules.{Then, AreWhile, IsOne, possible, AreWork}
+use Rattle.client_core.specs.Calls.{Call, behind_call, behind_calls}
+use Rattle.client_core.specs.declared.faults.ClientFault.{ClientFault}
+use Rattle.server_core.specs.declared.faults.ServerFault.{ServerFault}
+use Rattle.link_world.specs.declared.pumps.Moved.{Moved}
+use Rattle.link_world.specs.declared.pumps.PumpFault.{PumpFault}
+use Rattle.link_world.specs.Pumps.{ClientMoved, ClientStopped}
+use Rattle.link_world.specs.ServerPumps.{ServerMoved, ServerStopped}
 
--- one event, so many times
-abbrev pub times : ℕ → Event → List Event
-times zero e = []
-times (suc n) e = times n e ++ e ∷ []
+-- a client's turn as events: it sends while it can, so many bytes come down, where any do, and it reads while it can; one that is cut is a
+-- front of that
+abbrev pub IsClientTurn : Readers → ℕ → Bool → World → List Event → Type 0
+IsClientTurn readers count =
+    Then readers (AreWhile readers event.ClientSends) (
+    Then readers (λ cut w. IsOne (possible (event.Down count) w) cut) (AreWhile readers event.ClientReads))
 
--- the events of a client's turn that has come so far: it sends, bytes come down once, it reads; no event moves no byte
-abbrev pub client_events : Stage → (sends count reads : ℕ) → List Event
-client_events Sending sends count reads = times sends event.ClientSends
-client_events Writing sends count reads = times sends event.ClientSends
-client_events Taking sends count reads = times sends event.ClientSends ++ event.Down count ∷ []
-client_events Reading sends count reads = (times sends event.ClientSends ++ event.Down count ∷ []) ++ times reads event.ClientReads
-client_events Working sends count reads = (times sends event.ClientSends ++ event.Down count ∷ []) ++ times reads event.ClientReads
+-- a server's turn as events: so many bytes come up, where any do, it reads while it can, and it does all that it has to do, as its machine
+-- answers; one that is cut is a front of that
+abbrev pub IsServerTurn : Readers → (Job → ℕ → Outcome) → ℕ → Bool → World → List Event → Type 0
+IsServerTurn readers answer count =
+    Then readers (λ cut w. IsOne (possible (event.Up count) w) cut) (
+    Then readers (AreWhile readers event.ServerReads) (AreWork readers answer))
+
+-- a turn as events leads from one world to another
+pub record TurnLeads (readers : Readers) (is : Bool → World → List Event → Type 0) (cut : Bool) (w v : World) : Type 0 where
+  pub events : List Event
+  pub made : is cut w events
+  pub leads : run_of readers events w ≡ v
 
 -- a world whose client is as this end, but that it has nothing to send: this text has joined its connection, and so many bytes have come down
 abbrev pub client_joined : World → ClientEnd → List ℕ → ℕ → World
@@ -30,10 +47,92 @@ client_joined w e text count = record {
   written = w.written ++ text;
 }
 
--- the events of a client's turn lead a world to where the turn has led the client's end: what the turn has written to its sink, and then what
--- it holds to be sent, has joined its connection
-pub record IsJoined (readers : Readers) (w : World) (stage : Stage) (read written : List ℕ) (e : ClientEnd) : Type 0 where
-  pub sends : ℕ
-  pub reads : ℕ
-  pub leads : run_of readers (client_events stage sends (length read) reads) w
-      ≡ client_joined w e (written ++ e.out) (length read)
+-- a machine's answers fit the jobs, as every machine owes them
+abbrev pub AreFit : (Job → ℕ → Outcome) → Type 0
+AreFit answer = (job : Job) (n : ℕ) → fits_job job (answer job n) ≡ true
+
+-- a world whose server is as this end, but that it has nothing to send: this text has joined its connection, and so many bytes have come up
+abbrev pub server_joined : World → ServerEnd → List ℕ → ℕ → World
+server_joined w e text count = record {
+  client = w.client;
+  server = record e { out = [] };
+  links = with_link w.links w.server.server.last
+      (record { up = drop count (server_link w).up; down = (server_link w).down ++ text });
+  written = w.written;
+}
+
+-- ---- both sides
+
+-- both ends of one connection, and the bytes on their way: those that a side's pump has written and the other's has not yet taken
+pub record Pumped : Type 0 where
+  pub client : ClientEnd
+  pub server : ServerEnd
+  pub up : List ℕ
+  pub down : List ℕ
+
+-- the ends of a world, with the bytes that wait on the client's connection
+abbrev pub pumped_of : World → Pumped
+pumped_of w = record { client = w.client; server = w.server; up = (client_link w).up; down = (client_link w).down }
+
+-- behind a call of the client's pump: the bytes that it took are gone from the way down, and those that it wrote have joined the way up
+abbrev pub with_client : Pumped → ClientEnd → (read written : List ℕ) → Pumped
+with_client p e read written = record { client = e; server = p.server; up = p.up ++ written; down = drop (length read) p.down }
+
+-- the same of the server's pump
+abbrev pub with_server : Pumped → ServerEnd → (read written : List ℕ) → Pumped
+with_server p e read written = record { client = p.client; server = e; up = drop (length read) p.up; down = p.down ++ written }
+
+-- calls of both pumps, one after another in any order, each whole or stopped, with whatever bounds and over whatever ports, where the bytes
+-- that a call took are the first of those on their way to its side
+pub data PumpCalls (answer : Job → ℕ → Outcome) (start : Pumped) : Pumped → Type 0 where
+  no_calls : PumpCalls answer start start
+  client_moves : (p : Pumped) (e : ClientEnd) (least : ℕ) (left left_now taken taken_now : Option (List ℕ)) (moved : Moved)
+      → PumpCalls answer start p
+      → (h : ClientMoved least p.client e left left_now taken taken_now moved) → take (length h.read) p.down ≡ h.read
+      → PumpCalls answer start (with_client p e h.read h.written)
+  client_stops : (p : Pumped) (e : ClientEnd) (least bound : ℕ) (left left_now taken taken_now : Option (List ℕ))
+      (fault : PumpFault ClientFault) → PumpCalls answer start p
+      → (h : ClientStopped least bound p.client e left left_now taken taken_now fault) → take (length h.read) p.down ≡ h.read
+      → PumpCalls answer start (with_client p e h.read h.written)
+  server_moves : (p : Pumped) (e : ServerEnd) (least : ℕ) (left left_now taken taken_now : Option (List ℕ)) (moved : Moved)
+      → PumpCalls answer start p
+      → (h : ServerMoved answer least p.server e left left_now taken taken_now moved) → take (length h.read) p.up ≡ h.read
+      → PumpCalls answer start (with_server p e h.read h.written)
+  server_stops : (p : Pumped) (e : ServerEnd) (least bound : ℕ) (left left_now taken taken_now : Option (List ℕ))
+      (fault : PumpFault ServerFault) → PumpCalls answer start p
+      → (h : ServerStopped answer least bound p.server e left left_now taken taken_now fault) → take (length h.read) p.up ≡ h.read
+      → PumpCalls answer start (with_server p e h.read h.written)
+
+-- the bytes on their way from a side are those that wait on the connection; where that side has left, they are the first of these
+abbrev pub AreOnWay : (on : Bool) → (bytes waiting : List ℕ) → Type 0
+AreOnWay true bytes waiting = waiting ≡ bytes
+AreOnWay false bytes waiting = (more : List ℕ) × (waiting ≡ bytes ++ more)
+
+-- a world has both ends, and the bytes on their way wait on its connection
+pub record IsWorldOf (w : World) (p : Pumped) : Type 0 where
+  pub client : w.client ≡ p.client
+  pub server : w.server ≡ p.server
+  pub up : AreOnWay p.client.client.on p.up (client_link w).up
+  pub down : AreOnWay p.server.server.on p.down (client_link w).down
+
+-- a list of events leads a world there
+pub record IsOneWorld (readers : Readers) (w : World) (p : Pumped) : Type 0 where
+  pub events : List Event
+  pub is : IsWorldOf (run_of readers events w) p
+
+-- ---- against any peer
+
+-- calls of a client, one after another: those of its pump, each whole or stopped, with whatever bounds and over whatever ports, and between
+-- them its own, as one that comes to the next connection
+pub data ClientCalls (readers : Readers) (start : ClientEnd) : ClientEnd → Type 0 where
+  not_called : ClientCalls readers start start
+  moves : (e f : ClientEnd) (least : ℕ) (left left_now taken taken_now : Option (List ℕ)) (moved : Moved) → ClientCalls readers start e
+      → ClientMoved least e f left left_now taken taken_now moved → ClientCalls readers start f
+  stops : (e f : ClientEnd) (least bound : ℕ) (left left_now taken taken_now : Option (List ℕ)) (fault : PumpFault ClientFault)
+      → ClientCalls readers start e → ClientStopped least bound e f left left_now taken taken_now fault → ClientCalls readers start f
+  called : (e : ClientEnd) (call : Call) → ClientCalls readers start e → ClientCalls readers start (behind_call readers call e)
+
+-- a list of a client's own calls leads there
+pub record AreCalls (readers : Readers) (start e : ClientEnd) : Type 0 where
+  pub calls : List Call
+  pub lead : e ≡ behind_calls readers calls start

@@ -13,7 +13,7 @@
 //! - `reports`, `report_text`: what a world shows, and its text
 //! - `report_rows`, `schedule_rows`: worked reports and texts of schedules
 //! - `laws`: a server whose machine is homed is not told to home it again
-//! - `joined`: a client's turn over its ports is a list of events
+//! - `joined`: a turn of either side over its ports is a list of events
 #![tactic(auto)]
 
 mod client_events;
@@ -41,7 +41,10 @@ mod world;
 
 pub use client_pump::client_turns;
 pub use faults::{NewFault, WorldFault};
-pub use joined::turns_of_a_client_are_events;
+pub use joined::{
+    a_pumped_client_holds_first_features, turns_of_a_client_are_events,
+    turns_of_a_server_are_events, two_pumps_are_a_world,
+};
 pub use laws::homed_servers_are_not_homed_again;
 pub use link_runs::loop_link;
 pub use links::{LoopFault, Silent, Watcher, run_link, serve_link, watch_link};

@@ -1,0 +1,678 @@
+-- Calls of both pumps on one connection are a list of events of one world.
+use Rattle.std.proofs.Common.{◌≡◌, ℕ, zero, suc, ◌≤◌, Bool, true, false, cond, ◌&&◌, not, List, [], ◌∷◌, ◌++◌, length, take, drop}
+use Rattle.std.proofs.Common.{refl, sym, ◌∙◌, ap, subst, arith, append_assoc, append-nil, is_some, Option, Some, None, Ok, Err, Result}
+use Rattle.std.proofs.lemmas.Bool.{false≢true, and_parts}
+use Rattle.std.proofs.lemmas.List.{take-append-le, drop-append-le}
+use Rattle.std.proofs.Math.Seq.{take-append_seam}
+use Rattle.std.specs.Io.KnownBytes.{Consumes}
+use Rattle.line_framing.specs.Next.{Front, next_of}
+use Rattle.line_framing.specs.declared.faults.FramingFault.TheVariants as framing
+use Rattle.dme_line.specs.declared.tags.Tag.{Tag}
+use Rattle.dme_line.specs.declared.tags.Tag.TheVariants as tag
+use Rattle.dme_line.specs.declared.commands.Kind.{Kind}
+use Rattle.dme_line.specs.declared.commands.Kind.TheVariants as kind
+use Rattle.dme_line.specs.declared.homed.NotHomedText.{NotHomedText}
+use Rattle.dme_line.specs.declared.points.NotPoint.{NotPoint}
+use Rattle.dme_line.specs.declared.responses.Mark.{Mark as Marked}
+use Rattle.dme_line.specs.declared.responses.Mark.TheVariants as mark
+use Rattle.dme_line.specs.declared.responses.Response.{Response}
+use Rattle.dme_line.specs.declared.responses.NotResponse.{NotResponse}
+use Rattle.fixed_um.specs.declared.lengths.Point.{Point}
+use Rattle.dmis_program.specs.Programs.{IsProgram}
+use Rattle.dmis_program.specs.Meaning.{Meaning}
+use Rattle.protocol_model.specs.Replies.{Mark, tag_is}
+use Rattle.protocol_model.specs.Lines.{Readers, AreReaders, reading_of}
+use Rattle.protocol_model.specs.Claims.{Sound, Told}
+use Rattle.protocol_model.specs.Client.{Client, Table, due, sends_next, client_read, client_hears, heard_on, left_state, is_running}
+use Rattle.protocol_model.specs.Client.{first_due}
+use Rattle.protocol_model.specs.Open.{is_asking, count_open}
+use Rattle.protocol_model.specs.Server.{running_job}
+use Rattle.server_core.specs.Serving.{may_turn}
+use Rattle.protocol_model.specs.Ends.{ClientEnd, end_left, held_under, given_point, given_homed, given_for, given_under}
+use Rattle.protocol_model.specs.Ends.{response_read, line_read, front_read}
+use Rattle.protocol_model.specs.Ends.{ServerEnd, front_served, serving_left}
+use Rattle.protocol_model.specs.World.{World, Link, client_link, server_link, link_of, with_link, start, run_of}
+use Rattle.protocol_model.specs.declared.events.Event.{Event}
+use Rattle.protocol_model.specs.declared.events.Event.TheVariants as event
+use Rattle.protocol_model.specs.declared.held.Datum.TheVariants as datum
+use Rattle.protocol_model.specs.declared.plans.Planned.{Planned}
+use Rattle.protocol_model.specs.declared.states.State.{State}
+use Rattle.protocol_model.specs.declared.states.Cause.{Cause}
+use Rattle.protocol_model.specs.declared.machine.Job.{Job}
+use Rattle.protocol_model.specs.declared.machine.Outcome.{Outcome}
+use Rattle.protocol_model.proofs.invariant.Moves.{read_moves, turned_moves, machined_moves}
+use Rattle.protocol_model.proofs.undisturbed_run.UndisturbedClient.{read_last}
+use Rattle.protocol_model.proofs.whole_run.Links.{link_same}
+use Rattle.protocol_model.proofs.whole_run.Carrying.{IsCarried}
+use Rattle.protocol_model.proofs.whole_run.WholeRun.{run_carried, start_carried, always_sound, always_told}
+use Rattle.client_core.specs.Clients.{may_read}
+use Rattle.contact_ledger.specs.Ledgers.{contact_count}
+use Rattle.link_world.specs.Pumps.{Stage, Sending, Writing, Taking, Reading, Working, ClientTurn, ClientMoved, ClientStopped}
+use Rattle.link_world.specs.Pumps as client_turn
+use Rattle.link_world.specs.ServerPumps.{ServerTurn, ServerMoved, ServerStopped}
+use Rattle.link_world.specs.ServerPumps as server_turn
+use Rattle.link_world.specs.Joined.{IsClientTurn, IsServerTurn, TurnLeads, client_joined, AreFit, server_joined}
+use Rattle.link_world.specs.Joined.{Pumped, pumped_of, with_client, with_server, PumpCalls, no_calls, client_moves, client_stops, server_moves}
+use Rattle.link_world.specs.Joined.{server_stops, AreOnWay, IsWorldOf, IsOneWorld}
+use Rattle.link_world.proofs.EventLists.{run_append}
+use Rattle.link_world.proofs.ClientJoins.{fits, sent_last, turn_joins, turn_written, turn_leaves}
+use Rattle.link_world.proofs.ServerJoins.{IsServing, reached_serving, serving_joins, serving_leaves}
+
+-- ---- a side stays on its connection
+
+hears_on : (c : Client) (t : Tag) (m : Mark) (r : Result Table Cause) → (client_hears c t m r).on ≡ c.on
+hears_on c t m (Ok b) = refl
+hears_on c t m (Err cause) = refl
+
+either_on : (c : Client) (b : Bool) (d : Client) → d.on ≡ c.on → (cond b c d).on ≡ c.on
+either_on c true d same = refl
+either_on c false d same = same
+
+client_on : (c : Client) (t : Tag) (m : Mark) → (client_read c t m).on ≡ c.on
+client_on c t m = either_on c (tag_is t (tag.Event 0)) (client_hears c t m (heard_on c.program.features c.table t m))
+    (hears_on c t m (heard_on c.program.features c.table t m))
+
+point_on : (c : Client) (t : Tag) (r : Result Point NotPoint) → (given_point c t r).on ≡ c.on
+point_on c t (Ok p) = client_on c t (Mark.Given (datum.Point p))
+point_on c t (Err why) = refl
+
+homed_on : (c : Client) (t : Tag) (r : Result Bool NotHomedText) → (given_homed c t r).on ≡ c.on
+homed_on c t (Ok homed) = client_on c t (Mark.Given (datum.Homed homed))
+homed_on c t (Err why) = refl
+
+for_on : (readers : Readers) (c : Client) (t : Tag) (text : List ℕ) (k : Kind) → (given_for readers c t text k).on ≡ c.on
+for_on readers c t text kind.PtMeas = point_on c t (readers.point text)
+for_on readers c t text kind.IsHomed = homed_on c t (readers.homed text)
+for_on readers c t text kind.StartSession = refl
+for_on readers c t text kind.EndSession = refl
+for_on readers c t text kind.ClearAllErrors = refl
+for_on readers c t text kind.Home = refl
+for_on readers c t text kind.OnPtMeasReport = refl
+for_on readers c t text kind.GoTo = refl
+for_on readers c t text kind.ChangeTool = refl
+for_on readers c t text kind.SetCsyTransformation = refl
+for_on readers c t text kind.SetCoordSystem = refl
+for_on readers c t text kind.AbortE = refl
+
+under_on : (readers : Readers) (c : Client) (t : Tag) (text : List ℕ) (k : Option Kind) → (given_under readers c t text k).on ≡ c.on
+under_on readers c t text None = refl
+under_on readers c t text (Some k) = for_on readers c t text k
+
+response_on : (readers : Readers) (c : Client) (t : Tag) (m : Marked) → (response_read readers c t m).on ≡ c.on
+response_on readers c t mark.Ack = client_on c t Mark.Ack
+response_on readers c t (mark.Given text) = either_on c (tag_is t (tag.Event 0)) (given_under readers c t text (held_under t c))
+    (under_on readers c t text (held_under t c))
+response_on readers c t mark.Done = client_on c t Mark.Done
+response_on readers c t (mark.Error text) = client_on c t Mark.Error
+
+line_on : (readers : Readers) (c : Client) (r : Result Response NotResponse) → (line_read readers c r).on ≡ c.on
+line_on readers c (Ok r) = response_on readers c r.tag r.mark
+line_on readers c (Err refused) = refl
+
+read_on : (readers : Readers) (c : Client) (f : Front) → (front_read readers c f).on ≡ c.on
+read_on readers c (Ok None) = refl
+read_on readers c (Ok (Some (line, rest))) = line_on readers c (readers.response line)
+read_on readers c (Err framing.LineTooLong) = refl
+read_on readers c (Err framing.BadByte) = refl
+
+next_on : (c : Client) (ps : List Planned) (n : Option ℕ) → (sends_next c ps n).client.on ≡ c.on
+next_on c [] n = refl
+next_on c (p ∷ ps) None = refl
+next_on c (p ∷ ps) (Some n) = refl
+
+record Stays (was is : Bool) (first now : ℕ) : Type 0 where
+  pub on : is ≡ was
+  pub last : now ≡ first
+
+client_stays : (readers : Readers) (least : ℕ) (s : ClientEnd) (stage : Stage) (read written : List ℕ) (e : ClientEnd)
+    → ClientTurn readers least s stage read written e → Stays s.client.on e.client.on s.client.last e.client.last
+client_stays readers least s _ _ _ _ client_turn.begins = record { on = refl; last = refl }
+client_stays readers least s _ _ _ _ (client_turn.sends e t is) =
+    let k = client_stays readers least s Sending [] [] e t in record {
+      on = next_on e.client e.client.table.tally.unsent _ ∙ k.on;
+      last = sent_last e ∙ k.last;
+    }
+client_stays readers least s _ _ _ _ (client_turn.writes e count t none within) =
+    let k = client_stays readers least s Sending [] [] e t in record { on = k.on; last = k.last }
+client_stays readers least s _ _ _ _ (client_turn.takes e read written t out may) =
+    let k = client_stays readers least s Writing [] written e t in record { on = k.on; last = k.last }
+client_stays readers least s _ _ _ _ (client_turn.has e read written t enough) = client_stays readers least s Taking read written e t
+client_stays readers least s _ _ _ _ (client_turn.reads e read written t may is) =
+    let k = client_stays readers least s Reading read written e t in record {
+      on = read_on readers e.client (next_of e.input.rest) ∙ k.on;
+      last = read_last readers e.client (next_of e.input.rest) ∙ k.last;
+    }
+
+served_stays : (readers : Readers) (e : ServerEnd) (f : Front)
+    → Stays e.server.on (front_served readers e f).server.on e.server.last (front_served readers e f).server.last
+served_stays readers e (Ok None) = record { on = refl; last = refl }
+served_stays readers e (Ok (Some (line, rest))) =
+    let m = read_moves e.server (reading_of (readers.command line)) in record { on = m.on; last = m.last }
+served_stays readers e (Err why) = record { on = refl; last = refl }
+
+server_stays : (readers : Readers) (answer : Job → ℕ → Outcome) (least : ℕ) (s : ServerEnd) (stage : Stage) (read written : List ℕ)
+    (e : ServerEnd) → ServerTurn readers answer least s stage read written e → Stays s.server.on e.server.on s.server.last e.server.last
+server_stays readers answer least s _ _ _ _ server_turn.begins = record { on = refl; last = refl }
+server_stays readers answer least s _ _ _ _ (server_turn.takes read may) = record { on = refl; last = refl }
+server_stays readers answer least s _ _ _ _ (server_turn.has e read t enough) = server_stays readers answer least s Taking read [] e t
+server_stays readers answer least s _ _ _ _ (server_turn.reads e read t on is) =
+    let k = server_stays readers answer least s Reading read [] e t in
+    let m = served_stays readers e (next_of e.input.rest) in record { on = m.on ∙ k.on; last = m.last ∙ k.last }
+server_stays readers answer least s _ _ _ _ (server_turn.knows e read t none) = server_stays readers answer least s Reading read [] e t
+server_stays readers answer least s _ _ _ _ (server_turn.turns e read t may) =
+    let k = server_stays readers answer least s Working read [] e t in
+    let m = (turned_moves e.server).1 in record { on = m.on ∙ k.on; last = m.last ∙ k.last }
+server_stays readers answer least s _ _ _ _ (server_turn.ends e read j t is) =
+    let k = server_stays readers answer least s Working read [] e t in
+    let m = (machined_moves e.server (answer j (contact_count e.server.ledger))).1 in record { on = m.on ∙ k.on; last = m.last ∙ k.last }
+server_stays readers answer least s _ _ _ _ (server_turn.writes e read count t idle none within) =
+    let k = server_stays readers answer least s Working read [] e t in record { on = k.on; last = k.last }
+
+-- ---- a side that has left does nothing more
+
+take_none : (n : ℕ) → take {A = ℕ} n [] ≡ []
+take_none zero = refl
+take_none (suc n) = refl
+
+drop_none : (n : ℕ) → drop {A = ℕ} n [] ≡ []
+drop_none zero = refl
+drop_none (suc n) = refl
+
+never_due : (s : State) (b : Bool) (o : Option Planned) → is_some (cond (is_running (left_state s) && b) o None) ≡ true → ⊥
+never_due State.Apart b o is = false≢true is
+never_due State.Running b o is = false≢true is
+never_due State.Failing b o is = false≢true is
+never_due State.Aborting b o is = false≢true is
+never_due State.Halted b o is = false≢true is
+never_due State.Done b o is = false≢true is
+never_due State.Faulted b o is = false≢true is
+
+left_once : (s : State) → left_state (left_state s) ≡ left_state s
+left_once State.Apart = refl
+left_once State.Running = refl
+left_once State.Failing = refl
+left_once State.Aborting = refl
+left_once State.Halted = refl
+left_once State.Done = refl
+left_once State.Faulted = refl
+
+left_twice : (e : ClientEnd) → end_left (end_left e) ≡ end_left e
+left_twice e = λ i. record (end_left e) { client = record ((end_left e).client) { state = left_once e.client.state i } }
+
+not_due : (e : ClientEnd) → is_some (due (end_left e).client) ≡ true → ⊥
+not_due e is = never_due e.client.state (not (is_asking e.client.table.standard))
+    (first_due e.client.window (count_open e.client.table.standard) e.client.table.tally.unsent) is
+
+record Still {E : Type 0} (s e : E) (read written : List ℕ) : Type 0 where
+  pub same : e ≡ s
+  pub read_none : read ≡ []
+  pub written_none : written ≡ []
+
+abbrev ClientStill : Stage → ClientEnd → ClientEnd → List ℕ → List ℕ → Type 0
+ClientStill Sending s e read written = Still s e read written
+ClientStill Writing s e read written = Still s e read written
+ClientStill _ s e read written = ⊥
+
+client_still : (readers : Readers) (least : ℕ) (s x : ClientEnd) (stage : Stage) (read written : List ℕ) (e : ClientEnd) → s ≡ end_left x
+    → ClientTurn readers least s stage read written e → ClientStill stage s e read written
+client_still readers least s x _ _ _ _ left client_turn.begins = record { same = refl; read_none = refl; written_none = refl }
+client_still readers least s x _ _ _ _ left (client_turn.sends e t is) =
+    let k : Still s e [] [] = client_still readers least s x Sending [] [] e left t in
+    absurd (not_due x (subst (λ (y : ClientEnd). is_some (due y.client) ≡ true) (k.same ∙ left) is))
+client_still readers least s x _ _ _ _ left (client_turn.writes e count t none within) =
+    let k : Still s e [] [] = client_still readers least s x Sending [] [] e left t in
+    let out : e.out ≡ [] = ap (λ (y : ClientEnd). y.out) (k.same ∙ left) in record {
+      same = (λ i. record e { out = (ap (drop count) out ∙ (drop_none count ∙ sym out)) i }) ∙ k.same;
+      read_none = refl;
+      written_none = ap (take count) out ∙ take_none count;
+    }
+client_still readers least s x _ _ _ _ left (client_turn.takes e read written t out may) =
+    let k : Still s e [] written = client_still readers least s x Writing [] written e left t in
+    false≢true (subst (λ (y : ClientEnd). may_read y.client ≡ true) (k.same ∙ left) may)
+client_still readers least s x _ _ _ _ left (client_turn.has e read written t enough) =
+    client_still readers least s x Taking read written e left t
+client_still readers least s x _ _ _ _ left (client_turn.reads e read written t may is) =
+    client_still readers least s x Reading read written e left t
+
+server_still : (readers : Readers) (answer : Job → ℕ → Outcome) (least : ℕ) (s x : ServerEnd) (stage : Stage) (read written : List ℕ)
+    (e : ServerEnd) → s ≡ serving_left x → ServerTurn readers answer least s stage read written e → Still s e read written
+server_still readers answer least s x _ _ _ _ left server_turn.begins = record { same = refl; read_none = refl; written_none = refl }
+server_still readers answer least s x _ _ _ _ left (server_turn.takes read may) =
+    absurd (false≢true (sym (ap (λ (y : ServerEnd). y.server.on) left) ∙ (and_parts _ _ may).0))
+server_still readers answer least s x _ _ _ _ left (server_turn.has e read t enough) =
+    server_still readers answer least s x Taking read [] e left t
+server_still readers answer least s x _ _ _ _ left (server_turn.reads e read t on is) =
+    let k = server_still readers answer least s x Reading read [] e left t in
+    absurd (false≢true (sym (ap (λ (y : ServerEnd). y.server.on) (k.same ∙ left)) ∙ on))
+server_still readers answer least s x _ _ _ _ left (server_turn.knows e read t none) =
+    server_still readers answer least s x Reading read [] e left t
+server_still readers answer least s x _ _ _ _ left (server_turn.turns e read t may) =
+    let k = server_still readers answer least s x Working read [] e left t in
+    absurd (false≢true (subst (λ (y : ServerEnd). may_turn y.server ≡ true) (k.same ∙ left) may))
+server_still readers answer least s x _ _ _ _ left (server_turn.ends e read j t is) =
+    let k = server_still readers answer least s x Working read [] e left t in
+    let never : None ≡ Some j = subst (λ (y : ServerEnd). running_job y.server ≡ Some j) (k.same ∙ left) is
+    in absurd (cc)
+server_still readers answer least s x _ _ _ _ left (server_turn.writes e read count t idle none within) =
+    let k = server_still readers answer least s x Working read [] e left t in
+    let out : e.out ≡ [] = ap (λ (y : ServerEnd). y.out) (k.same ∙ left) in record {
+      same = (λ i. record e { out = (ap (drop count) out ∙ (drop_none count ∙ sym out)) i }) ∙ k.same;
+      read_none = k.read_none;
+      written_none = ap (take count) out ∙ take_none count;
+    }
+
+-- ---- bytes on their way
+
+all_wait : (on : Bool) (xs ys : List ℕ) → AreOnWay on xs ys → on ≡ true → ys ≡ xs
+all_wait true xs ys h is = h
+all_wait false xs ys h is = absurd (false≢true is)
+
+way_take : (on : Bool) (k : ℕ) (xs ys : List ℕ) → k ≤ length xs → AreOnWay on xs ys → take k ys ≡ take k xs
+way_take true k xs ys le h = ap (take k) h
+way_take false k xs ys le h = ap (take k) h.1 ∙ take-append-le k xs h.0 le
+
+way_drop : (on : Bool) (k : ℕ) (xs ys : List ℕ) → k ≤ length xs → AreOnWay on xs ys → AreOnWay on (drop k xs) (drop k ys)
+way_drop true k xs ys le h = ap (drop k) h
+way_drop false k xs ys le h = (h.0, ap (drop k) h.1 ∙ drop-append-le k xs h.0 le)
+
+way_front : (on : Bool) (read xs ys : List ℕ) → take (length read) xs ≡ read → AreOnWay on xs ys → take (length read) ys ≡ read
+way_front on read xs ys front h = way_take on (length read) xs ys (fits read xs front) h ∙ front
+
+-- what is known of the source of a call
+pub source_front : (left more read : List ℕ) (left_now : Option (List ℕ)) → Consumes (Some left) left_now read
+    → take (length read) (left ++ more) ≡ read
+source_front left more read None h = absurd h
+source_front left more read (Some now) h =
+    ap (λ (x : List ℕ). take (length read) (x ++ more)) h
+    ∙ (ap (take (length read)) (append_assoc read now more) ∙ take-append_seam read (now ++ more))
+
+-- ---- one call
+
+-- besides: both stand on one connection, or have left it
+record Stands (w : World) (p : Pumped) : Type 0 where
+  pub is : IsWorldOf w p
+  pub from : 1 ≤ w.client.client.last
+  pub same : w.server.server.last ≡ w.client.client.last
+  pub client_gone : p.client.client.on ≡ false → (e : ClientEnd) × (p.client ≡ end_left e)
+  pub server_gone : p.server.server.on ≡ false → (e : ServerEnd) × (p.server ≡ serving_left e)
+
+record Steps (readers : Readers) (v : World) (p : Pumped) : Type 0 where
+  pub events : List Event
+  pub now : World
+  pub leads : run_of readers events v ≡ now
+  pub stands : Stands now p
+
+there : (v : World) (n m : ℕ) (l : Link) → IsCarried v → 1 ≤ v.client.client.last → n ≡ v.client.client.last → m ≡ v.client.client.last
+    → link_of (with_link v.links n l) m ≡ l
+there v n m l c from is also =
+    let made = c.wired.made in
+    ap (λ (k : ℕ). link_of (with_link v.links n l) k) (also ∙ sym is) ∙ link_same v.links n l (omega (arith, from, is)) (omega (arith, made, is))
+
+nothing_done : (readers : Readers) (v : World) (p q : Pumped) → Stands v p → q ≡ p → Steps readers v q
+nothing_done readers v p q s same = record { events = []; now = v; leads = refl; stands = subst (Stands v) (sym same) s }
+
+client_rests : (p : Pumped) (e : ClientEnd) (read written : List ℕ) → e ≡ p.client → read ≡ [] → written ≡ [] → with_client p e read written ≡ p
+client_rests p e read written same read_none written_none = λ i. record {
+  client = same i;
+  server = p.server;
+  up = (ap (λ (x : List ℕ). p.up ++ x) written_none ∙ append-nil p.up) i;
+  down = drop (length (read_none i)) p.down;
+}
+
+server_rests : (p : Pumped) (e : ServerEnd) (read written : List ℕ) → e ≡ p.server → read ≡ [] → written ≡ [] → with_server p e read written ≡ p
+server_rests p e read written same read_none written_none = λ i. record {
+  client = p.client;
+  server = same i;
+  up = drop (length (read_none i)) p.up;
+  down = (ap (λ (x : List ℕ). p.down ++ x) written_none ∙ append-nil p.down) i;
+}
+
+-- the client's turn, from a connection on which it stands
+record ClientSteps (readers : Readers) (v : World) (p : Pumped) (stage : Stage) (read written : List ℕ) (e : ClientEnd) : Type 0 where
+  pub joined : TurnLeads readers (IsClientTurn readers (length read)) true v (client_joined v e (written ++ e.out) (length read))
+  pub stays : Stays p.client.client.on e.client.on p.client.client.last e.client.last
+  pub out : stage ≡ Reading → e.out ≡ []
+
+client_goes : (readers : Readers) → AreReaders readers → (v : World) (p : Pumped) → IsCarried v → Stands v p → (least : ℕ) (stage : Stage)
+    (read written : List ℕ) (e : ClientEnd) → take (length read) p.down ≡ read
+    → ClientTurn readers least p.client stage read written e → ClientSteps readers v p stage read written e
+client_goes readers are v p c s least stage read written e front t =
+    let turn : ClientTurn readers least v.client stage read written e =
+    subst (λ (x : ClientEnd). ClientTurn readers least x stage read written e) (sym s.is.client) t in
+    let came : take (length read) (client_link v).down ≡ read = way_front p.server.server.on read p.down (client_link v).down front s.is.down in
+    let made = c.wired.made in
+    let to : v.client.client.last ≤ length v.links = omega (arith, made) in record {
+      joined = turn_joins readers least v stage read written e c.client_out s.from to came turn;
+      stays = client_stays readers least p.client stage read written e t;
+      out = λ is. turn_written readers least v read written e c.client_out s.from to came
+          (subst (λ (x : Stage). ClientTurn readers least v.client x read written e) is turn);
+    }
+
+-- the way up behind a turn of the client
+up_more : (v : World) (p : Pumped) (written out : List ℕ) → Stands v p → p.client.client.on ≡ true
+    → (client_link v).up ++ (written ++ out) ≡ (p.up ++ written) ++ out
+up_more v p written out s on =
+    ap (λ (x : List ℕ). x ++ (written ++ out)) (all_wait p.client.client.on p.up (client_link v).up s.is.up on)
+    ∙ sym (append_assoc p.up written out)
+
+client_link_now : (v : World) (p : Pumped) (e : ClientEnd) (text : List ℕ) (k : ℕ) → IsCarried v → Stands v p
+    → e.client.last ≡ p.client.client.last
+    → client_link (client_joined v e text k) ≡ record { up = (client_link v).up ++ text; down = drop k (client_link v).down }
+client_link_now v p e text k c s last =
+    there v v.client.client.last e.client.last (record { up = (client_link v).up ++ text; down = drop k (client_link v).down }) c s.from refl
+    (last ∙ sym (ap (λ (x : ClientEnd). x.client.last) s.is.client))
+
+client_last_now : (v : World) (p : Pumped) (e : ClientEnd) → Stands v p → e.client.last ≡ p.client.client.last
+    → e.client.last ≡ v.client.client.last
+client_last_now v p e s last = last ∙ sym (ap (λ (x : ClientEnd). x.client.last) s.is.client)
+
+client_moved_on : (readers : Readers) → AreReaders readers → (v : World) (p : Pumped) → IsCarried v → Stands v p → (least : ℕ)
+    (read written : List ℕ) (e : ClientEnd) → p.client.client.on ≡ true → take (length read) p.down ≡ read
+    → ClientTurn readers least p.client Reading read written e → Steps readers v (with_client p e read written)
+client_moved_on readers are v p c s least read written e on front t =
+    let g : ClientSteps readers v p Reading read written e = client_goes readers are v p c s least Reading read written e front t in
+    let still_on : e.client.on ≡ true = g.stays.on ∙ on in
+    let out : e.out ≡ [] = g.out refl in
+    let last : e.client.last ≡ v.client.client.last = client_last_now v p e s g.stays.last in
+    let link = client_link_now v p e (written ++ e.out) (length read) c s g.stays.last in
+    let now : World = client_joined v e (written ++ e.out) (length read) in record {
+      events = g.joined.events;
+      now = now;
+      leads = g.joined.leads;
+      stands = record {
+        is = record {
+          client = λ i. record e { out = sym out i };
+          server = s.is.server;
+          up = subst (λ (b : Bool). AreOnWay b (p.up ++ written) (client_link now).up) (sym still_on)
+              (ap (λ (l : Link). l.up) link ∙ (up_more v p written e.out s on
+              ∙ (ap (λ (x : List ℕ). (p.up ++ written) ++ x) out ∙ append-nil (p.up ++ written))));
+          down = subst (λ (l : Link). AreOnWay p.server.server.on (drop (length read) p.down) l.down) (sym link)
+              (way_drop p.server.server.on (length read) p.down (client_link v).down (fits read p.down front) s.is.down);
+        };
+        from = subst (λ (n : ℕ). 1 ≤ n) (sym last) s.from;
+        same = s.same ∙ sym last;
+        client_gone = λ off. absurd (false≢true (sym off ∙ still_on));
+        server_gone = s.server_gone;
+      };
+    }
+
+client_stopped_on : (readers : Readers) → AreReaders readers → (v : World) (p : Pumped) → IsCarried v → Stands v p → (least : ℕ)
+    (stage : Stage) (read written : List ℕ) (e : ClientEnd) → p.client.client.on ≡ true → take (length read) p.down ≡ read
+    → ClientTurn readers least p.client stage read written e → Steps readers v (with_client p (end_left e) read written)
+client_stopped_on readers are v p c s least stage read written e on front t =
+    let g : ClientSteps readers v p stage read written e = client_goes readers are v p c s least stage read written e front t in
+    let last : e.client.last ≡ v.client.client.last = client_last_now v p e s g.stays.last in
+    let link = client_link_now v p e (written ++ e.out) (length read) c s g.stays.last in
+    let now : World = record (client_joined v e (written ++ e.out) (length read)) { client = end_left e } in record {
+      events = g.joined.events ++ event.ClientLeaves ∷ [];
+      now = now;
+      leads = turn_leaves readers v g.joined.events e (written ++ e.out) (length read) g.joined.leads (g.stays.on ∙ on);
+      stands = record {
+        is = record {
+          client = refl;
+          server = s.is.server;
+          up = (e.out, ap (λ (l : Link). l.up) link ∙ up_more v p written e.out s on);
+          down = subst (λ (l : Link). AreOnWay p.server.server.on (drop (length read) p.down) l.down) (sym link)
+              (way_drop p.server.server.on (length read) p.down (client_link v).down (fits read p.down front) s.is.down);
+        };
+        from = subst (λ (n : ℕ). 1 ≤ n) (sym last) s.from;
+        same = s.same ∙ sym last;
+        client_gone = λ off. (e, refl);
+        server_gone = s.server_gone;
+      };
+    }
+
+client_moved : (readers : Readers) → AreReaders readers → (v : World) (p : Pumped) → IsCarried v → Stands v p → (least : ℕ)
+    (read written : List ℕ) (e : ClientEnd) (b : Bool) → p.client.client.on ≡ b → take (length read) p.down ≡ read
+    → ClientTurn readers least p.client Reading read written e → Steps readers v (with_client p e read written)
+client_moved readers are v p c s least read written e true on front t =
+    client_moved_on readers are v p c s least read written e on front t
+client_moved readers are v p c s least read written e false off front t =
+    let gone = s.client_gone off in absurd (client_still readers least p.client gone.0 Reading read written e gone.1 t)
+
+client_rest : (readers : Readers) (v : World) (p : Pumped) (stage : Stage) (read written : List ℕ) (e x : ClientEnd) → Stands v p
+    → p.client ≡ end_left x → ClientStill stage p.client e read written → Steps readers v (with_client p (end_left e) read written)
+client_rest readers v p stage read written e x s left k = go stage k
+  where
+    at_rest : Still p.client e read written → Steps readers v (with_client p (end_left e) read written)
+    at_rest k = nothing_done readers v p (with_client p (end_left e) read written) s
+        (client_rests p (end_left e) read written (ap end_left (k.same ∙ left) ∙ (left_twice x ∙ sym left)) k.read_none k.written_none)
+
+    go : (stage : Stage) → ClientStill stage p.client e read written → Steps readers v (with_client p (end_left e) read written)
+    go Sending k = at_rest k
+    go Writing k = at_rest k
+    go Taking k = absurd k
+    go Reading k = absurd k
+    go Working k = absurd k
+
+client_stopped : (readers : Readers) → AreReaders readers → (v : World) (p : Pumped) → IsCarried v → Stands v p → (least : ℕ)
+    (stage : Stage) (read written : List ℕ) (e : ClientEnd) (b : Bool) → p.client.client.on ≡ b → take (length read) p.down ≡ read
+    → ClientTurn readers least p.client stage read written e → Steps readers v (with_client p (end_left e) read written)
+client_stopped readers are v p c s least stage read written e true on front t =
+    client_stopped_on readers are v p c s least stage read written e on front t
+client_stopped readers are v p c s least stage read written e false off front t =
+    let gone = s.client_gone off in
+    client_rest readers v p stage read written e gone.0 s gone.1
+    (client_still readers least p.client gone.0 stage read written e gone.1 t)
+
+-- the server's turn
+record ServerSteps (readers : Readers) (answer : Job → ℕ → Outcome) (v : World) (p : Pumped) (read written : List ℕ) (e : ServerEnd) : Type 0
+  where
+    pub joined : TurnLeads readers (IsServerTurn readers answer (length read)) true v (server_joined v e (written ++ e.out) (length read))
+    pub stays : Stays p.server.server.on e.server.on p.server.server.last e.server.last
+
+server_goes : (readers : Readers) (answer : Job → ℕ → Outcome) → AreFit answer → (v : World) (p : Pumped) → IsCarried v → Stands v p
+    → (least : ℕ) (stage : Stage) (read written : List ℕ) (e : ServerEnd) → p.server.server.on ≡ true → take (length read) p.up ≡ read
+    → ServerTurn readers answer least p.server stage read written e → ServerSteps readers answer v p read written e
+server_goes readers answer fit v p c s least stage read written e on front t =
+    let turn : ServerTurn readers answer least v.server stage read written e =
+    subst (λ (x : ServerEnd). ServerTurn readers answer least x stage read written e) (sym s.is.server) t in
+    let waits : take (length read) (client_link v).up ≡ read = way_front p.client.client.on read p.up (client_link v).up front s.is.up in
+    let came : take (length read) (server_link v).up ≡ read =
+    ap (λ (n : ℕ). take (length read) (link_of v.links n).up) s.same ∙ waits in
+    let h : IsServing v = reached_serving v c (ap (λ (x : ServerEnd). x.server.on) s.is.server ∙ on) in record {
+      joined = serving_joins readers answer fit least v stage read written e h.out h.fine h.from h.to came turn;
+      stays = server_stays readers answer least p.server stage read written e t;
+    }
+
+server_link_now : (v : World) (p : Pumped) (e : ServerEnd) (text : List ℕ) (k : ℕ) → IsCarried v → Stands v p
+    → client_link (server_joined v e text k) ≡ record { up = drop k (client_link v).up; down = (client_link v).down ++ text }
+server_link_now v p e text k c s =
+    there v v.server.server.last v.client.client.last (record { up = drop k (server_link v).up; down = (server_link v).down ++ text }) c s.from
+    s.same refl
+    ∙ ap (λ (n : ℕ). record { up = drop k (link_of v.links n).up; down = (link_of v.links n).down ++ text }) s.same
+
+down_more : (v : World) (p : Pumped) (written out : List ℕ) → Stands v p → p.server.server.on ≡ true
+    → (client_link v).down ++ (written ++ out) ≡ (p.down ++ written) ++ out
+down_more v p written out s on =
+    ap (λ (x : List ℕ). x ++ (written ++ out)) (all_wait p.server.server.on p.down (client_link v).down s.is.down on)
+    ∙ sym (append_assoc p.down written out)
+
+server_last_now : (v : World) (p : Pumped) (e : ServerEnd) → Stands v p → e.server.last ≡ p.server.server.last
+    → e.server.last ≡ v.client.client.last
+server_last_now v p e s last = last ∙ (sym (ap (λ (x : ServerEnd). x.server.last) s.is.server) ∙ s.same)
+
+server_moved_on : (readers : Readers) (answer : Job → ℕ → Outcome) → AreFit answer → (v : World) (p : Pumped) → IsCarried v → Stands v p
+    → (least : ℕ) (stage : Stage) (read written : List ℕ) (e : ServerEnd) → p.server.server.on ≡ true → e.out ≡ []
+    → take (length read) p.up ≡ read → ServerTurn readers answer least p.server stage read written e
+    → Steps readers v (with_server p e read written)
+server_moved_on readers answer fit v p c s least stage read written e on out front t =
+    let g : ServerSteps readers answer v p read written e = server_goes readers answer fit v p c s least stage read written e on front t in
+    let still_on : e.server.on ≡ true = g.stays.on ∙ on in
+    let link = server_link_now v p e (written ++ e.out) (length read) c s in
+    let now : World = server_joined v e (written ++ e.out) (length read) in record {
+      events = g.joined.events;
+      now = now;
+      leads = g.joined.leads;
+      stands = record {
+        is = record {
+          client = s.is.client;
+          server = λ i. record e { out = sym out i };
+          up = subst (λ (l : Link). AreOnWay p.client.client.on (drop (length read) p.up) l.up) (sym link)
+              (way_drop p.client.client.on (length read) p.up (client_link v).up (fits read p.up front) s.is.up);
+          down = subst (λ (b : Bool). AreOnWay b (p.down ++ written) (client_link now).down) (sym still_on)
+              (ap (λ (l : Link). l.down) link ∙ (down_more v p written e.out s on
+              ∙ (ap (λ (x : List ℕ). (p.down ++ written) ++ x) out ∙ append-nil (p.down ++ written))));
+        };
+        from = s.from;
+        same = server_last_now v p e s g.stays.last;
+        client_gone = s.client_gone;
+        server_gone = λ off. absurd (false≢true (sym off ∙ still_on));
+      };
+    }
+
+server_stopped_on : (readers : Readers) (answer : Job → ℕ → Outcome) → AreFit answer → (v : World) (p : Pumped) → IsCarried v → Stands v p
+    → (least : ℕ) (stage : Stage) (read written : List ℕ) (e : ServerEnd) → p.server.server.on ≡ true
+    → take (length read) p.up ≡ read → ServerTurn readers answer least p.server stage read written e
+    → Steps readers v (with_server p (serving_left e) read written)
+server_stopped_on readers answer fit v p c s least stage read written e on front t =
+    let g : ServerSteps readers answer v p read written e = server_goes readers answer fit v p c s least stage read written e on front t in
+    let link = server_link_now v p e (written ++ e.out) (length read) c s in
+    let now : World = record (server_joined v e (written ++ e.out) (length read)) { server = serving_left e } in record {
+      events = g.joined.events ++ event.ServerLeaves ∷ [];
+      now = now;
+      leads = serving_leaves readers v g.joined.events e (written ++ e.out) (length read) g.joined.leads (g.stays.on ∙ on);
+      stands = record {
+        is = record {
+          client = s.is.client;
+          server = refl;
+          up = subst (λ (l : Link). AreOnWay p.client.client.on (drop (length read) p.up) l.up) (sym link)
+              (way_drop p.client.client.on (length read) p.up (client_link v).up (fits read p.up front) s.is.up);
+          down = (e.out, ap (λ (l : Link). l.down) link ∙ down_more v p written e.out s on);
+        };
+        from = s.from;
+        same = server_last_now v p e s g.stays.last;
+        client_gone = s.client_gone;
+        server_gone = λ off. (e, refl);
+      };
+    }
+
+server_moved : (readers : Readers) (answer : Job → ℕ → Outcome) → AreFit answer → (v : World) (p : Pumped) → IsCarried v → Stands v p
+    → (least : ℕ) (stage : Stage) (read written : List ℕ) (e : ServerEnd) (b : Bool) → p.server.server.on ≡ b → e.out ≡ []
+    → take (length read) p.up ≡ read → ServerTurn readers answer least p.server stage read written e
+    → Steps readers v (with_server p e read written)
+server_moved readers answer fit v p c s least stage read written e true on out front t =
+    server_moved_on readers answer fit v p c s least stage read written e on out front t
+server_moved readers answer fit v p c s least stage read written e false off out front t =
+    let gone = s.server_gone off in
+    let k = server_still readers answer least p.server gone.0 stage read written e gone.1 t in
+    nothing_done readers v p (with_server p e read written) s (server_rests p e read written k.same k.read_none k.written_none)
+
+server_stopped : (readers : Readers) (answer : Job → ℕ → Outcome) → AreFit answer → (v : World) (p : Pumped) → IsCarried v → Stands v p
+    → (least : ℕ) (stage : Stage) (read written : List ℕ) (e : ServerEnd) (b : Bool) → p.server.server.on ≡ b
+    → take (length read) p.up ≡ read → ServerTurn readers answer least p.server stage read written e
+    → Steps readers v (with_server p (serving_left e) read written)
+server_stopped readers answer fit v p c s least stage read written e true on front t =
+    server_stopped_on readers answer fit v p c s least stage read written e on front t
+server_stopped readers answer fit v p c s least stage read written e false off front t =
+    let gone = s.server_gone off in
+    let k = server_still readers answer least p.server gone.0 stage read written e gone.1 t in
+    nothing_done readers v p (with_server p (serving_left e) read written) s
+    (server_rests p (serving_left e) read written (ap serving_left (k.same ∙ gone.1) ∙ sym gone.1) k.read_none k.written_none)
+
+-- ---- all calls
+
+steps_more : (readers : Readers) (w : World) (p q : Pumped) → (g : Steps readers w p) → Steps readers g.now q → Steps readers w q
+steps_more readers w p q g h = record {
+  events = g.events ++ h.events;
+  now = h.now;
+  leads = run_append readers g.events h.events w ∙ (ap (run_of readers h.events) g.leads ∙ h.leads);
+  stands = h.stands;
+}
+
+now_carried : (readers : Readers) → AreReaders readers → (w : World) (p : Pumped) → IsCarried w → (g : Steps readers w p) → IsCarried g.now
+now_carried readers are w p c g = subst IsCarried g.leads (run_carried readers are g.events w c)
+
+calls : (readers : Readers) → AreReaders readers → (answer : Job → ℕ → Outcome) → AreFit answer → (w : World) (p : Pumped) → IsCarried w
+    → Stands w (pumped_of w) → PumpCalls answer (pumped_of w) p → Steps readers w p
+calls readers are answer fit w _ c s no_calls = record { events = []; now = w; leads = refl; stands = s }
+calls readers are answer fit w _ c s (client_moves p e least left left_now taken taken_now moved t h front) =
+    let g : Steps readers w p = calls readers are answer fit w p c s t in
+    steps_more readers w p (with_client p e h.read h.written) g
+    (client_moved readers are g.now p (now_carried readers are w p c g) g.stands least h.read h.written e p.client.client.on refl front
+    (h.turn readers are))
+calls readers are answer fit w _ c s (client_stops p e least bound left left_now taken taken_now fault t h front) =
+    let g : Steps readers w p = calls readers are answer fit w p c s t in
+    subst (λ (x : ClientEnd). Steps readers w (with_client p x h.read h.written)) (sym h.leaves)
+    (steps_more readers w p (with_client p (end_left h.last) h.read h.written) g
+    (client_stopped readers are g.now p (now_carried readers are w p c g) g.stands least h.stage h.read h.written h.last p.client.client.on
+    refl front (h.turn readers are)))
+calls readers are answer fit w _ c s (server_moves p e least left left_now taken taken_now moved t h front) =
+    let g : Steps readers w p = calls readers are answer fit w p c s t in
+    steps_more readers w p (with_server p e h.read h.written) g
+    (server_moved readers answer fit g.now p (now_carried readers are w p c g) g.stands least Writing h.read h.written e p.server.server.on
+    refl h.all front (h.turn readers are))
+calls readers are answer fit w _ c s (server_stops p e least bound left left_now taken taken_now fault t h front) =
+    let g : Steps readers w p = calls readers are answer fit w p c s t in
+    subst (λ (x : ServerEnd). Steps readers w (with_server p x h.read h.written)) (sym h.leaves)
+    (steps_more readers w p (with_server p (serving_left h.last) h.read h.written) g
+    (server_stopped readers answer fit g.now p (now_carried readers are w p c g) g.stands least h.stage h.read h.written h.last
+    p.server.server.on refl front (h.turn readers are)))
+
+way_whole : (on : Bool) (xs : List ℕ) → AreOnWay on xs xs
+way_whole true xs = refl
+way_whole false xs = ([], sym (append-nil xs))
+
+begins_so : (w : World) → IsCarried w → w.client.client.on ≡ true → w.server.server.on ≡ true
+    → w.server.server.last ≡ w.client.client.last → Stands w (pumped_of w)
+begins_so w c client server same = record {
+  is = record {
+    client = refl;
+    server = refl;
+    up = way_whole w.client.client.on (client_link w).up;
+    down = way_whole w.server.server.on (client_link w).down;
+  };
+  from = c.wired.first client;
+  same = same;
+  client_gone = λ off. absurd (false≢true (sym off ∙ client));
+  server_gone = λ off. absurd (false≢true (sym off ∙ server));
+}
+
+pumps_reach : (readers : Readers) → AreReaders readers → (answer : Job → ℕ → Outcome) → AreFit answer → (w : World) (p : Pumped)
+    (program : Meaning) (rack : List (List ℕ)) (window : ℕ) (events : List Event) → IsProgram program → window ≤ 16
+    → w ≡ run_of readers events (start program rack window) → w.client.client.on ≡ true → w.server.server.on ≡ true
+    → w.server.server.last ≡ w.client.client.last → PumpCalls answer (pumped_of w) p → Steps readers w p
+pumps_reach readers are answer fit w p program rack window events is few reached client server same t =
+    let c : IsCarried w =
+    subst IsCarried (sym reached) (run_carried readers are events (start program rack window) (start_carried program rack window is few)) in
+    calls readers are answer fit w p c (begins_so w c client server same) t
+
+pub pumps_join : (readers : Readers) → AreReaders readers → (answer : Job → ℕ → Outcome) → AreFit answer → (w : World) (p : Pumped)
+    (program : Meaning) (rack : List (List ℕ)) (window : ℕ) (events : List Event) → IsProgram program → window ≤ 16
+    → w ≡ run_of readers events (start program rack window) → w.client.client.on ≡ true → w.server.server.on ≡ true
+    → w.server.server.last ≡ w.client.client.last → PumpCalls answer (pumped_of w) p → IsOneWorld readers w p
+pumps_join readers are answer fit w p program rack window events is few reached client server same t =
+    let g = pumps_reach readers are answer fit w p program rack window events is few reached client server same t in
+    record { events = g.events; is = subst (λ (v : World). IsWorldOf v p) (sym g.leads) g.stands.is }
+
+-- the whole list of events, from the start
+from_start : (readers : Readers) (w : World) (p : Pumped) (v : World) (events : List Event) → w ≡ run_of readers events v
+    → (g : Steps readers w p) → run_of readers (events ++ g.events) v ≡ g.now
+from_start readers w p v events reached g =
+    run_append readers events g.events v ∙ (ap (run_of readers g.events) (sym reached) ∙ g.leads)
+
+pub pumps_sound : (readers : Readers) → AreReaders readers → (answer : Job → ℕ → Outcome) → AreFit answer → (w : World) (p : Pumped)
+    (program : Meaning) (rack : List (List ℕ)) (window : ℕ) (events : List Event) → IsProgram program → window ≤ 16
+    → w ≡ run_of readers events (start program rack window) → w.client.client.on ≡ true → w.server.server.on ≡ true
+    → w.server.server.last ≡ w.client.client.last → PumpCalls answer (pumped_of w) p
+    → Sound program.features p.client.client.table.tally.features p.server.server.ledger
+pumps_sound readers are answer fit w p program rack window events is few reached client server same t =
+    let g = pumps_reach readers are answer fit w p program rack window events is few reached client server same t in
+    subst (λ (e : ClientEnd). Sound program.features e.client.table.tally.features p.server.server.ledger) g.stands.is.client
+    (subst (λ (e : ServerEnd). Sound program.features g.now.client.client.table.tally.features e.server.ledger) g.stands.is.server
+    (subst (λ (v : World). Sound program.features v.client.client.table.tally.features v.server.server.ledger)
+    (from_start readers w p (start program rack window) events reached g)
+    (always_sound readers are program rack window (events ++ g.events) is few)))
+
+pub pumps_told : (readers : Readers) → AreReaders readers → (answer : Job → ℕ → Outcome) → AreFit answer → (w : World) (p : Pumped)
+    (program : Meaning) (rack : List (List ℕ)) (window : ℕ) (events : List Event) → IsProgram program → window ≤ 16
+    → w ≡ run_of readers events (start program rack window) → w.client.client.on ≡ true → w.server.server.on ≡ true
+    → w.server.server.last ≡ w.client.client.last → PumpCalls answer (pumped_of w) p
+    → Told p.client.client.table.tally.counted p.server.server.ledger p.client.client.last
+pumps_told readers are answer fit w p program rack window events is few reached client server same t =
+    let g = pumps_reach readers are answer fit w p program rack window events is few reached client server same t in
+    subst (λ (e : ClientEnd). Told e.client.table.tally.counted p.server.server.ledger e.client.last) g.stands.is.client
+    (subst (λ (e : ServerEnd). Told g.now.client.client.table.tally.counted e.server.ledger g.now.client.client.last) g.stands.is.server
+    (subst (λ (v : World). Told v.client.client.table.tally.counted v.server.server.ledger v.client.client.last)
+    (from_start readers w p (start program rack window) events reached g)
+    (always_told readers are program rack window (events ++ g.events) is few)))

@@ -1,0 +1,469 @@
+-- A server's turn over its ports is a list of events of the world.
+use Rattle.std.proofs.Common.{◌≡◌, ℕ, suc, ◌-◌, ◌≤◌, Bool, true, false, ◌&&◌, cond, List, [], ◌∷◌, ◌++◌, length, take, drop}
+use Rattle.std.proofs.Common.{refl, sym, ◌∙◌, ap, subst, arith, append_assoc, append-nil, is_none, Option, Some, None, Ok, Err}
+use Rattle.std.proofs.lemmas.Bool.{false≢true, and_parts, and_from, le-leb}
+use Rattle.std.proofs.lemmas.List.{set-get_or, take-append-drop}
+use Rattle.line_framing.specs.Next.{Front, next_of}
+use Rattle.line_framing.specs.Framing.{Framing, fed, fed_behind}
+use Rattle.line_framing.specs.declared.faults.FramingFault.{FramingFault}
+use Rattle.fixed_um.specs.declared.frames.Frame.{Frame}
+use Rattle.fixed_um.specs.declared.lengths.Point.{Point}
+use Rattle.fixed_um.specs.Points.{point_sum}
+use Rattle.fixed_um.specs.Shapes.{Direction}
+use Rattle.tool_rack.specs.Setups.{shift_at}
+use Rattle.dme_line.specs.declared.commands.Command.{Command}
+use Rattle.dme_line.specs.declared.commands.Command.TheVariants as command
+use Rattle.contact_ledger.specs.Ledgers.{contact_count}
+use Rattle.dmis_program.specs.Programs.{IsProgram}
+use Rattle.dmis_program.specs.Meaning.{Meaning}
+use Rattle.protocol_model.specs.Lines.{Readers, AreReaders, reply_bytes, reading_of}
+use Rattle.protocol_model.specs.Claims.{Sound, Told}
+use Rattle.protocol_model.specs.Server.{Server, running_job, job_run, job_of, may_end, has_outcome, in_volume, offset}
+use Rattle.protocol_model.specs.Server.{server_turned, server_machined}
+use Rattle.protocol_model.specs.Ends.{ServerEnd, front_served, serving_fed, serving_read, serving_turned, serving_machined}
+use Rattle.protocol_model.specs.Ends.{serving_left}
+use Rattle.protocol_model.specs.World.{World, Link, no_link, server_link, with_link, is_line, start, can, after, run_of}
+use Rattle.protocol_model.specs.World.{server_writes}
+use Rattle.protocol_model.specs.declared.events.Event.{Event}
+use Rattle.protocol_model.specs.declared.events.Event.TheVariants as event
+use Rattle.protocol_model.specs.declared.lines.Line.{Line}
+use Rattle.protocol_model.specs.declared.machine.Job.{Job}
+use Rattle.protocol_model.specs.declared.machine.Job.TheVariants as job
+use Rattle.protocol_model.specs.declared.machine.Outcome.{Outcome}
+use Rattle.protocol_model.specs.declared.machine.Outcome.TheVariants as outcome
+use Rattle.protocol_model.proofs.invariant.Moves.{read_moves, turned_moves, machined_moves}
+use Rattle.protocol_model.proofs.whole_run.Carrying.{IsCarried}
+use Rattle.protocol_model.proofs.whole_run.WholeRun.{run_carried, start_carried, always_sound, always_told}
+use Rattle.server_core.specs.Serving.{may_feed, may_turn}
+use Rattle.link_world.specs.Machines.{fits_job, simulated}
+use Rattle.link_world.specs.Schedules.{AreWork, ending, ended, working}
+use Rattle.link_world.specs.Pumps.{Stage, Writing, Taking, Reading, Working}
+use Rattle.link_world.specs.ServerPumps.{ServerTurn, begins, takes, has, reads, knows, turns, ends, writes}
+use Rattle.link_world.specs.Joined.{IsServerTurn, TurnLeads, AreFit, server_joined}
+use Rattle.link_world.proofs.EventLists.{run_append, done_now, not_done}
+use Rattle.link_world.proofs.TurnJoins.{SoFar, not_yet, once_more, Worked, no_work, more_work, all_worked, heard_only, served_whole}
+use Rattle.link_world.proofs.ClientJoins.{put_again, fed_none, never_none, fits}
+
+-- ---- what a machine answers
+
+-- an outcome that fits the job of what runs ends it
+may_end_by : (f : Frame) (r : Option Line) (j : Job) (o : Outcome) → job_run f r ≡ Some j → fits_job j o ≡ true → may_end r o ≡ true
+may_end_by f None j o is fit = absurd (cc)
+may_end_by f (Some line) j o is fit = go line.command is
+  where
+    job_in : Option Job → Job
+    job_in (Some k) = k
+    job_in None = j
+
+    fits_as : (k : Job) → Some k ≡ Some j → fits_job k o ≡ true
+    fits_as k same = subst (λ (x : Job). fits_job x o ≡ true) (sym (ap job_in same)) fit
+
+    home : (o : Outcome) → fits_job job.Home o ≡ true → has_outcome command.Home o ≡ true
+    home outcome.Done fit = refl
+    home (outcome.Touched at) fit = absurd (false≢true fit)
+    home outcome.Missed fit = absurd (false≢true fit)
+    home outcome.Fault fit = refl
+
+    move : (p q : Point) (o : Outcome) → fits_job (job.Move q) o ≡ true → has_outcome (command.GoTo p) o ≡ true
+    move p q outcome.Done fit = refl
+    move p q (outcome.Touched at) fit = absurd (false≢true fit)
+    move p q outcome.Missed fit = absurd (false≢true fit)
+    move p q outcome.Fault fit = refl
+
+    change : (n m : List ℕ) (o : Outcome) → fits_job (job.Change m) o ≡ true → has_outcome (command.ChangeTool n) o ≡ true
+    change n m outcome.Done fit = refl
+    change n m (outcome.Touched at) fit = absurd (false≢true fit)
+    change n m outcome.Missed fit = absurd (false≢true fit)
+    change n m outcome.Fault fit = refl
+
+    touch : (p q : Point) (d : Option Direction) (o : Outcome) → fits_job (job.Touch q d) o ≡ true → has_outcome (command.PtMeas p d) o ≡ true
+    touch p q d outcome.Done fit = absurd (false≢true fit)
+    touch p q d (outcome.Touched at) fit = fit
+    touch p q d outcome.Missed fit = refl
+    touch p q d outcome.Fault fit = refl
+
+    go : (c : Command) → job_of f c ≡ Some j → has_outcome c o ≡ true
+    go command.Home is = home o (fits_as job.Home is)
+    go (command.ChangeTool n) is = change n n o (fits_as (job.Change n) is)
+    go (command.GoTo p) is = move p (point_sum p (offset f)) o (fits_as (job.Move (point_sum p (offset f))) is)
+    go (command.PtMeas p d) is = touch p (point_sum p (offset f)) d o (fits_as (job.Touch (point_sum p (offset f)) d) is)
+    go command.StartSession is = absurd (cc)
+    go command.EndSession is = absurd (cc)
+    go command.ClearAllErrors is = absurd (cc)
+    go command.OnPtMeasReport is = absurd (cc)
+    go command.IsHomed is = absurd (cc)
+    go (command.SetCsyTransformation p) is = absurd (cc)
+    go (command.SetCoordSystem system) is = absurd (cc)
+    go command.AbortE is = absurd (cc)
+
+none_run : (f : Frame) (r : Option Line) → is_none r ≡ true → job_run f r ≡ None
+none_run f None is = refl
+none_run f (Some line) is = absurd (false≢true is)
+
+met_fits : (p q : Point) (d : Option Direction) (b : Bool) → in_volume p ≡ b → fits_job (job.Touch q d) (cond b (outcome.Touched p) outcome.Missed) ≡ true
+met_fits p q d true is = is
+met_fits p q d false is = refl
+
+-- what the simulated machine answers fits
+pub simulated_fits : (shifts : List Point) → AreFit (simulated shifts)
+simulated_fits shifts (job.Touch p d) n = met_fits (point_sum p (shift_at shifts n)) p d (in_volume (point_sum p (shift_at shifts n))) refl
+simulated_fits shifts job.Home n = refl
+simulated_fits shifts (job.Move p) n = refl
+simulated_fits shifts (job.Change m) n = refl
+
+-- ---- what a server keeps
+
+served_last : (readers : Readers) (e : ServerEnd) (f : Front) → (front_served readers e f).server.last ≡ e.server.last
+served_last readers e (Ok None) = refl
+served_last readers e (Ok (Some (line, rest))) = (read_moves e.server (reading_of (readers.command line))).last
+served_last readers e (Err why) = refl
+
+served_fine : (readers : Readers) (e : ServerEnd) (f : Front) → is_line f ≡ true → (front_served readers e f).input.fault ≡ e.input.fault
+served_fine readers e (Ok None) is = refl
+served_fine readers e (Ok (Some (line, rest))) is = refl
+served_fine readers e (Err why) is = absurd (false≢true is)
+
+-- what is answered joins what is to be sent
+served_more : (readers : Readers) (e : ServerEnd) (f : Front) → is_line f ≡ true
+    → front_served readers e f ≡ record (front_served readers (record e { out = [] }) f) {
+      out = e.out ++ (front_served readers (record e { out = [] }) f).out;
+    }
+served_more readers e (Ok None) is = absurd (false≢true is)
+served_more readers e (Ok (Some (line, rest))) is = refl
+served_more readers e (Err why) is = absurd (false≢true is)
+
+fed_fine : (fault : Option FramingFault) (rest xs : List ℕ) → (fed_behind fault rest xs).fault ≡ fault
+fed_fine None rest xs = refl
+fed_fine (Some why) rest xs = refl
+
+-- ---- one event
+
+-- the server stands on a connection that was made, with nothing to send, and has met no fault
+pub record IsServing (w : World) : Type 0 where
+  pub out : w.server.out ≡ []
+  pub fine : w.server.input.fault ≡ None
+  pub from : 1 ≤ w.server.server.last
+  pub to : w.server.server.last ≤ length w.links
+
+begun : (w : World) → IsServing w → w ≡ server_joined w w.server w.server.out 0
+begun w h = sym (λ i. record {
+  client = w.client;
+  server = record (w.server) { out = sym h.out i };
+  links = (ap (λ (t : List ℕ). with_link w.links w.server.server.last
+      (record { up = (server_link w).up; down = (server_link w).down ++ t })) h.out
+      ∙ (ap (λ (u : List ℕ). with_link w.links w.server.server.last (record { up = (server_link w).up; down = u }))
+      (append-nil (server_link w).down)
+      ∙ set-get_or w.links (w.server.server.last - 1) no_link)) i;
+  written = w.written;
+})
+
+begun_on : (readers : Readers) (w : World) → IsServing w → after readers (event.Up 0) w ≡ server_joined w w.server w.server.out 0
+begun_on readers w h = not_done readers (event.Up 0) w (never_none w.server.server.on (is_none w.server.input.fault)) ∙ begun w h
+
+some_up : (w : World) (k : ℕ) → may_feed w.server ≡ true → 1 ≤ k → k ≤ length (server_link w).up → can (event.Up k) w ≡ true
+some_up w k may some le =
+    let parts = and_parts _ _ may in
+    and_from _ _ parts.0 (and_from _ _ parts.1 (and_from _ _ (le-leb 1 k some) (le-leb k (length (server_link w).up) le)))
+
+takes_on : (readers : Readers) (w : World) (read : List ℕ) → IsServing w → may_feed w.server ≡ true
+    → take (length read) (server_link w).up ≡ read
+    → after readers (event.Up (length read)) w ≡ server_joined w (serving_fed read w.server) w.server.out (length read)
+takes_on readers w [] h may front =
+    begun_on readers w h ∙ ap (λ (f : Framing). server_joined w (record (w.server) { input = f }) w.server.out 0) (sym (fed_none w.server.input))
+takes_on readers w (x ∷ xs) h may front =
+    let k : ℕ = length (x ∷ xs) in
+    done_now readers (event.Up k) w (some_up w k may (omega arith) (fits (x ∷ xs) (server_link w).up front))
+    ∙ (λ i. record {
+      client = w.client;
+      server = record (w.server) { input = fed w.server.input (front i); out = h.out i };
+      links = sym (ap (λ (t : List ℕ). with_link w.links w.server.server.last
+          (record { up = drop k (server_link w).up; down = (server_link w).down ++ t })) h.out
+          ∙ ap (λ (u : List ℕ). with_link w.links w.server.server.last (record { up = drop k (server_link w).up; down = u }))
+          (append-nil (server_link w).down)) i;
+      written = w.written;
+    })
+
+-- the server answers more
+writes_on : (w : World) (e f : ServerEnd) (more : List ℕ) (k : ℕ) → IsServing w → e.server.last ≡ w.server.server.last
+    → server_writes (server_joined w e e.out k) (record f { out = more })
+    ≡ server_joined w (record f { out = e.out ++ more }) (e.out ++ more) k
+writes_on w e f more k h last = λ i. record {
+  client = w.client;
+  server = record f { out = [] };
+  links = (put_again (λ (l : Link). record l { down = l.down ++ more }) w.links w.server.server.last e.server.last
+      (record { up = drop k (server_link w).up; down = (server_link w).down ++ e.out }) last h.from h.to
+      ∙ ap (λ (d : List ℕ). with_link w.links w.server.server.last (record { up = drop k (server_link w).up; down = d }))
+      (append_assoc (server_link w).down e.out more)) i;
+  written = w.written;
+}
+
+reads_on : (readers : Readers) (w : World) (e : ServerEnd) (k : ℕ) → IsServing w → e.server.last ≡ w.server.server.last
+    → e.input.fault ≡ None → e.server.on ≡ true → is_line (next_of e.input.rest) ≡ true
+    → after readers event.ServerReads (server_joined w e e.out k)
+    ≡ server_joined w (serving_read readers e) (serving_read readers e).out k
+reads_on readers w e k h last fine on is =
+    let f : ServerEnd = serving_read readers (record e { out = [] }) in
+    done_now readers event.ServerReads (server_joined w e e.out k) (and_from _ _ on (and_from _ _ (ap is_none fine) is))
+    ∙ (writes_on w e f f.out k h last
+    ∙ ap (λ (x : ServerEnd). server_joined w x x.out k) (sym (served_more readers e (next_of e.input.rest) is)))
+
+turns_on : (readers : Readers) (w : World) (e : ServerEnd) (k : ℕ) → IsServing w → e.server.last ≡ w.server.server.last
+    → may_turn e.server ≡ true
+    → after readers event.ServerTurn (server_joined w e e.out k) ≡ server_joined w (serving_turned e) (serving_turned e).out k
+turns_on readers w e k h last may =
+    done_now readers event.ServerTurn (server_joined w e e.out k) may
+    ∙ writes_on w e (serving_turned e) (reply_bytes (server_turned e.server).said) k h last
+
+ends_on : (readers : Readers) (w : World) (e : ServerEnd) (k : ℕ) (o : Outcome) → IsServing w → e.server.last ≡ w.server.server.last
+    → may_end e.server.running o ≡ true
+    → after readers (event.Machine o) (server_joined w e e.out k) ≡ server_joined w (serving_machined o e) (serving_machined o e).out k
+ends_on readers w e k o h last may =
+    done_now readers (event.Machine o) (server_joined w e e.out k) may
+    ∙ writes_on w e (serving_machined o e) (reply_bytes (server_machined e.server o).said) k h last
+
+-- ---- what the server has to do
+
+next_turn : (answer : Job → ℕ → Outcome) (w : World) → may_turn w.server.server ≡ true
+    → working (ending answer w) w ≡ Some event.ServerTurn
+next_turn answer w may =
+    let s : Server = w.server.server in
+    ap (λ (o : Option Job). working (ended answer (contact_count s.ledger) o) w) (none_run s.frame s.running (and_parts _ _ may).0)
+    ∙ ap (λ (b : Bool). cond {A = Option Event} b (Some event.ServerTurn) None) may
+
+next_end : (answer : Job → ℕ → Outcome) (w : World) (j : Job) → running_job w.server.server ≡ Some j
+    → working (ending answer w) w ≡ Some (event.Machine (answer j (contact_count w.server.server.ledger)))
+next_end answer w j is = ap (λ (o : Option Job). working (ended answer (contact_count w.server.server.ledger) o) w) is
+
+next_none : (answer : Job → ℕ → Outcome) (w : World) → may_turn w.server.server ≡ false → running_job w.server.server ≡ None
+    → working (ending answer w) w ≡ None
+next_none answer w idle none =
+    ap (λ (o : Option Job). working (ended answer (contact_count w.server.server.ledger) o) w) none
+    ∙ ap (λ (b : Bool). cond {A = Option Event} b (Some event.ServerTurn) None) idle
+
+-- ---- the turn
+
+-- besides: the server stays on its connection and meets no fault
+record Hears (readers : Readers) (w : World) (read written : List ℕ) (e : ServerEnd) : Type 0 where
+  pub fed : World
+  pub came : after readers (event.Up (length read)) w ≡ fed
+  pub so_far : SoFar readers event.ServerReads fed (server_joined w e e.out (length read))
+  pub none : written ≡ []
+  pub last : e.server.last ≡ w.server.server.last
+  pub fine : e.input.fault ≡ None
+
+-- and it has read all
+record Works (readers : Readers) (answer : Job → ℕ → Outcome) (w : World) (read written : List ℕ) (e : ServerEnd) : Type 0 where
+  pub fed : World
+  pub came : after readers (event.Up (length read)) w ≡ fed
+  pub first : ServerEnd
+  pub heard : SoFar readers event.ServerReads fed (server_joined w first first.out (length read))
+  pub all : can event.ServerReads (server_joined w first first.out (length read)) ≡ false
+  pub so_far : Worked readers answer (server_joined w first first.out (length read)) (server_joined w e (written ++ e.out) (length read))
+  pub last : e.server.last ≡ w.server.server.last
+
+-- and where it writes it has done all
+record Whole (readers : Readers) (answer : Job → ℕ → Outcome) (w : World) (read written : List ℕ) (e : ServerEnd) : Type 0 where
+  pub works : Works readers answer w read written e
+  pub done : working (ending answer (server_joined w e (written ++ e.out) (length read))) (server_joined w e (written ++ e.out) (length read))
+      ≡ None
+
+abbrev Goes : Readers → (Job → ℕ → Outcome) → World → Stage → List ℕ → List ℕ → ServerEnd → Type 0
+Goes readers answer w Taking read written e = Hears readers w read written e
+Goes readers answer w Reading read written e = Hears readers w read written e
+Goes readers answer w Writing read written e = Whole readers answer w read written e
+Goes readers answer w _ read written e = Works readers answer w read written e
+
+plays : (readers : Readers) (answer : Job → ℕ → Outcome) (least : ℕ) (w : World) (stage : Stage) (read written : List ℕ) (e : ServerEnd)
+    → IsServing w → AreFit answer → take (length read) (server_link w).up ≡ read
+    → ServerTurn readers answer least w.server stage read written e → Goes readers answer w stage read written e
+plays readers answer least w _ _ _ _ h fit front begins = record {
+  fed = server_joined w w.server w.server.out 0;
+  came = begun_on readers w h;
+  so_far = not_yet readers event.ServerReads (server_joined w w.server w.server.out 0) (server_joined w w.server w.server.out 0) refl;
+  none = refl;
+  last = refl;
+  fine = h.fine;
+}
+plays readers answer least w _ _ _ _ h fit front (takes read may) =
+    let v : World = server_joined w (serving_fed read w.server) w.server.out (length read) in record {
+      fed = v;
+      came = takes_on readers w read h may front;
+      so_far = not_yet readers event.ServerReads v v refl;
+      none = refl;
+      last = refl;
+      fine = fed_fine w.server.input.fault w.server.input.rest read ∙ h.fine;
+    }
+plays readers answer least w _ _ _ _ h fit front (has e read t enough) = plays readers answer least w Taking read [] e h fit front t
+plays readers answer least w _ _ _ _ h fit front (reads e read t on is) =
+    let p : Hears readers w read [] e = plays readers answer least w Reading read [] e h fit front t in record {
+      fed = p.fed;
+      came = p.came;
+      so_far = once_more readers event.ServerReads p.fed (server_joined w e e.out (length read))
+          (server_joined w (serving_read readers e) (serving_read readers e).out (length read)) p.so_far
+          (and_from _ _ on (and_from _ _ (ap is_none p.fine) is)) (reads_on readers w e (length read) h p.last p.fine on is);
+      none = refl;
+      last = served_last readers e (next_of e.input.rest) ∙ p.last;
+      fine = served_fine readers e (next_of e.input.rest) is ∙ p.fine;
+    }
+plays readers answer least w _ _ _ _ h fit front (knows e read t none) =
+    let p : Hears readers w read [] e = plays readers answer least w Reading read [] e h fit front t in
+    let v : World = server_joined w e e.out (length read) in record {
+      fed = p.fed;
+      came = p.came;
+      first = e;
+      heard = p.so_far;
+      all = ap (λ (f : Front). e.server.on && (is_none e.input.fault && is_line f)) none
+          ∙ never_none e.server.on (is_none e.input.fault);
+      so_far = no_work readers answer v v refl;
+      last = p.last;
+    }
+plays readers answer least w _ _ _ _ h fit front (turns e read t may) =
+    let p : Works readers answer w read [] e = plays readers answer least w Working read [] e h fit front t in record {
+      fed = p.fed;
+      came = p.came;
+      first = p.first;
+      heard = p.heard;
+      all = p.all;
+      so_far = more_work readers answer event.ServerTurn (server_joined w p.first p.first.out (length read))
+          (server_joined w e e.out (length read)) (server_joined w (serving_turned e) (serving_turned e).out (length read)) p.so_far
+          (next_turn answer (server_joined w e e.out (length read)) may) (turns_on readers w e (length read) h p.last may);
+      last = (turned_moves e.server).1.last ∙ p.last;
+    }
+plays readers answer least w _ _ _ _ h fit front (ends e read j t is) =
+    let p : Works readers answer w read [] e = plays readers answer least w Working read [] e h fit front t in
+    let o : Outcome = answer j (contact_count e.server.ledger) in record {
+      fed = p.fed;
+      came = p.came;
+      first = p.first;
+      heard = p.heard;
+      all = p.all;
+      so_far = more_work readers answer (event.Machine o) (server_joined w p.first p.first.out (length read))
+          (server_joined w e e.out (length read)) (server_joined w (serving_machined o e) (serving_machined o e).out (length read)) p.so_far
+          (next_end answer (server_joined w e e.out (length read)) j is)
+          (ends_on readers w e (length read) o h p.last
+          (may_end_by e.server.frame e.server.running j o is (fit j (contact_count e.server.ledger))));
+      last = (machined_moves e.server o).1.last ∙ p.last;
+    }
+plays readers answer least w _ _ _ _ h fit front (writes e read count t idle none within) =
+    let p : Works readers answer w read [] e = plays readers answer least w Working read [] e h fit front t in record {
+      works = record {
+        fed = p.fed;
+        came = p.came;
+        first = p.first;
+        heard = p.heard;
+        all = p.all;
+        so_far = subst (λ (x : List ℕ). Worked readers answer (server_joined w p.first p.first.out (length read))
+            (server_joined w e x (length read))) (sym (take-append-drop count e.out)) p.so_far;
+        last = p.last;
+      };
+      done = next_none answer (server_joined w e (take count e.out ++ drop count e.out) (length read)) idle none;
+    }
+
+abbrev Turns : Readers → (Job → ℕ → Outcome) → World → (cut : Bool) → ℕ → World → Type 0
+Turns readers answer w cut count v = TurnLeads readers (IsServerTurn readers answer count) cut w v
+
+heard_leads : (readers : Readers) (answer : Job → ℕ → Outcome) (w : World) (read written : List ℕ) (e : ServerEnd)
+    → Hears readers w read written e → Turns readers answer w true (length read) (server_joined w e (written ++ e.out) (length read))
+heard_leads readers answer w read written e p =
+    subst (λ (x : List ℕ). Turns readers answer w true (length read) (server_joined w e (x ++ e.out) (length read))) (sym p.none)
+    (heard_only readers answer (length read) w p.fed (server_joined w e e.out (length read)) p.came p.so_far)
+
+worked_leads : (readers : Readers) (answer : Job → ℕ → Outcome) (w : World) (read written : List ℕ) (e : ServerEnd) (cut : Bool)
+    → (p : Works readers answer w read written e)
+    → AreWork readers answer cut (server_joined w p.first p.first.out (length read)) p.so_far.events
+    → Turns readers answer w cut (length read) (server_joined w e (written ++ e.out) (length read))
+worked_leads readers answer w read written e cut p work =
+    served_whole readers answer (length read) cut w p.fed (server_joined w p.first p.first.out (length read))
+    (server_joined w e (written ++ e.out) (length read)) p.came p.heard p.all p.so_far work
+
+goes_leads : (readers : Readers) (answer : Job → ℕ → Outcome) (w : World) (stage : Stage) (read written : List ℕ) (e : ServerEnd)
+    → Goes readers answer w stage read written e
+    → Turns readers answer w true (length read) (server_joined w e (written ++ e.out) (length read))
+goes_leads readers answer w Taking read written e g = heard_leads readers answer w read written e g
+goes_leads readers answer w Reading read written e g = heard_leads readers answer w read written e g
+goes_leads readers answer w Stage.Sending read written e g = worked_leads readers answer w read written e true g g.so_far.are
+goes_leads readers answer w Working read written e g = worked_leads readers answer w read written e true g g.so_far.are
+goes_leads readers answer w Writing read written e g = worked_leads readers answer w read written e true g.works g.works.so_far.are
+
+-- how far a server's turn has come, in events
+pub serving_joins : (readers : Readers) (answer : Job → ℕ → Outcome) → AreFit answer → (least : ℕ) (w : World) (stage : Stage)
+    (read written : List ℕ) (e : ServerEnd) → w.server.out ≡ [] → w.server.input.fault ≡ None
+    → 1 ≤ w.server.server.last → w.server.server.last ≤ length w.links
+    → take (length read) (server_link w).up ≡ read → ServerTurn readers answer least w.server stage read written e
+    → TurnLeads readers (IsServerTurn readers answer (length read)) true w (server_joined w e (written ++ e.out) (length read))
+serving_joins readers answer fit least w stage read written e out fine from to front t =
+    goes_leads readers answer w stage read written e
+    (plays readers answer least w stage read written e (record { out = out; fine = fine; from = from; to = to }) fit front t)
+
+-- a turn in which the server writes is whole
+pub serving_whole : (readers : Readers) (answer : Job → ℕ → Outcome) → AreFit answer → (least : ℕ) (w : World)
+    (read written : List ℕ) (e : ServerEnd) → w.server.out ≡ [] → w.server.input.fault ≡ None
+    → 1 ≤ w.server.server.last → w.server.server.last ≤ length w.links
+    → take (length read) (server_link w).up ≡ read → ServerTurn readers answer least w.server Writing read written e
+    → TurnLeads readers (IsServerTurn readers answer (length read)) false w (server_joined w e (written ++ e.out) (length read))
+serving_whole readers answer fit least w read written e out fine from to front t =
+    let p : Whole readers answer w read written e =
+    plays readers answer least w Writing read written e (record { out = out; fine = fine; from = from; to = to }) fit front t in
+    worked_leads readers answer w read written e false p.works
+    (all_worked readers answer (server_joined w p.works.first p.works.first.out (length read))
+    (server_joined w e (written ++ e.out) (length read)) p.works.so_far p.done)
+
+-- the server leaves its connection behind events that have led so far
+pub serving_leaves : (readers : Readers) (w : World) (events : List Event) (e : ServerEnd) (text : List ℕ) (count : ℕ)
+    → run_of readers events w ≡ server_joined w e text count → e.server.on ≡ true
+    → run_of readers (events ++ event.ServerLeaves ∷ []) w ≡ record (server_joined w e text count) { server = serving_left e }
+serving_leaves readers w events e text count leads on =
+    run_append readers events (event.ServerLeaves ∷ []) w
+    ∙ (ap (after readers event.ServerLeaves) leads ∙ done_now readers event.ServerLeaves (server_joined w e text count) on)
+
+-- ---- behind a turn from a world to which events have led
+
+pub reached_serving : (w : World) → IsCarried w → w.server.server.on ≡ true → IsServing w
+reached_serving w c on =
+    let made = c.wired.made in
+    let numbers = c.wired.numbers in record {
+      out = c.server_out;
+      fine = c.server_fault;
+      from = c.wired.taken on;
+      to = omega (arith, made, numbers);
+    }
+
+-- the events of the whole, and the world behind them
+record Reaches (readers : Readers) (v w : World) : Type 0 where
+  pub events : List Event
+  pub leads : run_of readers events v ≡ w
+
+serving_reaches : (readers : Readers) → AreReaders readers → (answer : Job → ℕ → Outcome) → AreFit answer → (least : ℕ) (w : World)
+    (stage : Stage) (read written : List ℕ) (e : ServerEnd) (program : Meaning) (rack : List (List ℕ)) (window : ℕ) (events : List Event)
+    → IsProgram program → window ≤ 16 → w ≡ run_of readers events (start program rack window) → w.server.server.on ≡ true
+    → take (length read) (server_link w).up ≡ read → ServerTurn readers answer least w.server stage read written e
+    → Reaches readers (start program rack window) (server_joined w e (written ++ e.out) (length read))
+serving_reaches readers are answer fit least w stage read written e program rack window events is few reached on front t =
+    let c : IsCarried w =
+    subst IsCarried (sym reached) (run_carried readers are events (start program rack window) (start_carried program rack window is few)) in
+    let s : Turns readers answer w true (length read) (server_joined w e (written ++ e.out) (length read)) =
+    goes_leads readers answer w stage read written e
+    (plays readers answer least w stage read written e (reached_serving w c on) fit front t) in record {
+      events = events ++ s.events;
+      leads = run_append readers events s.events (start program rack window) ∙ (ap (run_of readers s.events) (sym reached) ∙ s.leads);
+    }
+
+pub serving_sound : (readers : Readers) → AreReaders readers → (answer : Job → ℕ → Outcome) → AreFit answer → (least : ℕ) (w : World)
+    (stage : Stage) (read written : List ℕ) (e : ServerEnd) (program : Meaning) (rack : List (List ℕ)) (window : ℕ) (events : List Event)
+    → IsProgram program → window ≤ 16 → w ≡ run_of readers events (start program rack window) → w.server.server.on ≡ true
+    → take (length read) (server_link w).up ≡ read → ServerTurn readers answer least w.server stage read written e
+    → Sound program.features w.client.client.table.tally.features e.server.ledger
+serving_sound readers are answer fit least w stage read written e program rack window events is few reached on front t =
+    let r = serving_reaches readers are answer fit least w stage read written e program rack window events is few reached on front t in
+    subst (λ (v : World). Sound program.features v.client.client.table.tally.features v.server.server.ledger) r.leads
+    (always_sound readers are program rack window r.events is few)
+
+pub serving_told : (readers : Readers) → AreReaders readers → (answer : Job → ℕ → Outcome) → AreFit answer → (least : ℕ) (w : World)
+    (stage : Stage) (read written : List ℕ) (e : ServerEnd) (program : Meaning) (rack : List (List ℕ)) (window : ℕ) (events : List Event)
+    → IsProgram program → window ≤ 16 → w ≡ run_of readers events (start program rack window) → w.server.server.on ≡ true
+    → take (length read) (server_link w).up ≡ read → ServerTurn readers answer least w.server stage read written e
+    → Told w.client.client.table.tally.counted e.server.ledger w.client.client.last
+serving_told readers are answer fit least w stage read written e program rack window events is few reached on front t =
+    let r = serving_reaches readers are answer fit least w stage read written e program rack window events is few reached on front t in
+    subst (λ (v : World). Told v.client.client.table.tally.counted v.server.server.ledger v.client.client.last) r.leads
+    (always_told readers are program rack window r.events is few)
