@@ -121,6 +121,7 @@ fn is_front(front: bool, commands: &Commands, index: usize) -> bool
 }
 
 /// The command of a tag, and its place.
+#[inline(always)]
 fn find(commands: &Commands, tag: Tag) -> Result<usize, TagFault>
     ensures found { IfOk result (λ index. IsFound tag commands.now index) }
     ensures unknown { IfErr result (λ fault. (front : Bool) (m : Mark)
