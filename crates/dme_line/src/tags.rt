@@ -79,6 +79,7 @@ fn five_digits_value(a: u8, b: u8, c: u8, d: u8, e: u8) -> Option<u32>
 }
 
 /// A tag at the front of a line and what stands behind the one space that follows it; `None` where the line begins otherwise.
+#[inline(always)]
 pub(crate) fn cut_tag(line: &[u8]) -> Option<(Tag, &[u8])>
     ensures { MatchOption result
         ((tag : Tag) (text : List ℕ) → IsTag tag → line.now ≡ written_tag tag ++ (32 ∷ text) → ⊥)

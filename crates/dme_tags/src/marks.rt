@@ -121,6 +121,7 @@ fn is_front(front: bool, commands: &Commands, index: usize) -> bool
 }
 
 /// The command of a tag, and its place.
+#[inline(always)]
 fn find(commands: &Commands, tag: Tag) -> Result<usize, TagFault>
     ensures found { IfOk result (λ index. IsFound tag commands.now index) }
     ensures unknown { IfErr result (λ fault. (front : Bool) (m : Mark)
@@ -189,6 +190,7 @@ pub(crate) fn fail(commands: &mut Commands, tag: Tag) -> Result<bool, TagFault>
 }
 
 /// How a command would end if its `%` was read now. Nothing changes.
+#[inline(always)]
 pub(crate) fn end_of(commands: &Commands, front: bool, tag: Tag) -> Result<Ended, TagFault>
     ensures ok { IfOk result (λ ended. effect_heard (heard_in front commands.now tag Mark.Done)
         ≡ Some (effect_of ended)) }
@@ -231,6 +233,7 @@ pub(crate) fn is_held(commands: &Commands, tag: Tag) -> bool
 }
 
 /// The kind of the command of a tag.
+#[inline(always)]
 pub(crate) fn kind_of(commands: &Commands, tag: Tag) -> Option<Kind>
     ensures { result ≡ held_kind tag commands.now }
 {

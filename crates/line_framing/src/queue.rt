@@ -33,6 +33,9 @@ fn drop_front(bytes: &mut Vec<u8>, count: usize)
     ensures bytes { bytes.new.items ≡ drop count bytes.old.items }
     ensures capacity { vec_capacity bytes.old ≤ vec_capacity bytes.new }
 {
+    if count == 0 {
+        return;
+    }
     let length = bytes.len();
     bytes.copy_within(count..length, 0);
     bytes.truncate(length - count);

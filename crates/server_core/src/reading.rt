@@ -121,9 +121,8 @@ impl Controller {
     {
         match (tag, reading) {
             (_, Ok(Command::AbortE)) => self.abort(out, tag),
-            (_, Ok(command)) => self.stand(out, tag, Ok(command)),
             (Tag::Event(_), Err(why)) => self.refuse_event(out, tag, why),
-            (Tag::Std(_), Err(why)) => self.stand(out, tag, Err(why)),
+            (_, reading) => self.stand(out, tag, reading),
         }
     }
 
@@ -147,16 +146,16 @@ impl Controller {
         ensures { Answers self.old self.new out.old out.new
             (server.server_read self.old.server (reading_of reading)) }
     {
-        match reading {
-            Ok((tag, command)) => self.read_tagged(out, tag, Ok(command)),
-            Err(LineFault::UnknownCommand(tag)) => {
-                self.read_tagged(out, tag, Err(Misread::UnknownCommand));
+        let (tag, reading) = match reading {
+            Ok((tag, command)) => (tag, Ok(command)),
+            Err(LineFault::UnknownCommand(tag)) => (tag, Err(Misread::UnknownCommand)),
+            Err(LineFault::BadArguments(tag, kind)) => (tag, Err(Misread::BadArguments(kind))),
+            Err(LineFault::NoTag) => {
+                write_error(out, Tag::Event(0), ErrorNumber::NoTag, None);
+                return;
             }
-            Err(LineFault::BadArguments(tag, kind)) => {
-                self.read_tagged(out, tag, Err(Misread::BadArguments(kind)));
-            }
-            Err(LineFault::NoTag) => write_error(out, Tag::Event(0), ErrorNumber::NoTag, None),
-        }
+        };
+        self.read_tagged(out, tag, reading);
     }
 
     /// Reads a line of the connection. Only want of memory is an `Err`.
