@@ -1,6 +1,6 @@
 // The turns of both sides over their ports, in the events of a world. Each function has laws for its contract and does nothing.
 
-ghost use Rattle.std.specs.Prelude.{◌≡◌, ◌≤◌, ℕ, true, false, Option, None, Some, Ok, List, [], ◌∷◌, ◌++◌, length, take};
+ghost use Rattle.std.specs.Prelude.{◌≡◌, ◌≢◌, ◌≤◌, ℕ, true, false, Option, None, Some, Ok, List, [], ◌∷◌, ◌++◌, length, take};
 ghost use Rattle.std.specs.Io.KnownBytes.{Consumes};
 ghost use Rattle.client_core.specs.Clients.{are_ours};
 ghost use Rattle.contact_ledger.specs.declared.features.Feature.{Feature as OneFeature};
@@ -16,12 +16,13 @@ ghost use Rattle.protocol_model.specs.declared.events.Event.{Event as OneEvent};
 ghost use Rattle.protocol_model.specs.declared.events.Event.TheVariants as event;
 ghost use Rattle.protocol_model.specs.declared.machine.Job.{Job as OneJob};
 ghost use Rattle.protocol_model.specs.declared.machine.Outcome.{Outcome as OneOutcome};
+ghost use Rattle.protocol_model.specs.declared.states.State.{State};
 ghost use Rattle.link_world.specs.Machines.{simulated};
 ghost use Rattle.link_world.specs.Pumps.{Stage, Writing, Reading, ClientTurn};
 ghost use Rattle.link_world.specs.ServerPumps.{ServerTurn};
 ghost use Rattle.link_world.specs.Joined.{IsClientTurn, IsServerTurn, TurnLeads, client_joined};
 ghost use Rattle.link_world.specs.Joined.{AreFit, server_joined};
-ghost use Rattle.link_world.specs.Joined.{Pumped, pumped_of, PumpCalls, IsOneWorld, ClientCalls, AreCalls};
+ghost use Rattle.link_world.specs.Joined.{Pumped, pumped_of, PumpCalls, IsOneWorld, ClientCalls, AreOwnCalls};
 
 /// A client's turn over its ports is a list of events of the world. For every world whose client has nothing to send and stands on a
 /// connection that was made, and every turn of that client, as `client_turns` makes it, in which the bytes that came in are the first that
@@ -147,11 +148,12 @@ pub fn turns_of_a_server_are_events()
 /// stopped, with whatever bounds and ports, in which the bytes that a call took are the first of those on their way to its side (what waited
 /// there at first, and what the other side's calls have written since):
 ///
-/// - `world`: one list of events leads the world to one with both sides as the calls have left them; what is on its way up and down waits on
-///   their connection, and where a side has left, what it had not yet written may stand behind that;
-/// - `sound`, `told`: so what `every_run` claims holds of the client and the server behind the calls;
+/// - `world`: one list of events, call by call the whole turn of a side or a front of one and its leaving, leads the world to one with both
+///   sides as the calls have left them; what is on its way up and down waits on their connection, and where a side has left, what it had
+///   not yet written may stand behind that;
+/// - `sound`, `told`, `agree`: so what `every_run` claims holds of the client and the server behind the calls;
 /// - `front`: a source that holds a front of the bytes on their way gives the first of them.
-#[tactic(auto, using(crate::proofs::PumpJoins::pumps_join, crate::proofs::PumpJoins::pumps_sound, crate::proofs::PumpJoins::pumps_told, crate::proofs::PumpJoins::source_front))]
+#[tactic(auto, using(crate::proofs::PumpJoins::pumps_join, crate::proofs::PumpJoins::pumps_sound, crate::proofs::PumpJoins::pumps_told, crate::proofs::PumpJoins::pumps_agree, crate::proofs::PumpJoins::source_front))]
 pub fn two_pumps_are_a_world()
     ensures world { (readers : Readers) → AreReaders readers
         → (answer : OneJob → ℕ → OneOutcome) → AreFit answer → (w : World) (p : Pumped)
@@ -160,7 +162,7 @@ pub fn two_pumps_are_a_world()
         → w ≡ run_of readers events (start program rack window)
         → w.client.client.on ≡ true → w.server.server.on ≡ true
         → w.server.server.last ≡ w.client.client.last
-        → PumpCalls answer (pumped_of w) p → IsOneWorld readers w p }
+        → PumpCalls answer (pumped_of w) p → IsOneWorld readers answer w p }
     ensures sound { (readers : Readers) → AreReaders readers
         → (answer : OneJob → ℕ → OneOutcome) → AreFit answer → (w : World) (p : Pumped)
         (program : Meaning) (rack : List (List ℕ)) (window : ℕ) (events : List OneEvent)
@@ -179,6 +181,15 @@ pub fn two_pumps_are_a_world()
         → w.server.server.last ≡ w.client.client.last
         → PumpCalls answer (pumped_of w) p
         → Told p.client.client.table.tally.counted p.server.server.ledger p.client.client.last }
+    ensures agree { (readers : Readers) → AreReaders readers
+        → (answer : OneJob → ℕ → OneOutcome) → AreFit answer → (w : World) (p : Pumped)
+        (program : Meaning) (rack : List (List ℕ)) (window : ℕ) (events : List OneEvent)
+        → IsProgram program → window ≤ 16
+        → w ≡ run_of readers events (start program rack window)
+        → w.client.client.on ≡ true → w.server.server.on ≡ true
+        → w.server.server.last ≡ w.client.client.last
+        → PumpCalls answer (pumped_of w) p
+        → (p.client.client.state ≢ State.Faulted) × (p.server.input.fault ≡ None) }
     ensures front { (left more read : List ℕ) (left_now : Option (List ℕ))
         → Consumes (Some left) left_now read → take (length read) (left ++ more) ≡ read }
 {}
@@ -193,7 +204,7 @@ pub fn two_pumps_are_a_world()
 #[tactic(auto, using(crate::proofs::PeerJoins::pumped_calls, crate::proofs::PeerJoins::pumped_features))]
 pub fn a_pumped_client_holds_first_features()
     ensures calls { (readers : Readers) → AreReaders readers → (first e : ClientEnd)
-        → ClientCalls readers first e → AreCalls readers first e }
+        → ClientCalls readers first e → AreOwnCalls readers first e }
     ensures features { (readers : Readers) → AreReaders readers
         → (program : Meaning) (kept : List OneFeature) (window : ℕ) (e : ClientEnd)
         → IsProgram program → are_ours program.features kept ≡ true
