@@ -19,7 +19,8 @@ calls_append : (readers : Readers) (calls : List Call) (call : Call) (e : Client
 calls_append readers [] call e = refl
 calls_append readers (x ∷ calls) call e = calls_append readers calls call (behind_call readers x e)
 
-any_more : (readers : Readers) (s e : ClientEnd) (call : Call) → AreOwnCalls readers s e → AreOwnCalls readers s (behind_call readers call e)
+any_more : (readers : Readers) (s e : ClientEnd) (call : Call) → AreOwnCalls readers s e
+    → AreOwnCalls readers s (behind_call readers call e)
 any_more readers s e call h = record {
   calls = h.calls ++ call ∷ [];
   lead = ap (behind_call readers call) h.lead ∙ sym (calls_append readers h.calls call s);
@@ -52,7 +53,8 @@ turn_calls readers least first s _ _ _ _ h (reads e read written t may is) =
 
 -- ---- all calls
 
-pub pumped_calls : (readers : Readers) → AreReaders readers → (first e : ClientEnd) → ClientCalls readers first e → AreOwnCalls readers first e
+pub pumped_calls : (readers : Readers) → AreReaders readers → (first e : ClientEnd) → ClientCalls readers first e
+    → AreOwnCalls readers first e
 pumped_calls readers are first _ not_called = record { calls = []; lead = refl }
 pumped_calls readers are first _ (moves e f least left left_now taken taken_now moved t h) =
     turn_calls readers least first e Reading h.read h.written f (pumped_calls readers are first e t) (h.turn readers are)

@@ -44,7 +44,8 @@ use Rattle.protocol_model.proofs.invariant.Moves.{read_moves, turned_moves, mach
 use Rattle.protocol_model.proofs.undisturbed_run.UndisturbedClient.{read_last}
 use Rattle.protocol_model.proofs.whole_run.Links.{link_same}
 use Rattle.protocol_model.proofs.whole_run.Carrying.{IsCarried}
-use Rattle.protocol_model.proofs.whole_run.WholeRun.{run_carried, start_carried, always_sound, always_told, never_faulted_run, no_framing_fault}
+use Rattle.protocol_model.proofs.whole_run.WholeRun.{run_carried, start_carried, always_sound, always_told, never_faulted_run}
+use Rattle.protocol_model.proofs.whole_run.WholeRun.{no_framing_fault}
 use Rattle.client_core.specs.Clients.{may_read}
 use Rattle.contact_ledger.specs.Ledgers.{contact_count}
 use Rattle.link_world.specs.Pumps.{Stage, Sending, Writing, Taking, Reading, Working, ClientTurn, ClientMoved, ClientStopped}
@@ -52,8 +53,8 @@ use Rattle.link_world.specs.Pumps as client_stage
 use Rattle.link_world.specs.ServerPumps.{ServerTurn, ServerMoved, ServerStopped}
 use Rattle.link_world.specs.ServerPumps as server_stage
 use Rattle.link_world.specs.Joined.{IsClientTurn, IsServerTurn, TurnLeads, client_joined, AreFit, server_joined}
-use Rattle.link_world.specs.Joined.{Pumped, pumped_of, with_client, with_server, PumpCalls, no_calls, client_moves, client_stops, server_moves}
-use Rattle.link_world.specs.Joined.{server_stops, AreOnWay, IsWorldOf, IsOneWorld}
+use Rattle.link_world.specs.Joined.{Pumped, pumped_of, with_client, with_server, PumpCalls, no_calls, client_moves, client_stops}
+use Rattle.link_world.specs.Joined.{server_moves, server_stops, AreOnWay, IsWorldOf, IsOneWorld}
 use Rattle.link_world.specs.Joined.{IsCall, no_event, client_turn, client_left, server_turn, server_left, AreCalls, no_call, one_more}
 use Rattle.link_world.proofs.EventLists.{run_append}
 use Rattle.link_world.proofs.ClientJoins.{fits, sent_last, turn_joins, turn_whole, turn_written, turn_leaves}
@@ -317,7 +318,8 @@ there : (v : World) (n m : ℕ) (l : Link) → IsCarried v → 1 ≤ v.client.cl
     → link_of (with_link v.links n l) m ≡ l
 there v n m l c from is also =
     let made = c.wired.made in
-    ap (λ (k : ℕ). link_of (with_link v.links n l) k) (also ∙ sym is) ∙ link_same v.links n l (omega (arith, from, is)) (omega (arith, made, is))
+    ap (λ (k : ℕ). link_of (with_link v.links n l) k) (also ∙ sym is)
+    ∙ link_same v.links n l (omega (arith, from, is)) (omega (arith, made, is))
 
 nothing_done : (readers : Readers) (answer : Job → ℕ → Outcome) (v : World) (p q : Pumped) → Stands v p → q ≡ p → Step readers answer v q
 nothing_done readers answer v p q s same = record {
@@ -328,7 +330,8 @@ nothing_done readers answer v p q s same = record {
   stands = subst (Stands v) (sym same) s;
 }
 
-client_rests : (p : Pumped) (e : ClientEnd) (read written : List ℕ) → e ≡ p.client → read ≡ [] → written ≡ [] → with_client p e read written ≡ p
+client_rests : (p : Pumped) (e : ClientEnd) (read written : List ℕ) → e ≡ p.client → read ≡ [] → written ≡ []
+    → with_client p e read written ≡ p
 client_rests p e read written same read_none written_none = λ i. record {
   client = same i;
   server = p.server;
@@ -336,7 +339,8 @@ client_rests p e read written same read_none written_none = λ i. record {
   down = drop (length (read_none i)) p.down;
 }
 
-server_rests : (p : Pumped) (e : ServerEnd) (read written : List ℕ) → e ≡ p.server → read ≡ [] → written ≡ [] → with_server p e read written ≡ p
+server_rests : (p : Pumped) (e : ServerEnd) (read written : List ℕ) → e ≡ p.server → read ≡ [] → written ≡ []
+    → with_server p e read written ≡ p
 server_rests p e read written same read_none written_none = λ i. record {
   client = p.client;
   server = same i;
@@ -358,7 +362,8 @@ client_goes : (readers : Readers) → AreReaders readers → (v : World) (p : Pu
 client_goes readers are v p c s least stage read written e front t =
     let turn : ClientTurn readers least v.client stage read written e =
     subst (λ (x : ClientEnd). ClientTurn readers least x stage read written e) (sym s.is.client) t in
-    let came : take (length read) (client_link v).down ≡ read = way_front p.server.server.on read p.down (client_link v).down front s.is.down in
+    let came : take (length read) (client_link v).down ≡ read =
+    way_front p.server.server.on read p.down (client_link v).down front s.is.down in
     let made = c.wired.made in
     let to : v.client.client.last ≤ length v.links = omega (arith, made) in record {
       joined = turn_joins readers least v stage read written e c.client_out s.from to came turn;
@@ -380,14 +385,16 @@ client_link_now : (v : World) (p : Pumped) (e : ClientEnd) (text : List ℕ) (k 
     → e.client.last ≡ p.client.client.last
     → client_link (client_joined v e text k) ≡ record { up = (client_link v).up ++ text; down = drop k (client_link v).down }
 client_link_now v p e text k c s last =
-    there v v.client.client.last e.client.last (record { up = (client_link v).up ++ text; down = drop k (client_link v).down }) c s.from refl
+    there v v.client.client.last e.client.last
+    (record { up = (client_link v).up ++ text; down = drop k (client_link v).down }) c s.from refl
     (last ∙ sym (ap (λ (x : ClientEnd). x.client.last) s.is.client))
 
 client_last_now : (v : World) (p : Pumped) (e : ClientEnd) → Stands v p → e.client.last ≡ p.client.client.last
     → e.client.last ≡ v.client.client.last
 client_last_now v p e s last = last ∙ sym (ap (λ (x : ClientEnd). x.client.last) s.is.client)
 
-client_moved_on : (readers : Readers) (answer : Job → ℕ → Outcome) → AreReaders readers → (v : World) (p : Pumped) → IsCarried v → Stands v p → (least : ℕ)
+client_moved_on : (readers : Readers) (answer : Job → ℕ → Outcome) → AreReaders readers → (v : World) (p : Pumped) → IsCarried v
+    → Stands v p → (least : ℕ)
     (read written : List ℕ) (e : ClientEnd) → p.client.client.on ≡ true → next_of e.input.rest ≡ Ok None → take (length read) p.down ≡ read
     → ClientTurn readers least p.client Reading read written e → Step readers answer v (with_client p e read written)
 client_moved_on readers answer are v p c s least read written e on all front t =
@@ -419,7 +426,8 @@ client_moved_on readers answer are v p c s least read written e on all front t =
       };
     }
 
-client_stopped_on : (readers : Readers) (answer : Job → ℕ → Outcome) → AreReaders readers → (v : World) (p : Pumped) → IsCarried v → Stands v p → (least : ℕ)
+client_stopped_on : (readers : Readers) (answer : Job → ℕ → Outcome) → AreReaders readers → (v : World) (p : Pumped) → IsCarried v
+    → Stands v p → (least : ℕ)
     (stage : Stage) (read written : List ℕ) (e : ClientEnd) → p.client.client.on ≡ true → take (length read) p.down ≡ read
     → ClientTurn readers least p.client stage read written e → Step readers answer v (with_client p (end_left e) read written)
 client_stopped_on readers answer are v p c s least stage read written e on front t =
@@ -455,7 +463,8 @@ client_moved readers answer are v p c s least read written e true on all front t
 client_moved readers answer are v p c s least read written e false off all front t =
     let gone = s.client_gone off in absurd (client_still readers least p.client gone.0 Reading read written e gone.1 t)
 
-client_rest : (readers : Readers) (answer : Job → ℕ → Outcome) (v : World) (p : Pumped) (stage : Stage) (read written : List ℕ) (e x : ClientEnd) → Stands v p
+client_rest : (readers : Readers) (answer : Job → ℕ → Outcome) (v : World) (p : Pumped) (stage : Stage) (read written : List ℕ)
+    (e x : ClientEnd) → Stands v p
     → p.client ≡ end_left x → ClientStill stage p.client e read written → Step readers answer v (with_client p (end_left e) read written)
 client_rest readers answer v p stage read written e x s left k = go stage k
   where
@@ -470,7 +479,8 @@ client_rest readers answer v p stage read written e x s left k = go stage k
     go Reading k = absurd k
     go Working k = absurd k
 
-client_stopped : (readers : Readers) (answer : Job → ℕ → Outcome) → AreReaders readers → (v : World) (p : Pumped) → IsCarried v → Stands v p → (least : ℕ)
+client_stopped : (readers : Readers) (answer : Job → ℕ → Outcome) → AreReaders readers → (v : World) (p : Pumped) → IsCarried v
+    → Stands v p → (least : ℕ)
     (stage : Stage) (read written : List ℕ) (e : ClientEnd) (b : Bool) → p.client.client.on ≡ b → take (length read) p.down ≡ read
     → ClientTurn readers least p.client stage read written e → Step readers answer v (with_client p (end_left e) read written)
 client_stopped readers answer are v p c s least stage read written e true on front t =
@@ -481,7 +491,8 @@ client_stopped readers answer are v p c s least stage read written e false off f
     (client_still readers least p.client gone.0 stage read written e gone.1 t)
 
 -- the server's turn
-record ServerSteps (readers : Readers) (answer : Job → ℕ → Outcome) (v : World) (p : Pumped) (stage : Stage) (read written : List ℕ) (e : ServerEnd) : Type 0
+record ServerSteps (readers : Readers) (answer : Job → ℕ → Outcome) (v : World) (p : Pumped) (stage : Stage) (read written : List ℕ)
+    (e : ServerEnd) : Type 0
   where
     pub joined : TurnLeads readers (IsServerTurn readers answer (length read)) true v (server_joined v e (written ++ e.out) (length read))
     pub stays : Stays p.server.server.on e.server.on p.server.server.last e.server.last
@@ -507,8 +518,8 @@ server_goes readers answer fit v p c s least stage read written e on front t =
 server_link_now : (v : World) (p : Pumped) (e : ServerEnd) (text : List ℕ) (k : ℕ) → IsCarried v → Stands v p
     → client_link (server_joined v e text k) ≡ record { up = drop k (client_link v).up; down = (client_link v).down ++ text }
 server_link_now v p e text k c s =
-    there v v.server.server.last v.client.client.last (record { up = drop k (server_link v).up; down = (server_link v).down ++ text }) c s.from
-    s.same refl
+    there v v.server.server.last v.client.client.last
+    (record { up = drop k (server_link v).up; down = (server_link v).down ++ text }) c s.from s.same refl
     ∙ ap (λ (n : ℕ). record { up = drop k (link_of v.links n).up; down = (link_of v.links n).down ++ text }) s.same
 
 down_more : (v : World) (p : Pumped) (written out : List ℕ) → Stands v p → p.server.server.on ≡ true
@@ -614,7 +625,8 @@ steps_more readers answer w p q g h = record {
   stands = h.stands;
 }
 
-now_carried : (readers : Readers) (answer : Job → ℕ → Outcome) → AreReaders readers → (w : World) (p : Pumped) → IsCarried w → (g : Steps readers answer w p) → IsCarried g.now
+now_carried : (readers : Readers) (answer : Job → ℕ → Outcome) → AreReaders readers → (w : World) (p : Pumped) → IsCarried w
+    → (g : Steps readers answer w p) → IsCarried g.now
 now_carried readers answer are w p c g = subst IsCarried g.leads (run_carried readers are g.events w c)
 
 calls : (readers : Readers) → AreReaders readers → (answer : Job → ℕ → Outcome) → AreFit answer → (w : World) (p : Pumped) → IsCarried w
@@ -623,14 +635,14 @@ calls readers are answer fit w _ c s no_calls = record { events = []; are = no_c
 calls readers are answer fit w _ c s (client_moves p e least left left_now taken taken_now moved t h front) =
     let g : Steps readers answer w p = calls readers are answer fit w p c s t in
     steps_more readers answer w p (with_client p e h.read h.written) g
-    (client_moved readers answer are g.now p (now_carried readers answer are w p c g) g.stands least h.read h.written e p.client.client.on refl h.all front
-    (h.turn readers are))
+    (client_moved readers answer are g.now p (now_carried readers answer are w p c g) g.stands least h.read h.written e
+    p.client.client.on refl h.all front (h.turn readers are))
 calls readers are answer fit w _ c s (client_stops p e least bound left left_now taken taken_now fault t h front) =
     let g : Steps readers answer w p = calls readers are answer fit w p c s t in
     subst (λ (x : ClientEnd). Steps readers answer w (with_client p x h.read h.written)) (sym h.leaves)
     (steps_more readers answer w p (with_client p (end_left h.last) h.read h.written) g
-    (client_stopped readers answer are g.now p (now_carried readers answer are w p c g) g.stands least h.stage h.read h.written h.last p.client.client.on
-    refl front (h.turn readers are)))
+    (client_stopped readers answer are g.now p (now_carried readers answer are w p c g) g.stands least h.stage h.read h.written h.last
+    p.client.client.on refl front (h.turn readers are)))
 calls readers are answer fit w _ c s (server_moves p e least left left_now taken taken_now moved t h front) =
     let g : Steps readers answer w p = calls readers are answer fit w p c s t in
     steps_more readers answer w p (with_server p e h.read h.written) g
@@ -680,7 +692,8 @@ pumps_join readers are answer fit w p program rack window events is few reached 
     record { events = g.events; are = g.are; is = subst (λ (v : World). IsWorldOf v p) (sym g.leads) g.stands.is }
 
 -- the whole list of events, from the start
-from_start : (readers : Readers) (answer : Job → ℕ → Outcome) (w : World) (p : Pumped) (v : World) (events : List Event) → w ≡ run_of readers events v
+from_start : (readers : Readers) (answer : Job → ℕ → Outcome) (w : World) (p : Pumped) (v : World) (events : List Event)
+    → w ≡ run_of readers events v
     → (g : Steps readers answer w p) → run_of readers (events ++ g.events) v ≡ g.now
 from_start readers answer w p v events reached g =
     run_append readers events g.events v ∙ (ap (run_of readers g.events) (sym reached) ∙ g.leads)

@@ -37,7 +37,8 @@ pub record TurnLeads (readers : Readers) (is : Bool → World → List Event →
   pub made : is cut w events
   pub leads : run_of readers events w ≡ v
 
--- a world whose client is as this end, but that it has nothing to send: this text has joined its connection, and so many bytes have come down
+-- a world whose client is as this end, but that it has nothing to send: this text has joined its connection, and so many bytes have come
+-- down
 abbrev pub client_joined : World → ClientEnd → List ℕ → ℕ → World
 client_joined w e text count = record {
   client = record e { out = [] };

@@ -9,7 +9,8 @@ ghost use Rattle.dmis_program.specs.Programs.{IsProgram};
 ghost use Rattle.fixed_um.specs.declared.lengths.Point.{Point as OnePoint};
 ghost use Rattle.line_framing.specs.Next.{next_of};
 ghost use Rattle.protocol_model.specs.Claims.{Sound, Told};
-ghost use Rattle.protocol_model.specs.Ends.{ClientEnd, ServerEnd, new_client_end, end_left, serving_left};
+ghost use Rattle.protocol_model.specs.Ends.{ClientEnd, ServerEnd};
+ghost use Rattle.protocol_model.specs.Ends.{new_client_end, end_left, serving_left};
 ghost use Rattle.protocol_model.specs.Lines.{Readers, AreReaders};
 ghost use Rattle.protocol_model.specs.World.{World, client_link, server_link, start, run_of};
 ghost use Rattle.protocol_model.specs.declared.events.Event.{Event as OneEvent};
@@ -22,7 +23,8 @@ ghost use Rattle.link_world.specs.Pumps.{Stage, Writing, Reading, ClientTurn};
 ghost use Rattle.link_world.specs.ServerPumps.{ServerTurn};
 ghost use Rattle.link_world.specs.Joined.{IsClientTurn, IsServerTurn, TurnLeads, client_joined};
 ghost use Rattle.link_world.specs.Joined.{AreFit, server_joined};
-ghost use Rattle.link_world.specs.Joined.{Pumped, pumped_of, PumpCalls, IsOneWorld, ClientCalls, AreOwnCalls};
+ghost use Rattle.link_world.specs.Joined.{Pumped, pumped_of, PumpCalls, IsOneWorld};
+ghost use Rattle.link_world.specs.Joined.{ClientCalls, AreOwnCalls};
 
 /// A client's turn over its ports is a list of events of the world. For every world whose client has nothing to send and stands on a
 /// connection that was made, and every turn of that client, as `client_turns` makes it, in which the bytes that came in are the first that
@@ -143,10 +145,10 @@ pub fn turns_of_a_server_are_events()
     ensures fit { (shifts : List OnePoint) → AreFit (simulated shifts) }
 {}
 
-/// Two pumps on one connection are a world. For every world to which a list of events has led and whose sides stand on one connection, every
-/// machine whose answers fit the jobs, and every list of calls of `client_turns` and `serve_turns` from there, in any order, each whole or
-/// stopped, with whatever bounds and ports, in which the bytes that a call took are the first of those on their way to its side (what waited
-/// there at first, and what the other side's calls have written since):
+/// Two pumps on one connection are a world. For every world to which a list of events has led and whose sides stand on one connection,
+/// every machine whose answers fit the jobs, and every list of calls of `client_turns` and `serve_turns` from there, in any order, each
+/// whole or stopped, with whatever bounds and ports, in which the bytes that a call took are the first of those on their way to its side
+/// (what waited there at first, and what the other side's calls have written since):
 ///
 /// - `world`: one list of events, call by call the whole turn of a side or a front of one and its leaving, leads the world to one with both
 ///   sides as the calls have left them; what is on its way up and down waits on their connection, and where a side has left, what it had
@@ -197,8 +199,8 @@ pub fn two_pumps_are_a_world()
 /// A client under its pump holds the first features of its program, whatever its peer sends. Behind every list of calls of `client_turns`,
 /// each whole or stopped, with whatever bounds and over whatever ports, and of the client's own calls between them:
 ///
-/// - `calls`: the client is as a list of its own calls leaves it, so that all that `client_core::whatever_the_peer_sends` says of such lists
-///   holds of it;
+/// - `calls`: the client is as a list of its own calls leaves it, so that all that `client_core::whatever_the_peer_sends` says of such
+///   lists holds of it;
 /// - `features`: where it began with a program and features of it that were kept, those that it holds are the first of the program, by
 ///   their labels and their counts of points.
 #[tactic(auto, using(crate::proofs::PeerJoins::pumped_calls, crate::proofs::PeerJoins::pumped_features))]
