@@ -537,7 +537,8 @@ server_moved_on : (readers : Readers) (answer : Job → ℕ → Outcome) → Are
     → take (length read) p.up ≡ read → ServerTurn readers answer least p.server Writing read written e
     → Step readers answer v (with_server p e read written)
 server_moved_on readers answer fit v p c s least read written e on out front t =
-    let g : ServerSteps readers answer v p Writing read written e = server_goes readers answer fit v p c s least Writing read written e on front t in
+    let g : ServerSteps readers answer v p Writing read written e =
+    server_goes readers answer fit v p c s least Writing read written e on front t in
     let still_on : e.server.on ≡ true = g.stays.on ∙ on in
     let link = server_link_now v p e (written ++ e.out) (length read) c s in
     let turn = g.whole refl in
@@ -568,7 +569,8 @@ server_stopped_on : (readers : Readers) (answer : Job → ℕ → Outcome) → A
     → take (length read) p.up ≡ read → ServerTurn readers answer least p.server stage read written e
     → Step readers answer v (with_server p (serving_left e) read written)
 server_stopped_on readers answer fit v p c s least stage read written e on front t =
-    let g : ServerSteps readers answer v p stage read written e = server_goes readers answer fit v p c s least stage read written e on front t in
+    let g : ServerSteps readers answer v p stage read written e =
+    server_goes readers answer fit v p c s least stage read written e on front t in
     let link = server_link_now v p e (written ++ e.out) (length read) c s in
     let now : World = record (server_joined v e (written ++ e.out) (length read)) { server = serving_left e } in record {
       events = g.joined.events ++ event.ServerLeaves ∷ [];
