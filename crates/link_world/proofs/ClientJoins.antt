@@ -306,6 +306,24 @@ turn_written readers least w read written e out from to front t =
     let p : Hears readers w read written e =
     plays readers least w Reading read written e (record { out = out; from = from; to = to }) front t in p.out
 
+-- where a client reads, as many bytes have come in as were asked for
+abbrev Enough : Stage → ℕ → List ℕ → Type 0
+Enough Reading least read = least ≤ length read
+Enough _ least read = Unit {0}
+
+enough_came : (readers : Readers) (least : ℕ) (s : ClientEnd) (stage : Stage) (read written : List ℕ) (e : ClientEnd)
+    → ClientTurn readers least s stage read written e → Enough stage least read
+enough_came readers least s _ _ _ _ begins = tt
+enough_came readers least s _ _ _ _ (sends e t is) = tt
+enough_came readers least s _ _ _ _ (writes e count t none within) = tt
+enough_came readers least s _ _ _ _ (takes e read written t out may) = tt
+enough_came readers least s _ _ _ _ (has e read written t enough) = enough
+enough_came readers least s _ _ _ _ (reads e read written t may is) = enough_came readers least s Reading read written e t
+
+pub turn_enough : (readers : Readers) (least : ℕ) (s : ClientEnd) (read written : List ℕ) (e : ClientEnd)
+    → ClientTurn readers least s Reading read written e → least ≤ length read
+turn_enough readers least s read written e t = enough_came readers least s Reading read written e t
+
 -- ---- behind a turn from a world to which events have led
 
 at_end : (readers : Readers) (w x : World) (events more : List Event) (v : World) → w ≡ run_of readers events v

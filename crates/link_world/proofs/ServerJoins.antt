@@ -420,6 +420,27 @@ serving_leaves readers w events e text count leads on =
     run_append readers events (event.ServerLeaves ∷ []) w
     ∙ (ap (after readers event.ServerLeaves) leads ∙ done_now readers event.ServerLeaves (server_joined w e text count) on)
 
+-- where a server reads, and from then on, as many bytes have come in as were asked for
+abbrev Enough : Stage → ℕ → List ℕ → Type 0
+Enough Taking least read = Unit {0}
+Enough _ least read = least ≤ length read
+
+enough_came : (readers : Readers) (answer : Job → ℕ → Outcome) (least : ℕ) (s : ServerEnd) (stage : Stage) (read written : List ℕ)
+    (e : ServerEnd) → ServerTurn readers answer least s stage read written e → Enough stage least read
+enough_came readers answer least s _ _ _ _ begins = tt
+enough_came readers answer least s _ _ _ _ (takes read may) = tt
+enough_came readers answer least s _ _ _ _ (has e read t enough) = enough
+enough_came readers answer least s _ _ _ _ (reads e read t on is) = enough_came readers answer least s Reading read [] e t
+enough_came readers answer least s _ _ _ _ (knows e read t none) = enough_came readers answer least s Reading read [] e t
+enough_came readers answer least s _ _ _ _ (turns e read t may) = enough_came readers answer least s Working read [] e t
+enough_came readers answer least s _ _ _ _ (ends e read j t is) = enough_came readers answer least s Working read [] e t
+enough_came readers answer least s _ _ _ _ (writes e read count t idle none within) =
+    enough_came readers answer least s Working read [] e t
+
+pub serving_enough : (readers : Readers) (answer : Job → ℕ → Outcome) (least : ℕ) (s : ServerEnd) (read written : List ℕ) (e : ServerEnd)
+    → ServerTurn readers answer least s Writing read written e → least ≤ length read
+serving_enough readers answer least s read written e t = enough_came readers answer least s Writing read written e t
+
 -- ---- behind a turn from a world to which events have led
 
 pub reached_serving : (w : World) → IsCarried w → w.server.server.on ≡ true → IsServing w

@@ -35,11 +35,11 @@ ghost use Rattle.link_world.specs.Joined.{ClientCalls, AreOwnCalls};
 ///   connection without the bytes that came in; what the turn has written to its sink, and behind it what it has not yet, stands at the end
 ///   of the connection's way up;
 /// - `whole`: where it has read all, there is such a list that is whole, and the connection has grown by what went to the sink;
-/// - `written`: where it reads, nothing is left to be written;
+/// - `written`, `enough`: where it reads, nothing is left to be written, and as many bytes have come in as were asked for;
 /// - `leaves`: where the client, still on its connection, leaves it behind such events, so does the client of the world; what joined the
 ///   connection stands there;
 /// - `sound`, `told`: where a list of events has led to the world, what `every_run` claims holds of the client behind its turn.
-#[tactic(auto, using(crate::proofs::ClientJoins::turn_joins, crate::proofs::ClientJoins::turn_whole, crate::proofs::ClientJoins::turn_written, crate::proofs::ClientJoins::turn_leaves, crate::proofs::ClientJoins::turn_sound, crate::proofs::ClientJoins::turn_told))]
+#[tactic(auto, using(crate::proofs::ClientJoins::turn_joins, crate::proofs::ClientJoins::turn_whole, crate::proofs::ClientJoins::turn_written, crate::proofs::ClientJoins::turn_enough, crate::proofs::ClientJoins::turn_leaves, crate::proofs::ClientJoins::turn_sound, crate::proofs::ClientJoins::turn_told))]
 pub fn turns_of_a_client_are_events()
     ensures joined { (readers : Readers) (least : ℕ) (w : World) (stage : Stage)
         (read written : List ℕ) (e : ClientEnd)
@@ -61,6 +61,9 @@ pub fn turns_of_a_client_are_events()
         → w.client.out ≡ [] → 1 ≤ w.client.client.last → w.client.client.last ≤ length w.links
         → take (length read) (client_link w).down ≡ read
         → ClientTurn readers least w.client Reading read written e → e.out ≡ [] }
+    ensures enough { (readers : Readers) (least : ℕ) (first : ClientEnd)
+        (read written : List ℕ) (e : ClientEnd)
+        → ClientTurn readers least first Reading read written e → least ≤ length read }
     ensures leaves { (readers : Readers) (w : World) (events : List OneEvent) (e : ClientEnd)
         (text : List ℕ) (count : ℕ)
         → run_of readers events w ≡ client_joined w e text count → e.client.on ≡ true
@@ -94,12 +97,12 @@ pub fn turns_of_a_client_are_events()
 ///   can, and turns and ends of jobs come while there is one, each as the machine answers, that leads the world to one with the server as
 ///   the turn has left it, the client unchanged, and the connection without the bytes that came in; what the turn has written to its sink,
 ///   and behind it what it has not yet, stands at the end of the connection's way down;
-/// - `whole`: where it writes, there is such a list that is whole;
+/// - `whole`, `enough`: where it writes, there is such a list that is whole, and as many bytes have come in as were asked for;
 /// - `leaves`: where the server, still on its connection, leaves it behind such events, so does the server of the world;
 /// - `sound`, `told`: where a list of events has led to the world, and its server stands on a connection, what `every_run` claims holds of
 ///   the server behind its turn;
 /// - `fit`: the answers of the simulated machine fit the jobs.
-#[tactic(auto, using(crate::proofs::ServerJoins::serving_joins, crate::proofs::ServerJoins::serving_whole, crate::proofs::ServerJoins::serving_leaves, crate::proofs::ServerJoins::serving_sound, crate::proofs::ServerJoins::serving_told, crate::proofs::ServerJoins::simulated_fits))]
+#[tactic(auto, using(crate::proofs::ServerJoins::serving_joins, crate::proofs::ServerJoins::serving_whole, crate::proofs::ServerJoins::serving_enough, crate::proofs::ServerJoins::serving_leaves, crate::proofs::ServerJoins::serving_sound, crate::proofs::ServerJoins::serving_told, crate::proofs::ServerJoins::simulated_fits))]
 pub fn turns_of_a_server_are_events()
     ensures joined { (readers : Readers) (answer : OneJob → ℕ → OneOutcome) → AreFit answer
         → (least : ℕ) (w : World) (stage : Stage) (read written : List ℕ) (e : ServerEnd)
@@ -117,6 +120,9 @@ pub fn turns_of_a_server_are_events()
         → ServerTurn readers answer least w.server Writing read written e
         → TurnLeads readers (IsServerTurn readers answer (length read)) false w
         (server_joined w e (written ++ e.out) (length read)) }
+    ensures enough { (readers : Readers) (answer : OneJob → ℕ → OneOutcome) (least : ℕ)
+        (first : ServerEnd) (read written : List ℕ) (e : ServerEnd)
+        → ServerTurn readers answer least first Writing read written e → least ≤ length read }
     ensures leaves { (readers : Readers) (w : World) (events : List OneEvent) (e : ServerEnd)
         (text : List ℕ) (count : ℕ)
         → run_of readers events w ≡ server_joined w e text count → e.server.on ≡ true
