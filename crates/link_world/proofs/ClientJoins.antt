@@ -21,7 +21,7 @@ use Rattle.protocol_model.specs.declared.states.State.{State}
 use Rattle.protocol_model.proofs.whole_run.Links.{link_same}
 use Rattle.protocol_model.proofs.whole_run.WholeRun.{always_sound, always_told}
 use Rattle.client_core.specs.Clients.{is_faulted, may_read}
-use Rattle.link_world.specs.Pumps.{Stage, Sending, Writing, Taking, Reading, Working, ClientTurn, begins, sends, writes, takes, has, reads}
+use Rattle.link_world.specs.Pumps.{Stage, Sending, Writing, Taking, Reading, ClientTurn, begins, sends, writes, takes, has, reads}
 use Rattle.link_world.specs.Joined.{IsClientTurn, TurnLeads, client_joined}
 use Rattle.link_world.proofs.EventLists.{run_append, done_now, not_done}
 use Rattle.link_world.proofs.TurnJoins.{SoFar, not_yet, once_more, all_done, sent_only, client_turned}
@@ -197,7 +197,8 @@ plays readers least w _ _ _ _ h front begins =
 plays readers least w _ _ _ _ h front (sends e t is) =
     let p : Sends readers w e = (plays readers least w Sending [] [] e h front t).0 in (
       record {
-        so_far = once_more readers event.ClientSends w (client_joined w e e.out 0) (client_joined w (end_sent e) (end_sent e).out 0) p.so_far
+        so_far = once_more readers event.ClientSends w (client_joined w e e.out 0)
+            (client_joined w (end_sent e) (end_sent e).out 0) p.so_far
             is (sends_on readers w e h p.last is);
         last = sent_last e ∙ p.last;
       },
@@ -205,7 +206,8 @@ plays readers least w _ _ _ _ h front (sends e t is) =
     )
 plays readers least w _ _ _ _ h front (writes e count t none within) =
     let p : Sends readers w e = (plays readers least w Sending [] [] e h front t).0 in record {
-      so_far = subst (λ (x : List ℕ). SoFar readers event.ClientSends w (client_joined w e x 0)) (sym (take-append-drop count e.out)) p.so_far;
+      so_far = subst (λ (x : List ℕ). SoFar readers event.ClientSends w (client_joined w e x 0))
+          (sym (take-append-drop count e.out)) p.so_far;
       last = p.last;
       none = none;
     }
@@ -293,8 +295,8 @@ turn_whole readers least w read written e out from to front t none =
     let never : can event.ClientReads v ≡ false =
     ap (λ (f : Front). e.client.on && (not (is_over e.client.state) && is_any f)) none
     ∙ never_none e.client.on (not (is_over e.client.state)) in
-    client_turned readers (length read) false w (client_joined w p.first written 0) p.fed v p.sent (none_due readers w p.first written p.none)
-    p.came p.so_far (all_done readers event.ClientReads p.fed v p.so_far never)
+    client_turned readers (length read) false w (client_joined w p.first written 0) p.fed v p.sent
+    (none_due readers w p.first written p.none) p.came p.so_far (all_done readers event.ClientReads p.fed v p.so_far never)
 
 -- it has then written all
 pub turn_written : (readers : Readers) (least : ℕ) (w : World) (read written : List ℕ) (e : ClientEnd)
@@ -303,6 +305,24 @@ pub turn_written : (readers : Readers) (least : ℕ) (w : World) (read written :
 turn_written readers least w read written e out from to front t =
     let p : Hears readers w read written e =
     plays readers least w Reading read written e (record { out = out; from = from; to = to }) front t in p.out
+
+-- where a client reads, as many bytes have come in as were asked for
+abbrev Enough : Stage → ℕ → List ℕ → Type 0
+Enough Reading least read = least ≤ length read
+Enough _ least read = Unit {0}
+
+enough_came : (readers : Readers) (least : ℕ) (s : ClientEnd) (stage : Stage) (read written : List ℕ) (e : ClientEnd)
+    → ClientTurn readers least s stage read written e → Enough stage least read
+enough_came readers least s _ _ _ _ begins = tt
+enough_came readers least s _ _ _ _ (sends e t is) = tt
+enough_came readers least s _ _ _ _ (writes e count t none within) = tt
+enough_came readers least s _ _ _ _ (takes e read written t out may) = tt
+enough_came readers least s _ _ _ _ (has e read written t enough) = enough
+enough_came readers least s _ _ _ _ (reads e read written t may is) = enough_came readers least s Reading read written e t
+
+pub turn_enough : (readers : Readers) (least : ℕ) (s : ClientEnd) (read written : List ℕ) (e : ClientEnd)
+    → ClientTurn readers least s Reading read written e → least ≤ length read
+turn_enough readers least s read written e t = enough_came readers least s Reading read written e t
 
 -- ---- behind a turn from a world to which events have led
 

@@ -10,7 +10,7 @@ use Rattle.client_core.specs.Calls.{Call, Send, Feed, ReadOne, Leave, Sent, poss
 use Rattle.client_core.specs.Clients.{are_ours}
 use Rattle.client_core.proofs.Runs.{features_are_ours}
 use Rattle.link_world.specs.Pumps.{Stage, Sending, Writing, Taking, Reading, ClientTurn, begins, sends, writes, takes, has, reads}
-use Rattle.link_world.specs.Joined.{ClientCalls, not_called, moves, stops, called, AreCalls}
+use Rattle.link_world.specs.Joined.{ClientCalls, not_called, moves, stops, called, AreOwnCalls}
 
 -- ---- one call more
 
@@ -19,7 +19,8 @@ calls_append : (readers : Readers) (calls : List Call) (call : Call) (e : Client
 calls_append readers [] call e = refl
 calls_append readers (x ∷ calls) call e = calls_append readers calls call (behind_call readers x e)
 
-any_more : (readers : Readers) (s e : ClientEnd) (call : Call) → AreCalls readers s e → AreCalls readers s (behind_call readers call e)
+any_more : (readers : Readers) (s e : ClientEnd) (call : Call) → AreOwnCalls readers s e
+    → AreOwnCalls readers s (behind_call readers call e)
 any_more readers s e call h = record {
   calls = h.calls ++ call ∷ [];
   lead = ap (behind_call readers call) h.lead ∙ sym (calls_append readers h.calls call s);
@@ -30,15 +31,15 @@ done_now : (readers : Readers) (call : Call) (e : ClientEnd) (b : Bool) → poss
 done_now readers call e true is may = refl
 done_now readers call e false is may = absurd (false≢true may)
 
-one_more : (readers : Readers) (s e : ClientEnd) (call : Call) → AreCalls readers s e → possible call e ≡ true
-    → AreCalls readers s (done_by readers call e)
+one_more : (readers : Readers) (s e : ClientEnd) (call : Call) → AreOwnCalls readers s e → possible call e ≡ true
+    → AreOwnCalls readers s (done_by readers call e)
 one_more readers s e call h may =
-    subst (AreCalls readers s) (done_now readers call e (possible call e) refl may) (any_more readers s e call h)
+    subst (AreOwnCalls readers s) (done_now readers call e (possible call e) refl may) (any_more readers s e call h)
 
 -- ---- a turn
 
 turn_calls : (readers : Readers) (least : ℕ) (first s : ClientEnd) (stage : Stage) (read written : List ℕ) (e : ClientEnd)
-    → AreCalls readers first s → ClientTurn readers least s stage read written e → AreCalls readers first e
+    → AreOwnCalls readers first s → ClientTurn readers least s stage read written e → AreOwnCalls readers first e
 turn_calls readers least first s _ _ _ _ h begins = h
 turn_calls readers least first s _ _ _ _ h (sends e t is) =
     one_more readers first e Send (turn_calls readers least first s Sending [] [] e h t) is
@@ -52,12 +53,13 @@ turn_calls readers least first s _ _ _ _ h (reads e read written t may is) =
 
 -- ---- all calls
 
-pub pumped_calls : (readers : Readers) → AreReaders readers → (first e : ClientEnd) → ClientCalls readers first e → AreCalls readers first e
+pub pumped_calls : (readers : Readers) → AreReaders readers → (first e : ClientEnd) → ClientCalls readers first e
+    → AreOwnCalls readers first e
 pumped_calls readers are first _ not_called = record { calls = []; lead = refl }
 pumped_calls readers are first _ (moves e f least left left_now taken taken_now moved t h) =
     turn_calls readers least first e Reading h.read h.written f (pumped_calls readers are first e t) (h.turn readers are)
 pumped_calls readers are first _ (stops e f least bound left left_now taken taken_now fault t h) =
-    subst (AreCalls readers first) (sym h.leaves)
+    subst (AreOwnCalls readers first) (sym h.leaves)
     (one_more readers first h.last Leave
     (turn_calls readers least first e h.stage h.read h.written h.last (pumped_calls readers are first e t) (h.turn readers are)) refl)
 pumped_calls readers are first _ (called e call t) = any_more readers first e call (pumped_calls readers are first e t)

@@ -1,5 +1,5 @@
 -- Calls of both pumps on one connection are a list of events of one world.
-use Rattle.std.proofs.Common.{◌≡◌, ℕ, zero, suc, ◌≤◌, Bool, true, false, cond, ◌&&◌, not, List, [], ◌∷◌, ◌++◌, length, take, drop}
+use Rattle.std.proofs.Common.{◌≡◌, ◌≢◌, ℕ, zero, suc, ◌≤◌, Bool, true, false, cond, ◌&&◌, not, List, [], ◌∷◌, ◌++◌, length, take, drop}
 use Rattle.std.proofs.Common.{refl, sym, ◌∙◌, ap, subst, arith, append_assoc, append-nil, is_some, Option, Some, None, Ok, Err, Result}
 use Rattle.std.proofs.lemmas.Bool.{false≢true, and_parts}
 use Rattle.std.proofs.lemmas.List.{take-append-le, drop-append-le}
@@ -44,19 +44,21 @@ use Rattle.protocol_model.proofs.invariant.Moves.{read_moves, turned_moves, mach
 use Rattle.protocol_model.proofs.undisturbed_run.UndisturbedClient.{read_last}
 use Rattle.protocol_model.proofs.whole_run.Links.{link_same}
 use Rattle.protocol_model.proofs.whole_run.Carrying.{IsCarried}
-use Rattle.protocol_model.proofs.whole_run.WholeRun.{run_carried, start_carried, always_sound, always_told}
+use Rattle.protocol_model.proofs.whole_run.WholeRun.{run_carried, start_carried, always_sound, always_told, never_faulted_run}
+use Rattle.protocol_model.proofs.whole_run.WholeRun.{no_framing_fault}
 use Rattle.client_core.specs.Clients.{may_read}
 use Rattle.contact_ledger.specs.Ledgers.{contact_count}
 use Rattle.link_world.specs.Pumps.{Stage, Sending, Writing, Taking, Reading, Working, ClientTurn, ClientMoved, ClientStopped}
-use Rattle.link_world.specs.Pumps as client_turn
+use Rattle.link_world.specs.Pumps as client_stage
 use Rattle.link_world.specs.ServerPumps.{ServerTurn, ServerMoved, ServerStopped}
-use Rattle.link_world.specs.ServerPumps as server_turn
+use Rattle.link_world.specs.ServerPumps as server_stage
 use Rattle.link_world.specs.Joined.{IsClientTurn, IsServerTurn, TurnLeads, client_joined, AreFit, server_joined}
-use Rattle.link_world.specs.Joined.{Pumped, pumped_of, with_client, with_server, PumpCalls, no_calls, client_moves, client_stops, server_moves}
-use Rattle.link_world.specs.Joined.{server_stops, AreOnWay, IsWorldOf, IsOneWorld}
+use Rattle.link_world.specs.Joined.{Pumped, pumped_of, with_client, with_server, PumpCalls, no_calls, client_moves, client_stops}
+use Rattle.link_world.specs.Joined.{server_moves, server_stops, AreOnWay, IsWorldOf, IsOneWorld}
+use Rattle.link_world.specs.Joined.{IsCall, no_event, client_turn, client_left, server_turn, server_left, AreCalls, no_call, one_more}
 use Rattle.link_world.proofs.EventLists.{run_append}
-use Rattle.link_world.proofs.ClientJoins.{fits, sent_last, turn_joins, turn_written, turn_leaves}
-use Rattle.link_world.proofs.ServerJoins.{IsServing, reached_serving, serving_joins, serving_leaves}
+use Rattle.link_world.proofs.ClientJoins.{fits, sent_last, turn_joins, turn_whole, turn_written, turn_leaves}
+use Rattle.link_world.proofs.ServerJoins.{IsServing, reached_serving, serving_joins, serving_whole, serving_leaves}
 
 -- ---- a side stays on its connection
 
@@ -126,18 +128,18 @@ record Stays (was is : Bool) (first now : ℕ) : Type 0 where
 
 client_stays : (readers : Readers) (least : ℕ) (s : ClientEnd) (stage : Stage) (read written : List ℕ) (e : ClientEnd)
     → ClientTurn readers least s stage read written e → Stays s.client.on e.client.on s.client.last e.client.last
-client_stays readers least s _ _ _ _ client_turn.begins = record { on = refl; last = refl }
-client_stays readers least s _ _ _ _ (client_turn.sends e t is) =
+client_stays readers least s _ _ _ _ client_stage.begins = record { on = refl; last = refl }
+client_stays readers least s _ _ _ _ (client_stage.sends e t is) =
     let k = client_stays readers least s Sending [] [] e t in record {
       on = next_on e.client e.client.table.tally.unsent _ ∙ k.on;
       last = sent_last e ∙ k.last;
     }
-client_stays readers least s _ _ _ _ (client_turn.writes e count t none within) =
+client_stays readers least s _ _ _ _ (client_stage.writes e count t none within) =
     let k = client_stays readers least s Sending [] [] e t in record { on = k.on; last = k.last }
-client_stays readers least s _ _ _ _ (client_turn.takes e read written t out may) =
+client_stays readers least s _ _ _ _ (client_stage.takes e read written t out may) =
     let k = client_stays readers least s Writing [] written e t in record { on = k.on; last = k.last }
-client_stays readers least s _ _ _ _ (client_turn.has e read written t enough) = client_stays readers least s Taking read written e t
-client_stays readers least s _ _ _ _ (client_turn.reads e read written t may is) =
+client_stays readers least s _ _ _ _ (client_stage.has e read written t enough) = client_stays readers least s Taking read written e t
+client_stays readers least s _ _ _ _ (client_stage.reads e read written t may is) =
     let k = client_stays readers least s Reading read written e t in record {
       on = read_on readers e.client (next_of e.input.rest) ∙ k.on;
       last = read_last readers e.client (next_of e.input.rest) ∙ k.last;
@@ -152,20 +154,20 @@ served_stays readers e (Err why) = record { on = refl; last = refl }
 
 server_stays : (readers : Readers) (answer : Job → ℕ → Outcome) (least : ℕ) (s : ServerEnd) (stage : Stage) (read written : List ℕ)
     (e : ServerEnd) → ServerTurn readers answer least s stage read written e → Stays s.server.on e.server.on s.server.last e.server.last
-server_stays readers answer least s _ _ _ _ server_turn.begins = record { on = refl; last = refl }
-server_stays readers answer least s _ _ _ _ (server_turn.takes read may) = record { on = refl; last = refl }
-server_stays readers answer least s _ _ _ _ (server_turn.has e read t enough) = server_stays readers answer least s Taking read [] e t
-server_stays readers answer least s _ _ _ _ (server_turn.reads e read t on is) =
+server_stays readers answer least s _ _ _ _ server_stage.begins = record { on = refl; last = refl }
+server_stays readers answer least s _ _ _ _ (server_stage.takes read may) = record { on = refl; last = refl }
+server_stays readers answer least s _ _ _ _ (server_stage.has e read t enough) = server_stays readers answer least s Taking read [] e t
+server_stays readers answer least s _ _ _ _ (server_stage.reads e read t on is) =
     let k = server_stays readers answer least s Reading read [] e t in
     let m = served_stays readers e (next_of e.input.rest) in record { on = m.on ∙ k.on; last = m.last ∙ k.last }
-server_stays readers answer least s _ _ _ _ (server_turn.knows e read t none) = server_stays readers answer least s Reading read [] e t
-server_stays readers answer least s _ _ _ _ (server_turn.turns e read t may) =
+server_stays readers answer least s _ _ _ _ (server_stage.knows e read t none) = server_stays readers answer least s Reading read [] e t
+server_stays readers answer least s _ _ _ _ (server_stage.turns e read t may) =
     let k = server_stays readers answer least s Working read [] e t in
     let m = (turned_moves e.server).1 in record { on = m.on ∙ k.on; last = m.last ∙ k.last }
-server_stays readers answer least s _ _ _ _ (server_turn.ends e read j t is) =
+server_stays readers answer least s _ _ _ _ (server_stage.ends e read j t is) =
     let k = server_stays readers answer least s Working read [] e t in
     let m = (machined_moves e.server (answer j (contact_count e.server.ledger))).1 in record { on = m.on ∙ k.on; last = m.last ∙ k.last }
-server_stays readers answer least s _ _ _ _ (server_turn.writes e read count t idle none within) =
+server_stays readers answer least s _ _ _ _ (server_stage.writes e read count t idle none within) =
     let k = server_stays readers answer least s Working read [] e t in record { on = k.on; last = k.last }
 
 -- ---- a side that has left does nothing more
@@ -215,45 +217,45 @@ ClientStill _ s e read written = ⊥
 
 client_still : (readers : Readers) (least : ℕ) (s x : ClientEnd) (stage : Stage) (read written : List ℕ) (e : ClientEnd) → s ≡ end_left x
     → ClientTurn readers least s stage read written e → ClientStill stage s e read written
-client_still readers least s x _ _ _ _ left client_turn.begins = record { same = refl; read_none = refl; written_none = refl }
-client_still readers least s x _ _ _ _ left (client_turn.sends e t is) =
+client_still readers least s x _ _ _ _ left client_stage.begins = record { same = refl; read_none = refl; written_none = refl }
+client_still readers least s x _ _ _ _ left (client_stage.sends e t is) =
     let k : Still s e [] [] = client_still readers least s x Sending [] [] e left t in
     absurd (not_due x (subst (λ (y : ClientEnd). is_some (due y.client) ≡ true) (k.same ∙ left) is))
-client_still readers least s x _ _ _ _ left (client_turn.writes e count t none within) =
+client_still readers least s x _ _ _ _ left (client_stage.writes e count t none within) =
     let k : Still s e [] [] = client_still readers least s x Sending [] [] e left t in
     let out : e.out ≡ [] = ap (λ (y : ClientEnd). y.out) (k.same ∙ left) in record {
       same = (λ i. record e { out = (ap (drop count) out ∙ (drop_none count ∙ sym out)) i }) ∙ k.same;
       read_none = refl;
       written_none = ap (take count) out ∙ take_none count;
     }
-client_still readers least s x _ _ _ _ left (client_turn.takes e read written t out may) =
+client_still readers least s x _ _ _ _ left (client_stage.takes e read written t out may) =
     let k : Still s e [] written = client_still readers least s x Writing [] written e left t in
     false≢true (subst (λ (y : ClientEnd). may_read y.client ≡ true) (k.same ∙ left) may)
-client_still readers least s x _ _ _ _ left (client_turn.has e read written t enough) =
+client_still readers least s x _ _ _ _ left (client_stage.has e read written t enough) =
     client_still readers least s x Taking read written e left t
-client_still readers least s x _ _ _ _ left (client_turn.reads e read written t may is) =
+client_still readers least s x _ _ _ _ left (client_stage.reads e read written t may is) =
     client_still readers least s x Reading read written e left t
 
 server_still : (readers : Readers) (answer : Job → ℕ → Outcome) (least : ℕ) (s x : ServerEnd) (stage : Stage) (read written : List ℕ)
     (e : ServerEnd) → s ≡ serving_left x → ServerTurn readers answer least s stage read written e → Still s e read written
-server_still readers answer least s x _ _ _ _ left server_turn.begins = record { same = refl; read_none = refl; written_none = refl }
-server_still readers answer least s x _ _ _ _ left (server_turn.takes read may) =
+server_still readers answer least s x _ _ _ _ left server_stage.begins = record { same = refl; read_none = refl; written_none = refl }
+server_still readers answer least s x _ _ _ _ left (server_stage.takes read may) =
     absurd (false≢true (sym (ap (λ (y : ServerEnd). y.server.on) left) ∙ (and_parts _ _ may).0))
-server_still readers answer least s x _ _ _ _ left (server_turn.has e read t enough) =
+server_still readers answer least s x _ _ _ _ left (server_stage.has e read t enough) =
     server_still readers answer least s x Taking read [] e left t
-server_still readers answer least s x _ _ _ _ left (server_turn.reads e read t on is) =
+server_still readers answer least s x _ _ _ _ left (server_stage.reads e read t on is) =
     let k = server_still readers answer least s x Reading read [] e left t in
     absurd (false≢true (sym (ap (λ (y : ServerEnd). y.server.on) (k.same ∙ left)) ∙ on))
-server_still readers answer least s x _ _ _ _ left (server_turn.knows e read t none) =
+server_still readers answer least s x _ _ _ _ left (server_stage.knows e read t none) =
     server_still readers answer least s x Reading read [] e left t
-server_still readers answer least s x _ _ _ _ left (server_turn.turns e read t may) =
+server_still readers answer least s x _ _ _ _ left (server_stage.turns e read t may) =
     let k = server_still readers answer least s x Working read [] e left t in
     absurd (false≢true (subst (λ (y : ServerEnd). may_turn y.server ≡ true) (k.same ∙ left) may))
-server_still readers answer least s x _ _ _ _ left (server_turn.ends e read j t is) =
+server_still readers answer least s x _ _ _ _ left (server_stage.ends e read j t is) =
     let k = server_still readers answer least s x Working read [] e left t in
     let never : None ≡ Some j = subst (λ (y : ServerEnd). running_job y.server ≡ Some j) (k.same ∙ left) is
     in absurd (cc)
-server_still readers answer least s x _ _ _ _ left (server_turn.writes e read count t idle none within) =
+server_still readers answer least s x _ _ _ _ left (server_stage.writes e read count t idle none within) =
     let k = server_still readers answer least s x Working read [] e left t in
     let out : e.out ≡ [] = ap (λ (y : ServerEnd). y.out) (k.same ∙ left) in record {
       same = (λ i. record e { out = (ap (drop count) out ∙ (drop_none count ∙ sym out)) i }) ∙ k.same;
@@ -296,8 +298,18 @@ record Stands (w : World) (p : Pumped) : Type 0 where
   pub client_gone : p.client.client.on ≡ false → (e : ClientEnd) × (p.client ≡ end_left e)
   pub server_gone : p.server.server.on ≡ false → (e : ServerEnd) × (p.server ≡ serving_left e)
 
-record Steps (readers : Readers) (v : World) (p : Pumped) : Type 0 where
+-- one call
+record Step (readers : Readers) (answer : Job → ℕ → Outcome) (v : World) (p : Pumped) : Type 0 where
   pub events : List Event
+  pub is : IsCall readers answer v events
+  pub now : World
+  pub leads : run_of readers events v ≡ now
+  pub stands : Stands now p
+
+-- all calls
+record Steps (readers : Readers) (answer : Job → ℕ → Outcome) (v : World) (p : Pumped) : Type 0 where
+  pub events : List Event
+  pub are : AreCalls readers answer v events
   pub now : World
   pub leads : run_of readers events v ≡ now
   pub stands : Stands now p
@@ -306,12 +318,20 @@ there : (v : World) (n m : ℕ) (l : Link) → IsCarried v → 1 ≤ v.client.cl
     → link_of (with_link v.links n l) m ≡ l
 there v n m l c from is also =
     let made = c.wired.made in
-    ap (λ (k : ℕ). link_of (with_link v.links n l) k) (also ∙ sym is) ∙ link_same v.links n l (omega (arith, from, is)) (omega (arith, made, is))
+    ap (λ (k : ℕ). link_of (with_link v.links n l) k) (also ∙ sym is)
+    ∙ link_same v.links n l (omega (arith, from, is)) (omega (arith, made, is))
 
-nothing_done : (readers : Readers) (v : World) (p q : Pumped) → Stands v p → q ≡ p → Steps readers v q
-nothing_done readers v p q s same = record { events = []; now = v; leads = refl; stands = subst (Stands v) (sym same) s }
+nothing_done : (readers : Readers) (answer : Job → ℕ → Outcome) (v : World) (p q : Pumped) → Stands v p → q ≡ p → Step readers answer v q
+nothing_done readers answer v p q s same = record {
+  events = [];
+  is = no_event;
+  now = v;
+  leads = refl;
+  stands = subst (Stands v) (sym same) s;
+}
 
-client_rests : (p : Pumped) (e : ClientEnd) (read written : List ℕ) → e ≡ p.client → read ≡ [] → written ≡ [] → with_client p e read written ≡ p
+client_rests : (p : Pumped) (e : ClientEnd) (read written : List ℕ) → e ≡ p.client → read ≡ [] → written ≡ []
+    → with_client p e read written ≡ p
 client_rests p e read written same read_none written_none = λ i. record {
   client = same i;
   server = p.server;
@@ -319,7 +339,8 @@ client_rests p e read written same read_none written_none = λ i. record {
   down = drop (length (read_none i)) p.down;
 }
 
-server_rests : (p : Pumped) (e : ServerEnd) (read written : List ℕ) → e ≡ p.server → read ≡ [] → written ≡ [] → with_server p e read written ≡ p
+server_rests : (p : Pumped) (e : ServerEnd) (read written : List ℕ) → e ≡ p.server → read ≡ [] → written ≡ []
+    → with_server p e read written ≡ p
 server_rests p e read written same read_none written_none = λ i. record {
   client = p.client;
   server = same i;
@@ -332,6 +353,8 @@ record ClientSteps (readers : Readers) (v : World) (p : Pumped) (stage : Stage) 
   pub joined : TurnLeads readers (IsClientTurn readers (length read)) true v (client_joined v e (written ++ e.out) (length read))
   pub stays : Stays p.client.client.on e.client.on p.client.client.last e.client.last
   pub out : stage ≡ Reading → e.out ≡ []
+  pub whole : stage ≡ Reading → next_of e.input.rest ≡ Ok None
+      → TurnLeads readers (IsClientTurn readers (length read)) false v (client_joined v e written (length read))
 
 client_goes : (readers : Readers) → AreReaders readers → (v : World) (p : Pumped) → IsCarried v → Stands v p → (least : ℕ) (stage : Stage)
     (read written : List ℕ) (e : ClientEnd) → take (length read) p.down ≡ read
@@ -339,13 +362,16 @@ client_goes : (readers : Readers) → AreReaders readers → (v : World) (p : Pu
 client_goes readers are v p c s least stage read written e front t =
     let turn : ClientTurn readers least v.client stage read written e =
     subst (λ (x : ClientEnd). ClientTurn readers least x stage read written e) (sym s.is.client) t in
-    let came : take (length read) (client_link v).down ≡ read = way_front p.server.server.on read p.down (client_link v).down front s.is.down in
+    let came : take (length read) (client_link v).down ≡ read =
+    way_front p.server.server.on read p.down (client_link v).down front s.is.down in
     let made = c.wired.made in
     let to : v.client.client.last ≤ length v.links = omega (arith, made) in record {
       joined = turn_joins readers least v stage read written e c.client_out s.from to came turn;
       stays = client_stays readers least p.client stage read written e t;
       out = λ is. turn_written readers least v read written e c.client_out s.from to came
           (subst (λ (x : Stage). ClientTurn readers least v.client x read written e) is turn);
+      whole = λ is all. turn_whole readers least v read written e c.client_out s.from to came
+          (subst (λ (x : Stage). ClientTurn readers least v.client x read written e) is turn) all;
     }
 
 -- the way up behind a turn of the client
@@ -359,33 +385,37 @@ client_link_now : (v : World) (p : Pumped) (e : ClientEnd) (text : List ℕ) (k 
     → e.client.last ≡ p.client.client.last
     → client_link (client_joined v e text k) ≡ record { up = (client_link v).up ++ text; down = drop k (client_link v).down }
 client_link_now v p e text k c s last =
-    there v v.client.client.last e.client.last (record { up = (client_link v).up ++ text; down = drop k (client_link v).down }) c s.from refl
+    there v v.client.client.last e.client.last
+    (record { up = (client_link v).up ++ text; down = drop k (client_link v).down }) c s.from refl
     (last ∙ sym (ap (λ (x : ClientEnd). x.client.last) s.is.client))
 
 client_last_now : (v : World) (p : Pumped) (e : ClientEnd) → Stands v p → e.client.last ≡ p.client.client.last
     → e.client.last ≡ v.client.client.last
 client_last_now v p e s last = last ∙ sym (ap (λ (x : ClientEnd). x.client.last) s.is.client)
 
-client_moved_on : (readers : Readers) → AreReaders readers → (v : World) (p : Pumped) → IsCarried v → Stands v p → (least : ℕ)
-    (read written : List ℕ) (e : ClientEnd) → p.client.client.on ≡ true → take (length read) p.down ≡ read
-    → ClientTurn readers least p.client Reading read written e → Steps readers v (with_client p e read written)
-client_moved_on readers are v p c s least read written e on front t =
+client_moved_on : (readers : Readers) (answer : Job → ℕ → Outcome) → AreReaders readers → (v : World) (p : Pumped) → IsCarried v
+    → Stands v p → (least : ℕ)
+    (read written : List ℕ) (e : ClientEnd) → p.client.client.on ≡ true → next_of e.input.rest ≡ Ok None → take (length read) p.down ≡ read
+    → ClientTurn readers least p.client Reading read written e → Step readers answer v (with_client p e read written)
+client_moved_on readers answer are v p c s least read written e on all front t =
     let g : ClientSteps readers v p Reading read written e = client_goes readers are v p c s least Reading read written e front t in
     let still_on : e.client.on ≡ true = g.stays.on ∙ on in
     let out : e.out ≡ [] = g.out refl in
     let last : e.client.last ≡ v.client.client.last = client_last_now v p e s g.stays.last in
-    let link = client_link_now v p e (written ++ e.out) (length read) c s g.stays.last in
-    let now : World = client_joined v e (written ++ e.out) (length read) in record {
-      events = g.joined.events;
+    let link = client_link_now v p e written (length read) c s g.stays.last in
+    let turn = g.whole refl all in
+    let now : World = client_joined v e written (length read) in record {
+      events = turn.events;
+      is = client_turn (length read) turn.events turn.made;
       now = now;
-      leads = g.joined.leads;
+      leads = turn.leads;
       stands = record {
         is = record {
           client = λ i. record e { out = sym out i };
           server = s.is.server;
           up = subst (λ (b : Bool). AreOnWay b (p.up ++ written) (client_link now).up) (sym still_on)
-              (ap (λ (l : Link). l.up) link ∙ (up_more v p written e.out s on
-              ∙ (ap (λ (x : List ℕ). (p.up ++ written) ++ x) out ∙ append-nil (p.up ++ written))));
+              (ap (λ (l : Link). l.up) link
+              ∙ ap (λ (x : List ℕ). x ++ written) (all_wait p.client.client.on p.up (client_link v).up s.is.up on));
           down = subst (λ (l : Link). AreOnWay p.server.server.on (drop (length read) p.down) l.down) (sym link)
               (way_drop p.server.server.on (length read) p.down (client_link v).down (fits read p.down front) s.is.down);
         };
@@ -396,15 +426,17 @@ client_moved_on readers are v p c s least read written e on front t =
       };
     }
 
-client_stopped_on : (readers : Readers) → AreReaders readers → (v : World) (p : Pumped) → IsCarried v → Stands v p → (least : ℕ)
+client_stopped_on : (readers : Readers) (answer : Job → ℕ → Outcome) → AreReaders readers → (v : World) (p : Pumped) → IsCarried v
+    → Stands v p → (least : ℕ)
     (stage : Stage) (read written : List ℕ) (e : ClientEnd) → p.client.client.on ≡ true → take (length read) p.down ≡ read
-    → ClientTurn readers least p.client stage read written e → Steps readers v (with_client p (end_left e) read written)
-client_stopped_on readers are v p c s least stage read written e on front t =
+    → ClientTurn readers least p.client stage read written e → Step readers answer v (with_client p (end_left e) read written)
+client_stopped_on readers answer are v p c s least stage read written e on front t =
     let g : ClientSteps readers v p stage read written e = client_goes readers are v p c s least stage read written e front t in
     let last : e.client.last ≡ v.client.client.last = client_last_now v p e s g.stays.last in
     let link = client_link_now v p e (written ++ e.out) (length read) c s g.stays.last in
     let now : World = record (client_joined v e (written ++ e.out) (length read)) { client = end_left e } in record {
       events = g.joined.events ++ event.ClientLeaves ∷ [];
+      is = client_left (length read) g.joined.events g.joined.made;
       now = now;
       leads = turn_leaves readers v g.joined.events e (written ++ e.out) (length read) g.joined.leads (g.stays.on ∙ on);
       stands = record {
@@ -422,48 +454,54 @@ client_stopped_on readers are v p c s least stage read written e on front t =
       };
     }
 
-client_moved : (readers : Readers) → AreReaders readers → (v : World) (p : Pumped) → IsCarried v → Stands v p → (least : ℕ)
-    (read written : List ℕ) (e : ClientEnd) (b : Bool) → p.client.client.on ≡ b → take (length read) p.down ≡ read
-    → ClientTurn readers least p.client Reading read written e → Steps readers v (with_client p e read written)
-client_moved readers are v p c s least read written e true on front t =
-    client_moved_on readers are v p c s least read written e on front t
-client_moved readers are v p c s least read written e false off front t =
+client_moved : (readers : Readers) (answer : Job → ℕ → Outcome) → AreReaders readers → (v : World) (p : Pumped) → IsCarried v → Stands v p
+    → (least : ℕ) (read written : List ℕ) (e : ClientEnd) (b : Bool) → p.client.client.on ≡ b → next_of e.input.rest ≡ Ok None
+    → take (length read) p.down ≡ read → ClientTurn readers least p.client Reading read written e
+    → Step readers answer v (with_client p e read written)
+client_moved readers answer are v p c s least read written e true on all front t =
+    client_moved_on readers answer are v p c s least read written e on all front t
+client_moved readers answer are v p c s least read written e false off all front t =
     let gone = s.client_gone off in absurd (client_still readers least p.client gone.0 Reading read written e gone.1 t)
 
-client_rest : (readers : Readers) (v : World) (p : Pumped) (stage : Stage) (read written : List ℕ) (e x : ClientEnd) → Stands v p
-    → p.client ≡ end_left x → ClientStill stage p.client e read written → Steps readers v (with_client p (end_left e) read written)
-client_rest readers v p stage read written e x s left k = go stage k
+client_rest : (readers : Readers) (answer : Job → ℕ → Outcome) (v : World) (p : Pumped) (stage : Stage) (read written : List ℕ)
+    (e x : ClientEnd) → Stands v p
+    → p.client ≡ end_left x → ClientStill stage p.client e read written → Step readers answer v (with_client p (end_left e) read written)
+client_rest readers answer v p stage read written e x s left k = go stage k
   where
-    at_rest : Still p.client e read written → Steps readers v (with_client p (end_left e) read written)
-    at_rest k = nothing_done readers v p (with_client p (end_left e) read written) s
+    at_rest : Still p.client e read written → Step readers answer v (with_client p (end_left e) read written)
+    at_rest k = nothing_done readers answer v p (with_client p (end_left e) read written) s
         (client_rests p (end_left e) read written (ap end_left (k.same ∙ left) ∙ (left_twice x ∙ sym left)) k.read_none k.written_none)
 
-    go : (stage : Stage) → ClientStill stage p.client e read written → Steps readers v (with_client p (end_left e) read written)
+    go : (stage : Stage) → ClientStill stage p.client e read written → Step readers answer v (with_client p (end_left e) read written)
     go Sending k = at_rest k
     go Writing k = at_rest k
     go Taking k = absurd k
     go Reading k = absurd k
     go Working k = absurd k
 
-client_stopped : (readers : Readers) → AreReaders readers → (v : World) (p : Pumped) → IsCarried v → Stands v p → (least : ℕ)
+client_stopped : (readers : Readers) (answer : Job → ℕ → Outcome) → AreReaders readers → (v : World) (p : Pumped) → IsCarried v
+    → Stands v p → (least : ℕ)
     (stage : Stage) (read written : List ℕ) (e : ClientEnd) (b : Bool) → p.client.client.on ≡ b → take (length read) p.down ≡ read
-    → ClientTurn readers least p.client stage read written e → Steps readers v (with_client p (end_left e) read written)
-client_stopped readers are v p c s least stage read written e true on front t =
-    client_stopped_on readers are v p c s least stage read written e on front t
-client_stopped readers are v p c s least stage read written e false off front t =
+    → ClientTurn readers least p.client stage read written e → Step readers answer v (with_client p (end_left e) read written)
+client_stopped readers answer are v p c s least stage read written e true on front t =
+    client_stopped_on readers answer are v p c s least stage read written e on front t
+client_stopped readers answer are v p c s least stage read written e false off front t =
     let gone = s.client_gone off in
-    client_rest readers v p stage read written e gone.0 s gone.1
+    client_rest readers answer v p stage read written e gone.0 s gone.1
     (client_still readers least p.client gone.0 stage read written e gone.1 t)
 
 -- the server's turn
-record ServerSteps (readers : Readers) (answer : Job → ℕ → Outcome) (v : World) (p : Pumped) (read written : List ℕ) (e : ServerEnd) : Type 0
+record ServerSteps (readers : Readers) (answer : Job → ℕ → Outcome) (v : World) (p : Pumped) (stage : Stage) (read written : List ℕ)
+    (e : ServerEnd) : Type 0
   where
     pub joined : TurnLeads readers (IsServerTurn readers answer (length read)) true v (server_joined v e (written ++ e.out) (length read))
     pub stays : Stays p.server.server.on e.server.on p.server.server.last e.server.last
+    pub whole : stage ≡ Writing
+        → TurnLeads readers (IsServerTurn readers answer (length read)) false v (server_joined v e (written ++ e.out) (length read))
 
 server_goes : (readers : Readers) (answer : Job → ℕ → Outcome) → AreFit answer → (v : World) (p : Pumped) → IsCarried v → Stands v p
     → (least : ℕ) (stage : Stage) (read written : List ℕ) (e : ServerEnd) → p.server.server.on ≡ true → take (length read) p.up ≡ read
-    → ServerTurn readers answer least p.server stage read written e → ServerSteps readers answer v p read written e
+    → ServerTurn readers answer least p.server stage read written e → ServerSteps readers answer v p stage read written e
 server_goes readers answer fit v p c s least stage read written e on front t =
     let turn : ServerTurn readers answer least v.server stage read written e =
     subst (λ (x : ServerEnd). ServerTurn readers answer least x stage read written e) (sym s.is.server) t in
@@ -473,13 +511,15 @@ server_goes readers answer fit v p c s least stage read written e on front t =
     let h : IsServing v = reached_serving v c (ap (λ (x : ServerEnd). x.server.on) s.is.server ∙ on) in record {
       joined = serving_joins readers answer fit least v stage read written e h.out h.fine h.from h.to came turn;
       stays = server_stays readers answer least p.server stage read written e t;
+      whole = λ is. serving_whole readers answer fit least v read written e h.out h.fine h.from h.to came
+          (subst (λ (x : Stage). ServerTurn readers answer least v.server x read written e) is turn);
     }
 
 server_link_now : (v : World) (p : Pumped) (e : ServerEnd) (text : List ℕ) (k : ℕ) → IsCarried v → Stands v p
     → client_link (server_joined v e text k) ≡ record { up = drop k (client_link v).up; down = (client_link v).down ++ text }
 server_link_now v p e text k c s =
-    there v v.server.server.last v.client.client.last (record { up = drop k (server_link v).up; down = (server_link v).down ++ text }) c s.from
-    s.same refl
+    there v v.server.server.last v.client.client.last
+    (record { up = drop k (server_link v).up; down = (server_link v).down ++ text }) c s.from s.same refl
     ∙ ap (λ (n : ℕ). record { up = drop k (link_of v.links n).up; down = (link_of v.links n).down ++ text }) s.same
 
 down_more : (v : World) (p : Pumped) (written out : List ℕ) → Stands v p → p.server.server.on ≡ true
@@ -493,17 +533,20 @@ server_last_now : (v : World) (p : Pumped) (e : ServerEnd) → Stands v p → e.
 server_last_now v p e s last = last ∙ (sym (ap (λ (x : ServerEnd). x.server.last) s.is.server) ∙ s.same)
 
 server_moved_on : (readers : Readers) (answer : Job → ℕ → Outcome) → AreFit answer → (v : World) (p : Pumped) → IsCarried v → Stands v p
-    → (least : ℕ) (stage : Stage) (read written : List ℕ) (e : ServerEnd) → p.server.server.on ≡ true → e.out ≡ []
-    → take (length read) p.up ≡ read → ServerTurn readers answer least p.server stage read written e
-    → Steps readers v (with_server p e read written)
-server_moved_on readers answer fit v p c s least stage read written e on out front t =
-    let g : ServerSteps readers answer v p read written e = server_goes readers answer fit v p c s least stage read written e on front t in
+    → (least : ℕ) (read written : List ℕ) (e : ServerEnd) → p.server.server.on ≡ true → e.out ≡ []
+    → take (length read) p.up ≡ read → ServerTurn readers answer least p.server Writing read written e
+    → Step readers answer v (with_server p e read written)
+server_moved_on readers answer fit v p c s least read written e on out front t =
+    let g : ServerSteps readers answer v p Writing read written e =
+    server_goes readers answer fit v p c s least Writing read written e on front t in
     let still_on : e.server.on ≡ true = g.stays.on ∙ on in
     let link = server_link_now v p e (written ++ e.out) (length read) c s in
+    let turn = g.whole refl in
     let now : World = server_joined v e (written ++ e.out) (length read) in record {
-      events = g.joined.events;
+      events = turn.events;
+      is = server_turn (length read) turn.events turn.made;
       now = now;
-      leads = g.joined.leads;
+      leads = turn.leads;
       stands = record {
         is = record {
           client = s.is.client;
@@ -524,12 +567,14 @@ server_moved_on readers answer fit v p c s least stage read written e on out fro
 server_stopped_on : (readers : Readers) (answer : Job → ℕ → Outcome) → AreFit answer → (v : World) (p : Pumped) → IsCarried v → Stands v p
     → (least : ℕ) (stage : Stage) (read written : List ℕ) (e : ServerEnd) → p.server.server.on ≡ true
     → take (length read) p.up ≡ read → ServerTurn readers answer least p.server stage read written e
-    → Steps readers v (with_server p (serving_left e) read written)
+    → Step readers answer v (with_server p (serving_left e) read written)
 server_stopped_on readers answer fit v p c s least stage read written e on front t =
-    let g : ServerSteps readers answer v p read written e = server_goes readers answer fit v p c s least stage read written e on front t in
+    let g : ServerSteps readers answer v p stage read written e =
+    server_goes readers answer fit v p c s least stage read written e on front t in
     let link = server_link_now v p e (written ++ e.out) (length read) c s in
     let now : World = record (server_joined v e (written ++ e.out) (length read)) { server = serving_left e } in record {
       events = g.joined.events ++ event.ServerLeaves ∷ [];
+      is = server_left (length read) g.joined.events g.joined.made;
       now = now;
       leads = serving_leaves readers v g.joined.events e (written ++ e.out) (length read) g.joined.leads (g.stays.on ∙ on);
       stands = record {
@@ -548,65 +593,68 @@ server_stopped_on readers answer fit v p c s least stage read written e on front
     }
 
 server_moved : (readers : Readers) (answer : Job → ℕ → Outcome) → AreFit answer → (v : World) (p : Pumped) → IsCarried v → Stands v p
-    → (least : ℕ) (stage : Stage) (read written : List ℕ) (e : ServerEnd) (b : Bool) → p.server.server.on ≡ b → e.out ≡ []
-    → take (length read) p.up ≡ read → ServerTurn readers answer least p.server stage read written e
-    → Steps readers v (with_server p e read written)
-server_moved readers answer fit v p c s least stage read written e true on out front t =
-    server_moved_on readers answer fit v p c s least stage read written e on out front t
-server_moved readers answer fit v p c s least stage read written e false off out front t =
+    → (least : ℕ) (read written : List ℕ) (e : ServerEnd) (b : Bool) → p.server.server.on ≡ b → e.out ≡ []
+    → take (length read) p.up ≡ read → ServerTurn readers answer least p.server Writing read written e
+    → Step readers answer v (with_server p e read written)
+server_moved readers answer fit v p c s least read written e true on out front t =
+    server_moved_on readers answer fit v p c s least read written e on out front t
+server_moved readers answer fit v p c s least read written e false off out front t =
     let gone = s.server_gone off in
-    let k = server_still readers answer least p.server gone.0 stage read written e gone.1 t in
-    nothing_done readers v p (with_server p e read written) s (server_rests p e read written k.same k.read_none k.written_none)
+    let k = server_still readers answer least p.server gone.0 Writing read written e gone.1 t in
+    nothing_done readers answer v p (with_server p e read written) s (server_rests p e read written k.same k.read_none k.written_none)
 
 server_stopped : (readers : Readers) (answer : Job → ℕ → Outcome) → AreFit answer → (v : World) (p : Pumped) → IsCarried v → Stands v p
     → (least : ℕ) (stage : Stage) (read written : List ℕ) (e : ServerEnd) (b : Bool) → p.server.server.on ≡ b
     → take (length read) p.up ≡ read → ServerTurn readers answer least p.server stage read written e
-    → Steps readers v (with_server p (serving_left e) read written)
+    → Step readers answer v (with_server p (serving_left e) read written)
 server_stopped readers answer fit v p c s least stage read written e true on front t =
     server_stopped_on readers answer fit v p c s least stage read written e on front t
 server_stopped readers answer fit v p c s least stage read written e false off front t =
     let gone = s.server_gone off in
     let k = server_still readers answer least p.server gone.0 stage read written e gone.1 t in
-    nothing_done readers v p (with_server p (serving_left e) read written) s
+    nothing_done readers answer v p (with_server p (serving_left e) read written) s
     (server_rests p (serving_left e) read written (ap serving_left (k.same ∙ gone.1) ∙ sym gone.1) k.read_none k.written_none)
 
 -- ---- all calls
 
-steps_more : (readers : Readers) (w : World) (p q : Pumped) → (g : Steps readers w p) → Steps readers g.now q → Steps readers w q
-steps_more readers w p q g h = record {
+steps_more : (readers : Readers) (answer : Job → ℕ → Outcome) (w : World) (p q : Pumped) → (g : Steps readers answer w p)
+    → Step readers answer g.now q → Steps readers answer w q
+steps_more readers answer w p q g h = record {
   events = g.events ++ h.events;
+  are = one_more g.events h.events g.are (subst (λ (v : World). IsCall readers answer v h.events) (sym g.leads) h.is);
   now = h.now;
   leads = run_append readers g.events h.events w ∙ (ap (run_of readers h.events) g.leads ∙ h.leads);
   stands = h.stands;
 }
 
-now_carried : (readers : Readers) → AreReaders readers → (w : World) (p : Pumped) → IsCarried w → (g : Steps readers w p) → IsCarried g.now
-now_carried readers are w p c g = subst IsCarried g.leads (run_carried readers are g.events w c)
+now_carried : (readers : Readers) (answer : Job → ℕ → Outcome) → AreReaders readers → (w : World) (p : Pumped) → IsCarried w
+    → (g : Steps readers answer w p) → IsCarried g.now
+now_carried readers answer are w p c g = subst IsCarried g.leads (run_carried readers are g.events w c)
 
 calls : (readers : Readers) → AreReaders readers → (answer : Job → ℕ → Outcome) → AreFit answer → (w : World) (p : Pumped) → IsCarried w
-    → Stands w (pumped_of w) → PumpCalls answer (pumped_of w) p → Steps readers w p
-calls readers are answer fit w _ c s no_calls = record { events = []; now = w; leads = refl; stands = s }
+    → Stands w (pumped_of w) → PumpCalls answer (pumped_of w) p → Steps readers answer w p
+calls readers are answer fit w _ c s no_calls = record { events = []; are = no_call; now = w; leads = refl; stands = s }
 calls readers are answer fit w _ c s (client_moves p e least left left_now taken taken_now moved t h front) =
-    let g : Steps readers w p = calls readers are answer fit w p c s t in
-    steps_more readers w p (with_client p e h.read h.written) g
-    (client_moved readers are g.now p (now_carried readers are w p c g) g.stands least h.read h.written e p.client.client.on refl front
-    (h.turn readers are))
+    let g : Steps readers answer w p = calls readers are answer fit w p c s t in
+    steps_more readers answer w p (with_client p e h.read h.written) g
+    (client_moved readers answer are g.now p (now_carried readers answer are w p c g) g.stands least h.read h.written e
+    p.client.client.on refl h.all front (h.turn readers are))
 calls readers are answer fit w _ c s (client_stops p e least bound left left_now taken taken_now fault t h front) =
-    let g : Steps readers w p = calls readers are answer fit w p c s t in
-    subst (λ (x : ClientEnd). Steps readers w (with_client p x h.read h.written)) (sym h.leaves)
-    (steps_more readers w p (with_client p (end_left h.last) h.read h.written) g
-    (client_stopped readers are g.now p (now_carried readers are w p c g) g.stands least h.stage h.read h.written h.last p.client.client.on
-    refl front (h.turn readers are)))
+    let g : Steps readers answer w p = calls readers are answer fit w p c s t in
+    subst (λ (x : ClientEnd). Steps readers answer w (with_client p x h.read h.written)) (sym h.leaves)
+    (steps_more readers answer w p (with_client p (end_left h.last) h.read h.written) g
+    (client_stopped readers answer are g.now p (now_carried readers answer are w p c g) g.stands least h.stage h.read h.written h.last
+    p.client.client.on refl front (h.turn readers are)))
 calls readers are answer fit w _ c s (server_moves p e least left left_now taken taken_now moved t h front) =
-    let g : Steps readers w p = calls readers are answer fit w p c s t in
-    steps_more readers w p (with_server p e h.read h.written) g
-    (server_moved readers answer fit g.now p (now_carried readers are w p c g) g.stands least Writing h.read h.written e p.server.server.on
+    let g : Steps readers answer w p = calls readers are answer fit w p c s t in
+    steps_more readers answer w p (with_server p e h.read h.written) g
+    (server_moved readers answer fit g.now p (now_carried readers answer are w p c g) g.stands least h.read h.written e p.server.server.on
     refl h.all front (h.turn readers are))
 calls readers are answer fit w _ c s (server_stops p e least bound left left_now taken taken_now fault t h front) =
-    let g : Steps readers w p = calls readers are answer fit w p c s t in
-    subst (λ (x : ServerEnd). Steps readers w (with_server p x h.read h.written)) (sym h.leaves)
-    (steps_more readers w p (with_server p (serving_left h.last) h.read h.written) g
-    (server_stopped readers answer fit g.now p (now_carried readers are w p c g) g.stands least h.stage h.read h.written h.last
+    let g : Steps readers answer w p = calls readers are answer fit w p c s t in
+    subst (λ (x : ServerEnd). Steps readers answer w (with_server p x h.read h.written)) (sym h.leaves)
+    (steps_more readers answer w p (with_server p (serving_left h.last) h.read h.written) g
+    (server_stopped readers answer fit g.now p (now_carried readers answer are w p c g) g.stands least h.stage h.read h.written h.last
     p.server.server.on refl front (h.turn readers are)))
 
 way_whole : (on : Bool) (xs : List ℕ) → AreOnWay on xs xs
@@ -631,7 +679,7 @@ begins_so w c client server same = record {
 pumps_reach : (readers : Readers) → AreReaders readers → (answer : Job → ℕ → Outcome) → AreFit answer → (w : World) (p : Pumped)
     (program : Meaning) (rack : List (List ℕ)) (window : ℕ) (events : List Event) → IsProgram program → window ≤ 16
     → w ≡ run_of readers events (start program rack window) → w.client.client.on ≡ true → w.server.server.on ≡ true
-    → w.server.server.last ≡ w.client.client.last → PumpCalls answer (pumped_of w) p → Steps readers w p
+    → w.server.server.last ≡ w.client.client.last → PumpCalls answer (pumped_of w) p → Steps readers answer w p
 pumps_reach readers are answer fit w p program rack window events is few reached client server same t =
     let c : IsCarried w =
     subst IsCarried (sym reached) (run_carried readers are events (start program rack window) (start_carried program rack window is few)) in
@@ -640,15 +688,16 @@ pumps_reach readers are answer fit w p program rack window events is few reached
 pub pumps_join : (readers : Readers) → AreReaders readers → (answer : Job → ℕ → Outcome) → AreFit answer → (w : World) (p : Pumped)
     (program : Meaning) (rack : List (List ℕ)) (window : ℕ) (events : List Event) → IsProgram program → window ≤ 16
     → w ≡ run_of readers events (start program rack window) → w.client.client.on ≡ true → w.server.server.on ≡ true
-    → w.server.server.last ≡ w.client.client.last → PumpCalls answer (pumped_of w) p → IsOneWorld readers w p
+    → w.server.server.last ≡ w.client.client.last → PumpCalls answer (pumped_of w) p → IsOneWorld readers answer w p
 pumps_join readers are answer fit w p program rack window events is few reached client server same t =
     let g = pumps_reach readers are answer fit w p program rack window events is few reached client server same t in
-    record { events = g.events; is = subst (λ (v : World). IsWorldOf v p) (sym g.leads) g.stands.is }
+    record { events = g.events; are = g.are; is = subst (λ (v : World). IsWorldOf v p) (sym g.leads) g.stands.is }
 
 -- the whole list of events, from the start
-from_start : (readers : Readers) (w : World) (p : Pumped) (v : World) (events : List Event) → w ≡ run_of readers events v
-    → (g : Steps readers w p) → run_of readers (events ++ g.events) v ≡ g.now
-from_start readers w p v events reached g =
+from_start : (readers : Readers) (answer : Job → ℕ → Outcome) (w : World) (p : Pumped) (v : World) (events : List Event)
+    → w ≡ run_of readers events v
+    → (g : Steps readers answer w p) → run_of readers (events ++ g.events) v ≡ g.now
+from_start readers answer w p v events reached g =
     run_append readers events g.events v ∙ (ap (run_of readers g.events) (sym reached) ∙ g.leads)
 
 pub pumps_sound : (readers : Readers) → AreReaders readers → (answer : Job → ℕ → Outcome) → AreFit answer → (w : World) (p : Pumped)
@@ -661,7 +710,7 @@ pumps_sound readers are answer fit w p program rack window events is few reached
     subst (λ (e : ClientEnd). Sound program.features e.client.table.tally.features p.server.server.ledger) g.stands.is.client
     (subst (λ (e : ServerEnd). Sound program.features g.now.client.client.table.tally.features e.server.ledger) g.stands.is.server
     (subst (λ (v : World). Sound program.features v.client.client.table.tally.features v.server.server.ledger)
-    (from_start readers w p (start program rack window) events reached g)
+    (from_start readers answer w p (start program rack window) events reached g)
     (always_sound readers are program rack window (events ++ g.events) is few)))
 
 pub pumps_told : (readers : Readers) → AreReaders readers → (answer : Job → ℕ → Outcome) → AreFit answer → (w : World) (p : Pumped)
@@ -674,5 +723,21 @@ pumps_told readers are answer fit w p program rack window events is few reached 
     subst (λ (e : ClientEnd). Told e.client.table.tally.counted p.server.server.ledger e.client.last) g.stands.is.client
     (subst (λ (e : ServerEnd). Told g.now.client.client.table.tally.counted e.server.ledger g.now.client.client.last) g.stands.is.server
     (subst (λ (v : World). Told v.client.client.table.tally.counted v.server.server.ledger v.client.client.last)
-    (from_start readers w p (start program rack window) events reached g)
+    (from_start readers answer w p (start program rack window) events reached g)
     (always_told readers are program rack window (events ++ g.events) is few)))
+
+pub pumps_agree : (readers : Readers) → AreReaders readers → (answer : Job → ℕ → Outcome) → AreFit answer → (w : World) (p : Pumped)
+    (program : Meaning) (rack : List (List ℕ)) (window : ℕ) (events : List Event) → IsProgram program → window ≤ 16
+    → w ≡ run_of readers events (start program rack window) → w.client.client.on ≡ true → w.server.server.on ≡ true
+    → w.server.server.last ≡ w.client.client.last → PumpCalls answer (pumped_of w) p
+    → (p.client.client.state ≢ State.Faulted) × (p.server.input.fault ≡ None)
+pumps_agree readers are answer fit w p program rack window events is few reached client server same t =
+    let g = pumps_reach readers are answer fit w p program rack window events is few reached client server same t in
+    let leads = from_start readers answer w p (start program rack window) events reached g in (
+      subst (λ (e : ClientEnd). e.client.state ≢ State.Faulted) g.stands.is.client
+          (subst (λ (v : World). v.client.client.state ≢ State.Faulted) leads
+          (never_faulted_run readers are program rack window (events ++ g.events) is few)),
+      sym (ap (λ (e : ServerEnd). e.input.fault) g.stands.is.server)
+          ∙ (sym (ap (λ (v : World). v.server.input.fault) leads)
+          ∙ no_framing_fault readers are program rack window (events ++ g.events) is few),
+    )

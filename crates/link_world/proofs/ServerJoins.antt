@@ -1,5 +1,5 @@
 -- A server's turn over its ports is a list of events of the world.
-use Rattle.std.proofs.Common.{◌≡◌, ℕ, suc, ◌-◌, ◌≤◌, Bool, true, false, ◌&&◌, cond, List, [], ◌∷◌, ◌++◌, length, take, drop}
+use Rattle.std.proofs.Common.{◌≡◌, ℕ, ◌-◌, ◌≤◌, Bool, true, false, ◌&&◌, cond, List, [], ◌∷◌, ◌++◌, length, take, drop}
 use Rattle.std.proofs.Common.{refl, sym, ◌∙◌, ap, subst, arith, append_assoc, append-nil, is_none, Option, Some, None, Ok, Err}
 use Rattle.std.proofs.lemmas.Bool.{false≢true, and_parts, and_from, le-leb}
 use Rattle.std.proofs.lemmas.List.{set-get_or, take-append-drop}
@@ -76,7 +76,8 @@ may_end_by f (Some line) j o is fit = go line.command is
     change n m outcome.Missed fit = absurd (false≢true fit)
     change n m outcome.Fault fit = refl
 
-    touch : (p q : Point) (d : Option Direction) (o : Outcome) → fits_job (job.Touch q d) o ≡ true → has_outcome (command.PtMeas p d) o ≡ true
+    touch : (p q : Point) (d : Option Direction) (o : Outcome) → fits_job (job.Touch q d) o ≡ true
+        → has_outcome (command.PtMeas p d) o ≡ true
     touch p q d outcome.Done fit = absurd (false≢true fit)
     touch p q d (outcome.Touched at) fit = fit
     touch p q d outcome.Missed fit = refl
@@ -100,7 +101,8 @@ none_run : (f : Frame) (r : Option Line) → is_none r ≡ true → job_run f r 
 none_run f None is = refl
 none_run f (Some line) is = absurd (false≢true is)
 
-met_fits : (p q : Point) (d : Option Direction) (b : Bool) → in_volume p ≡ b → fits_job (job.Touch q d) (cond b (outcome.Touched p) outcome.Missed) ≡ true
+met_fits : (p q : Point) (d : Option Direction) (b : Bool) → in_volume p ≡ b
+    → fits_job (job.Touch q d) (cond b (outcome.Touched p) outcome.Missed) ≡ true
 met_fits p q d true is = is
 met_fits p q d false is = refl
 
@@ -169,7 +171,8 @@ takes_on : (readers : Readers) (w : World) (read : List ℕ) → IsServing w →
     → take (length read) (server_link w).up ≡ read
     → after readers (event.Up (length read)) w ≡ server_joined w (serving_fed read w.server) w.server.out (length read)
 takes_on readers w [] h may front =
-    begun_on readers w h ∙ ap (λ (f : Framing). server_joined w (record (w.server) { input = f }) w.server.out 0) (sym (fed_none w.server.input))
+    begun_on readers w h ∙ ap (λ (f : Framing). server_joined w (record (w.server) { input = f }) w.server.out 0)
+    (sym (fed_none w.server.input))
 takes_on readers w (x ∷ xs) h may front =
     let k : ℕ = length (x ∷ xs) in
     done_now readers (event.Up k) w (some_up w k may (omega arith) (fits (x ∷ xs) (server_link w).up front))
@@ -264,7 +267,8 @@ record Works (readers : Readers) (answer : Job → ℕ → Outcome) (w : World) 
 -- and where it writes it has done all
 record Whole (readers : Readers) (answer : Job → ℕ → Outcome) (w : World) (read written : List ℕ) (e : ServerEnd) : Type 0 where
   pub works : Works readers answer w read written e
-  pub done : working (ending answer (server_joined w e (written ++ e.out) (length read))) (server_joined w e (written ++ e.out) (length read))
+  pub done : working (ending answer (server_joined w e (written ++ e.out) (length read)))
+      (server_joined w e (written ++ e.out) (length read))
       ≡ None
 
 abbrev Goes : Readers → (Job → ℕ → Outcome) → World → Stage → List ℕ → List ℕ → ServerEnd → Type 0
@@ -415,6 +419,27 @@ pub serving_leaves : (readers : Readers) (w : World) (events : List Event) (e : 
 serving_leaves readers w events e text count leads on =
     run_append readers events (event.ServerLeaves ∷ []) w
     ∙ (ap (after readers event.ServerLeaves) leads ∙ done_now readers event.ServerLeaves (server_joined w e text count) on)
+
+-- where a server reads, and from then on, as many bytes have come in as were asked for
+abbrev Enough : Stage → ℕ → List ℕ → Type 0
+Enough Taking least read = Unit {0}
+Enough _ least read = least ≤ length read
+
+enough_came : (readers : Readers) (answer : Job → ℕ → Outcome) (least : ℕ) (s : ServerEnd) (stage : Stage) (read written : List ℕ)
+    (e : ServerEnd) → ServerTurn readers answer least s stage read written e → Enough stage least read
+enough_came readers answer least s _ _ _ _ begins = tt
+enough_came readers answer least s _ _ _ _ (takes read may) = tt
+enough_came readers answer least s _ _ _ _ (has e read t enough) = enough
+enough_came readers answer least s _ _ _ _ (reads e read t on is) = enough_came readers answer least s Reading read [] e t
+enough_came readers answer least s _ _ _ _ (knows e read t none) = enough_came readers answer least s Reading read [] e t
+enough_came readers answer least s _ _ _ _ (turns e read t may) = enough_came readers answer least s Working read [] e t
+enough_came readers answer least s _ _ _ _ (ends e read j t is) = enough_came readers answer least s Working read [] e t
+enough_came readers answer least s _ _ _ _ (writes e read count t idle none within) =
+    enough_came readers answer least s Working read [] e t
+
+pub serving_enough : (readers : Readers) (answer : Job → ℕ → Outcome) (least : ℕ) (s : ServerEnd) (read written : List ℕ) (e : ServerEnd)
+    → ServerTurn readers answer least s Writing read written e → least ≤ length read
+serving_enough readers answer least s read written e t = enough_came readers answer least s Writing read written e t
 
 -- ---- behind a turn from a world to which events have led
 

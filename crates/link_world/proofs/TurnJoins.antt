@@ -1,5 +1,6 @@
 -- Turns as events: the parts of a turn, one behind another.
-use Rattle.std.proofs.Common.{◌≡◌, inl, inr, ℕ, zero, suc, Bool, true, false, cond, List, [], ◌∷◌, ◌++◌, refl, sym, ◌∙◌, ap, subst, append-nil}
+use Rattle.std.proofs.Common.{◌≡◌, inl, inr, ℕ, zero, suc, Bool, true, false, cond, List, [], ◌∷◌, ◌++◌, refl, sym, ◌∙◌, ap, subst}
+use Rattle.std.proofs.Common.{append-nil}
 use Rattle.std.proofs.Common.{Some, None}
 use Rattle.protocol_model.specs.Lines.{Readers}
 use Rattle.protocol_model.specs.World.{World, can, happens, after, run_of}
@@ -25,7 +26,8 @@ while_more readers e w (f ∷ fs) h may = (
   h.0,
   h.1,
   while_more readers e (happens readers e w) fs h.2
-      (subst (λ (x : World). can e (run_of readers fs x) ≡ true) (ap (λ (x : Event). after readers x w) h.0 ∙ done_now readers e w h.1) may),
+      (subst (λ (x : World). can e (run_of readers fs x) ≡ true)
+      (ap (λ (x : Event). after readers x w) h.0 ∙ done_now readers e w h.1) may),
 )
 
 while_ends : (readers : Readers) (e : Event) (w : World) (es : List Event) → AreWhile readers e true w es
@@ -103,7 +105,8 @@ one_by : (e : Event) (b : Bool) → IsOne (cond b (Some e) None) false (cond b (
 one_by e true = inl refl
 one_by e false = refl
 
-run_one_by : (readers : Readers) (e : Event) (w : World) (b : Bool) → can e w ≡ b → run_of readers (cond b (e ∷ []) []) w ≡ after readers e w
+run_one_by : (readers : Readers) (e : Event) (w : World) (b : Bool) → can e w ≡ b
+    → run_of readers (cond b (e ∷ []) []) w ≡ after readers e w
 run_one_by readers e w true is = refl
 run_one_by readers e w false is = sym (not_done readers e w is)
 

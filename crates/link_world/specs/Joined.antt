@@ -37,7 +37,8 @@ pub record TurnLeads (readers : Readers) (is : Bool → World → List Event →
   pub made : is cut w events
   pub leads : run_of readers events w ≡ v
 
--- a world whose client is as this end, but that it has nothing to send: this text has joined its connection, and so many bytes have come down
+-- a world whose client is as this end, but that it has nothing to send: this text has joined its connection, and so many bytes have come
+-- down
 abbrev pub client_joined : World → ClientEnd → List ℕ → ℕ → World
 client_joined w e text count = record {
   client = record e { out = [] };
@@ -115,9 +116,26 @@ pub record IsWorldOf (w : World) (p : Pumped) : Type 0 where
   pub up : AreOnWay p.client.client.on p.up (client_link w).up
   pub down : AreOnWay p.server.server.on p.down (client_link w).down
 
--- a list of events leads a world there
-pub record IsOneWorld (readers : Readers) (w : World) (p : Pumped) : Type 0 where
+-- a call as events: the whole turn of a side, or a front of one and its leaving; a call of a side that has left is none
+pub data IsCall (readers : Readers) (answer : Job → ℕ → Outcome) (w : World) : List Event → Type 0 where
+  no_event : IsCall readers answer w []
+  client_turn : (count : ℕ) (events : List Event) → IsClientTurn readers count false w events → IsCall readers answer w events
+  client_left : (count : ℕ) (events : List Event) → IsClientTurn readers count true w events
+      → IsCall readers answer w (events ++ event.ClientLeaves ∷ [])
+  server_turn : (count : ℕ) (events : List Event) → IsServerTurn readers answer count false w events → IsCall readers answer w events
+  server_left : (count : ℕ) (events : List Event) → IsServerTurn readers answer count true w events
+      → IsCall readers answer w (events ++ event.ServerLeaves ∷ [])
+
+-- calls as events, one behind another
+pub data AreCalls (readers : Readers) (answer : Job → ℕ → Outcome) (w : World) : List Event → Type 0 where
+  no_call : AreCalls readers answer w []
+  one_more : (events more : List Event) → AreCalls readers answer w events → IsCall readers answer (run_of readers events w) more
+      → AreCalls readers answer w (events ++ more)
+
+-- calls as events lead a world there
+pub record IsOneWorld (readers : Readers) (answer : Job → ℕ → Outcome) (w : World) (p : Pumped) : Type 0 where
   pub events : List Event
+  pub are : AreCalls readers answer w events
   pub is : IsWorldOf (run_of readers events w) p
 
 -- ---- against any peer
@@ -133,6 +151,6 @@ pub data ClientCalls (readers : Readers) (start : ClientEnd) : ClientEnd → Typ
   called : (e : ClientEnd) (call : Call) → ClientCalls readers start e → ClientCalls readers start (behind_call readers call e)
 
 -- a list of a client's own calls leads there
-pub record AreCalls (readers : Readers) (start e : ClientEnd) : Type 0 where
+pub record AreOwnCalls (readers : Readers) (start e : ClientEnd) : Type 0 where
   pub calls : List Call
   pub lead : e ≡ behind_calls readers calls start

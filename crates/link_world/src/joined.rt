@@ -1,6 +1,6 @@
 // The turns of both sides over their ports, in the events of a world. Each function has laws for its contract and does nothing.
 
-ghost use Rattle.std.specs.Prelude.{◌≡◌, ◌≤◌, ℕ, true, false, Option, None, Some, Ok, List, [], ◌∷◌, ◌++◌, length, take};
+ghost use Rattle.std.specs.Prelude.{◌≡◌, ◌≢◌, ◌≤◌, ℕ, true, false, Option, None, Some, Ok, List, [], ◌∷◌, ◌++◌, length, take};
 ghost use Rattle.std.specs.Io.KnownBytes.{Consumes};
 ghost use Rattle.client_core.specs.Clients.{are_ours};
 ghost use Rattle.contact_ledger.specs.declared.features.Feature.{Feature as OneFeature};
@@ -9,19 +9,22 @@ ghost use Rattle.dmis_program.specs.Programs.{IsProgram};
 ghost use Rattle.fixed_um.specs.declared.lengths.Point.{Point as OnePoint};
 ghost use Rattle.line_framing.specs.Next.{next_of};
 ghost use Rattle.protocol_model.specs.Claims.{Sound, Told};
-ghost use Rattle.protocol_model.specs.Ends.{ClientEnd, ServerEnd, new_client_end, end_left, serving_left};
+ghost use Rattle.protocol_model.specs.Ends.{ClientEnd, ServerEnd};
+ghost use Rattle.protocol_model.specs.Ends.{new_client_end, end_left, serving_left};
 ghost use Rattle.protocol_model.specs.Lines.{Readers, AreReaders};
 ghost use Rattle.protocol_model.specs.World.{World, client_link, server_link, start, run_of};
 ghost use Rattle.protocol_model.specs.declared.events.Event.{Event as OneEvent};
 ghost use Rattle.protocol_model.specs.declared.events.Event.TheVariants as event;
 ghost use Rattle.protocol_model.specs.declared.machine.Job.{Job as OneJob};
 ghost use Rattle.protocol_model.specs.declared.machine.Outcome.{Outcome as OneOutcome};
+ghost use Rattle.protocol_model.specs.declared.states.State.{State};
 ghost use Rattle.link_world.specs.Machines.{simulated};
 ghost use Rattle.link_world.specs.Pumps.{Stage, Writing, Reading, ClientTurn};
 ghost use Rattle.link_world.specs.ServerPumps.{ServerTurn};
 ghost use Rattle.link_world.specs.Joined.{IsClientTurn, IsServerTurn, TurnLeads, client_joined};
 ghost use Rattle.link_world.specs.Joined.{AreFit, server_joined};
-ghost use Rattle.link_world.specs.Joined.{Pumped, pumped_of, PumpCalls, IsOneWorld, ClientCalls, AreCalls};
+ghost use Rattle.link_world.specs.Joined.{Pumped, pumped_of, PumpCalls, IsOneWorld};
+ghost use Rattle.link_world.specs.Joined.{ClientCalls, AreOwnCalls};
 
 /// A client's turn over its ports is a list of events of the world. For every world whose client has nothing to send and stands on a
 /// connection that was made, and every turn of that client, as `client_turns` makes it, in which the bytes that came in are the first that
@@ -32,11 +35,11 @@ ghost use Rattle.link_world.specs.Joined.{Pumped, pumped_of, PumpCalls, IsOneWor
 ///   connection without the bytes that came in; what the turn has written to its sink, and behind it what it has not yet, stands at the end
 ///   of the connection's way up;
 /// - `whole`: where it has read all, there is such a list that is whole, and the connection has grown by what went to the sink;
-/// - `written`: where it reads, nothing is left to be written;
+/// - `written`, `enough`: where it reads, nothing is left to be written, and as many bytes have come in as were asked for;
 /// - `leaves`: where the client, still on its connection, leaves it behind such events, so does the client of the world; what joined the
 ///   connection stands there;
 /// - `sound`, `told`: where a list of events has led to the world, what `every_run` claims holds of the client behind its turn.
-#[tactic(auto, using(crate::proofs::ClientJoins::turn_joins, crate::proofs::ClientJoins::turn_whole, crate::proofs::ClientJoins::turn_written, crate::proofs::ClientJoins::turn_leaves, crate::proofs::ClientJoins::turn_sound, crate::proofs::ClientJoins::turn_told))]
+#[tactic(auto, using(crate::proofs::ClientJoins::turn_joins, crate::proofs::ClientJoins::turn_whole, crate::proofs::ClientJoins::turn_written, crate::proofs::ClientJoins::turn_enough, crate::proofs::ClientJoins::turn_leaves, crate::proofs::ClientJoins::turn_sound, crate::proofs::ClientJoins::turn_told))]
 pub fn turns_of_a_client_are_events()
     ensures joined { (readers : Readers) (least : ℕ) (w : World) (stage : Stage)
         (read written : List ℕ) (e : ClientEnd)
@@ -58,6 +61,9 @@ pub fn turns_of_a_client_are_events()
         → w.client.out ≡ [] → 1 ≤ w.client.client.last → w.client.client.last ≤ length w.links
         → take (length read) (client_link w).down ≡ read
         → ClientTurn readers least w.client Reading read written e → e.out ≡ [] }
+    ensures enough { (readers : Readers) (least : ℕ) (first : ClientEnd)
+        (read written : List ℕ) (e : ClientEnd)
+        → ClientTurn readers least first Reading read written e → least ≤ length read }
     ensures leaves { (readers : Readers) (w : World) (events : List OneEvent) (e : ClientEnd)
         (text : List ℕ) (count : ℕ)
         → run_of readers events w ≡ client_joined w e text count → e.client.on ≡ true
@@ -91,12 +97,12 @@ pub fn turns_of_a_client_are_events()
 ///   can, and turns and ends of jobs come while there is one, each as the machine answers, that leads the world to one with the server as
 ///   the turn has left it, the client unchanged, and the connection without the bytes that came in; what the turn has written to its sink,
 ///   and behind it what it has not yet, stands at the end of the connection's way down;
-/// - `whole`: where it writes, there is such a list that is whole;
+/// - `whole`, `enough`: where it writes, there is such a list that is whole, and as many bytes have come in as were asked for;
 /// - `leaves`: where the server, still on its connection, leaves it behind such events, so does the server of the world;
 /// - `sound`, `told`: where a list of events has led to the world, and its server stands on a connection, what `every_run` claims holds of
 ///   the server behind its turn;
 /// - `fit`: the answers of the simulated machine fit the jobs.
-#[tactic(auto, using(crate::proofs::ServerJoins::serving_joins, crate::proofs::ServerJoins::serving_whole, crate::proofs::ServerJoins::serving_leaves, crate::proofs::ServerJoins::serving_sound, crate::proofs::ServerJoins::serving_told, crate::proofs::ServerJoins::simulated_fits))]
+#[tactic(auto, using(crate::proofs::ServerJoins::serving_joins, crate::proofs::ServerJoins::serving_whole, crate::proofs::ServerJoins::serving_enough, crate::proofs::ServerJoins::serving_leaves, crate::proofs::ServerJoins::serving_sound, crate::proofs::ServerJoins::serving_told, crate::proofs::ServerJoins::simulated_fits))]
 pub fn turns_of_a_server_are_events()
     ensures joined { (readers : Readers) (answer : OneJob → ℕ → OneOutcome) → AreFit answer
         → (least : ℕ) (w : World) (stage : Stage) (read written : List ℕ) (e : ServerEnd)
@@ -114,6 +120,9 @@ pub fn turns_of_a_server_are_events()
         → ServerTurn readers answer least w.server Writing read written e
         → TurnLeads readers (IsServerTurn readers answer (length read)) false w
         (server_joined w e (written ++ e.out) (length read)) }
+    ensures enough { (readers : Readers) (answer : OneJob → ℕ → OneOutcome) (least : ℕ)
+        (first : ServerEnd) (read written : List ℕ) (e : ServerEnd)
+        → ServerTurn readers answer least first Writing read written e → least ≤ length read }
     ensures leaves { (readers : Readers) (w : World) (events : List OneEvent) (e : ServerEnd)
         (text : List ℕ) (count : ℕ)
         → run_of readers events w ≡ server_joined w e text count → e.server.on ≡ true
@@ -142,16 +151,17 @@ pub fn turns_of_a_server_are_events()
     ensures fit { (shifts : List OnePoint) → AreFit (simulated shifts) }
 {}
 
-/// Two pumps on one connection are a world. For every world to which a list of events has led and whose sides stand on one connection, every
-/// machine whose answers fit the jobs, and every list of calls of `client_turns` and `serve_turns` from there, in any order, each whole or
-/// stopped, with whatever bounds and ports, in which the bytes that a call took are the first of those on their way to its side (what waited
-/// there at first, and what the other side's calls have written since):
+/// Two pumps on one connection are a world. For every world to which a list of events has led and whose sides stand on one connection,
+/// every machine whose answers fit the jobs, and every list of calls of `client_turns` and `serve_turns` from there, in any order, each
+/// whole or stopped, with whatever bounds and ports, in which the bytes that a call took are the first of those on their way to its side
+/// (what waited there at first, and what the other side's calls have written since):
 ///
-/// - `world`: one list of events leads the world to one with both sides as the calls have left them; what is on its way up and down waits on
-///   their connection, and where a side has left, what it had not yet written may stand behind that;
-/// - `sound`, `told`: so what `every_run` claims holds of the client and the server behind the calls;
+/// - `world`: one list of events, call by call the whole turn of a side or a front of one and its leaving, leads the world to one with both
+///   sides as the calls have left them; what is on its way up and down waits on their connection, and where a side has left, what it had
+///   not yet written may stand behind that;
+/// - `sound`, `told`, `agree`: so what `every_run` claims holds of the client and the server behind the calls;
 /// - `front`: a source that holds a front of the bytes on their way gives the first of them.
-#[tactic(auto, using(crate::proofs::PumpJoins::pumps_join, crate::proofs::PumpJoins::pumps_sound, crate::proofs::PumpJoins::pumps_told, crate::proofs::PumpJoins::source_front))]
+#[tactic(auto, using(crate::proofs::PumpJoins::pumps_join, crate::proofs::PumpJoins::pumps_sound, crate::proofs::PumpJoins::pumps_told, crate::proofs::PumpJoins::pumps_agree, crate::proofs::PumpJoins::source_front))]
 pub fn two_pumps_are_a_world()
     ensures world { (readers : Readers) → AreReaders readers
         → (answer : OneJob → ℕ → OneOutcome) → AreFit answer → (w : World) (p : Pumped)
@@ -160,7 +170,7 @@ pub fn two_pumps_are_a_world()
         → w ≡ run_of readers events (start program rack window)
         → w.client.client.on ≡ true → w.server.server.on ≡ true
         → w.server.server.last ≡ w.client.client.last
-        → PumpCalls answer (pumped_of w) p → IsOneWorld readers w p }
+        → PumpCalls answer (pumped_of w) p → IsOneWorld readers answer w p }
     ensures sound { (readers : Readers) → AreReaders readers
         → (answer : OneJob → ℕ → OneOutcome) → AreFit answer → (w : World) (p : Pumped)
         (program : Meaning) (rack : List (List ℕ)) (window : ℕ) (events : List OneEvent)
@@ -179,6 +189,15 @@ pub fn two_pumps_are_a_world()
         → w.server.server.last ≡ w.client.client.last
         → PumpCalls answer (pumped_of w) p
         → Told p.client.client.table.tally.counted p.server.server.ledger p.client.client.last }
+    ensures agree { (readers : Readers) → AreReaders readers
+        → (answer : OneJob → ℕ → OneOutcome) → AreFit answer → (w : World) (p : Pumped)
+        (program : Meaning) (rack : List (List ℕ)) (window : ℕ) (events : List OneEvent)
+        → IsProgram program → window ≤ 16
+        → w ≡ run_of readers events (start program rack window)
+        → w.client.client.on ≡ true → w.server.server.on ≡ true
+        → w.server.server.last ≡ w.client.client.last
+        → PumpCalls answer (pumped_of w) p
+        → (p.client.client.state ≢ State.Faulted) × (p.server.input.fault ≡ None) }
     ensures front { (left more read : List ℕ) (left_now : Option (List ℕ))
         → Consumes (Some left) left_now read → take (length read) (left ++ more) ≡ read }
 {}
@@ -186,14 +205,14 @@ pub fn two_pumps_are_a_world()
 /// A client under its pump holds the first features of its program, whatever its peer sends. Behind every list of calls of `client_turns`,
 /// each whole or stopped, with whatever bounds and over whatever ports, and of the client's own calls between them:
 ///
-/// - `calls`: the client is as a list of its own calls leaves it, so that all that `client_core::whatever_the_peer_sends` says of such lists
-///   holds of it;
+/// - `calls`: the client is as a list of its own calls leaves it, so that all that `client_core::whatever_the_peer_sends` says of such
+///   lists holds of it;
 /// - `features`: where it began with a program and features of it that were kept, those that it holds are the first of the program, by
 ///   their labels and their counts of points.
 #[tactic(auto, using(crate::proofs::PeerJoins::pumped_calls, crate::proofs::PeerJoins::pumped_features))]
 pub fn a_pumped_client_holds_first_features()
     ensures calls { (readers : Readers) → AreReaders readers → (first e : ClientEnd)
-        → ClientCalls readers first e → AreCalls readers first e }
+        → ClientCalls readers first e → AreOwnCalls readers first e }
     ensures features { (readers : Readers) → AreReaders readers
         → (program : Meaning) (kept : List OneFeature) (window : ℕ) (e : ClientEnd)
         → IsProgram program → are_ours program.features kept ≡ true
