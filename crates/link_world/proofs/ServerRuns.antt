@@ -96,7 +96,8 @@ server_starts answer e left taken = record {
 pub server_goes : (answer now : Job → ℕ → Outcome) (n : ℕ) (old mid new : ServerEnd)
     (left left_mid left_now taken taken_mid taken_now : Option (List ℕ)) (moved : Moved)
     → ServerSoFar answer n old mid left left_mid taken taken_mid → now ≡ answer
-    → ServerMoved now 1 mid new left_mid left_now taken_mid taken_now moved → ServerSoFar answer (n + 1) old new left left_now taken taken_now
+    → ServerMoved now 1 mid new left_mid left_now taken_mid taken_now moved
+    → ServerSoFar answer (n + 1) old new left left_now taken taken_now
 server_goes answer now n old mid new left left_mid left_now taken taken_mid taken_now moved h same by = record {
   read = h.read ++ m.read;
   written = h.written ++ m.written;

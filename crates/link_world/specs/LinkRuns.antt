@@ -30,8 +30,8 @@ is_over State.Done = true
 is_over State.Halted = true
 is_over _ = false
 
--- so many turns of a client, one behind another over the same ports, each made while its run was not over and each of one byte or more; with
--- all the bytes that came in and all that went out, in order
+-- so many turns of a client, one behind another over the same ports, each made while its run was not over and asking for one byte or more;
+-- with all the bytes that came in and all that went out, in order
 pub data ClientRun (old : ClientEnd) (left taken : Option (List ℕ))
     : ℕ → List ℕ → List ℕ → ClientEnd → Option (List ℕ) → Option (List ℕ) → Type 0 where
   starts : ClientRun old left taken 0 [] [] old left taken
@@ -63,8 +63,8 @@ pub data ClientEnds (old new : ClientEnd) (left left_now taken taken_now : Optio
       → is_over last.client.state ≡ false → new ≡ end_left last
       → ClientEnds old new left left_now taken taken_now fault.TurnsSpent read written [] last
 
--- why a client's run has stopped, by the counts of all bytes that came in, that went out and that it held unread at first, by what the source
--- has left, and by the client's end before it left
+-- why a client's run has stopped, by the counts of all bytes that came in, that went out and that it held unread at first, by what the
+-- source has left, and by the client's end before it left
 abbrev pub ClientRunWhy : (read written held : ℕ) → Option (List ℕ) → ClientEnd → PumpFault ClientFault → Type 0
 ClientRunWhy read written held left_now last fault.ReadFailed = ⊤
 ClientRunWhy read written held left_now last fault.WriteFailed = ⊤
@@ -89,7 +89,7 @@ pub record ClientRunStopped (old new : ClientEnd) (left left_now taken taken_now
 
 -- ---- the server's side
 
--- the same of a server and its machine: so many turns, each of one byte or more
+-- the same of a server and its machine: so many turns, each asking for one byte or more
 pub data ServerRun (answer : Job → ℕ → Outcome) (old : ServerEnd) (left taken : Option (List ℕ))
     : ℕ → List ℕ → List ℕ → ServerEnd → Option (List ℕ) → Option (List ℕ) → Type 0 where
   starts : ServerRun answer old left taken 0 [] [] old left taken
