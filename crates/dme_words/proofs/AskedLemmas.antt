@@ -54,8 +54,19 @@ simulation : (words : List Text) → level_fault (leaf simulate_line) [] nothing
     → HasSimulation (rows_after (leaf simulate_line).rules [] words)
 simulation words none =
     let c = (leaf simulate_line).rules in
-    let found = level_found (leaf simulate_line) words refl
-    ((refl, inl (refl, refl)), ((refl, inl (refl, refl)), ((refl, inl (refl, refl)), ((refl, inl (refl, refl)), ((refl, inr (inr refl)), tt))))) none in
+    let found = level_found (leaf simulate_line) words refl (
+      (refl, inl (refl, refl)),
+      (
+        (refl, inl (refl, refl)),
+        (
+          (refl, inl (refl, refl)),
+          (
+            (refl, inl (refl, refl)),
+            ((refl, inr (inr refl)), tt),
+          ),
+        ),
+      ),
+    ) none in
     record {
       setup = has_value c (codes "setup") _ refl found.fit (found.needed.0 refl);
       schedule = has_value c (codes "schedule") _ refl found.fit (found.needed.1.0 refl);
@@ -66,8 +77,19 @@ audit : (words : List Text) → level_fault (leaf audit_line) [] nothing_held wo
     → HasAudit (rows_after (leaf audit_line).rules [] words)
 audit words none =
     let c = (leaf audit_line).rules in
-    let found = level_found (leaf audit_line) words refl
-    ((refl, inl (refl, refl)), ((refl, inl (refl, refl)), ((refl, inl (refl, refl)), ((refl, inl (refl, refl)), ((refl, inr (inr refl)), tt))))) none in
+    let found = level_found (leaf audit_line) words refl (
+      (refl, inl (refl, refl)),
+      (
+        (refl, inl (refl, refl)),
+        (
+          (refl, inl (refl, refl)),
+          (
+            (refl, inl (refl, refl)),
+            ((refl, inr (inr refl)), tt),
+          ),
+        ),
+      ),
+    ) none in
     record {
       setup = has_value c (codes "setup") _ refl found.fit (found.needed.0 refl);
       features = has_value c (codes "features") _ refl found.fit (found.needed.1.0 refl);

@@ -20,7 +20,8 @@ use Rattle.clap.specs.Walk.{to_positional, trailing, used, used_as, value, value
 use Rattle.clap.specs.Walk.{with_values}
 use Rattle.clap.specs.Walk.{without, word_met}
 use Rattle.clap.specs.Simple.{Shape}
-use Rattle.clap.specs.Faults.{action_fault, repeat_fault, set_fault, bundle_step_fault, defaults_fault, bundle_fault, flag_word_fault, flags_fault}
+use Rattle.clap.specs.Faults.{action_fault, repeat_fault, set_fault, bundle_step_fault, defaults_fault, bundle_fault}
+use Rattle.clap.specs.Faults.{flag_word_fault, flags_fault}
 use Rattle.clap.specs.Faults.{long_fault, option_fault, other_fault}
 use Rattle.clap.specs.Faults.{positional_fault, react_fault, settle_fault, short_fault, step_fault, turn_fault, use_fault, values_fault}
 use Rattle.clap.specs.Faults.{walk_fault, word_fault}

@@ -1,6 +1,6 @@
 -- A text that passed a range from 1 on reads as the number that it writes, and a flag as it was told.
-use Rattle.std.proofs.Common.{◌≡◌, ◌==◌, ◌<◌, ◌^◌, ◌&&◌, ◌∙◌, ℕ, Bool, true, false, cond, List, [], ◌∷◌, Option, Some, None, Result, Ok, Err}
-use Rattle.std.proofs.Common.{refl, sym, subst, ap, ap₂, arith, le-leb, true≢false}
+use Rattle.std.proofs.Common.{◌≡◌, ◌==◌, ◌<◌, ◌^◌, ◌&&◌, ◌∙◌, ℕ, Bool, true, false, cond, List, [], ◌∷◌, Option, Some, None}
+use Rattle.std.proofs.Common.{Result, Ok, Err, refl, sym, subst, ap, ap₂, arith, le-leb, true≢false}
 use Rattle.std.specs.Prelude.{codes, pos, unwrap_or}
 use Rattle.std.specs.Str.Parse.{ParsesUnsigned, starts_with_minus}
 use Rattle.std.proofs.lemmas.Int.{ints}

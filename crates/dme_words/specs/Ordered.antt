@@ -34,17 +34,19 @@ IsNumber most number text = (signed_digits_value 10 text ≡ pos number) × (1 �
 abbrev pub IsNumberOf : Text → ℕ → List Row → ℕ → Type 0
 IsNumberOf id most rows number = IsSomeAnd (first_of id rows) (IsNumber most number)
 
--- the number is the value of `--window`, of `--port`, of `--connections`
+-- the number is the value of `--window`
 abbrev pub IsWindowOf : List Row → ℕ → Type 0
 IsWindowOf = IsNumberOf (codes "window") 16
 
+-- the number is the value of `--port`
 abbrev pub IsPortOf : List Row → ℕ → Type 0
 IsPortOf = IsNumberOf (codes "port") 65535
 
-abbrev pub IsCountOf : List Row → ℕ → Type 0
-IsCountOf = IsNumberOf (codes "connections") 4000000000
+-- the number is the value of `--connections`
+abbrev pub IsConnectionsOf : List Row → ℕ → Type 0
+IsConnectionsOf = IsNumberOf (codes "connections") 4000000000
 
--- the flag `--progress` is set, or it is not
+-- the flag `--progress` is set, or it is not, as `clap` writes it
 abbrev pub IsProgressOf : List Row → Bool → Type 0
 IsProgressOf rows is_set = first_of (codes "progress") rows ≡ Some (bool_text is_set)
 
@@ -78,7 +80,7 @@ IsLoopOf rows _ = ⊥
 -- a server with the named setup at the named port, for so many connections, with the named file for its contacts, if any
 abbrev pub IsServeOf : List Row → Order → Type 0
 IsServeOf rows (Serve setup port connections contacts progress) =
-    IsValueOf (codes "setup") rows (string_bytes setup) × IsPortOf rows port × IsCountOf rows connections
+    IsValueOf (codes "setup") rows (string_bytes setup) × IsPortOf rows port × IsConnectionsOf rows connections
     × IsMaybeOf (codes "contacts") rows (option_map string_bytes contacts) × IsProgressOf rows progress
 IsServeOf rows _ = ⊥
 
@@ -109,14 +111,17 @@ pub record HasNumber (id : Text) (most : ℕ) (rows : List Row) : Type 0 where
   pub read : one_of id rows ≡ Some (without_minus text)
   pub ranged : IsSignedIn (pos 1) (pos most) text
 
+-- the window has a number in its range
 abbrev pub HasWindow : List Row → Type 0
 HasWindow = HasNumber (codes "window") 16
 
+-- the port has a number in its range
 abbrev pub HasPort : List Row → Type 0
 HasPort = HasNumber (codes "port") 65535
 
-abbrev pub HasCount : List Row → Type 0
-HasCount = HasNumber (codes "connections") 4000000000
+-- the count of connections has a number in its range
+abbrev pub HasConnections : List Row → Type 0
+HasConnections = HasNumber (codes "connections") 4000000000
 
 -- the flag has a value, which is read as it is written
 pub record HasProgress (rows : List Row) : Type 0 where
@@ -146,7 +151,7 @@ pub record HasLoop (rows : List Row) : Type 0 where
 pub record HasService (rows : List Row) : Type 0 where
   pub setup : HasValue (codes "setup") rows
   pub port : HasPort rows
-  pub connections : HasCount rows
+  pub connections : HasConnections rows
   pub progress : HasProgress rows
 
 -- the values that a run against a server cannot do without are there

@@ -4,9 +4,9 @@ ghost use Rattle.std.specs.Prelude.{◌≡◌, ◌≤◌, IfOk, IfErr, OnOk, IsE
 ghost use Rattle.std.specs.Option.{option_map};
 ghost use Rattle.clap.specs.Words.{first_of, found_of, rows_of, subcommand_rows_of};
 ghost use Rattle.client_core.specs.Clients.{is_window};
-ghost use Rattle.dme_words.specs.Ordered.{IsValueOf, IsMaybeOf, IsProgramOf, IsWindowOf, IsPortOf, IsCountOf, IsProgressOf};
+ghost use Rattle.dme_words.specs.Ordered.{IsValueOf, IsMaybeOf, IsProgramOf, IsWindowOf, IsPortOf, IsConnectionsOf, IsProgressOf};
 ghost use Rattle.dme_words.specs.Ordered.{IsCheckOf, IsSimulateOf, IsAuditOf, IsLoopOf, IsServeOf, IsRunOf, IsOrderOf};
-ghost use Rattle.dme_words.specs.Ordered.{HasValue, HasWindow, HasPort, HasCount, HasProgress};
+ghost use Rattle.dme_words.specs.Ordered.{HasValue, HasWindow, HasPort, HasConnections, HasProgress};
 ghost use Rattle.dme_words.specs.Ordered.{HasSimulation, HasAudit, HasLoop, HasService, HasRun};
 ghost use Rattle.dme_words.specs.Ordered.{IsAskable, IsReady, Asks, IsRefusal, IsCalled};
 
@@ -183,8 +183,8 @@ fn port_of(values: &ArgMatches) -> u16
 
 /// The value of `--connections`, which `clap` has found in range.
 fn connections_of(values: &ArgMatches) -> u32
-    requires { HasCount (rows_of (found_of values.now)) }
-    ensures named { IsCountOf (rows_of (found_of values.now)) result }
+    requires { HasConnections (rows_of (found_of values.now)) }
+    ensures named { IsConnectionsOf (rows_of (found_of values.now)) result }
     ensures ready { (1 ≤ result) × (result ≤ 4000000000) }
 {
     match values.get_one::<u32>("connections") {

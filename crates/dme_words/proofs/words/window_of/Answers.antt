@@ -25,7 +25,8 @@ returns c =
     let got = number_reads _ (λ bs r. ParsesUnsigned 8 10 bs r × ExplainsUnsignedError 10 bs r × HasUnsignedDigitsIfOk bs r) 8 16
     c.requires.text c.get_one.result one (λ u x g. g.0) (omega arith) c.requires.ranged in
     let same = same_Some _ _ (sym got.1 ∙ c.in-Some.is) in
-    let is : IsNumber 16 c.in-Some.window c.requires.text = subst (λ (n : ℕ). IsNumber 16 n c.requires.text) same got.2 in
+    let is : IsNumber 16 c.in-Some.window c.requires.text =
+    subst (λ (n : ℕ). IsNumber 16 n c.requires.text) same got.2 in
     record {
       named = subst (λ (o : Option (List ℕ)). IsSomeAnd o (IsNumber 16 c.in-Some.window)) (sym c.requires.written) is;
       ready = number-window c.in-Some.window c.requires.text is;
