@@ -25,4 +25,7 @@ pub mod Instructions
 pub mod PumpPorts
 pub mod ClientPumps
 pub mod ServerPumps
+pub mod ClientRuns
+pub mod ServerRuns
+pub mod LoopRuns
 pub mod ClientJoins

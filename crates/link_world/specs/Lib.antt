@@ -15,3 +15,4 @@ pub mod PumpParts
 pub mod ServerPumps
 pub mod ServerPumpParts
 pub mod Joined
+pub mod LinkRuns

@@ -9,6 +9,7 @@
 //! - `schedules`: lists of instructions that events are made of; `schedule_reading`, `schedule_faults`: schedules read from a text
 //! - `playing`, `rounds`: schedules played on a world, and the quiet rounds in which all that can happens
 //! - `pumps`, `client_pump`, `server_pump`: turns of one side over the ports of its connection, beside the world
+//! - `links`, `link_runs`: whole connections, as turns of one side or of both
 //! - `reports`, `report_text`: what a world shows, and its text
 //! - `report_rows`, `schedule_rows`: worked reports and texts of schedules
 //! - `laws`: a server whose machine is homed is not told to home it again
@@ -21,6 +22,8 @@ mod connection;
 mod faults;
 pub mod joined;
 pub mod laws;
+mod link_runs;
+mod links;
 mod machines;
 mod playing;
 mod pumps;
@@ -40,6 +43,8 @@ pub use client_pump::client_turns;
 pub use faults::{NewFault, WorldFault};
 pub use joined::turns_of_a_client_are_events;
 pub use laws::homed_servers_are_not_homed_again;
+pub use link_runs::loop_link;
+pub use links::{LoopFault, Silent, Watcher, run_link, serve_link, watch_link};
 pub use machines::{Machine, Simulated};
 pub use protocol_model::{Event, Outcome};
 pub use pumps::{Moved, PIECE, PumpFault};

@@ -1,0 +1,17 @@
+use Rattle.std.proofs.Common.{◌≡◌, false}
+use Rattle.link_world.specs.LinkRuns.{client_side, server_side, LoopRun}
+use Rattle.link_world.proofs.link_runs.loop_link.Given as goal
+
+abbrev pub invariant-loop-pair : goal.invariant-loop-pair
+invariant-loop-pair g l =
+    LoopRun (g.M.Machine.answers l.initial.machine)
+    (client_side l.initial.client (g.CR.Source.left l.initial.client_source) (g.CW.Sink.taken l.initial.client_sink))
+    (server_side l.initial.server.end (g.SR.Source.left l.initial.server_source) (g.SW.Sink.taken l.initial.server_sink)) l._pair l.down
+    (client_side l.client (g.CR.Source.left l.client_source) (g.CW.Sink.taken l.client_sink))
+    (server_side l.server.end (g.SR.Source.left l.server_source) (g.SW.Sink.taken l.server_sink))
+    × (l.server.setup ≡ l.initial.server.setup)
+    × (g.M.Machine.answers l.machine ≡ g.M.Machine.answers l.initial.machine)
+    × (g.CR.Source.has_failed l.initial.client_source ≡ false → g.CR.Source.has_failed l.client_source ≡ false)
+    × (g.CW.Sink.has_failed l.initial.client_sink ≡ false → g.CW.Sink.has_failed l.client_sink ≡ false)
+    × (g.SR.Source.has_failed l.initial.server_source ≡ false → g.SR.Source.has_failed l.server_source ≡ false)
+    × (g.SW.Sink.has_failed l.initial.server_sink ≡ false → g.SW.Sink.has_failed l.server_sink ≡ false)
