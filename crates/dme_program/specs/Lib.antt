@@ -7,3 +7,6 @@ pub mod Verdicts
 pub mod Reading
 pub mod Simulating
 pub mod Auditing
+pub mod Broken
+pub mod Ends
+pub mod Looping

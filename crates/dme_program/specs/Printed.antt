@@ -19,7 +19,7 @@ abbrev pub words_shown : WordsFault → Fault
 words_shown (words.Line error) = fault.Words error
 words_shown words.Memory = fault.Memory
 
--- 1 for input that is refused and for files, 2 for the command line, 4 for want of memory
+-- 1 for input that is refused, for files and for connections, 2 for the command line, 4 for want of memory
 abbrev pub status_of : Fault → ℕ
 status_of (fault.Words error) = 2
 status_of (fault.Program cause) = 1
@@ -29,6 +29,9 @@ status_of (fault.Features cause) = 1
 status_of (fault.Contacts cause) = 1
 status_of (fault.CannotRead file) = 1
 status_of fault.CannotWriteOutput = 1
+status_of (fault.CannotWrite file) = 1
+status_of fault.NotOurs = 1
+status_of (fault.ConnectionFailed cause) = 1
 status_of fault.Memory = 4
 
 -- the file of this name is shown as one that cannot be read

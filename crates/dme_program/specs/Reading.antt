@@ -1,5 +1,5 @@
 -- What reading a file of an order leaves, from any source that tells its bytes.
-use Rattle.std.specs.Prelude.{◌≡◌, ℕ, List, [], Bool, false, Option, Some, Ok, Err, IfSome}
+use Rattle.std.specs.Prelude.{◌≡◌, ℕ, List, [], Bool, true, false, Option, Some, Ok, Err, IfSome}
 use Rattle.fixed_um.specs.declared.lengths.Point.{Point}
 use Rattle.contact_ledger.specs.FeatureTexts.{IsFeatures, IsDamagedFeatures}
 use Rattle.contact_ledger.specs.ContactTexts.{IsContacts, IsDamagedContacts}
@@ -120,3 +120,20 @@ IsNotOf part = On part (λ _. ⊥)
 abbrev pub UnlessUnwritten : Type 0 → FilesFault → Type 0
 UnlessUnwritten P fault.Write = Unit {0}
 UnlessUnwritten P _ = P
+
+-- a fault of the sink, or want of memory: of no file
+abbrev pub IsOfOutput : FilesFault → Type 0
+IsOfOutput fault.Write = Unit {0}
+IsOfOutput fault.Memory = Unit {0}
+IsOfOutput _ = ⊥
+
+-- a fault of a setup or a program that is read, of features where they are read too, or want of memory
+abbrev pub IsOfRead : Bool → FilesFault → Type 0
+IsOfRead with_features fault.Memory = Unit {0}
+IsOfRead with_features (fault.Setup cause) = Unit {0}
+IsOfRead with_features (fault.Unread role.Setup) = Unit {0}
+IsOfRead with_features (fault.Program cause) = Unit {0}
+IsOfRead with_features (fault.Unread role.Program) = Unit {0}
+IsOfRead with_features (fault.Features cause) = with_features ≡ true
+IsOfRead with_features (fault.Unread role.Features) = with_features ≡ true
+IsOfRead with_features _ = ⊥

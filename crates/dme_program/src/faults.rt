@@ -40,6 +40,15 @@ pub enum Fault {
     /// Standard output, which cannot be written.
     #[error("dme: cannot write -\n")]
     CannotWriteOutput,
+    /// A file of features or of contacts that cannot be written.
+    #[error("dme: cannot write {0}\n")]
+    CannotWrite(String),
+    /// Features of a file that are not the first ones of the program.
+    #[error("dme: C4 NotOurs\n")]
+    NotOurs,
+    /// No connection, or one that was broken off; behind it a second line of the cause, or nothing.
+    #[error("dme: connection failed\n{0}")]
+    ConnectionFailed(&'static str),
     /// Want of memory.
     #[error("dme: out of memory\n")]
     Memory,
@@ -82,7 +91,7 @@ impl<T: Drop> From<AllocFailed<T>> for Fault {
 }
 
 impl Fault {
-    /// The exit status: 1 for refused input or a file, 2 for the command line, 4 for want of memory.
+    /// The exit status: 1 for refused input, a file or a connection, 2 for the command line, 4 for want of memory.
     pub fn status(&self) -> u8
         ensures { result ≡ status_of self.now }
     {
@@ -90,7 +99,8 @@ impl Fault {
             Fault::Words(_) => 2,
             Fault::Program(_) | Fault::Setup(_) | Fault::Schedule(_) => 1,
             Fault::Features(_) | Fault::Contacts(_) => 1,
-            Fault::CannotRead(_) | Fault::CannotWriteOutput => 1,
+            Fault::CannotRead(_) | Fault::CannotWriteOutput | Fault::CannotWrite(_) => 1,
+            Fault::NotOurs | Fault::ConnectionFailed(_) => 1,
             Fault::Memory => 4,
         }
     }

@@ -14,10 +14,16 @@
 
 mod auditing;
 mod check;
+mod connecting;
+mod ended;
+mod ends;
 mod faults;
 mod files;
+mod looping;
 mod orders;
 mod plan;
+mod preparing;
+mod progress;
 mod reading;
 mod running;
 mod simulating;

@@ -6,6 +6,7 @@ ghost use Rattle.dme_words.specs.Ordered.{IsReady};
 ghost use Rattle.dme_program.specs.Reading.{On};
 
 use crate::auditing::audit_files;
+use crate::connecting::loop_named;
 use crate::faults::{Fault, FileNames, shown_files};
 use crate::files::NamedSource;
 use crate::orders::check_under_setup;
@@ -17,6 +18,7 @@ use client_core::State;
 use dme_words::{Order, read_words};
 use std::env::{self, Env};
 use std::io;
+use std::net::{Net, TcpListener, TcpStream};
 use std::rt::Files;
 
 /// The words of the command line; the first names the program in `clap`'s texts, whatever file it runs from.
@@ -188,7 +190,11 @@ fn audit_named<R: Files + Input + Print + AllocGlobal>(
 }
 
 /// Reads the command line and does what it asks for. The exit status of an order that was carried out.
-pub fn run<R: Env + Files + Input + Print + AllocGlobal>(rt: &R) -> Result<u8, Fault> {
+pub fn run<
+    R: Env + Files + Input + Print + Eprint + Net<Listener = TcpListener, Stream = TcpStream> + AllocGlobal,
+>(
+    rt: &R,
+) -> Result<u8, Fault> {
     match read_order(rt)? {
         Order::Check { setup, program } => {
             check(rt, setup, program)?;
@@ -206,5 +212,12 @@ pub fn run<R: Env + Files + Input + Print + AllocGlobal>(rt: &R) -> Result<u8, F
             contacts,
             program,
         } => audit_named(rt, setup, features, contacts, program),
+        Order::Loop {
+            setup,
+            window,
+            progress,
+            program,
+        } => loop_named(rt, setup, window, progress, program),
+        _ => Ok(0),
     }
 }

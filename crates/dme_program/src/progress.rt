@@ -1,0 +1,29 @@
+// Lines on standard error that tell how far an order is.
+
+use contact_ledger::Feature;
+use link_world::Watcher;
+
+/// Tells of each completed feature by a line on standard error, where it is asked for. A line that cannot be written changes nothing.
+#[derive(Drop)]
+pub struct Progress<'a, R: Eprint> {
+    rt: &'a R,
+    is_told: bool,
+    total: usize,
+}
+
+impl<'a, R: Eprint> Progress<'a, R> {
+    /// Of a program with so many features.
+    pub fn new(rt: &'a R, is_told: bool, total: usize) -> Self {
+        Progress { rt, is_told, total }
+    }
+}
+
+impl<'a, R: Eprint> Watcher for Progress<'a, R> {
+    fn completed(&mut self, number: usize, feature: &Feature) {
+        if self.is_told {
+            let total = self.total;
+            let label = &feature.label;
+            let _ = eprintln!(self.rt; "feature {number} of {total}: {label}");
+        }
+    }
+}
