@@ -15,6 +15,7 @@
 mod auditing;
 mod check;
 mod connecting;
+mod driving;
 mod ended;
 mod ends;
 mod faults;
@@ -26,7 +27,9 @@ mod preparing;
 mod progress;
 mod reading;
 mod running;
+mod serving;
 mod simulating;
+mod text_files;
 mod verdicts;
 
 use std::process::ExitCode;
