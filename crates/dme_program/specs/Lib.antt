@@ -10,3 +10,5 @@ pub mod Auditing
 pub mod Broken
 pub mod Ends
 pub mod Looping
+pub mod Driving
+pub mod Serving

@@ -1,4 +1,4 @@
-// Orders over a connection, on files, sockets and the standard streams.
+// The order `loop`, on files, sockets and the standard streams, and what is shown of connections.
 
 ghost use Rattle.std.specs.Prelude.{◌≡◌, true};
 ghost use Rattle.client_core.specs.Clients.{is_window};
@@ -30,7 +30,7 @@ fn cause(kind: ErrorKind) -> &'static str {
 }
 
 /// What is shown for a connection that does not come about, and its cause where more is asked for.
-fn no_connection(error: &io::Error, is_told: bool) -> Fault {
+pub(crate) fn no_connection(error: &io::Error, is_told: bool) -> Fault {
     Fault::ConnectionFailed(if is_told { cause(error.kind()) } else { "" })
 }
 
@@ -79,7 +79,7 @@ fn loop_program<R: Print + Eprint + Net<Listener = TcpListener, Stream = TcpStre
 }
 
 /// What is shown for a fault of no file.
-fn of_output<R: AllocGlobal>(rt: &R, fault: FilesFault) -> Fault {
+pub(crate) fn of_output<R: AllocGlobal>(rt: &R, fault: FilesFault) -> Fault {
     let alloc = rt.alloc();
     let names = FileNames {
         setup: String::new(alloc),
@@ -104,14 +104,13 @@ fn loop_files<'a, R: Files + Input + AllocGlobal>(
 
 /// The order `loop`, on files of these names: its exit status.
 pub fn loop_named<
-    R: Files + Input + Print + Eprint + Net<Listener = TcpListener, Stream = TcpStream> + AllocGlobal,
->(
-    rt: &R,
-    setup: String,
-    window: u8,
-    is_told: bool,
-    program: String,
-) -> Result<u8, Fault>
+    R: Files
+        + Input
+        + Print
+        + Eprint
+        + Net<Listener = TcpListener, Stream = TcpStream>
+        + AllocGlobal,
+>(rt: &R, setup: String, window: u8, is_told: bool, program: String) -> Result<u8, Fault>
     requires { is_window window ≡ true }
 {
     match loop_files(rt, setup.as_str(), program.as_str()) {

@@ -1,17 +1,18 @@
 // The two ends of an order's connection, and the reports of them.
 
-ghost use Rattle.std.specs.Prelude.{◌≡◌, ◌<◌, ◌&&◌, ◌↔◌, [], length, true, IsOk, IfOk, IfErr};
+ghost use Rattle.std.specs.Prelude.{◌≡◌, ◌<◌, ◌↔◌, [], length, true, IsOk, IfOk, IfErr};
 ghost use Rattle.client_core.specs.Clients.{are_ours, is_window};
 ghost use Rattle.server_core.specs.Serving.{new_serving, with_end};
 ghost use Rattle.protocol_model.specs.Ends.{new_client_end};
 ghost use Rattle.link_world.specs.Reports.{report_text};
 ghost use Rattle.dme_program.specs.Ends.{first_client, first_server, ends_shown, end_shown};
 
+use crate::faults::Fault;
 use client_core::{Client, ClientFault};
 use contact_ledger::{FeatureLedger, ServerLedger};
 use dmis_program::Program;
-use link_world::{Simulated, report_of, write_report};
-use server_core::{Server, ServerFault};
+use link_world::{report_of, write_report};
+use server_core::Server;
 use std::alloc::{AllocError, Global};
 use tool_rack::Setup;
 
@@ -31,6 +32,25 @@ pub(crate) fn first_client(
         Ok(()) => Ok(client),
         Err(ClientFault::Memory) => Err(AllocError),
         Err(_) => unreachable!(),
+    }
+}
+
+/// A new client of a program of which it has these features. They are `NotOurs` where they are not the first ones of the program, by labels
+/// and counts of points. Takes no memory.
+pub(crate) fn kept_client(
+    alloc: Global,
+    program: Program,
+    kept: FeatureLedger,
+    window: u8,
+) -> Result<Client, Fault>
+    requires { is_window window ≡ true }
+    ensures can { IsOk result ↔ (are_ours program.features kept ≡ true) }
+    ensures ok { IfOk result (λ client. client ≡ new_client_end program kept window) }
+    ensures not_ours { IfErr result (λ fault. fault ≡ Fault.NotOurs) }
+{
+    match Client::new(alloc, program, kept, window) {
+        Ok(client) => Ok(client),
+        Err(_) => Err(Fault::NotOurs),
     }
 }
 

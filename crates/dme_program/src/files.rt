@@ -3,7 +3,7 @@
 ghost use Rattle.std.specs.Prelude.{◌≡◌, ◌≤◌, length, None, IfOk};
 
 use byte_ports::{Failed, Source};
-use std::io::Read;
+use std::io::{ErrorKind, Read};
 use std::rt::Files;
 use std::{fs, io};
 
@@ -12,6 +12,8 @@ use std::{fs, io};
 enum Place<F, I> {
     /// The file of the source's name, which is not open yet.
     Closed,
+    /// The file of the source's name, which is not open yet; where there is none, nothing is left.
+    Kept,
     /// A file that is open.
     Open(F),
     /// Standard input.
@@ -46,6 +48,31 @@ impl<'a, R: Files + Input> NamedSource<'a, R> {
         }
     }
 
+    /// The file of this name, `-` too; nothing where there is no such file, and where none is named.
+    pub fn kept(rt: &'a R, name: Option<&'a str>) -> Self {
+        let (name, place) = match name {
+            Some(name) => (name, Place::Kept),
+            None => ("", Place::Taken),
+        };
+        NamedSource {
+            rt,
+            name,
+            place,
+            has_failed: false,
+        }
+    }
+
+    /// Opens the file, and reads from it.
+    fn opened(&mut self, buf: &mut [u8]) -> io::Result<usize>
+        ensures within { IfOk result (λ n. n ≤ length buf.new) }
+        ensures same { self.new.has_failed ≡ self.old.has_failed }
+    {
+        let mut file = fs::open(self.rt, self.name)?;
+        let count = file.read(buf)?;
+        self.place = Place::Open(file);
+        Ok(count)
+    }
+
     /// One read, which opens the file where it is closed.
     fn read(&mut self, buf: &mut [u8]) -> io::Result<usize>
         ensures within { IfOk result (λ n. n ≤ length buf.new) }
@@ -55,12 +82,14 @@ impl<'a, R: Files + Input> NamedSource<'a, R> {
             Place::Open(file) => file.read(buf),
             Place::Input(input) => input.read(buf),
             Place::Taken => Ok(0),
-            Place::Closed => {
-                let mut file = fs::open(self.rt, self.name)?;
-                let count = file.read(buf)?;
-                self.place = Place::Open(file);
-                Ok(count)
-            }
+            Place::Closed => self.opened(buf),
+            Place::Kept => match self.opened(buf) {
+                Err(error) if error.kind() == ErrorKind::NotFound => {
+                    self.place = Place::Taken;
+                    Ok(0)
+                }
+                answer => answer,
+            },
         }
     }
 }

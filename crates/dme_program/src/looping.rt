@@ -65,10 +65,18 @@ fn looped<CR: Source, CW: Sink, SR: Source, SW: Sink, N: Watcher>(
 ) -> Result<(Ended, Vec<u8>), AllocError>
     requires { is_window window ≡ true }
     ensures leaves { IfOk result (λ end. LeavesLoop window setup program
-        (record { client_left = CR.left client_source.old; client_taken = CW.taken client_sink.old;
-            server_left = SR.left server_source.old; server_taken = SW.taken server_sink.old })
-        (record { client_left = CR.left client_source.new; client_taken = CW.taken client_sink.new;
-            server_left = SR.left server_source.new; server_taken = SW.taken server_sink.new })
+        (record {
+          client_left = CR.left client_source.old;
+          client_taken = CW.taken client_sink.old;
+          server_left = SR.left server_source.old;
+          server_taken = SW.taken server_sink.old;
+        })
+        (record {
+          client_left = CR.left client_source.new;
+          client_taken = CW.taken client_sink.new;
+          server_left = SR.left server_source.new;
+          server_taken = SW.taken server_sink.new;
+        })
         end.0 end.1.items) }
     ensures some { IfOk result (λ end. 0 < length end.1.items) }
 {
@@ -109,10 +117,18 @@ pub fn loop_over<CR: Source, CW: Sink, SR: Source, SW: Sink, N: Watcher, W: Sink
 
     // Just the report of what both ends have become was written.
     ensures ok { IfOk result (λ ended. PrintsLoop window setup program
-        (record { client_left = CR.left client_source.old; client_taken = CW.taken client_sink.old;
-            server_left = SR.left server_source.old; server_taken = SW.taken server_sink.old })
-        (record { client_left = CR.left client_source.new; client_taken = CW.taken client_sink.new;
-            server_left = SR.left server_source.new; server_taken = SW.taken server_sink.new })
+        (record {
+          client_left = CR.left client_source.old;
+          client_taken = CW.taken client_sink.old;
+          server_left = SR.left server_source.old;
+          server_taken = SW.taken server_sink.old;
+        })
+        (record {
+          client_left = CR.left client_source.new;
+          client_taken = CW.taken client_sink.new;
+          server_left = SR.left server_source.new;
+          server_taken = SW.taken server_sink.new;
+        })
         ended (W.taken sink.old) (W.taken sink.new)) }
     ensures works { OnOk result (W.has_failed sink.new ≡ false) }
 
@@ -122,10 +138,18 @@ pub fn loop_over<CR: Source, CW: Sink, SR: Source, SW: Sink, N: Watcher, W: Sink
         → IsErrOf result FilesFault.Write }
     ensures write { IsErrOf result FilesFault.Write → W.has_failed sink.new ≡ true }
     ensures front { IsErrOf result FilesFault.Write → PrintsLoopFront window setup program
-        (record { client_left = CR.left client_source.old; client_taken = CW.taken client_sink.old;
-            server_left = SR.left server_source.old; server_taken = SW.taken server_sink.old })
-        (record { client_left = CR.left client_source.new; client_taken = CW.taken client_sink.new;
-            server_left = SR.left server_source.new; server_taken = SW.taken server_sink.new })
+        (record {
+          client_left = CR.left client_source.old;
+          client_taken = CW.taken client_sink.old;
+          server_left = SR.left server_source.old;
+          server_taken = SW.taken server_sink.old;
+        })
+        (record {
+          client_left = CR.left client_source.new;
+          client_taken = CW.taken client_sink.new;
+          server_left = SR.left server_source.new;
+          server_taken = SW.taken server_sink.new;
+        })
         (W.taken sink.old) (W.taken sink.new) }
     ensures silent { IfErr result (UnlessUnwritten (sink.new ≡ sink.old)) }
 {

@@ -7,10 +7,12 @@ ghost use Rattle.dme_program.specs.Reading.{On};
 
 use crate::auditing::audit_files;
 use crate::connecting::loop_named;
+use crate::driving_connection::run_named;
 use crate::faults::{Fault, FileNames, shown_files};
 use crate::files::NamedSource;
 use crate::orders::check_under_setup;
 use crate::reading::{FilesFault, Role};
+use crate::serving_connections::serve_named;
 use crate::simulating::simulate;
 use crate::verdicts::status;
 use byte_ports::Writing;
@@ -191,10 +193,14 @@ fn audit_named<R: Files + Input + Print + AllocGlobal>(
 
 /// Reads the command line and does what it asks for. The exit status of an order that was carried out.
 pub fn run<
-    R: Env + Files + Input + Print + Eprint + Net<Listener = TcpListener, Stream = TcpStream> + AllocGlobal,
->(
-    rt: &R,
-) -> Result<u8, Fault> {
+    R: Env
+        + Files
+        + Input
+        + Print
+        + Eprint
+        + Net<Listener = TcpListener, Stream = TcpStream>
+        + AllocGlobal,
+>(rt: &R) -> Result<u8, Fault> {
     match read_order(rt)? {
         Order::Check { setup, program } => {
             check(rt, setup, program)?;
@@ -218,6 +224,21 @@ pub fn run<
             progress,
             program,
         } => loop_named(rt, setup, window, progress, program),
-        _ => Ok(0),
+        Order::Serve {
+            setup,
+            port,
+            connections,
+            contacts,
+            progress,
+        } => serve_named(rt, setup, port, connections, contacts, progress),
+        Order::Run {
+            setup,
+            host,
+            port,
+            window,
+            features,
+            progress,
+            program,
+        } => run_named(rt, setup, host, port, window, features, progress, program),
     }
 }
