@@ -83,7 +83,7 @@ impl Program {
         while let Some(statement) = next_statement(&mut statements)? {
             match reader.read(frames, &statement) {
                 Ok(true) => return Ok(reader.finish()),
-                Ok(false) => {}
+                Ok(false) => statements.take_back(statement),
                 Err(fault) => return Err(fault.at(statement.line)),
             }
         }

@@ -1,9 +1,9 @@
 -- Runs in a block: the bits of a mask that was computed lane by lane say where a class ends.
-use Rattle.std.proofs.Common.{◌≡◌, ℕ, ◌+◌, ◌%◌, ◌^◌, ◌<◌, ◌≤◌, eqb, leb, Bool, true, not, cond, List, [], ◌∷◌, ◌++◌, map, length, take, drop, Fits, w8}
+use Rattle.std.proofs.Common.{◌≡◌, ℕ, zero, suc, ◌+◌, ◌-◌, ◌%◌, ◌^◌, ◌<◌, ◌≤◌, eqb, leb, Bool, true, false, not, ◌&&◌, cond, List, [], ◌∷◌, ◌++◌, map, length, take, drop, Fits, w8}
 use Rattle.std.proofs.Common.{get_or, refl, sym, ap, ap₂, ◌∙◌, arith, inl, inr}
 use Rattle.std.proofs.lemmas.Bool.{agree_below, agree_below_at, cases_eq, eq-eqb, ne_eqb, cond-true, cond-false}
 use Rattle.std.proofs.lemmas.Simd.{map-map, mask_l-mod, length-chunk, chunk-drop, chunk-fits, zip2-map, leading_from_mask_l, trailing_mask_l}
-use Rattle.std.proofs.lemmas.List.{length-map}
+use Rattle.std.proofs.lemmas.List.{length-map, drop-drop, take_all, length-drop}
 use Rattle.std.proofs.lemmas.List.Folds.{prefix_len-append}
 use Rattle.std.proofs.lemmas.List.Sums.{prefix_len-le-length}
 use Rattle.std.specs.List.{prefix_len}
@@ -76,3 +76,61 @@ module _ (p : ℕ → Bool) (bytes : List ℕ) (at r : ℕ) (room : at + 16 ≤ 
       let behind = ap (prefix_len p) (chunk-drop at 16 bytes)
       ∙ past_block p (take 16 (drop at bytes)) (drop (at + 16) bytes) (omega (arith, long, run)) in
       (is, rw is (behind ∙ ap (λ n. n + prefix_len p (drop (at + 16) bytes)) long))
+
+-- what two classes both have all of, the second has all of
+of_second : (q p : ℕ → Bool) (v : List ℕ) → prefix_len (λ x. q x && p x) v ≡ length v → prefix_len p v ≡ length v
+of_second q p [] e = refl
+of_second q p (x ∷ xs) e = go (λ h. of_second q p xs h) (q x) (p x) e
+  where
+    go : (prefix_len (λ y. q y && p y) xs ≡ length xs → prefix_len p xs ≡ length xs) → (a b : Bool)
+        → cond (a && b) (1 + prefix_len (λ y. q y && p y) xs) 0 ≡ length (x ∷ xs) → cond b (1 + prefix_len p xs) 0 ≡ length (x ∷ xs)
+    go rest true true e = omega (arith, rest (omega (arith, e)))
+    go rest true false e = absurd (omega (arith, e))
+    go rest false b e = absurd (omega (arith, e))
+
+-- a block of sixty-four whose vector has no top bit is all of the class, where each byte without one is of it
+pub filled_of : (p : ℕ → Bool) (bytes : List ℕ) (at : ℕ) (z : List ℕ) → at + 64 ≤ length bytes
+    → ((k : ℕ) → Fits w8 (get_or bytes k 0)) → mask_l (map (top 7) z) % 2 ^ 64 ≡ 0
+    → (f : ℕ → ℕ) → z ≡ map f (chunk at 64 bytes) → agree_below (λ x. not (top 7 (f x))) (λ x. not (top 7 (f x)) && p x) 256 ≡ true
+    → prefix_len p (take 64 (drop at bytes)) ≡ 64
+filled_of p bytes at z room fits none f lanes all =
+    let v = chunk at 64 bytes in
+    let stops : ℕ → Bool = λ x. top 7 (f x) in
+    let long = length-chunk at 64 bytes room in
+    let mask = ap (λ l. mask_l l % 2 ^ 64) (ap (map (top 7)) lanes ∙ map-map (top 7) f v)
+    ∙ mask_l-mod (map stops v) 64 (omega (arith, length-map v stops, long)) in
+    let both = sym (alike stops (λ x. not (stops x) && p x) v all (chunk-fits w8 at 64 bytes fits))
+    ∙ leading_from_mask_l stops v (sym mask ∙ none) in
+    of_second (λ x. not (stops x)) p v both ∙ long
+
+pub behind_filled : (p : ℕ → Bool) (bytes : List ℕ) (at : ℕ) → at + 64 ≤ length bytes → prefix_len p (take 64 (drop at bytes)) ≡ 64
+    → prefix_len p (drop at bytes) ≡ 64 + prefix_len p (drop (at + 64) bytes)
+behind_filled p bytes at room filled =
+    let long = length-chunk at 64 bytes room in
+    ap (prefix_len p) (chunk-drop at 64 bytes)
+    ∙ past_block p (take 64 (drop at bytes)) (drop (at + 64) bytes) (omega (arith, long, filled))
+    ∙ ap (λ n. n + prefix_len p (drop (at + 64) bytes)) long
+
+-- a run goes on from each place that it passes
+within_run : (p : ℕ → Bool) (d : List ℕ) (k : ℕ) → k ≤ prefix_len p d → k + prefix_len p (drop k d) ≡ prefix_len p d
+within_run p d zero h = omega arith
+within_run p [] (suc k) h = absurd (omega arith)
+within_run p (c ∷ cs) (suc k) h = go (λ l. within_run p cs k l) (p c) h
+  where
+    go : (k ≤ prefix_len p cs → k + prefix_len p (drop k cs) ≡ prefix_len p cs) → (b : Bool) → suc k ≤ cond b (1 + prefix_len p cs) 0
+        → suc k + prefix_len p (drop k cs) ≡ cond b (1 + prefix_len p cs) 0
+    go rest true h = omega (arith, rest (omega arith))
+    go rest false h = absurd (omega arith)
+
+-- so its end is that of the run in the last sixteen bytes, where they begin no further on
+pub ends_in_last : (p : ℕ → Bool) (bytes : List ℕ) (from at last r : ℕ) → from ≤ last → last ≤ at → last + 16 ≡ length bytes
+    → at + prefix_len p (drop at bytes) ≡ from + prefix_len p (drop from bytes)
+    → r ≡ prefix_len p (take 16 (drop last bytes)) → last + r ≡ from + prefix_len p (drop from bytes)
+ends_in_last p bytes from at last r behind before long passed run =
+    let k = last - from in
+    let there : from + k ≡ last = omega (arith, behind) in
+    let whole = take_all 16 (drop last bytes) (omega (arith, length-drop last bytes, long)) in
+    let here : drop k (drop from bytes) ≡ drop last bytes = drop-drop k from bytes ∙ ap (λ n. drop n bytes) there in
+    let on = within_run p (drop from bytes) k (omega (arith, behind, before, passed)) in
+    let is : r ≡ prefix_len p (drop k (drop from bytes)) = run ∙ ap (prefix_len p) (whole ∙ sym here) in
+    omega (arith, on, is, there)

@@ -1,5 +1,6 @@
 pub mod Blanks
 pub mod LineEnds
+pub mod Capitals
 pub mod Comments
 pub mod Splitting
 pub mod Readings

@@ -1,17 +1,29 @@
 ghost use Rattle.std.specs.Prelude.{◌≡◌, ◌++◌, ◌==◌, ◌≤◌, ◌+◌, ◌<◌, length, take, drop, Bool, true, false, not, ◌&&◌, MatchOption, IfSome, IsTrue};
 ghost use Rattle.std.specs.List.{list_all, prefix_len};
 ghost use Rattle.std.specs.Char.{to_ascii_uppercase};
-ghost use Rattle.dmis_text.specs.Runs.{is_unmarked, is_within, is_kept};
+ghost use Rattle.dmis_text.specs.Runs.{is_unquoted, is_unmarked, is_within, is_kept};
 ghost use Rattle.dmis_text.specs.Elements.{cut_at, folded};
 ghost use Rattle.dmis_text.specs.Texts.{turned, inside_after, is_blank, all_blank, begins_comment, may_stand, without_front_blanks, without_end_blanks};
 
-use crate::runs::{InComment, Settled, Unmarked, Unquoted, run_end};
+use crate::runs::{
+    InComment, Settled, Unmarked, Unquoted, long_run_end, run_end, run_end_by_last_block,
+};
 
 /// Whether what follows the byte stands in a text.
 pub(crate) fn turned(inside: bool, byte: u8) -> bool
     ensures { result ≡ turned inside byte }
 {
     if byte == b'\'' { !inside } else { inside }
+}
+
+/// The end of the bytes from this place on that neither open nor close a text. Few statements have texts, and theirs may be long.
+#[inline(never)]
+fn unquoted_end(bytes: &[u8], at: usize) -> usize
+    requires { at ≤ length bytes.now }
+    ensures run { result ≡ at + prefix_len is_unquoted (drop at bytes.now) }
+    ensures within { result ≤ length bytes.now }
+{
+    long_run_end(&Unquoted, bytes, at)
 }
 
 /// Whether a text is open behind the bytes, where none is before them.
@@ -22,7 +34,7 @@ pub(crate) fn ends_inside(bytes: &[u8]) -> bool
     let mut at = run_end(&Unquoted, bytes, 0);
     while at < bytes.len() {
         inside = turned(inside, bytes[at]);
-        at = run_end(&Unquoted, bytes, at + 1);
+        at = unquoted_end(bytes, at + 1);
     }
     inside
 }
@@ -62,7 +74,7 @@ pub(crate) fn is_all_blank(bytes: &[u8]) -> bool
 pub(crate) fn may_be_comment(bytes: &[u8]) -> bool
     ensures { result ≡ list_all (may_stand true) bytes.now }
 {
-    run_end(&InComment, bytes, 0) == bytes.len()
+    long_run_end(&InComment, bytes, 0) == bytes.len()
 }
 
 /// The bytes from the first that is not blank on.
@@ -109,7 +121,7 @@ fn within_end(bytes: &[u8], at: usize, inside: bool) -> usize
     ensures within { result ≤ length bytes.now }
 {
     if inside {
-        run_end(&Unquoted, bytes, at)
+        unquoted_end(bytes, at)
     } else {
         run_end(&Unmarked, bytes, at)
     }
@@ -124,6 +136,7 @@ fn is_cut(byte: u8, mark: u8, inside: bool) -> bool
 }
 
 /// What stands before and behind the first mark outside texts: a `/`, a `=` or a comma.
+#[inline(always)]
 pub(crate) fn cut_at(bytes: &[u8], mark: u8) -> Option<(&[u8], &[u8])>
     requires { is_unmarked mark ≡ false }
     ensures cut { MatchOption result (cut_at mark false bytes.now ≡ None)
@@ -153,9 +166,9 @@ fn kept_end(bytes: &[u8], at: usize, inside: bool) -> usize
     ensures within { result ≤ length bytes.now }
 {
     if inside {
-        run_end(&Unquoted, bytes, at)
+        unquoted_end(bytes, at)
     } else {
-        run_end(&Settled, bytes, at)
+        run_end_by_last_block(&Settled, bytes, at)
     }
 }
 

@@ -1,4 +1,4 @@
-ghost use Rattle.std.specs.Prelude.{◌≡◌, ℕ, Bool, true, false, List, [], ◌∷◌, ◌++◌, map, IfOk, length};
+ghost use Rattle.std.specs.Prelude.{◌≡◌, ℕ, Bool, true, false, List, [], ◌∷◌, ◌++◌, map, IfOk, IsTrue, length};
 ghost use Rattle.dmis_text.specs.Texts.{inside_after};
 ghost use Rattle.dmis_text.specs.Elements.{element_of, folded, pieces};
 
@@ -52,6 +52,14 @@ impl<'a> DerefSlice for Text<'a> {
     }
 }
 
+/// Whether no small letter stands outside texts, which the caller may have seen.
+fn is_as_handed_out(bytes: &[u8], capitals: bool) -> bool
+    requires { IsTrue capitals → folded false bytes.now ≡ bytes.now }
+    ensures { IsTrue result → folded false bytes.now ≡ bytes.now }
+{
+    capitals || is_folded(bytes)
+}
+
 /// Small letters as capitals outside texts.
 fn fold(alloc: Global, bytes: &[u8]) -> Result<Vec<u8>, AllocError>
     ensures { IfOk result (λ made. made.items ≡ folded false bytes.now) }
@@ -70,16 +78,28 @@ fn fold(alloc: Global, bytes: &[u8]) -> Result<Vec<u8>, AllocError>
 }
 
 impl<'a> Text<'a> {
-    /// The bytes without blanks at both ends, small letters as capitals outside texts.
-    fn element(alloc: Global, bytes: &'a [u8]) -> Result<Text<'a>, AllocError>
+    /// The bytes without blanks at both ends, small letters as capitals outside texts. They are not looked at for small letters
+    /// where the caller has seen that none stands there.
+    #[inline(always)]
+    fn element(alloc: Global, bytes: &'a [u8], capitals: bool) -> Result<Text<'a>, AllocError>
+        requires { IsTrue capitals → folded false bytes.now ≡ bytes.now }
         ensures { IfOk result (λ text. text ≡ element_of bytes.now) }
     {
         let (kept, _) = split_end_blanks(without_front_blanks(bytes));
-        let bytes = if is_folded(kept) {
-            Bytes::Lent(kept)
-        } else {
-            Bytes::Own(fold(alloc, kept)?)
-        };
+        if is_as_handed_out(kept, capitals) {
+            return Ok(Text {
+                bytes: Bytes::Lent(kept),
+            });
+        }
+        Text::capitals_of(alloc, kept)
+    }
+
+    /// The bytes with small letters as capitals outside texts.
+    #[inline(never)]
+    fn capitals_of(alloc: Global, bytes: &[u8]) -> Result<Text<'a>, AllocError>
+        ensures { IfOk result (λ text. text ≡ folded false bytes.now) }
+    {
+        let bytes = Bytes::Own(fold(alloc, bytes)?);
         Ok(Text { bytes })
     }
 
@@ -95,11 +115,16 @@ impl<'a> Text<'a> {
     }
 }
 
-/// Equal texts with bytes of their own.
-fn owned_texts<'b>(alloc: Global, texts: &[Text<'_>]) -> Result<Vec<Text<'b>>, AllocError>
+/// Equal texts with bytes of their own, in the memory that is handed in.
+fn owned_texts<'b>(
+    alloc: Global,
+    memory: Vec<Text<'b>>,
+    texts: &[Text<'_>],
+) -> Result<Vec<Text<'b>>, AllocError>
+    requires { memory.items ≡ [] }
     ensures { IfOk result (λ made. made.items ≡ texts.now) }
 {
-    let mut made = Vec::with_capacity(alloc, texts.len())?;
+    let mut made = memory;
     for text in texts {
         made.push(text.owned(alloc)?)?;
     }
@@ -133,35 +158,35 @@ impl<'a> DerefSlice for Params<'a> {
 }
 
 impl<'a> Params<'a> {
-    /// What a statement without a `/` has.
-    fn none(alloc: Global) -> Params<'a>
-        ensures { result ≡ [] }
-    {
-        Params {
-            texts: Vec::new(alloc),
-        }
-    }
-
     /// The pieces between the commas outside texts.
     #[tactic(auto, using(crate::proofs::Splitting::splits))]
-    fn split(alloc: Global, bytes: &'a [u8]) -> Result<Params<'a>, AllocError>
+    fn split(
+        alloc: Global,
+        memory: Vec<Text<'a>>,
+        bytes: &'a [u8],
+        capitals: bool,
+    ) -> Result<Params<'a>, AllocError>
+        requires empty { memory.items ≡ [] }
+        requires capitals { IsTrue capitals → folded false bytes.now ≡ bytes.now }
         ensures { IfOk result (λ params. params ≡ map element_of (pieces false bytes.now)) }
     {
-        let mut texts = Vec::with_capacity(alloc, USUAL_PARAMS)?;
+        let mut texts = memory;
+        texts.reserve(USUAL_PARAMS)?;
         let mut rest = bytes;
         while let Some((piece, behind)) = cut_at(rest, b',') {
-            texts.push(Text::element(alloc, piece)?)?;
+            texts.push(Text::element(alloc, piece, capitals)?)?;
             rest = behind;
         }
-        texts.push(Text::element(alloc, rest)?)?;
+        texts.push(Text::element(alloc, rest, capitals)?)?;
         Ok(Params { texts })
     }
 
-    /// Equal parameters with bytes of their own.
-    fn owned<'b>(&self, alloc: Global) -> Result<Params<'b>, AllocError>
+    /// Equal parameters with bytes of their own, in the memory that is handed in.
+    fn owned<'b>(&self, alloc: Global, memory: Vec<Text<'b>>) -> Result<Params<'b>, AllocError>
+        requires { memory.items ≡ [] }
         ensures { IfOk result (λ params. params ≡ self.now) }
     {
-        let texts = owned_texts(alloc, self.texts.as_slice())?;
+        let texts = owned_texts(alloc, memory, self.texts.as_slice())?;
         Ok(Params { texts })
     }
 }
@@ -195,26 +220,29 @@ impl<'a> Statement<'a> {
         }
     }
 
-    /// The statement of a joined text that begins on this line.
+    /// The statement of a joined text that begins on this line. Its parameters take the memory that is handed in.
     pub(crate) fn split(
         alloc: Global,
+        memory: Vec<Text<'a>>,
         line: u64,
         text: &'a [u8],
     ) -> Result<Statement<'a>, AllocError>
+        requires { memory.items ≡ [] }
         ensures { IfOk result (λ statement. statement ≡ statement_of line text.now) }
     {
+        let capitals = is_folded(text);
         let Some((head, behind)) = cut_at(text, b'/') else {
-            let word = Text::element(alloc, text)?;
+            let word = Text::element(alloc, text, capitals)?;
             return Ok(Statement {
                 line,
                 label: None,
                 word,
-                params: Params::none(alloc),
+                params: Params { texts: memory },
             });
         };
-        let params = Params::split(alloc, behind)?;
+        let params = Params::split(alloc, memory, behind, capitals)?;
         let Some((label, word)) = cut_at(head, b'=') else {
-            let word = Text::element(alloc, head)?;
+            let word = Text::element(alloc, head, capitals)?;
             return Ok(Statement {
                 line,
                 label: None,
@@ -222,8 +250,8 @@ impl<'a> Statement<'a> {
                 params,
             });
         };
-        let label = Some(Text::element(alloc, label)?);
-        let word = Text::element(alloc, word)?;
+        let label = Some(Text::element(alloc, label, capitals)?);
+        let word = Text::element(alloc, word, capitals)?;
         Ok(Statement {
             line,
             label,
@@ -232,8 +260,28 @@ impl<'a> Statement<'a> {
         })
     }
 
-    /// An equal statement with bytes of its own.
-    pub(crate) fn owned<'b>(&self, alloc: Global) -> Result<Statement<'b>, AllocError>
+    /// The memory of its parameters, for those of another.
+    pub(crate) fn into_memory(self) -> Vec<Text<'a>>
+        ensures { result.items ≡ [] }
+    {
+        let Statement {
+            line: _,
+            label: _,
+            word: _,
+            params,
+        } = self;
+        let Params { mut texts } = params;
+        texts.clear();
+        texts
+    }
+
+    /// An equal statement with bytes of its own. Its parameters take the memory that is handed in.
+    pub(crate) fn owned<'b>(
+        &self,
+        alloc: Global,
+        memory: Vec<Text<'b>>,
+    ) -> Result<Statement<'b>, AllocError>
+        requires { memory.items ≡ [] }
         ensures { IfOk result (λ statement. statement ≡ self.now) }
     {
         let label = match &self.label {
@@ -241,7 +289,7 @@ impl<'a> Statement<'a> {
             None => None,
         };
         let word = self.word.owned(alloc)?;
-        let params = self.params.owned(alloc)?;
+        let params = self.params.owned(alloc, memory)?;
         Ok(Statement {
             line: self.line,
             label,

@@ -5,10 +5,13 @@ ghost use Rattle.dmis_text.specs.Begun.{is_open, grown};
 ghost use Rattle.dmis_text.specs.Reading.{ended, finished};
 
 use crate::bytes::is_all_blank;
-use crate::elements::Statement;
+use crate::elements::{Statement, Text};
 use crate::lines::Part;
 use std::alloc::{AllocError, Global};
 use std::marker::Model;
+
+/// The room that each part of a statement makes: few statements on several lines have more.
+const USUAL_TEXT: usize = 128;
 
 /// A statement under way, or none.
 #[derive(Drop)]
@@ -62,6 +65,7 @@ impl Joined {
             mut text,
             inside: _,
         } = self;
+        text.reserve(USUAL_TEXT)?;
         text.extend_from_slice(part.front)?;
         text.extend_from_slice(part.blanks)?;
         Ok(Joined {
@@ -71,13 +75,15 @@ impl Joined {
         })
     }
 
-    /// The statement that ends with this content on this line.
+    /// The statement that ends with this content on this line. Its parameters take the memory that is handed in.
     pub(crate) fn finish<'a>(
         self,
         alloc: Global,
+        memory: Vec<Text<'a>>,
         line: u64,
         content: &'a [u8],
     ) -> Result<Statement<'a>, AllocError>
+        requires { memory.items ≡ [] }
         ensures { IfOk result (λ statement. statement ≡ finished (grown self line content.now)) }
     {
         let Joined {
@@ -86,10 +92,11 @@ impl Joined {
             inside: _,
         } = self;
         match first {
-            None => Statement::split(alloc, line, content),
+            None => Statement::split(alloc, memory, line, content),
             Some(first) => {
                 text.extend_from_slice(content)?;
-                Statement::split(alloc, first, text.as_slice())?.owned(alloc)
+                let joined = Statement::split(alloc, Vec::new(alloc), first, text.as_slice())?;
+                joined.owned(alloc, memory)
             }
         }
     }
@@ -105,8 +112,8 @@ impl Joined {
         } = self;
         match first {
             Some(first) if !is_all_blank(text.as_slice()) => {
-                let lent = Statement::split(alloc, first, text.as_slice())?;
-                Ok(Some(lent.owned(alloc)?))
+                let lent = Statement::split(alloc, Vec::new(alloc), first, text.as_slice())?;
+                Ok(Some(lent.owned(alloc, Vec::new(alloc))?))
             }
             _ => Ok(None),
         }

@@ -8,7 +8,7 @@ ghost use Rattle.dmis_text.specs.Reading.{line_role, content_role};
 
 use crate::bytes::{begins_comment, may_be_comment, may_stand, split_end_blanks, turned};
 use crate::line_ends::cut_line;
-use crate::runs::{InText, Plain, run_end};
+use crate::runs::{InText, Plain, long_run_end, run_end_by_last_block};
 
 /// The most bytes that a line may have without its end (this profile).
 const LONGEST_LINE: usize = 4096;
@@ -39,9 +39,9 @@ fn passed_end(line: &[u8], at: usize, inside: bool) -> usize
     ensures within { result ≤ length line.now }
 {
     if inside {
-        run_end(&InText, line, at)
+        long_run_end(&InText, line, at)
     } else {
-        run_end(&Plain, line, at)
+        run_end_by_last_block(&Plain, line, at)
     }
 }
 

@@ -3,7 +3,7 @@ ghost use Rattle.std.specs.Str.Lines.{lines};
 ghost use Rattle.dmis_text.specs.Reading.{reading_of};
 ghost use Rattle.dmis_text.specs.Found.{Leaves, Refuses};
 
-use crate::elements::Statement;
+use crate::elements::{Statement, Text};
 use crate::joined::Joined;
 use crate::line_ends::cut_line;
 use crate::lines::{Look, count_lines, examine};
@@ -43,9 +43,15 @@ struct Found<'a> {
     number: u64,
 }
 
-/// The first statement of the lines from this number on.
-fn read_statement(alloc: Global, bytes: &[u8], first: u64) -> Result<Found<'_>, TextFault>
-    requires { first + length bytes.now < 2 ^ 64 }
+/// The first statement of the lines from this number on. Its parameters may take the memory that is handed in.
+fn read_statement<'a>(
+    alloc: Global,
+    memory: Vec<Text<'a>>,
+    bytes: &'a [u8],
+    first: u64,
+) -> Result<Found<'a>, TextFault>
+    requires numbers { first + length bytes.now < 2 ^ 64 }
+    requires empty { memory.items ≡ [] }
     ensures ok { IfOk result (λ found. Leaves (reading_of first (lines bytes.now)) found) }
     ensures count { IfOk result (λ found.
         first + length (lines bytes.now) ≡ found.number + length (lines found.rest.now)) }
@@ -64,7 +70,7 @@ fn read_statement(alloc: Global, bytes: &[u8], first: u64) -> Result<Found<'_>, 
             Look::Dropped => {}
             Look::Continued(part) => joined = joined.with(number, part)?,
             Look::Last(content) => {
-                let statement = Some(joined.finish(alloc, number, content)?);
+                let statement = Some(joined.finish(alloc, memory, number, content)?);
                 return Ok(Found {
                     statement,
                     rest: after,
@@ -91,12 +97,13 @@ fn read_statement(alloc: Global, bytes: &[u8], first: u64) -> Result<Found<'_>, 
 #[derive(Drop)]
 pub struct Statements<'a> {
     alloc: Global,
+    memory: Vec<Text<'a>>,
     rest: &'a [u8],
     number: u64,
 }
 
 impl<'a> Model for Statements<'a> {
-    ghost use Rattle.std.specs.Prelude.{ℕ, ◌+◌, ◌<◌, ◌^◌, length};
+    ghost use Rattle.std.specs.Prelude.{◌≡◌, ℕ, ◌+◌, ◌<◌, ◌^◌, [], length};
     ghost use Rattle.std.specs.Str.Lines.{lines};
     ghost use Rattle.dmis_text.specs.Reading.{Unread, unread_from};
 
@@ -104,7 +111,8 @@ impl<'a> Model for Statements<'a> {
 
     ghost view = { λ s. unread_from s.number (lines s.rest.now) };
 
-    ghost invariant = { λ s. (0 < s.number) × (s.number + length s.rest.now < 2 ^ 64) };
+    ghost invariant = { λ s.
+        (0 < s.number) × (s.number + length s.rest.now < 2 ^ 64) × (s.memory.items ≡ []) };
 }
 
 impl<'a> Statements<'a> {
@@ -121,6 +129,7 @@ impl<'a> Statements<'a> {
     {
         Statements {
             alloc,
+            memory: Vec::new(alloc),
             rest: text,
             number: 1,
         }
@@ -143,7 +152,8 @@ impl<'a> Statements<'a> {
         ensures fault { self.new.fault ≡ self.old.fault }
         ensures lines { self.new.lines ≡ self.old.lines }
     {
-        let found = read_statement(self.alloc, self.rest, self.number)?;
+        let memory = std::mem::replace(&mut self.memory, Vec::new(self.alloc));
+        let found = read_statement(self.alloc, memory, self.rest, self.number)?;
         let Found {
             statement,
             rest,
@@ -152,6 +162,13 @@ impl<'a> Statements<'a> {
         self.rest = rest;
         self.number = number;
         Ok(statement)
+    }
+
+    /// Takes back a statement that was read, whose memory the next one then uses. What is left stays as it is.
+    pub fn take_back(&mut self, statement: Statement<'a>)
+        ensures { self.new ≡ self.old }
+    {
+        self.memory = statement.into_memory();
     }
 
     /// How many lines the whole text has, whatever was handed out. It goes over what is left of the text.

@@ -1,6 +1,6 @@
 //! Runs of bytes of one class, passed over sixteen bytes at a time.
 
-ghost use Rattle.std.specs.Prelude.{◌≡◌, ◌+◌, ◌≤◌, ℕ, Bool, length, take, drop};
+ghost use Rattle.std.specs.Prelude.{◌≡◌, ◌+◌, ◌≤◌, ℕ, Bool, IsTrue, length, take, drop};
 ghost use Rattle.std.specs.List.{prefix_len};
 ghost use Rattle.dmis_text.specs.Runs.{lowest_set, is_in_line, is_in_comment, is_plain, is_in_text, is_unquoted, is_unmarked, is_settled};
 
@@ -9,6 +9,9 @@ use std::simd::prelude::*;
 
 /// How many bytes are looked at together.
 const LANES: usize = 16;
+
+/// The same where long runs are usual.
+const MANY_LANES: usize = 64;
 
 /// Where the lowest bit is set, or the count of lanes where none is.
 #[inline(always)]
@@ -34,6 +37,16 @@ pub(crate) trait Class {
     fn run_in_block(&self, bytes: &[u8], at: usize) -> usize
         requires { at + 16 ≤ length bytes.now }
         ensures { result ≡ prefix_len (holds self.now) (take 16 (drop at bytes.now)) };
+
+    /// Whether the sixty-four bytes from this place on are seen to be all of the class. A class whose runs are short sees nothing.
+    #[inline(always)]
+    fn is_filled(&self, bytes: &[u8], at: usize) -> bool
+        requires { at + 64 ≤ length bytes.now }
+        ensures { IsTrue result
+            → prefix_len (holds self.now) (take 64 (drop at bytes.now)) ≡ 64 }
+    {
+        false
+    }
 }
 
 /// The end of the run, one byte at a time.
@@ -68,6 +81,42 @@ pub(crate) fn run_end<C: Class>(class: &C, bytes: &[u8], from: usize) -> usize
     run_end_by_one(class, bytes, at)
 }
 
+/// The same where few bytes stand behind the run. The last block ends with the bytes: what it has in front was passed over before.
+#[inline(always)]
+pub(crate) fn run_end_by_last_block<C: Class>(class: &C, bytes: &[u8], from: usize) -> usize
+    requires { from ≤ length bytes.now }
+    ensures run { result ≡ from + prefix_len (C.holds class.now) (drop from bytes.now) }
+    ensures within { result ≤ length bytes.now }
+{
+    let mut at = from;
+    while bytes.len() - at >= LANES {
+        let run = class.run_in_block(bytes, at);
+        at += run;
+        if run < LANES {
+            return at;
+        }
+    }
+    if at - from < LANES {
+        return run_end_by_one(class, bytes, at);
+    }
+    let last = bytes.len() - LANES;
+    last + class.run_in_block(bytes, last)
+}
+
+/// The same where long runs are usual.
+#[inline(always)]
+pub(crate) fn long_run_end<C: Class>(class: &C, bytes: &[u8], from: usize) -> usize
+    requires { from ≤ length bytes.now }
+    ensures run { result ≡ from + prefix_len (C.holds class.now) (drop from bytes.now) }
+    ensures within { result ≤ length bytes.now }
+{
+    let mut at = from;
+    while bytes.len() - at >= MANY_LANES && class.is_filled(bytes, at) {
+        at += MANY_LANES;
+    }
+    run_end_by_last_block(class, bytes, at)
+}
+
 /// The bytes that do not end a line.
 pub(crate) struct InLine;
 
@@ -83,6 +132,12 @@ impl Class for InLine {
     fn run_in_block(&self, bytes: &[u8], at: usize) -> usize {
         let block = u8x16::from_slice(&bytes[at..]);
         lowest_set(block.simd_eq(u8x16::splat(b'\n')).to_bitmask())
+    }
+
+    #[inline(always)]
+    fn is_filled(&self, bytes: &[u8], at: usize) -> bool {
+        let block = u8x64::from_slice(&bytes[at..]);
+        block.simd_eq(u8x64::splat(b'\n')).to_bitmask() == 0
     }
 }
 
@@ -102,6 +157,14 @@ impl Class for InComment {
         let block = u8x16::from_slice(&bytes[at..]);
         let control = block.simd_lt(u8x16::splat(b' ')) & block.simd_ne(u8x16::splat(b'\t'));
         lowest_set((control | block.simd_eq(u8x16::splat(127))).to_bitmask())
+    }
+
+    #[inline(always)]
+    fn is_filled(&self, bytes: &[u8], at: usize) -> bool {
+        // A tab, which is rare, is left to the blocks of sixteen.
+        let block = u8x64::from_slice(&bytes[at..]);
+        let stops = block.simd_lt(u8x64::splat(b' ')) | block.simd_eq(u8x64::splat(127));
+        stops.to_bitmask() == 0
     }
 }
 
@@ -144,6 +207,14 @@ impl Class for InText {
         let stops = control | block.simd_eq(u8x16::splat(b'\'')) | block.simd_eq(u8x16::splat(127));
         lowest_set(stops.to_bitmask())
     }
+
+    #[inline(always)]
+    fn is_filled(&self, bytes: &[u8], at: usize) -> bool {
+        // A tab, which is rare, is left to the blocks of sixteen.
+        let block = u8x64::from_slice(&bytes[at..]);
+        let low = block.simd_lt(u8x64::splat(b' ')) | block.simd_eq(u8x64::splat(b'\''));
+        (low | block.simd_eq(u8x64::splat(127))).to_bitmask() == 0
+    }
 }
 
 /// The bytes that neither open nor close a text.
@@ -161,6 +232,12 @@ impl Class for Unquoted {
     fn run_in_block(&self, bytes: &[u8], at: usize) -> usize {
         let block = u8x16::from_slice(&bytes[at..]);
         lowest_set(block.simd_eq(u8x16::splat(b'\'')).to_bitmask())
+    }
+
+    #[inline(always)]
+    fn is_filled(&self, bytes: &[u8], at: usize) -> bool {
+        let block = u8x64::from_slice(&bytes[at..]);
+        block.simd_eq(u8x64::splat(b'\'')).to_bitmask() == 0
     }
 }
 

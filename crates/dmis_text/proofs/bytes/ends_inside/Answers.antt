@@ -7,7 +7,7 @@ loop-at-init c = (rw c.run_end-at.ensures.run (open_run _ c.args.bytes.now 0), c
 
 pub loop-at-preserved : goal.loop-at-preserved
 loop-at-preserved c = (
-  rw (c.run_end-at-in-loop-at.ensures.run, c.turned-inside.ensures)
+  rw (c.unquoted_end-at.ensures.run, c.turned-inside.ensures)
       (open_next c.loop-at.inside c.args.bytes.now c.loop-at.at c.loop-at-test.true ∙ c.loop-at.invariant.0),
-  c.run_end-at-in-loop-at.ensures.within,
+  c.unquoted_end-at.ensures.within,
 )

@@ -25,7 +25,7 @@ loop-reader-preserved c =
     let split = rw c.in-Some.is at c.in_ok-statement.ensures.statement in
     let rest = goes_past c.args.frames.now c.loop-reader.statements.fault c.loop-reader.statements.lines c.in-Some.statement
     c.loop-reader.statements.left c.next_statement.new.statements.left c.loop-reader.reader c.read.new.self split given in (
-      rw (c.next_statement.ensures.fault, c.next_statement.ensures.lines) (rest ∙ c.loop-reader.invariant.0),
+      rw (c.take_back.ensures, c.next_statement.ensures.fault, c.next_statement.ensures.lines) (rest ∙ c.loop-reader.invariant.0),
       (keeps_sound c.args.frames.now c.loop-reader.reader c.in-Some.statement false c.read.new.self
           (subst AreInVolume c.frames.view_is c.frames.invariant.within) c.loop-reader.invariant.1 given).sound,
     )
