@@ -22,7 +22,7 @@ pub loop_leaves : (window : ℕ) (setup : SetupValue) (program : Meaning) (ports
     → server_old ≡ record { setup = setup; end = first_server setup } → ended.state ≡ client.client.state
     → text ≡ report_text (ends_shown client server.end.server.ledger)
     → LeavesLoop window setup program ports now ended text
-loop_leaves window setup program ports now shifts client_old client server_old server ended text came is_machine is_client is_server stands told =
+loop_leaves window setup program ports now shifts client_old client server_old server ended text came machine begun served stands told =
     record {
       client = client;
       server = server.end;
@@ -30,17 +30,17 @@ loop_leaves window setup program ports now shifts client_old client server_old s
           (client_side (first_client program [] window) ports.client_left ports.client_taken)
           (client_side client now.client_left now.client_taken)
           (server_side (first_server setup) ports.server_left ports.server_taken)
-          (server_side server.end now.server_left now.server_taken) ended.broken) is_machine
+          (server_side server.end now.server_left now.server_taken) ended.broken) machine
           (subst (λ (c : ClientEnd). LoopCame (simulated shifts)
           (client_side c ports.client_left ports.client_taken)
           (client_side client now.client_left now.client_taken)
           (server_side (first_server setup) ports.server_left ports.server_taken)
-          (server_side server.end now.server_left now.server_taken) ended.broken) is_client
+          (server_side server.end now.server_left now.server_taken) ended.broken) begun
           (subst (λ (s : Serving). LoopCame (simulated shifts)
           (client_side client_old ports.client_left ports.client_taken)
           (client_side client now.client_left now.client_taken)
           (server_side s.end ports.server_left ports.server_taken)
-          (server_side server.end now.server_left now.server_taken) ended.broken) is_server came));
+          (server_side server.end now.server_left now.server_taken) ended.broken) served came));
       stands = stands;
       told = told;
     }

@@ -28,8 +28,8 @@ pub record RunTold : Type 0 where
   pub taken : Option (List ℕ)
   pub kept : Option (List ℕ)
 
--- a client that has come to connection 1 has had its turns; this is how that has ended, this the report of what it then is, and the file keeps
--- the features that it then holds, each of them
+-- a client that has come to connection 1 has had its turns; this is how that has ended, this the report of what it then is, and the file
+-- keeps the features that it then holds, each of them
 pub record LeavesRun (first : ClientEnd) (old new : RunTold) (driven : Driven) (text : List ℕ) : Type 0 where
   pub last : ClientEnd
   pub came : RunCame (end_connected 1 first) last old.left new.left old.taken new.taken driven.ended.broken

@@ -26,8 +26,8 @@ abbrev pub LoopCame : (Job → ℕ → Outcome) → ClientSide → ClientSide �
 LoopCame answer c c_now s s_now None = LoopRan answer c c_now s s_now
 LoopCame answer c c_now s s_now (Some fault) = LoopStopped answer c c_now s s_now fault
 
--- the client of a program and the server of a setup with its simulated machine, both on connection 1, have had their turns; this is how that
--- has ended, and this the report of what they then are
+-- the client of a program and the server of a setup with its simulated machine, both on connection 1, have had their turns; this is how
+-- that has ended, and this the report of what they then are
 pub record LeavesLoop (window : ℕ) (setup : SetupValue) (program : Meaning) (ports ports_now : FourTold) (ended : Ended) (text : List ℕ)
     : Type 0 where
   pub client : ClientEnd
