@@ -19,7 +19,8 @@ pub trait TextFile {
 }
 
 /// A file of this name, `-` too, or none where none is named. A text is written beside it, behind `.new`, forced to the device, and takes
-/// the file's name, so that a crash leaves the old text or the new one. It does not tell its text.
+/// the file's name, so that a crash leaves the old text or the new one. A link, a device or a pipe of this name is written itself. It does
+/// not tell its text.
 #[derive(Drop)]
 pub struct NamedFile<'a, R> {
     rt: &'a R,
@@ -41,11 +42,44 @@ impl<'a, R: Files + AllocGlobal> NamedFile<'a, R> {
         }
     }
 
-    /// Writes a whole file, and forces it to the device.
-    fn write(&self, name: &str, text: &[u8]) -> std::io::Result<()> {
-        let mut file = fs::create(self.rt, name)?;
+    /// Whether a new file may take this name: nothing has it, or a plain file, which is no link, no device and no pipe.
+    fn may_be_replaced(&self, name: &str) -> bool {
+        match fs::symlink_metadata(self.rt, name) {
+            Ok(found) => found.is_file(),
+            Err(_) => true,
+        }
+    }
+
+    /// Writes all of a text to a new file, forces it to the device, and only then gives the file its name.
+    fn settle(
+        &self,
+        file: &mut R::File,
+        text: &[u8],
+        beside: &str,
+        name: &str,
+    ) -> std::io::Result<()> {
         file.write_all(text)?;
-        file.sync_all()
+        file.sync_all()?;
+        fs::rename(self.rt, beside, name)
+    }
+
+    /// Puts a new file in the place of the one of this name. What was begun and could not be put there is removed.
+    fn put(&self, text: &[u8], beside: &str, name: &str) -> std::io::Result<()> {
+        let mut file = fs::create(self.rt, beside)?;
+        let result = self.settle(&mut file, text, beside, name);
+        if result.is_err() {
+            let _ = fs::remove_file(self.rt, beside);
+        }
+        result
+    }
+
+    /// Writes a text to the file of this name, which is replaced where it may be.
+    fn write(&self, text: &[u8], beside: &str, name: &str) -> std::io::Result<()> {
+        if self.may_be_replaced(name) {
+            self.put(text, beside, name)
+        } else {
+            fs::write(self.rt, name, text)
+        }
     }
 }
 
@@ -57,16 +91,9 @@ impl<'a, R: Files + AllocGlobal> TextFile for NamedFile<'a, R> {
             return Ok(());
         };
         let beside = Self::beside(self.rt.alloc(), name)?;
-        if self.write(beside.as_str(), text).is_err() {
-            let _ = fs::remove_file(self.rt, beside.as_str());
-            return Err(Failed);
-        }
-        match fs::rename(self.rt, beside.as_str(), name) {
+        match self.write(text, beside.as_str(), name) {
             Ok(()) => Ok(()),
-            Err(_) => {
-                let _ = fs::remove_file(self.rt, beside.as_str());
-                Err(Failed)
-            }
+            Err(_) => Err(Failed),
         }
     }
 }
