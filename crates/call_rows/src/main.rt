@@ -5,11 +5,14 @@
 //! The input has parts, each behind a head in brackets. `program NAME` and `setup` are texts that the other parts are made of. `client NAME W`
 //! is a client of a program with this window and `server` a server of the setup, each through all rows of its part. In the others each row
 //! stands by itself: `marks NAME W` and `texts NAME W` for a client, `homings NAME W` for a world behind a schedule, `reports NAME W` for both
-//! ends behind so many commands, `setups`, `schedules`, `features` and `contacts` for texts. A line that begins with `-- ` says what the rows below it show. `files
-//! NAME W` has a schedule, and the features and contacts files that it leaves stand in its place.
+//! ends behind so many commands, `setups`, `schedules`, `features` and `contacts` for texts, `turns NAME W`, `runs NAME W`, `watches NAME W`,
+//! `loops NAME W`, `serves` and `connections` for turns and runs over ports, into which the texts `replies NAME` and `commands NAME` come. A line that begins
+//! with `-- ` says what the rows below it show. `files NAME W` has a schedule, and the features and contacts files that it leaves stand in its
+//! place.
 //!
 //! - `parts`: the parts of the input, and their rows
 //! - `client`, `server`: what an action does, and what it shows
+//! - `links`: turns and runs over ports in memory
 //! - `setups`: what setups say
 //! - `texts`: texts of features and of acts that are read and written again
 //! - `worlds`: worlds behind schedules, and both ends that are driven by hand
@@ -18,6 +21,7 @@
 #![tactic(auto)]
 
 mod client;
+mod links;
 mod parts;
 mod server;
 mod setups;

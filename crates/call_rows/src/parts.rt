@@ -1,6 +1,7 @@
 // The parts of the input.
 
 use crate::client::{self, Made};
+use crate::links::{self, Script};
 use crate::shown::push_text;
 use crate::stop::Stop;
 use crate::{server, setups, texts, worlds};
@@ -68,6 +69,8 @@ fn row_answer(
         "setups" => Ok(setups::answer(alloc, row)?),
         "features" => Ok(texts::features_answer(alloc, row)?),
         "contacts" => Ok(texts::contacts_answer(alloc, row)?),
+        "serves" => links::served(alloc, setup, row),
+        "connections" => links::connection(alloc, setup, row),
         _ => Err(Stop::Row),
     }
 }
@@ -91,6 +94,25 @@ fn push_rows(
     Ok(())
 }
 
+/// Rows of turns and runs of a client, each by itself.
+fn push_link_rows(
+    alloc: Global,
+    out: &mut Vec<u8>,
+    (made, setup): (Made<'_>, &str),
+    (script, word): (Script<'_>, &str),
+    text: &str,
+) -> Result<(), Stop> {
+    for row in text.lines() {
+        if is_comment(row) {
+            push_line(out, row)?;
+        } else {
+            let answer = links::answer(alloc, (made, setup), script, (word, row))?;
+            push_row(out, row, answer.as_slice())?;
+        }
+    }
+    Ok(())
+}
+
 /// The rows of a server, one call behind another.
 fn push_server(alloc: Global, out: &mut Vec<u8>, setup: &str, text: &str) -> Result<(), Stop> {
     let mut server = server::new_server(alloc, setup)?;
@@ -103,6 +125,16 @@ fn push_server(alloc: Global, out: &mut Vec<u8>, setup: &str, text: &str) -> Res
         }
     }
     Ok(())
+}
+
+/// What comes in on either side of a program's connection.
+fn script<'a>(alloc: Global, input: &'a str, name: &str) -> Result<Script<'a>, Stop> {
+    let replies = format!(in alloc; "replies {name}")?;
+    let commands = format!(in alloc; "commands {name}")?;
+    Ok(Script {
+        replies: part(input, replies.as_str()).unwrap_or(""),
+        commands: part(input, commands.as_str()).unwrap_or(""),
+    })
 }
 
 /// The rows of a part by its head: a word, and where it asks for one a program and a window.
@@ -121,12 +153,14 @@ fn push_rows_of(
         frames: read.frames(),
         window: window.parse().map_err(|_| Stop::Row)?,
     };
-    if word == "client" {
-        push_client(alloc, out, made, text)
-    } else if word == "files" {
-        Ok(out.extend_from_slice(worlds::files(alloc, made, setup, text)?.as_slice())?)
-    } else {
-        push_rows(alloc, out, (made, setup), word, text)
+    match word {
+        "client" => push_client(alloc, out, made, text),
+        "files" => Ok(out.extend_from_slice(worlds::files(alloc, made, setup, text)?.as_slice())?),
+        "turns" | "runs" | "watches" | "loops" => {
+            let script = script(alloc, input, name)?;
+            push_link_rows(alloc, out, (made, setup), (script, word), text)
+        }
+        _ => push_rows(alloc, out, (made, setup), word, text),
     }
 }
 
@@ -136,7 +170,7 @@ fn push_part(alloc: Global, out: &mut Vec<u8>, input: &str, piece: &str) -> Resu
     let setup = part(input, "setup").ok_or(Stop::Row)?;
     push_line(out, format!(in alloc; "[{head}]")?.as_str())?;
     match head.split_once(" ").unwrap_or((head, "")) {
-        ("program" | "setup", _) => Ok(push_text(out, text)?),
+        ("program" | "setup" | "replies" | "commands", _) => Ok(push_text(out, text)?),
         ("server", _) => push_server(alloc, out, setup, text),
         head => push_rows_of(alloc, out, (input, setup), head, text),
     }

@@ -15,6 +15,11 @@ pub(crate) fn new_server(alloc: Global, setup: &str) -> Result<Server, Stop> {
     Ok(Server::new(alloc, setup)?)
 }
 
+/// Whether a server takes bytes: it stands on a connection.
+pub(crate) fn is_on(server: &mut Server) -> bool {
+    server.feed(b"").is_ok()
+}
+
 fn length(numeral: &str) -> Um {
     match read_um(numeral.as_bytes(), Um::wire_limit()) {
         Ok(length) => length,
