@@ -22,14 +22,16 @@ def plain(program="plain"):
     return os.path.join(folder, "target", "release", program)
 
 
-def profiled(words):
-    """The instructions of a run (valgrind --tool=callgrind), those in the body of each function of each file, and what it prints."""
+def profiled(words, with_callees=False):
+    """The instructions of a run (valgrind --tool=callgrind), those in the body of each function of each file, or in all that it calls as
+    well, and what the run prints."""
     with tempfile.TemporaryDirectory() as folder:
         run = subprocess.run(["valgrind", "--tool=callgrind", f"--callgrind-out-file={folder}/out"] + words,
                              stdout=subprocess.PIPE, stderr=subprocess.PIPE)
-        table = subprocess.run(["callgrind_annotate", "--threshold=100", f"{folder}/out"],
+        options = ["--threshold=100", f"--inclusive={'yes' if with_callees else 'no'}"]
+        table = subprocess.run(["callgrind_annotate"] + options + [f"{folder}/out"],
                                stdout=subprocess.PIPE, stderr=subprocess.DEVNULL, text=True).stdout
-    rows = re.findall(r"^ *([\d,]+) \([ \d.]+%\)  (.*)$", table, re.MULTILINE)
+    rows = re.findall(r"^ *([\d,]+) \([ \d.]+%\)  (\S+:.* \[.*\])$", table, re.MULTILINE)
     bodies = [(int(count.replace(",", "")), place) for count, place in rows]
     return int(re.search(rb"Collected : (\d+)", run.stderr).group(1)), bodies, run.stdout
 

@@ -11,8 +11,9 @@ measure.py: the same run with no touch is taken off, and growth is what the seco
 
 It needs strace, valgrind, cargo, and the built program (see counting.py). It takes a few minutes.
 
-usage: bench/loop.py [--only-times] [DME]    DME is the program measured, if not the built one
+usage: bench/loop.py [--runs N] [--only-times] [DME]    DME is the program measured, if not the built one
 """
+import argparse
 import os
 import re
 import subprocess
@@ -20,7 +21,7 @@ import sys
 import tempfile
 import time
 
-from counting import built, counted, plain, profiled
+from counting import built, peak, plain, profiled
 
 SIZES = (1_000, 9_800)  # a program of 10,000 statements has no room for more touches in features of 100
 WINDOWS = (1, 16)
@@ -28,6 +29,10 @@ RUNS = 5
 FEATURE = 100
 SHIFTS = ((2, 0, 0), (0, 0, 4), (-1, 1, 0))  # in micrometres
 FUNCTIONS = 16
+PARTS = ("dme_program::reading::read_program", "link_world::links::watched_turn", "link_world::server_pump::serve_turns",
+         "link_world::report_text::write_report", "client_core::client::Client::send", "client_core::client::Client::read_one",
+         "server_core::server::Server::read_one", "server_core::server::Server::turn", "server_core::server::Server::machine",
+         "__memset_avx2_unaligned_erms")
 
 
 def program_of(touches):
@@ -165,72 +170,87 @@ def least(runs):
     return [1000 * min(times) for times in zip(*runs)]
 
 
-def times(exchange):
-    """The least times of both, and of plain with the other setting of TCP_NODELAY."""
+def times(exchange, count):
+    """The least times of both in so many runs, and of plain with the other setting of TCP_NODELAY."""
     other = [word for word in exchange.theirs if word != "nodelay"]
     if other == exchange.theirs:
         other = exchange.theirs + ["nodelay"]
-    runs = [[seconds(words) for words in (exchange.ours, exchange.theirs, other)] for _ in range(RUNS)]
+    runs = [[seconds(words) for words in (exchange.ours, exchange.theirs, other)] for _ in range(count)]
     return [least(one) for one in zip(*runs)]
 
 
 def counts(exchanges, words_of):
     """The instructions of so many touches, and their growth."""
-    none, half, whole = (counted(words_of(exchange), "")[0] for exchange in exchanges)
+    none, half, whole = (profiled(words_of(exchange))[0] for exchange in exchanges)
     return whole - none, (whole - half) / (half - none)
 
 
-def print_times(exchanges):
-    print("| Measured | Bytes | Turns | Ours | Plain | Ours / plain | Ours, processor | Plain, processor | Ours / plain |")
-    print("|---|---|---|---|---|---|---|---|---|", flush=True)
+def print_times(exchanges, count):
+    print("| Measured | Bytes | Turns | Ours | Plain | Ours / plain | More, a touch | Ours, processor | Plain, processor | Ours / plain |")
+    print("|---|---|---|---|---|---|---|---|---|---|", flush=True)
     apart = []
     for exchange in exchanges:
-        receives = exchange.must_agree()
-        (wall, used), (wall_plain, used_plain), (wall_other, used_other) = times(exchange)
+        receives, receives_plain = exchange.must_agree()
+        (wall, used), (wall_plain, used_plain), (wall_other, used_other) = times(exchange, count)
         print(f"| {exchange.name} | {exchange.bytes():,} | {len(exchange.turns):,} | {wall:.1f} ms | {wall_plain:.1f} ms | "
-              f"{wall / wall_plain:.2f} | {used:.1f} ms | {used_plain:.1f} ms | {used / used_plain:.2f} |", flush=True)
-        apart.append(f"{exchange.name}: {wall_other:.1f} ms, processor {used_other:.1f} ms, receives {receives[0]:,} and {receives[1]:,}")
-    print("\nPlain with the other setting of TCP_NODELAY, and how often ours and plain receive:")
+              f"{wall / wall_plain:.2f} | {1000 * (wall - wall_plain) / exchange.touches:.2f} µs | {used:.1f} ms | {used_plain:.1f} ms | "
+              f"{used / used_plain:.2f} |", flush=True)
+        apart.append(f"{exchange.name}: {wall_other:.1f} ms, processor {used_other:.1f} ms; "
+                     f"received {receives:,} times, plain {receives_plain:,}")
+    is_set = "nodelay" in exchanges[0].theirs
+    print(f"\nTCP_NODELAY is {'set' if is_set else 'not set'}. Plain with the other setting, and how often bytes are received:")
     print("\n".join(apart), flush=True)
 
 
 def print_counts(make):
-    print("\n| Measured | Ours | Each | Plain | Each | Ours / plain | Growth, ours | Growth, plain |")
-    print("|---|---|---|---|---|---|---|---|", flush=True)
+    print("\n| Measured | Ours | Each | Plain | Each | Ours / plain | Growth, ours | Growth, plain | Peak, ours | Peak, plain |")
+    print("|---|---|---|---|---|---|---|---|---|---|", flush=True)
     for size in SIZES:
         for window in WINDOWS:
             parts = [make(touches, window) for touches in (0, size // 2, size)]
             count, growth = counts(parts, lambda part: part.ours)
             count_plain, growth_plain = counts(parts, lambda part: part.theirs)
+            memory, memory_plain = (peak(words)[0] for words in (parts[-1].ours, parts[-1].theirs))
             print(f"| {parts[-1].name} | {count:,} | {count / size:,.1f} a touch | {count_plain:,} | {count_plain / size:,.1f} | "
-                  f"{count / count_plain:.2f} | {growth:.3f} | {growth_plain:.3f} |", flush=True)
+                  f"{count / count_plain:.2f} | {growth:.3f} | {growth_plain:.3f} | {memory:,} KiB | {memory_plain:,} KiB |", flush=True)
+
+
+def named(place):
+    """The name of a function that callgrind_annotate shows, without what it is made for."""
+    return re.sub(r"::<.*", "", re.fullmatch(r"\S+?:(.*) \[.*\]", place).group(1))
+
+
+def told(bodies, touches, is_wanted):
+    """The costliest of some functions, with their instructions for each touch."""
+    functions = {}
+    for count, place in bodies:
+        functions[named(place)] = functions.get(named(place), 0) + count
+    most = sorted((row for row in functions.items() if is_wanted(row[0])), key=lambda row: -row[1])[:FUNCTIONS]
+    return "; ".join(f"{name} {count / touches:,.0f}" for name, count in most)
 
 
 def print_bodies(make):
-    """Where ours has its instructions: those in the bodies of the costliest functions, and of each crate, a touch."""
+    """Where ours has its instructions, for each touch: those of its parts with all that they call, and those in the bodies of the costliest
+    functions."""
     for window in WINDOWS:
         exchange = make(SIZES[-1], window)
-        _, bodies, _ = profiled(exchange.ours)
-        print(f"\n{exchange.name}, instructions a touch in the bodies of")
-        crates = {}
-        for count, place in bodies:
-            name = re.sub(r" \[.*", "", place).split(":", 1)[1]
-            crate = name.split("::")[0] if place.startswith("???:") and "::" in name else "C library"
-            crates[crate] = crates.get(crate, 0) + count
-        for part in (sorted(((count, re.sub(r" \[.*", "", place).split(":", 1)[1]) for count, place in bodies), reverse=True)[:FUNCTIONS],
-                     sorted(((count, crate) for crate, count in crates.items()), reverse=True)[:FUNCTIONS]):
-            print("; ".join(f"{name} {count / exchange.touches:,.0f}" for count, name in part), flush=True)
+        print(f"\n{exchange.name}, instructions a touch")
+        print("with all that is called:", told(profiled(exchange.ours, True)[1], exchange.touches, lambda name: name in PARTS))
+        print("in bodies:", told(profiled(exchange.ours)[1], exchange.touches, lambda _: True), flush=True)
 
 
 def main():
-    wanted = [word for word in sys.argv[1:] if word != "--only-times"]
-    ours = wanted[0] if wanted else built("dme_program")
+    words = argparse.ArgumentParser()
+    words.add_argument("--runs", type=int, default=RUNS)
+    words.add_argument("--only-times", action="store_true")
+    words.add_argument("dme", nargs="?", default=built("dme_program"))
+    given = words.parse_args()
     theirs = plain("ping_pong")
     with tempfile.TemporaryDirectory() as folder:
         def make(touches, window):
-            return Exchange(folder, ours, theirs, touches, window)
-        print_times([make(size, window) for size in SIZES for window in WINDOWS])
-        if "--only-times" not in sys.argv:
+            return Exchange(folder, given.dme, theirs, touches, window)
+        print_times([make(size, window) for size in SIZES for window in WINDOWS], given.runs)
+        if not given.only_times:
             print_counts(make)
             print_bodies(make)
 
