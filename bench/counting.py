@@ -15,23 +15,31 @@ def built(crate):
 
 
 @functools.cache
-def plain():
-    """The plain program of bench/plain/, built anew where its sources have changed."""
+def plain(program="plain"):
+    """A program of bench/plain/, built anew where its sources have changed."""
     folder = os.path.join(os.path.dirname(os.path.abspath(__file__)), "plain")
     subprocess.run(["cargo", "build", "--release", "--offline", "--quiet"], cwd=folder, check=True)
-    return os.path.join(folder, "target", "release", "plain")
+    return os.path.join(folder, "target", "release", program)
+
+
+def profiled(words, with_callees=False):
+    """The instructions of a run (valgrind --tool=callgrind), those in the body of each function of each file, or in all that it calls as
+    well, and what the run prints."""
+    with tempfile.TemporaryDirectory() as folder:
+        run = subprocess.run(["valgrind", "--tool=callgrind", f"--callgrind-out-file={folder}/out"] + words,
+                             stdout=subprocess.PIPE, stderr=subprocess.PIPE)
+        options = ["--threshold=100", f"--inclusive={'yes' if with_callees else 'no'}"]
+        table = subprocess.run(["callgrind_annotate"] + options + [f"{folder}/out"],
+                               stdout=subprocess.PIPE, stderr=subprocess.DEVNULL, text=True).stdout
+    rows = re.findall(r"^ *([\d,]+) \([ \d.]+%\)  (\S+:.* \[.*\])$", table, re.MULTILINE)
+    bodies = [(int(count.replace(",", "")), place) for count, place in rows]
+    return int(re.search(rb"Collected : (\d+)", run.stderr).group(1)), bodies, run.stdout
 
 
 def counted(words, own):
     """The instructions of a run (valgrind --tool=callgrind), those of them in the program `own`, and what it prints."""
-    with tempfile.TemporaryDirectory() as folder:
-        run = subprocess.run(["valgrind", "--tool=callgrind", f"--callgrind-out-file={folder}/out"] + words,
-                             stdout=subprocess.PIPE, stderr=subprocess.PIPE)
-        table = subprocess.run(["callgrind_annotate", "--threshold=100", f"{folder}/out"],
-                               stdout=subprocess.PIPE, stderr=subprocess.DEVNULL, text=True).stdout
-    rows = re.findall(r"^ *([\d,]+) \([ \d.]+%\)  (.*)$", table, re.MULTILINE)
-    ours = sum(int(count.replace(",", "")) for count, place in rows if f"{own}]" in place)
-    return int(re.search(rb"Collected : (\d+)", run.stderr).group(1)), ours, run.stdout
+    everything, bodies, printed = profiled(words)
+    return everything, sum(count for count, place in bodies if f"{own}]" in place), printed
 
 
 def peak(words):
