@@ -74,6 +74,7 @@ fn run_program<
 ) -> Result<u8, Fault>
     requires { is_window window ≡ true }
 {
+    let mut file = NamedFile::new(rt, features.as_deref())?;
     let mut watcher = Progress::new(rt, is_told, program.features().len());
     let client = kept_client(rt.alloc(), program, kept, window)?;
     let stream = match TcpStream::connect(rt, (host, port)) {
@@ -86,9 +87,10 @@ fn run_program<
         &mut Reading::new(&stream),
         &mut Writing::new(&stream),
         &mut watcher,
-        &mut NamedFile::new(rt, features.as_deref()),
+        &mut file,
         &mut Writing::new(io::writer(rt)),
     );
+    drop(file);
     match result {
         Ok(driven) => run_verdict(rt, driven, features, is_told),
         Err(fault) => Err(of_output(rt, fault)),

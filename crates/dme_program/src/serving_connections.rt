@@ -78,6 +78,7 @@ fn serve_setup<
     contacts: Option<String>,
     is_told: bool,
 ) -> Result<u8, Fault> {
+    let mut file = NamedFile::new(rt, contacts.as_deref())?;
     let mut machine = Simulated::new(rt.alloc(), &setup)?;
     let mut server = Server::new(rt.alloc(), setup)?;
     let listener = match TcpListener::bind(rt, ("127.0.0.1", port)) {
@@ -95,9 +96,10 @@ fn serve_setup<
     let result = close_service(
         rt.alloc(),
         server.ledger(),
-        &mut NamedFile::new(rt, contacts.as_deref()),
+        &mut file,
         &mut Writing::new(io::writer(rt)),
     );
+    drop(file);
     match result {
         Ok(is_kept) => {
             let unwritten = if is_kept { None } else { contacts };

@@ -3,7 +3,7 @@
 ghost use Rattle.std.specs.Prelude.{◌≡◌, List, ℕ, Option, None, OnOk, OnErr, IfSome};
 
 use byte_ports::Failed;
-use std::alloc::Global;
+use std::alloc::{AllocError, Global};
 use std::fs::{self, OpenFile};
 use std::io::Write;
 use std::rt::Files;
@@ -24,22 +24,25 @@ pub trait TextFile {
 #[derive(Drop)]
 pub struct NamedFile<'a, R> {
     rt: &'a R,
-    name: Option<&'a str>,
+    names: Option<(&'a str, String)>,
 }
 
 impl<'a, R: Files + AllocGlobal> NamedFile<'a, R> {
-    /// The file of this name, if one is named.
-    pub fn new(rt: &'a R, name: Option<&'a str>) -> Self {
-        NamedFile { rt, name }
+    /// The file of this name, if one is named. The name of the one beside it is made here, so that nothing is to grow when all is done.
+    pub fn new(rt: &'a R, name: Option<&'a str>) -> Result<Self, AllocError> {
+        let names = match name {
+            Some(name) => Some((name, Self::beside(rt.alloc(), name)?)),
+            None => None,
+        };
+        Ok(NamedFile { rt, names })
     }
 
     /// The name of the file beside.
-    fn beside(alloc: Global, name: &str) -> Result<String, Failed> {
+    fn beside(alloc: Global, name: &str) -> Result<String, AllocError> {
         let mut beside = String::new(alloc);
-        match write!(beside, "{name}.new") {
-            Ok(()) => Ok(beside),
-            Err(_) => Err(Failed),
-        }
+        beside.push_str(name)?;
+        beside.push_str(".new")?;
+        Ok(beside)
     }
 
     /// Whether a new file may take this name: nothing has it, or a plain file, which is no link, no device and no pipe.
@@ -87,11 +90,10 @@ impl<'a, R: Files + AllocGlobal> TextFile for NamedFile<'a, R> {
     ghost kept = { λ _. None };
 
     fn replace(&mut self, text: &[u8]) -> Result<(), Failed> {
-        let Some(name) = self.name else {
+        let Some((name, beside)) = &self.names else {
             return Ok(());
         };
-        let beside = Self::beside(self.rt.alloc(), name)?;
-        match self.write(text, beside.as_str(), name) {
+        match self.write(text, beside.as_str(), *name) {
             Ok(()) => Ok(()),
             Err(_) => Err(Failed),
         }

@@ -1,0 +1,253 @@
+"""Refuses each growth of a run in turn: the first, then the second, up to the last that it makes (refuse.c).
+
+Of an order, each run has to end with status 4 and `dme: out of memory`. `check`, `simulate` and `audit` have then printed nothing; an order
+over a connection has printed nothing, or the report of what was done until then, and left its file as it was or put such a front in it. Of
+the calls behind it (`call_rows`), each growth of a pump or of a whole connection has to be answered as want of memory, the side has left, and
+a front of its lines has gone out. A run that asks for room beforehand and can do without it may be as if nothing was refused: one of a run.
+
+`run` calls this; by itself: tests/growths.py [NAME ..]
+"""
+
+import os
+import pathlib
+import shutil
+import subprocess
+import sys
+import tempfile
+
+from listening import free_port, wait_for_listener
+
+TESTS = pathlib.Path(__file__).resolve().parent
+ROOT = TESTS.parent
+EXAMPLES = ROOT / "examples"
+PROGRAM = ROOT / "crates" / "dme_program" / "out" / "dme_program"
+CALLS = ROOT / "crates" / "call_rows" / "out" / "call_rows"
+WANT = (4, "dme: out of memory\n")
+SECONDS = 20
+
+# A call of pumps or of a whole connection, on what follows `replies ONE` or `commands ONE`, and what it answers with memory.
+CALL_ROWS = {
+    "a_turn_of_a_client": ("turns ONE 1", "least 9, bound 100 < 00001 &|;", "Moved { read: 9, written: 22 } Running on: "),
+    "a_run_of_a_client": ("runs ONE 1", "least 1 < all", "() Done on: "),
+    "a_run_of_a_client_byte_by_byte": ("runs ONE 1", "takes 1 < all", "() Done on: "),
+    "a_loop_of_both": ("loops ONE 1", "least 1 < all", "() Done on: "),
+    "a_turn_of_a_server": ("serves", "least 22, bound 4 < 00001 StartSession()|;", "Moved { read: 22, written: 18 } on: "),
+    "a_run_of_a_server": ("connections", "least 1 < 00001 StartSession()|;00002 Home()|;", "() off: "),
+}
+
+# An order of files, which prints all or nothing.
+FILE_ROWS = {
+    "check": "check --setup two_clampings.setup two_clampings.dmis",
+    "simulate": "simulate --setup machine.setup --schedule break_inside_a_feature.schedule circle.dmis",
+    "audit": "audit --setup machine.setup --features break_inside_a_feature.features"
+    " --contacts break_inside_a_feature.contacts circle.dmis",
+}
+
+
+class Wrong(Exception):
+    pass
+
+
+def must(is_so, *told):
+    if not is_so:
+        raise Wrong(" ".join(map(repr, told)))
+
+
+class Refusing:
+    """Runs programs of which one growth is refused."""
+
+    def __init__(self, room):
+        self.room = pathlib.Path(room)
+        self.library = self.room / "refuse.so"
+        subprocess.run(["cc", "-O1", "-shared", "-fPIC", "-o", self.library, TESTS / "refuse.c"], check=True)
+
+    def started(self, words, number, folder=EXAMPLES, counts=None, text=None):
+        """A program of which the growth of this number is refused; the count of its growths goes to a file, where one is given."""
+        told = dict(os.environ, LD_PRELOAD=str(self.library), REFUSE=str(number))
+        if counts is not None:
+            told["REFUSE_COUNT"] = str(counts.fileno())
+        kept = () if counts is None else (counts.fileno(),)
+        return subprocess.Popen(words, cwd=folder, env=told, pass_fds=kept, stdin=subprocess.PIPE if text else subprocess.DEVNULL,
+                                stdout=subprocess.PIPE, stderr=subprocess.PIPE, text=True)
+
+    def all_of(self, run):
+        """What a run gives with all memory, and with each of its growths refused in turn. `run` takes the number and a file of counts."""
+        with tempfile.TemporaryFile("w+") as counts:
+            whole = run(0, counts)
+            counts.seek(0)
+            growths = int(counts.read().split()[0])
+        return whole, [run(number, None) for number in range(1, growths + 1)]
+
+
+def ended(process, text=None):
+    output, errors = process.communicate(text, timeout=SECONDS)
+    return process.returncode, output, errors
+
+
+def is_front(rows, whole):
+    return whole[:len(rows)] == rows
+
+
+def must_be_front_of_report(output, whole):
+    """Nothing, or the report of a client that has left: features and contacts are fronts of the whole run's."""
+    rows, all_rows = output.splitlines(), whole.splitlines()
+    if not rows:
+        return
+    is_contact = lambda row: row.startswith("CONTACT ")
+    must(rows[0] == "STATE Apart" or rows[0] == all_rows[0], "another state", output)
+    must(int(rows[1].split()[1]) <= int(all_rows[1].split()[1]), "more is counted", output)
+    for part in (is_contact, lambda row: not is_contact(row)):
+        must(is_front(list(filter(part, rows[2:])), list(filter(part, all_rows[2:]))), "is no front", output)
+
+
+def must_want_memory(whole, runs, and_so):
+    """All runs but one at most end for want of memory, and what they print is so."""
+    others = [it for it in runs if it != whole]
+    must(len(others) >= len(runs) - 1, "done without", len(runs) - len(others), "of", len(runs))
+    for run in others:
+        must((run[0], run[2]) == WANT, "another end", run)
+        and_so(run)
+    return len(others)
+
+
+def file_row(refusing, words):
+    whole, runs = refusing.all_of(lambda number, counts: ended(refusing.started([PROGRAM, *words.split()], number, counts=counts)))
+    must(whole[0] == 0 and whole[2] == "", "with all memory", whole)
+    return must_want_memory(whole, runs, lambda run: must(run[1] == "", "something is printed", run))
+
+
+def loop_row(refusing, words):
+    whole, runs = refusing.all_of(lambda number, counts: ended(refusing.started([PROGRAM, *words.split()], number, counts=counts)))
+    must(whole[0] == 0 and "FEATURE " in whole[1], "with all memory", whole)
+    count = must_want_memory(whole, runs, lambda run: must_be_front_of_report(run[1], whole[1]))
+    must(any(run[1] for run in runs if run != whole), "no report of what was done")
+    return count
+
+
+class Pair:
+    """`dme serve` and `dme run` over one connection, each with its file; a growth of the one of them that is looked at is refused."""
+
+    ENDS = {
+        "serve": "serve --setup machine.setup --port PORT --contacts contacts",
+        "run": "run --setup machine.setup --host 127.0.0.1 --port PORT --features features circle.dmis",
+    }
+    FILES = {"serve": "contacts", "run": "features"}
+
+    def __init__(self, refusing, looked_at):
+        self.refusing = refusing
+        self.looked_at = looked_at
+
+    def started(self, end, port, number, counts, folder):
+        words = self.ENDS[end].replace("PORT", str(port)).split()
+        is_own = end == self.looked_at
+        return self.refusing.started([PROGRAM, *words], number if is_own else 0, folder, counts if is_own else None)
+
+    def run(self, number, counts):
+        """The end that is looked at, and the text of its file, or none."""
+        with tempfile.TemporaryDirectory() as room:
+            folder = pathlib.Path(room)
+            for name in ("machine.setup", "circle.dmis"):
+                shutil.copy(EXAMPLES / name, folder)
+            port = free_port()
+            server = self.started("serve", port, number, counts, folder)
+            wait_for_listener(port, lambda: server.poll() is not None, SECONDS)
+            client = self.started("run", port, number, counts, folder)
+            given = {"run": ended(client)}
+            if self.looked_at == "run" and given["run"][0] != 0:
+                # A server whose client never came would wait for ever.
+                server.kill()
+            given["serve"] = ended(server)
+            file = folder / self.FILES[self.looked_at]
+            must(not file.with_suffix(".new").exists(), "a file is left beside it")
+            return given[self.looked_at], file.read_text() if file.exists() else None
+
+
+def must_be_front_of_file(text, whole, ends):
+    """None, or the whole lines up to one of these ends."""
+    rows, all_rows = (text or "").splitlines(), whole.splitlines()
+    must(is_front(rows, all_rows) and (len(rows) <= 1 or rows[-1].startswith(ends)), "is no front of its file", text)
+
+
+def run_row(refusing):
+    (whole, file), runs = refusing.all_of(Pair(refusing, "run").run)
+    must(whole[0] == 0 and "FEATURE C" in whole[1] and file.endswith("END\n"), "with all memory", whole, file)
+    for _, text in runs:
+        must_be_front_of_file(text, file, "END")
+    return must_want_memory(whole, [it for it, _ in runs], lambda run: must_be_front_of_report(run[1], whole[1]))
+
+
+def serve_row(refusing):
+    (whole, file), runs = refusing.all_of(Pair(refusing, "serve").run)
+    must(whole[0] == 0 and whole[1].count("CONTACT ") == 3 and file.count("\n") > 3, "with all memory", whole, file)
+    for _, text in runs:
+        must_be_front_of_file(text, file, "1 ")
+    rows = whole[1].splitlines()
+    return must_want_memory(whole, [it for it, _ in runs], lambda run: must(is_front(run[1].splitlines(), rows), "is no front", run))
+
+
+def call_row(refusing, group, row, answer):
+    """The call is made on its own by `call_rows`, whose own growths end it with status 1 or 4. Its ports keep what went out in memory, so that a
+    growth of theirs is a port that fails."""
+    parts = "".join(part for part in parts_of((ROOT / "crates" / "call_rows" / "stdin").read_text())
+                    if part.split("]")[0] in ("[program ONE", "[setup", "[replies ONE", "[commands ONE"))
+    text = f"{parts}[{group}]\n{row}\n"
+
+    def run(number, counts):
+        return ended(refusing.started([CALLS], number, counts=counts, text=text), text)
+
+    whole, runs = refusing.all_of(run)
+    last = whole[1].splitlines()[-1]
+    must(whole[0] == 0 and last.startswith(f"{row} => {answer}"), "with all memory", last)
+    lines = last.partition(" on: ")[2] or last.partition(" off: ")[2]
+    refused = [it[1].splitlines()[-1].removeprefix(f"{row} => ") for it in runs if it != whole and it[0] == 0]
+    for told in refused:
+        why, _, went_out = told.partition(": ")
+        must(("Memory" in why or "WriteFailed" in why) and "off" in why, "another answer", told)
+        must("loops" in group or lines.startswith(went_out.partition(" features")[0]), "other lines went out", told)
+    must(all(it[0] == 0 or it[0] in (1, 4) and it[2] == "" for it in runs), "another end")
+    wanting = [told for told in refused if "Memory" in told]
+    must(wanting, "no growth of the call was met")
+    return len(wanting)
+
+
+def parts_of(text):
+    parts = []
+    for line in text.splitlines(keepends=True):
+        if line.startswith("["):
+            parts.append("")
+        parts[-1] += line
+    return parts
+
+
+def growth_rows(refusing):
+    """Each row by its name."""
+    rows = {name: lambda words=words: file_row(refusing, words) for name, words in FILE_ROWS.items()}
+    rows["loop"] = lambda: loop_row(refusing, "loop --setup machine.setup circle.dmis")
+    rows["loop_of_two_features"] = lambda: loop_row(refusing, "loop --setup machine.setup --window 16 two_frames.dmis")
+    rows["run"] = lambda: run_row(refusing)
+    rows["serve"] = lambda: serve_row(refusing)
+    for name, row in CALL_ROWS.items():
+        rows[name] = lambda row=row: call_row(refusing, *row)
+    return rows
+
+
+def check_growths(names=()):
+    """How many rows are as they have to be, and how many are not."""
+    wrong = 0
+    with tempfile.TemporaryDirectory() as room:
+        rows = growth_rows(Refusing(room))
+        for name in names or rows:
+            try:
+                told = f"{rows[name]()} growths refused"
+            except (Wrong, OSError, subprocess.SubprocessError, IndexError, ValueError) as why:
+                wrong += 1
+                told = f"not as it has to be: {why}"
+            if names or "not as" in told:
+                print(f"growths of {name}: {told}")
+    count = len(names or rows)
+    print(f"rows of refused growths: {count - wrong} of {count}", flush=True)
+    return count - wrong, wrong
+
+
+if __name__ == "__main__":
+    sys.exit(1 if check_growths(sys.argv[1:] or list(growth_rows(None)))[1] else 0)
