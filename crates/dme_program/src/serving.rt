@@ -35,6 +35,14 @@ pub fn serve_one<M: Machine, R: Source, W: Sink>(
     ensures refused { may_accept number server.old.end.server ≡ false
         → IsErrOf result (PumpFault.Core ServerFault.NotNow) × (server.new ≡ server.old) }
     ensures keeps { M.answers machine.new ≡ M.answers machine.old }
+
+    // A port is blamed where it has failed, and only there.
+    ensures read_failed { IsErrOf result PumpFault.ReadFailed → R.has_failed source.new ≡ true }
+    ensures write_failed { IsErrOf result PumpFault.WriteFailed → W.has_failed sink.new ≡ true }
+    ensures source_works { R.has_failed source.old ≡ false → R.has_failed source.new ≡ true
+        → IsErrOf result PumpFault.ReadFailed }
+    ensures sink_works { W.has_failed sink.old ≡ false → W.has_failed sink.new ≡ true
+        → IsErrOf result PumpFault.WriteFailed }
 {
     server.accept(number)?;
     serve_link(server, machine, source, sink)
@@ -94,6 +102,8 @@ pub fn close_service<F: TextFile, O: Sink>(
 
     // The output is blamed where it has failed, and only there; but for that nothing was written to it.
     ensures faults { IfErr result IsOfOutput }
+    ensures unwritten { O.has_failed out.old ≡ false → O.has_failed out.new ≡ true
+        → IsErrOf result FilesFault.Write }
     ensures write { IsErrOf result FilesFault.Write → O.has_failed out.new ≡ true }
     ensures front { IsErrOf result FilesFault.Write → AppendsFront (O.taken out.old)
         (O.taken out.new) (contact_rows (reported ledger.now)) }
