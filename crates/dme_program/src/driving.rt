@@ -1,6 +1,6 @@
 // A program is run on a server over a connection, over ports.
 
-ghost use Rattle.std.specs.Prelude.{◌≡◌, ◌<◌, length, true, false, OnOk, OnErr, IfOk, IfErr, IsErrOf};
+ghost use Rattle.std.specs.Prelude.{◌≡◌, ◌<◌, length, true, false, Some, OnOk, OnErr, IfOk, IfErr, IsErrOf};
 ghost use Rattle.contact_ledger.specs.FeatureTexts.{IsFeatures};
 ghost use Rattle.protocol_model.specs.Ends.{end_connected};
 ghost use Rattle.client_core.specs.Clients.{may_connect};
@@ -16,7 +16,7 @@ use byte_ports::{Failed, Sink, Source};
 use client_core::{Client, ClientFault};
 use contact_ledger::laws::written_features_are_read_back;
 use contact_ledger::write_features;
-use link_world::{LoopFault, Watcher, watch_link};
+use link_world::{LoopFault, PumpFault, Watcher, watch_link};
 use std::alloc::{AllocError, Global};
 
 /// How a run on a server has ended.
@@ -49,6 +49,14 @@ fn turns_of_client<R: Source, W: Sink, N: Watcher>(
 ) -> Option<LoopFault>
     ensures came { RunCame client.old client.new (R.left source.old) (R.left source.new)
         (W.taken sink.old) (W.taken sink.new) result }
+    ensures read_failed { result ≡ Some (LoopFault.Client PumpFault.ReadFailed)
+        → R.has_failed source.new ≡ true }
+    ensures write_failed { result ≡ Some (LoopFault.Client PumpFault.WriteFailed)
+        → W.has_failed sink.new ≡ true }
+    ensures source_works { R.has_failed source.old ≡ false → R.has_failed source.new ≡ true
+        → result ≡ Some (LoopFault.Client PumpFault.ReadFailed) }
+    ensures sink_works { W.has_failed sink.old ≡ false → W.has_failed sink.new ≡ true
+        → result ≡ Some (LoopFault.Client PumpFault.WriteFailed) }
 {
     match watch_link(client, source, sink, watcher) {
         Ok(()) => None,
@@ -100,6 +108,14 @@ fn turned<R: Source, W: Sink, N: Watcher, F: TextFile>(
         (record { left = R.left source.new; taken = W.taken sink.new; kept = F.kept file.new })
         end.0 end.1.items) }
     ensures some { IfOk result (λ end. 0 < length end.1.items) }
+    ensures read_failed { IfOk result (λ end. end.0.ended.broken
+        ≡ Some (LoopFault.Client PumpFault.ReadFailed) → R.has_failed source.new ≡ true) }
+    ensures write_failed { IfOk result (λ end. end.0.ended.broken
+        ≡ Some (LoopFault.Client PumpFault.WriteFailed) → W.has_failed sink.new ≡ true) }
+    ensures source_works { R.has_failed source.old ≡ false → R.has_failed source.new ≡ true
+        → IfOk result (λ end. end.0.ended.broken ≡ Some (LoopFault.Client PumpFault.ReadFailed)) }
+    ensures sink_works { W.has_failed sink.old ≡ false → W.has_failed sink.new ≡ true
+        → IfOk result (λ end. end.0.ended.broken ≡ Some (LoopFault.Client PumpFault.WriteFailed)) }
 {
     let mut client = client;
     come(&mut client)?;
@@ -131,6 +147,16 @@ pub fn drive<R: Source, W: Sink, N: Watcher, F: TextFile, O: Sink>(
         (record { left = R.left source.new; taken = W.taken sink.new; kept = F.kept file.new })
         driven (O.taken out.old) (O.taken out.new)) }
     ensures works { OnOk result (O.has_failed out.new ≡ false) }
+
+    // A port of the connection is told as what broke it off where it has failed, and only there.
+    ensures read_failed { IfOk result (λ driven. driven.ended.broken
+        ≡ Some (LoopFault.Client PumpFault.ReadFailed) → R.has_failed source.new ≡ true) }
+    ensures write_failed { IfOk result (λ driven. driven.ended.broken
+        ≡ Some (LoopFault.Client PumpFault.WriteFailed) → W.has_failed sink.new ≡ true) }
+    ensures source_works { R.has_failed source.old ≡ false → R.has_failed source.new ≡ true
+        → IfOk result (λ driven. driven.ended.broken ≡ Some (LoopFault.Client PumpFault.ReadFailed)) }
+    ensures sink_works { W.has_failed sink.old ≡ false → W.has_failed sink.new ≡ true
+        → IfOk result (λ driven. driven.ended.broken ≡ Some (LoopFault.Client PumpFault.WriteFailed)) }
 
     // The output is blamed where it has failed, and only there; but for that nothing was written to it.
     ensures faults { IfErr result IsOfOutput }

@@ -34,6 +34,8 @@ pub fn serve_one<M: Machine, R: Source, W: Sink>(
         (W.taken sink.new) result }
     ensures refused { may_accept number server.old.end.server ≡ false
         → IsErrOf result (PumpFault.Core ServerFault.NotNow) × (server.new ≡ server.old) }
+    ensures left { may_accept number server.old.end.server ≡ true
+        → server.new.end.server.on ≡ false }
     ensures keeps { M.answers machine.new ≡ M.answers machine.old }
 
     // A port is blamed where it has failed, and only there.
