@@ -1,5 +1,5 @@
 // A source of stored pieces.
-ghost use Rattle.std.specs.Prelude.{◌≡◌, ◌-◌, ◌<◌, ◌≤◌, ◌++◌, ◌↔◌, [], min, length, take, true, false, option_map, IfOk, OnOk, MatchResult, OnErr, IsOk, IsErr};
+ghost use Rattle.std.specs.Prelude.{◌≡◌, ◌+◌, ◌-◌, ◌^◌, ◌<◌, ◌≤◌, ◌++◌, ◌↔◌, [], min, length, take, true, false, option_map, IfOk, OnOk, MatchResult, OnErr, IsOk, IsErr};
 ghost use Rattle.std.specs.Io.KnownBytes.{ReadConsumes};
 
 use crate::fuse::Fuse;
@@ -31,6 +31,7 @@ impl Model for Pieces {
       pieces = without_front p.given (map (λ v. v.items) p.pieces.items);
       calls_left = p.fuse.0;
       has_failed = p.fuse.1;
+      calls = p.fuse.2;
     } };
 
     ghost invariant = { λ p. HoldMore p.given (map (λ v. v.items) p.pieces.items) };
@@ -43,7 +44,12 @@ impl Pieces {
 
     /// A source with nothing in it, whose pulls all work.
     pub fn new(alloc: Global) -> Self
-        ensures { result ≡ record { pieces = []; calls_left = None; has_failed = false } }
+        ensures { result ≡ record {
+          pieces = [];
+          calls_left = None;
+          has_failed = false;
+          calls = 0;
+        } }
     {
         Pieces {
             alloc,
@@ -61,6 +67,7 @@ impl Pieces {
           pieces = [];
           calls_left = Some (call - 1);
           has_failed = false;
+          calls = 0;
         } }
     {
         Pieces {
@@ -130,6 +137,8 @@ impl Source for Pieces {
 
     ghost has_failed = { λ p. p.has_failed };
 
+    ghost calls = { λ p. p.calls };
+
     #[tactic(auto, using(crate::proofs::StoredLemmas::given))]
     fn pull(&mut self, buf: &mut [u8]) -> Result<usize, Failed>
         ensures within { IfOk result (λ n. n ≤ length buf.new) }
@@ -138,6 +147,7 @@ impl Source for Pieces {
         ensures works { OnOk result (self.new.has_failed ≡ false) }
         ensures fails { OnErr result (self.new.has_failed ≡ true) }
         ensures stays { self.old.has_failed ≡ true → self.new.has_failed ≡ true }
+        ensures counts { self.new.calls ≤ self.old.calls + 1 }
 
         ensures due { IsErr result ↔ (self.old.calls_left ≡ Some 0) }
         ensures count { IfOk result (λ n. n ≡ min (length (next_piece self.old.pieces))
@@ -145,6 +155,7 @@ impl Source for Pieces {
         ensures after { IfOk result (λ n. self.new.pieces ≡ pieces_after n self.old.pieces) }
         ensures kept { OnErr result (self.new.pieces ≡ self.old.pieces) }
         ensures call { self.new.calls_left ≡ option_map (λ n. n - 1) self.old.calls_left }
+        ensures called { self.new.calls ≡ min (self.old.calls + 1) (2 ^ 64 - 1) }
     {
         self.fuse.call()?;
         Ok(self.give(buf))

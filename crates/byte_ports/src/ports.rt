@@ -1,5 +1,5 @@
 // The two traits that all movement of bytes is written against.
-ghost use Rattle.std.specs.Prelude.{◌≡◌, ℕ, ◌<◌, ◌≤◌, List, Option, Bool, true, false, length, IfOk, OnOk, OnErr};
+ghost use Rattle.std.specs.Prelude.{◌≡◌, ℕ, ◌+◌, ◌<◌, ◌≤◌, List, Option, Bool, true, false, length, IfOk, OnOk, OnErr};
 ghost use Rattle.std.specs.Io.KnownBytes.{ReadConsumes, WriteAppends};
 
 /// The device behind a port refused a read or a write.
@@ -8,12 +8,17 @@ pub struct Failed;
 
 /// Where bytes come from.
 ///
-/// `left` is the bytes that are still to come, where the port tells them, and
-/// `has_failed` whether the device has refused a read so far.
+/// `left` is the bytes that are still to come, where the port tells them,
+/// `has_failed` whether the device has refused a read so far, and `calls` a
+/// count that each pull raises by one at most, and nothing else does: how
+/// often the port was called, where it counts that, else 0 throughout. What is
+/// proved of any port's `calls` so bounds how often it is called.
 pub trait Source {
     ghost left: { Self → Option (List ℕ) };
 
     ghost has_failed: { Self → Bool };
+
+    ghost calls: { Self → ℕ } = { λ _. 0 };
 
     /// Takes the next bytes into the front of `buf` and answers how many.
     ///
@@ -26,17 +31,21 @@ pub trait Source {
         ensures bytes { ReadConsumes (left self.old) (left self.new) result buf.new }
         ensures works { OnOk result (has_failed self.new ≡ false) }
         ensures fails { OnErr result (has_failed self.new ≡ true) }
-        ensures stays { has_failed self.old ≡ true → has_failed self.new ≡ true };
+        ensures stays { has_failed self.old ≡ true → has_failed self.new ≡ true }
+        ensures counts { calls self.new ≤ calls self.old + 1 };
 }
 
 /// Where bytes go.
 ///
-/// `taken` is the bytes that were taken so far, where the port tells them, and
-/// `has_failed` whether the device has refused a write so far.
+/// `taken` is the bytes that were taken so far, where the port tells them,
+/// `has_failed` whether the device has refused a write so far, and `calls` a
+/// count of its pushes, as a source's `calls` is of its pulls.
 pub trait Sink {
     ghost taken: { Self → Option (List ℕ) };
 
     ghost has_failed: { Self → Bool };
+
+    ghost calls: { Self → ℕ } = { λ _. 0 };
 
     /// Hands over the front of `bytes` and answers how many were taken: at
     /// least one, unless there are none.
@@ -49,5 +58,6 @@ pub trait Sink {
         ensures bytes { WriteAppends (taken self.old) (taken self.new) result bytes.now }
         ensures works { OnOk result (has_failed self.new ≡ false) }
         ensures fails { OnErr result (has_failed self.new ≡ true) }
-        ensures stays { has_failed self.old ≡ true → has_failed self.new ≡ true };
+        ensures stays { has_failed self.old ≡ true → has_failed self.new ≡ true }
+        ensures counts { calls self.new ≤ calls self.old + 1 };
 }

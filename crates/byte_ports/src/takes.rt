@@ -1,5 +1,5 @@
 // A sink that takes few bytes at once.
-ghost use Rattle.std.specs.Prelude.{◌≡◌, ◌-◌, ◌<◌, ◌≤◌, ◌++◌, ◌⊎◌, [], min, length, take, true, false, option_map, IfOk, OnOk, OnErr, IsErr};
+ghost use Rattle.std.specs.Prelude.{◌≡◌, ◌+◌, ◌-◌, ◌^◌, ◌<◌, ◌≤◌, ◌++◌, ◌⊎◌, [], min, length, take, true, false, option_map, IfOk, OnOk, OnErr, IsErr};
 ghost use Rattle.std.specs.Io.KnownBytes.{WriteAppends};
 
 use crate::fuse::Fuse;
@@ -31,6 +31,7 @@ impl Model for Takes {
       room = vec_capacity t.taken - vec_len t.taken;
       calls_left = t.fuse.0;
       has_failed = t.fuse.1;
+      calls = t.fuse.2;
     } };
 
     ghost invariant = { λ t. 0 < t.most };
@@ -47,6 +48,7 @@ impl Takes {
         ensures most { result.most ≡ most }
         ensures calls { result.calls_left ≡ None }
         ensures fresh { result.has_failed ≡ false }
+        ensures none { result.calls ≡ 0 }
     {
         Takes {
             taken: Vec::new(alloc),
@@ -65,6 +67,7 @@ impl Takes {
         ensures most { result.most ≡ most }
         ensures calls { result.calls_left ≡ Some (call - 1) }
         ensures fresh { result.has_failed ≡ false }
+        ensures none { result.calls ≡ 0 }
     {
         Takes {
             taken: Vec::new(alloc),
@@ -88,6 +91,8 @@ impl Sink for Takes {
 
     ghost has_failed = { λ t. t.has_failed };
 
+    ghost calls = { λ t. t.calls };
+
     fn push(&mut self, bytes: &[u8]) -> Result<usize, Failed>
         ensures within { IfOk result (λ n. n ≤ length bytes.now) }
         ensures some { 0 < length bytes.now → IfOk result (λ n. 0 < n) }
@@ -95,6 +100,7 @@ impl Sink for Takes {
         ensures works { OnOk result (self.new.has_failed ≡ false) }
         ensures fails { OnErr result (self.new.has_failed ≡ true) }
         ensures stays { self.old.has_failed ≡ true → self.new.has_failed ≡ true }
+        ensures counts { self.new.calls ≤ self.old.calls + 1 }
 
         ensures count { IfOk result (λ n. n ≡ min (length bytes.now) self.old.most) }
         ensures due { self.old.calls_left ≡ Some 0 → IsErr result }
@@ -104,6 +110,7 @@ impl Sink for Takes {
             ≡ option_map (λ n. n - 1) self.old.calls_left) }
         ensures spent { OnErr result (self.new.calls_left ≡ Some 0) }
         ensures most { self.new.most ≡ self.old.most }
+        ensures called { self.new.calls ≡ min (self.old.calls + 1) (2 ^ 64 - 1) }
     {
         self.fuse.call()?;
         let count = bytes.len().min(self.most);
