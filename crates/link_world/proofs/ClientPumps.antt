@@ -21,11 +21,13 @@ use Rattle.client_core.specs.Clients.{is_faulted, may_read}
 use Rattle.client_core.specs.Refusals.{IsRefused, IsSendRefused, IsReadRefused}
 use Rattle.client_core.specs.declared.faults.ClientFault.{ClientFault}
 use Rattle.client_core.specs.declared.faults.ClientFault.TheVariants as client_fault
+use Rattle.link_world.specs.declared.pumps.Moved.{Moved}
 use Rattle.link_world.specs.declared.pumps.PumpFault.{PumpFault}
 use Rattle.link_world.specs.declared.pumps.PumpFault.TheVariants as fault
 use Rattle.link_world.specs.Pumps.{Stage, Sending, Writing, Taking, Reading, ClientTurn, begins, sends, writes, takes, has, reads}
-use Rattle.link_world.specs.Pumps.{ClientMoved, ClientStopped, HasRefused, IsLost, of_client}
-use Rattle.link_world.specs.PumpParts.{GoesOn, AllOut, Pushed, IsPushFault, IsPullFault, Came, CameShort, IsTakeFault, IsReadFault}
+use Rattle.link_world.specs.Pumps.{ClientMoved, ClientStopped, ClientMovedWithin, ClientStoppedWithin, lines_read, next_lines}
+use Rattle.link_world.specs.Pumps.{HasRefused, IsLost, of_client}
+use Rattle.link_world.specs.PumpParts.{GoesOn, ReadsOn, AllOut, Pushed, IsPushFault, IsPullFault, Came, CameShort, IsTakeFault, IsReadFault}
 use Rattle.link_world.proofs.EventsLeft.{left_of, less}
 
 -- what holds of a fault holds of the result that has it
@@ -85,22 +87,73 @@ none_lost fault.TurnsSpent = refl
 none_lost (fault.Core why) = refl
 none_lost fault.Memory = tt
 
--- while it sends
-pub stops_sending : (a b : ClientEnd) (f : PumpFault ClientFault) (least bound : ℕ) (left taken : Option (List ℕ))
-    → GoesOn Sending [] [] a b → HasRefused b f → ClientStopped least bound a (end_left b) left left taken taken f
-stops_sending a b f least bound left taken h r = record {
-  stage = Sending;
-  read = [];
-  written = [];
-  lost = [];
-  last = b;
-  turn = λ readers are. h readers are least a begins;
-  leaves = refl;
-  consumed = Consumes-nil left;
-  is_lost = none_lost f;
-  appended = Appends-nil taken;
-  why = refused_why least bound 0 0 (length a.input.rest) left b f r;
+-- ---- how many lines were read
+
+-- whether no line is read at a stage or before it
+abbrev pub is_unread : Stage → Bool
+is_unread Sending = true
+is_unread Writing = true
+is_unread Taking = true
+is_unread _ = false
+
+pub none_read : (readers : Readers) (least : ℕ) (start : ClientEnd) (stage : Stage) (read written : List ℕ) (e : ClientEnd)
+    (t : ClientTurn readers least start stage read written e) → is_unread stage ≡ true → lines_read t ≡ 0
+none_read readers least start _ _ _ _ begins is = refl
+none_read readers least start _ _ _ _ (sends e t due) is = none_read readers least start Sending [] [] e t refl
+none_read readers least start _ _ _ _ (writes e count t none within) is = none_read readers least start Sending [] [] e t refl
+none_read readers least start _ _ _ _ (takes e read written t out may) is = none_read readers least start Writing [] written e t refl
+none_read readers least start _ _ _ _ (has e read written t enough) is = absurd (false≢true is)
+none_read readers least start _ _ _ _ (reads e read written t may any) is = absurd (false≢true is)
+
+-- a turn that has stopped before it read lines
+pub unread_within : (bound calls calls_now least : ℕ) (old new : ClientEnd) (left left_now taken taken_now : Option (List ℕ))
+    (f : PumpFault ClientFault) (s : ClientStopped least bound old new left left_now taken taken_now f) → is_unread s.stage ≡ true
+    → calls_now ≤ calls + bound → ClientStoppedWithin bound calls calls_now least old new left left_now taken taken_now f
+unread_within bound calls calls_now least old new left left_now taken taken_now f s is most = record {
+  front = s;
+  within = λ readers are.
+      let none = none_read readers least old s.stage s.read s.written s.last (s.turn readers are) is in omega (arith, most, none);
 }
+
+-- how often the ports were called
+pub moved_calls : (bound calls calls_now least : ℕ) (old new : ClientEnd) (left left_now taken taken_now : Option (List ℕ)) (m : Moved)
+    → ClientMovedWithin bound calls calls_now least old new left left_now taken taken_now m → calls_now ≤ calls + bound
+moved_calls bound calls calls_now least old new left left_now taken taken_now m h =
+    let most = h.within some_are_readers.0 some_are_readers.1 in omega (arith, most)
+
+pub stopped_calls : (bound calls calls_now least : ℕ) (old new : ClientEnd) (left left_now taken taken_now : Option (List ℕ))
+    (f : PumpFault ClientFault) → ClientStoppedWithin bound calls calls_now least old new left left_now taken taken_now f
+    → calls_now ≤ calls + bound
+stopped_calls bound calls calls_now least old new left left_now taken taken_now f h =
+    let most = h.within some_are_readers.0 some_are_readers.1 in omega (arith, most)
+
+-- the calls of a port beside those that were counted
+pub stopped_beside : (more bound calls calls_now least : ℕ) (old new : ClientEnd) (left left_now taken taken_now : Option (List ℕ))
+    (f : PumpFault ClientFault) → ClientStoppedWithin bound calls calls_now least old new left left_now taken taken_now f
+    → ClientStoppedWithin bound (more + calls) (more + calls_now) least old new left left_now taken taken_now f
+stopped_beside more bound calls calls_now least old new left left_now taken taken_now f s = record {
+  front = s.front;
+  within = λ readers are. let before = s.within readers are in omega (arith, before);
+}
+
+-- while it sends
+pub stops_sending : (a b : ClientEnd) (f : PumpFault ClientFault) (least bound calls calls_now : ℕ) (left taken : Option (List ℕ))
+    → GoesOn Sending [] [] a b → HasRefused b f → calls_now ≤ calls + bound
+    → ClientStoppedWithin bound calls calls_now least a (end_left b) left left taken taken f
+stops_sending a b f least bound calls calls_now left taken h r most = unread_within bound calls calls_now least a (end_left b) left left
+    taken taken f (record {
+      stage = Sending;
+      read = [];
+      written = [];
+      lost = [];
+      last = b;
+      turn = λ readers are. h readers are least a begins;
+      leaves = refl;
+      consumed = Consumes-nil left;
+      is_lost = none_lost f;
+      appended = Appends-nil taken;
+      why = refused_why least bound 0 0 (length a.input.rest) left b f r;
+    }) refl most
 
 push_why : (least bound read held n m : ℕ) (left_now : Option (List ℕ)) (e : ClientEnd) (f : PumpFault ClientFault) → m ≡ n
     → IsPushFault bound n f → Rattle.link_world.specs.Pumps.ClientWhy least bound read m held left_now e f
@@ -112,11 +165,13 @@ push_why least bound read held n m left_now e (fault.Core why) same r = absurd r
 push_why least bound read held n m left_now e fault.Memory same r = absurd r
 
 -- while what it has written goes out
-pub stops_writing : (a b : ClientEnd) (f : PumpFault ClientFault) (least bound : ℕ) (left taken taken_now : Option (List ℕ))
-    (bytes : List ℕ) → GoesOn Sending [] [] a b → due b.client ≡ None → bytes ≡ b.out → Pushed bytes taken taken_now bound f
-    → ClientStopped least bound a (end_left b) left left taken taken_now f
-stops_writing a b f least bound left taken taken_now bytes h none are pushed =
-    let p : Pushed b.out taken taken_now bound f = subst (λ (xs : List ℕ). Pushed xs taken taken_now bound f) are pushed in record {
+pub stops_writing : (a b : ClientEnd) (f : PumpFault ClientFault) (least bound calls calls_now : ℕ)
+    (left taken taken_now : Option (List ℕ)) (bytes : List ℕ) → GoesOn Sending [] [] a b → due b.client ≡ None → bytes ≡ b.out
+    → Pushed bytes taken taken_now bound f → calls_now ≤ calls + bound
+    → ClientStoppedWithin bound calls calls_now least a (end_left b) left left taken taken_now f
+stops_writing a b f least bound calls calls_now left taken taken_now bytes h none are pushed most =
+    let p : Pushed b.out taken taken_now bound f = subst (λ (xs : List ℕ). Pushed xs taken taken_now bound f) are pushed in
+    unread_within bound calls calls_now least a (end_left b) left left taken taken_now f (record {
       stage = Writing;
       read = [];
       written = take p.count b.out;
@@ -129,7 +184,7 @@ stops_writing a b f least bound left taken taken_now bytes h none are pushed =
       appended = p.appended;
       why = push_why least bound 0 (length a.input.rest) p.count (length (take p.count b.out)) left (end_taken p.count b) f
           (length-take-le p.count b.out p.within) p.why;
-    }
+    }) refl most
 
 -- ---- all is out
 
@@ -246,18 +301,32 @@ feeds_none a b c left mid left_now least budget now count bytes client_fault.Mem
 
 -- lines are read, each of two bytes or more
 pub record LinesRead (a b : ClientEnd) (budget now : ℕ) : Type 0 where
-  pub goes : (read written : List ℕ) → GoesOn Reading read written a b
+  pub goes : ReadsOn budget now a b
   pub counted : 2 * budget + length b.input.rest ≤ 2 * now + length a.input.rest
 
 pub lines_none : (e : ClientEnd) (budget : ℕ) → LinesRead e e budget budget
-lines_none e budget = record { goes = λ read written. goes_none Reading read written e; counted = omega arith }
+lines_none e budget = record { goes = λ readers are least start read written t. (t, omega arith); counted = omega arith }
 
-read_goes : (a b c : ClientEnd) → ((read written : List ℕ) → GoesOn Reading read written a b) → may_read b.client ≡ true
-    → is_any (next_of b.input.rest) ≡ true → ((readers : Readers) → AreReaders readers → c ≡ end_read readers b)
-    → (read written : List ℕ) → GoesOn Reading read written a c
-read_goes a b c h may is same read written = λ readers are least start t.
-    subst (λ (e : ClientEnd). ClientTurn readers least start Reading read written e) (sym (same readers are))
-    (reads b read written (h read written readers are least start t) may is)
+pub one_line : (f : Front) → next_lines f ≤ 1
+one_line (Ok None) = omega arith
+one_line (Ok (Some found)) = omega arith
+one_line (Err why) = omega arith
+
+pub no_line : (f : Front) → (IsLineDue f → ⊥) → next_lines f ≡ 0
+no_line (Ok None) none = refl
+no_line (Ok (Some found)) none = absurd (none refl)
+no_line (Err why) none = refl
+
+read_goes : (a b c : ClientEnd) (budget now then : ℕ) → ReadsOn budget now a b → then + next_lines (next_of b.input.rest) ≤ now
+    → may_read b.client ≡ true → is_any (next_of b.input.rest) ≡ true
+    → ((readers : Readers) → AreReaders readers → c ≡ end_read readers b) → ReadsOn budget then a c
+read_goes a b c budget now then h step may is same = λ readers are least start read written t.
+    let p : (f : ClientTurn readers least start Reading read written b) × (now + lines_read f ≤ budget + lines_read t) =
+    h readers are least start read written t in
+    let before = p.1 in
+    subst (λ (e : ClientEnd). (f : ClientTurn readers least start Reading read written e)
+    × (then + lines_read f ≤ budget + lines_read t)) (sym (same readers are))
+    (reads b read written p.0 may is, omega (arith, before, step))
 
 any_line : (f : Front) → IsLineDue f → is_any f ≡ true
 any_line (Ok None) line = absurd (false≢true line)
@@ -277,8 +346,9 @@ lines_more a b c budget now then h step may is same =
     let less : length c.input.rest + 2 ≤ length b.input.rest =
     subst (λ (e : ClientEnd). length e.input.rest + 2 ≤ length b.input.rest) (sym (same some_are_readers.0 some_are_readers.1))
     (two_less b.input (next_of b.input.rest) refl is) in
-    let before = h.counted in record {
-      goes = read_goes a b c h.goes may (any_line (next_of b.input.rest) is) same;
+    let before = h.counted in
+    let one = one_line (next_of b.input.rest) in record {
+      goes = read_goes a b c budget now then h.goes (omega (arith, one, step)) may (any_line (next_of b.input.rest) is) same;
       counted = omega (arith, before, less, step);
     }
 
@@ -312,34 +382,41 @@ lines_end b c none fine same = go (next_of b.input.rest) refl
     go (Err framing.BadByte) e = absurd (false≢true (sym (met (Err framing.BadByte) e)))
 
 -- no more lines are read
-pub record LinesStop (a c : ClientEnd) (budget held : ℕ) (f : PumpFault ClientFault) : Type 0 where
-  pub goes : (read written : List ℕ) → GoesOn Reading read written a c
+pub record LinesStop (a c : ClientEnd) (budget now held : ℕ) (f : PumpFault ClientFault) : Type 0 where
+  pub goes : ReadsOn budget now a c
   pub why : IsReadFault budget held c f
 
-stays : (a b c : ClientEnd) → ((read written : List ℕ) → GoesOn Reading read written a b) → c ≡ b
-    → (read written : List ℕ) → GoesOn Reading read written a c
-stays a b c h same = subst (λ (e : ClientEnd). (read written : List ℕ) → GoesOn Reading read written a e) (sym same) h
+-- what is left of a budget may be less
+pub spends_more : (a b : ClientEnd) (budget now then : ℕ) → ReadsOn budget now a b → then ≤ now → ReadsOn budget then a b
+spends_more a b budget now then h less = λ readers are least start read written t.
+    let p : (f : ClientTurn readers least start Reading read written b) × (now + lines_read f ≤ budget + lines_read t) =
+    h readers are least start read written t in
+    let before = p.1 in (p.0, omega (arith, before, less))
+
+pub stays : (a b c : ClientEnd) (budget now then : ℕ) → ReadsOn budget now a b → then ≤ now → c ≡ b → ReadsOn budget then a c
+stays a b c budget now then h less same = subst (ReadsOn budget then a) (sym same) (spends_more a b budget now then h less)
 
 off_reads : (e : ClientEnd) → e.client.on ≡ false → may_read e.client ≡ false
 off_reads e off = ap (λ (b : Bool). b && not (is_faulted e.client.state)) off
 
-pub read_stops : (a b c : ClientEnd) (why : ClientFault) (budget held : ℕ) → ((read written : List ℕ) → GoesOn Reading read written a b)
-    → IsReadRefused b c why
+pub read_stops : (a b c : ClientEnd) (why : ClientFault) (budget now then held : ℕ) → ReadsOn budget now a b
+    → then + next_lines (next_of b.input.rest) ≤ now → IsReadRefused b c why
     → (why ≢ client_fault.Memory → may_read b.client ≡ true → (readers : Readers) → AreReaders readers → c ≡ end_read readers b)
-    → (may_read b.client ≡ false → c ≡ b) → LinesStop a c budget held (of_client why)
-read_stops a b c client_fault.NotNow budget held h r is before = record {
-  goes = stays a b c h r.0;
+    → (may_read b.client ≡ false → c ≡ b) → LinesStop a c budget then held (of_client why)
+read_stops a b c client_fault.NotNow budget now then held h step r is before = record {
+  goes = stays a b c budget now then h (omega (arith, step)) r.0;
   why = (
     subst (λ (e : ClientEnd). is_faulted e.client.state ≡ false) (sym r.0) r.2,
     subst (λ (e : ClientEnd). may_read e.client ≡ false) (sym r.0) (off_reads b r.1),
   );
 }
-read_stops a b c (client_fault.Faulted cause) budget held h r is before = record { goes = go (may_read b.client) refl; why = (r.0, r.1) }
+read_stops a b c (client_fault.Faulted cause) budget now then held h step r is before =
+    record { goes = go (may_read b.client) refl; why = (r.0, r.1) }
   where
     met : may_read b.client ≡ true → (readers : Readers) → AreReaders readers → c ≡ end_read readers b
     met = is (λ (e : client_fault.Faulted cause ≡ client_fault.Memory). cc)
 
-    front : (f : Front) → next_of b.input.rest ≡ f → may_read b.client ≡ true → (read written : List ℕ) → GoesOn Reading read written a c
+    front : (f : Front) → next_of b.input.rest ≡ f → may_read b.client ≡ true → ReadsOn budget then a c
     front (Ok None) e may =
         let unchanged : c ≡ b = met may some_are_readers.0 some_are_readers.1 ∙ ap (λ (x : Front). record {
           client = front_read some_are_readers.0 b.client x;
@@ -348,37 +425,39 @@ read_stops a b c (client_fault.Faulted cause) budget held h r is before = record
         }) e in
         absurd (may_stay b b.client.on (is_faulted b.client.state) may
         (subst (λ (x : ClientEnd). is_faulted x.client.state ≡ true) unchanged r.0))
-    front (Ok (Some found)) e may = read_goes a b c h may (ap is_any e) (met may)
-    front (Err why) e may = read_goes a b c h may (ap is_any e) (met may)
+    front (Ok (Some found)) e may = read_goes a b c budget now then h step may (ap is_any e) (met may)
+    front (Err why) e may = read_goes a b c budget now then h step may (ap is_any e) (met may)
 
-    go : (m : Bool) → may_read b.client ≡ m → (read written : List ℕ) → GoesOn Reading read written a c
+    go : (m : Bool) → may_read b.client ≡ m → ReadsOn budget then a c
     go true may = front (next_of b.input.rest) refl may
-    go false never = stays a b c h (before never)
-read_stops a b c client_fault.Memory budget held h r is before = record { goes = stays a b c h r; why = tt }
+    go false never = stays a b c budget now then h (omega (arith, step)) (before never)
+read_stops a b c client_fault.Memory budget now then held h step r is before =
+    record { goes = stays a b c budget now then h (omega (arith, step)) r; why = tt }
 
 pub lines_spent : (a b : ClientEnd) (budget now : ℕ) → LinesRead a b budget now → now ≡ 0
-    → LinesStop a b budget (length a.input.rest) fault.TurnsSpent
+    → LinesStop a b budget now (length a.input.rest) fault.TurnsSpent
 lines_spent a b budget now h none = let counted = h.counted in record { goes = h.goes; why = omega (arith, counted, none) }
 
 -- ---- the whole turn
 
 -- the client refuses to read
-pub stops_asking : (a b c : ClientEnd) (why : ClientFault) (least bound mid count : ℕ) (left taken taken_now : Option (List ℕ))
-    → AllOut a b taken taken_now bound mid count → c ≡ b → IsRefused (may_read b.client) b why
-    → ClientStopped least bound a (end_left c) left left taken taken_now (of_client why)
-stops_asking a b c why least bound mid count left taken taken_now h same r = record {
-  stage = Writing;
-  read = [];
-  written = h.written;
-  lost = [];
-  last = b;
-  turn = λ readers are. h.turn readers are least;
-  leaves = ap end_left same;
-  consumed = Consumes-nil left;
-  is_lost = none_lost (of_client why);
-  appended = h.appended;
-  why = refused_why least bound 0 (length h.written) (length a.input.rest) left b (of_client why) (refused why r);
-}
+pub stops_asking : (a b c : ClientEnd) (why : ClientFault) (least bound calls calls_now mid count : ℕ)
+    (left taken taken_now : Option (List ℕ)) → AllOut a b taken taken_now bound mid count → c ≡ b → IsRefused (may_read b.client) b why
+    → calls_now ≤ calls + bound → ClientStoppedWithin bound calls calls_now least a (end_left c) left left taken taken_now (of_client why)
+stops_asking a b c why least bound calls calls_now mid count left taken taken_now h same r most = unread_within bound calls calls_now
+    least a (end_left c) left left taken taken_now (of_client why) (record {
+      stage = Writing;
+      read = [];
+      written = h.written;
+      lost = [];
+      last = b;
+      turn = λ readers are. h.turn readers are least;
+      leaves = ap end_left same;
+      consumed = Consumes-nil left;
+      is_lost = none_lost (of_client why);
+      appended = h.appended;
+      why = refused_why least bound 0 (length h.written) (length a.input.rest) left b (of_client why) (refused why r);
+    }) refl most
   where
     refused : (why : ClientFault) → IsRefused (may_read b.client) b why → HasRefused b (of_client why)
     refused client_fault.NotNow r = r
@@ -395,23 +474,24 @@ take_why least bound mid read written held left_now e fault.TurnsSpent most r = 
 take_why least bound mid read written held left_now e (fault.Core why) most r = absurd r
 take_why least bound mid read written held left_now e fault.Memory most r = tt
 
-pub stops_taking : (a b c d : ClientEnd) (f : PumpFault ClientFault) (least bound mid count : ℕ)
+pub stops_taking : (a b c d : ClientEnd) (f : PumpFault ClientFault) (least bound calls calls_now mid count : ℕ)
     (left left_now taken taken_now : Option (List ℕ)) → AllOut a b taken taken_now bound mid count → may_read b.client ≡ true
-    → c ≡ end_fed [] b → CameShort least c d left left_now mid f
-    → ClientStopped least bound a (end_left d) left left_now taken taken_now f
-stops_taking a b c d f least bound mid count left left_now taken taken_now h may same s = record {
-  stage = Taking;
-  read = s.read;
-  written = h.written;
-  lost = s.lost;
-  last = end_fed s.read b;
-  turn = λ readers are. takes b s.read h.written (h.turn readers are least) h.out may;
-  leaves = ap end_left (s.fed ∙ ap (end_fed s.read) (same ∙ fed_none b));
-  consumed = s.consumed;
-  is_lost = s.is_lost;
-  appended = h.appended;
-  why = take_why least bound mid (length s.read) (length h.written) (length a.input.rest) left_now (end_fed s.read b) f h.counted s.why;
-}
+    → c ≡ end_fed [] b → CameShort least c d left left_now mid f → calls_now ≤ calls + bound
+    → ClientStoppedWithin bound calls calls_now least a (end_left d) left left_now taken taken_now f
+stops_taking a b c d f least bound calls calls_now mid count left left_now taken taken_now h may same s most = unread_within bound calls
+    calls_now least a (end_left d) left left_now taken taken_now f (record {
+      stage = Taking;
+      read = s.read;
+      written = h.written;
+      lost = s.lost;
+      last = end_fed s.read b;
+      turn = λ readers are. takes b s.read h.written (h.turn readers are least) h.out may;
+      leaves = ap end_left (s.fed ∙ ap (end_fed s.read) (same ∙ fed_none b));
+      consumed = s.consumed;
+      is_lost = s.is_lost;
+      appended = h.appended;
+      why = take_why least bound mid (length s.read) (length h.written) (length a.input.rest) left_now (end_fed s.read b) f h.counted s.why;
+    }) refl most
 
 pub longer : (f : Option FramingFault) (rest bytes : List ℕ) → length (fed_behind f rest bytes).rest ≤ length rest + length bytes
 longer None rest bytes = let total = length-append rest bytes in omega (arith, total)
@@ -431,55 +511,84 @@ read_why least bound mid late read written held now left_now e fault.Memory out 
 has_come : (a b c d : ClientEnd) (least bound mid late count come : ℕ) (left left_now taken taken_now : Option (List ℕ))
     (h : AllOut a b taken taken_now bound mid count) → may_read b.client ≡ true → c ≡ end_fed [] b
     → (s : Came c d left left_now mid late come) → least ≤ come → (readers : Readers) → AreReaders readers
-    → ClientTurn readers least a Reading s.read h.written d
+    → (t : ClientTurn readers least a Reading s.read h.written d) × (lines_read t ≡ 0)
 has_come a b c d least bound mid late count come left left_now taken taken_now h may same s enough readers are =
     let many = s.count_is in
-    has d s.read h.written
-    (subst (λ (e : ClientEnd). ClientTurn readers least a Taking s.read h.written e)
+    let t : ClientTurn readers least a Taking s.read h.written (end_fed s.read b) =
+    takes b s.read h.written (h.turn readers are least) h.out may in
+    let u : (t : ClientTurn readers least a Taking s.read h.written d) × (lines_read t ≡ 0) =
+    subst (λ (e : ClientEnd). (t : ClientTurn readers least a Taking s.read h.written e) × (lines_read t ≡ 0))
     (sym (s.fed ∙ ap (end_fed s.read) (same ∙ fed_none b)))
-    (takes b s.read h.written (h.turn readers are least) h.out may))
-    (omega (arith, many, enough))
+    (t, none_read readers least a Taking s.read h.written (end_fed s.read b) t refl) in
+    (has d s.read h.written u.0 (omega (arith, many, enough)), u.1)
 
-pub stops_reading : (a b c d e : ClientEnd) (f : PumpFault ClientFault) (least bound mid late count come : ℕ)
+-- it has read on from there
+reads_from : (a b c d e : ClientEnd) (least bound mid late now count come : ℕ) (left left_now taken taken_now : Option (List ℕ))
+    (h : AllOut a b taken taken_now bound mid count) → may_read b.client ≡ true → c ≡ end_fed [] b
+    → (s : Came c d left left_now mid late come) → least ≤ come → ReadsOn late now d e → (readers : Readers) → AreReaders readers
+    → (t : ClientTurn readers least a Reading s.read h.written e) × (lines_read t ≤ late)
+reads_from a b c d e least bound mid late now count come left left_now taken taken_now h may same s enough goes readers are =
+    let t : (t : ClientTurn readers least a Reading s.read h.written d) × (lines_read t ≡ 0) =
+    has_come a b c d least bound mid late count come left left_now taken taken_now h may same s enough readers are in
+    let u : (u : ClientTurn readers least a Reading s.read h.written e) × (now + lines_read u ≤ late + lines_read t.0) =
+    goes readers are least a s.read h.written t.0 in
+    let none = t.1 in
+    let few = u.1 in (u.0, omega (arith, none, few))
+
+pub stops_reading : (a b c d e : ClientEnd) (f : PumpFault ClientFault) (least bound calls calls_now mid late now count come : ℕ)
     (left left_now taken taken_now : Option (List ℕ)) → AllOut a b taken taken_now bound mid count → may_read b.client ≡ true
     → c ≡ end_fed [] b → Came c d left left_now mid late come → least ≤ come
-    → ((read written : List ℕ) → GoesOn Reading read written d e) → IsReadFault late (length d.input.rest) e f
-    → ClientStopped least bound a (end_left e) left left_now taken taken_now f
-stops_reading a b c d e f least bound mid late count come left left_now taken taken_now h may same s enough goes r = record {
-  stage = Reading;
-  read = s.read;
-  written = h.written;
-  lost = [];
-  last = e;
-  turn = λ readers are. goes s.read h.written readers are least a
-      (has_come a b c d least bound mid late count come left left_now taken taken_now h may same s enough readers are);
-  leaves = refl;
-  consumed = subst (Consumes left left_now) (sym (append-nil s.read)) s.consumed;
-  is_lost = none_lost f;
-  appended = h.appended;
-  why = read_why least bound mid late (length s.read) (length h.written) (length a.input.rest) (length d.input.rest) left_now e f h.counted
-      s.counted few r;
-}
+    → ReadsOn late now d e → IsReadFault late (length d.input.rest) e f → calls_now + late ≤ calls + bound
+    → ClientStoppedWithin bound calls calls_now least a (end_left e) left left_now taken taken_now f
+stops_reading a b c d e f least bound calls calls_now mid late now count come left left_now taken taken_now h may same s enough goes r most =
+    record {
+      front = record {
+        stage = Reading;
+        read = s.read;
+        written = h.written;
+        lost = [];
+        last = e;
+        turn = λ readers are. (read_on readers are).0;
+        leaves = refl;
+        consumed = subst (Consumes left left_now) (sym (append-nil s.read)) s.consumed;
+        is_lost = none_lost f;
+        appended = h.appended;
+        why = read_why least bound mid late (length s.read) (length h.written) (length a.input.rest) (length d.input.rest) left_now e f h.counted
+            s.counted few r;
+      };
+      within = λ readers are. let lines = (read_on readers are).1 in omega (arith, most, lines);
+    }
   where
+    read_on : (readers : Readers) → AreReaders readers
+        → (t : ClientTurn readers least a Reading s.read h.written e) × (lines_read t ≤ late)
+    read_on = reads_from a b c d e least bound mid late now count come left left_now taken taken_now h may same s enough goes
+
     few : length d.input.rest ≤ length a.input.rest + length s.read
     few = subst (λ (x : Framing). length d.input.rest ≤ length x.rest + length s.read) h.held
         (subst (λ (x : ClientEnd). length x.input.rest ≤ length b.input.rest + length s.read)
         (sym (s.fed ∙ ap (end_fed s.read) (same ∙ fed_none b))) (longer b.input.fault b.input.rest s.read))
 
-pub has_moved : (a b c d e : ClientEnd) (least bound mid late count come : ℕ) (left left_now taken taken_now : Option (List ℕ))
+pub has_moved : (a b c d e : ClientEnd) (least bound calls calls_now mid late now count come : ℕ) (left left_now taken taken_now : Option (List ℕ))
     → AllOut a b taken taken_now bound mid count → may_read b.client ≡ true
     → c ≡ end_fed [] b → Came c d left left_now mid late come → least ≤ come
-    → ((read written : List ℕ) → GoesOn Reading read written d e) → next_of e.input.rest ≡ Ok None → may_read e.client ≡ true
-    → ClientMoved least a e left left_now taken taken_now (record { read = come; written = count })
-has_moved a b c d e least bound mid late count come left left_now taken taken_now h may same s enough goes none may_now = record {
-  read = s.read;
-  written = h.written;
-  turn = λ readers are. goes s.read h.written readers are least a
-      (has_come a b c d least bound mid late count come left left_now taken taken_now h may same s enough readers are);
-  may = may_now;
-  all = none;
-  consumed = s.consumed;
-  appended = h.appended;
-  read_is = s.count_is;
-  written_is = h.count_is;
-}
+    → ReadsOn late now d e → next_of e.input.rest ≡ Ok None → may_read e.client ≡ true → calls_now + late ≤ calls + bound
+    → ClientMovedWithin bound calls calls_now least a e left left_now taken taken_now (record { read = come; written = count })
+has_moved a b c d e least bound calls calls_now mid late now count come left left_now taken taken_now h may same s enough goes none may_now
+    most = record {
+      whole = record {
+        read = s.read;
+        written = h.written;
+        turn = λ readers are. (read_on readers are).0;
+        may = may_now;
+        all = none;
+        consumed = s.consumed;
+        appended = h.appended;
+        read_is = s.count_is;
+        written_is = h.count_is;
+      };
+      within = λ readers are. let lines = (read_on readers are).1 in omega (arith, most, lines);
+    }
+  where
+    read_on : (readers : Readers) → AreReaders readers
+        → (t : ClientTurn readers least a Reading s.read h.written e) × (lines_read t ≤ late)
+    read_on = reads_from a b c d e least bound mid late now count come left left_now taken taken_now h may same s enough goes

@@ -30,7 +30,8 @@ use Rattle.link_world.specs.declared.pumps.PumpFault.TheVariants as fault
 use Rattle.link_world.specs.Pumps.{Stage, Writing, Taking, Reading, Working, IsLost}
 use Rattle.link_world.specs.PumpParts.{Pushed, IsPushFault, IsPullFault, IsTakeFault}
 use Rattle.link_world.specs.ServerPumps.{ServerTurn, begins, takes, has, reads, knows, turns, ends, writes}
-use Rattle.link_world.specs.ServerPumps.{ServerMoved, ServerStopped, ServerWhy, IsServerRefusal, of_server}
+use Rattle.link_world.specs.ServerPumps.{ServerMoved, ServerStopped, ServerMovedWithin, ServerStoppedWithin, steps_made}
+use Rattle.link_world.specs.ServerPumps.{ServerWhy, IsServerRefusal, of_server}
 use Rattle.link_world.specs.ServerPumpParts.{ServerGoesOn, ServerCame, ServerCameShort, ServerReadStops, IsServerReadFault, ReadIn}
 use Rattle.link_world.specs.ServerPumpParts.{has_work, steps_of, steps_of_one, IsWorkFault}
 use Rattle.link_world.proofs.ServerWork.{one_if, turn_less, machine_less}
@@ -111,13 +112,24 @@ server_feeds_none a b c left mid left_now least budget now count bytes server_fa
 -- ---- lines are read
 
 pub record ServerLinesRead (a b : Serving) (budget now : ℕ) : Type 0 where
-  pub goes : (answer : Job → ℕ → Outcome) → ServerGoesOn answer Reading a b
+  pub goes : (answer : Job → ℕ → Outcome) → ServerGoesOn answer Reading budget now a b
   pub counted : 2 * budget + length b.end.input.rest ≤ 2 * now + length a.end.input.rest
 
 pub server_lines_none : (s : Serving) (budget : ℕ) → ServerLinesRead s s budget budget
 server_lines_none s budget = record {
-  goes = λ answer. record { setup = refl; turn = λ readers are least start read t. t };
+  goes = λ answer. record { setup = refl; turn = λ readers are least start read t. (t, omega arith) };
   counted = omega arith;
+}
+
+-- what is left of a budget may be less
+pub goes_less : (answer : Job → ℕ → Outcome) (stage : Stage) (budget now then : ℕ) (a b : Serving)
+    → ServerGoesOn answer stage budget now a b → then ≤ now → ServerGoesOn answer stage budget then a b
+goes_less answer stage budget now then a b h less = record {
+  setup = h.setup;
+  turn = λ readers are least start read t.
+      let p : (u : ServerTurn readers answer least start stage read [] b.end) × (now + steps_made u ≤ budget + steps_made t) =
+      h.turn readers are least start read t in
+      let before = p.1 in (p.0, omega (arith, before, less));
 }
 
 line_there : (f : Front) → IsLineDue f → is_line f ≡ true
@@ -142,8 +154,12 @@ server_lines_more a b c budget now then h step on is same =
       goes = λ answer. record {
         setup = ap (λ (s : Serving). s.setup) (same some_are_readers.0 some_are_readers.1) ∙ (h.goes answer).setup;
         turn = λ readers are least start read t.
-            subst (λ (s : Serving). ServerTurn readers answer least start Reading read [] s.end) (sym (same readers are))
-            (reads b.end read ((h.goes answer).turn readers are least start read t) on (line_there (next_of b.end.input.rest) is));
+            let p : (u : ServerTurn readers answer least start Reading read [] b.end) × (now + steps_made u ≤ budget + steps_made t) =
+            (h.goes answer).turn readers are least start read t in
+            let few = p.1 in
+            subst (λ (s : Serving). (u : ServerTurn readers answer least start Reading read [] s.end)
+            × (then + steps_made u ≤ budget + steps_made t)) (sym (same readers are))
+            (reads b.end read p.0 on (line_there (next_of b.end.input.rest) is), omega (arith, few, step));
       };
       counted = omega (arith, before, less, step);
     }
@@ -161,14 +177,14 @@ pub server_read_stops : (a b c : Serving) (why : ServerFault) (budget now : ℕ)
     → (why ≡ server_fault.NotNow → b.end.server.on ≡ false) → ServerReadStops a c budget (of_server why)
 server_read_stops a b c server_fault.NotNow budget now h r off = record {
   last = b;
-  goes = h.goes;
+  goes = λ answer. goes_less answer Reading budget now 0 a b (h.goes answer) (omega arith);
   setup = ap (λ (s : Serving). s.setup) r ∙ (h.goes (λ job n. Outcome.Fault)).setup;
   same = ap (λ (s : Serving). serving_left s.end) r;
   why = off refl;
 }
 server_read_stops a b c (server_fault.Framing why) budget now h r off = record {
   last = b;
-  goes = h.goes;
+  goes = λ answer. goes_less answer Reading budget now 0 a b (h.goes answer) (omega arith);
   setup = ap (λ (s : Serving). s.setup) r.1 ∙ (h.goes (λ job n. Outcome.Fault)).setup;
   same = ap (λ (s : Serving). serving_left s.end) r.1;
   why = r.0;
@@ -178,7 +194,7 @@ server_read_stops a b c server_fault.WrongOutcome budget now h r off = absurd r
 server_read_stops a b c server_fault.OutOfVolume budget now h r off = absurd r
 server_read_stops a b c server_fault.Memory budget now h r off = record {
   last = b;
-  goes = h.goes;
+  goes = λ answer. goes_less answer Reading budget now 0 a b (h.goes answer) (omega arith);
   setup = ap (λ (s : Serving). s.setup) r.1 ∙ (h.goes (λ job n. Outcome.Fault)).setup;
   same = ap (λ (s : Serving). serving_left s.end) r.1;
   why = tt;
@@ -188,7 +204,7 @@ pub server_lines_spent : (a b : Serving) (budget now : ℕ) → ServerLinesRead 
     → ServerReadStops a b budget fault.TurnsSpent
 server_lines_spent a b budget now h none = let counted = h.counted in record {
   last = b;
-  goes = h.goes;
+  goes = λ answer. goes_less answer Reading budget now 0 a b (h.goes answer) (omega arith);
   setup = (h.goes (λ job n. Outcome.Fault)).setup;
   same = refl;
   why = omega (arith, counted, none);
@@ -205,21 +221,24 @@ asked_why least bound left_now e server_fault.WrongOutcome held sound r = absurd
 asked_why least bound left_now e server_fault.OutOfVolume held sound r = absurd r
 asked_why least bound left_now e server_fault.Memory held sound r = tt
 
-pub server_stops_asking : (a b : Serving) (why : ServerFault) (answer : Job → ℕ → Outcome) (least bound : ℕ)
+pub server_stops_asking : (a b : Serving) (why : ServerFault) (answer : Job → ℕ → Outcome) (least bound calls : ℕ)
     (left taken : Option (List ℕ)) → b ≡ a → IsSound a.end.input → IsFeedFault a.end why
-    → ServerStopped answer least bound a.end (serving_left b.end) left left taken taken (of_server why)
-server_stops_asking a b why answer least bound left taken same sound r = record {
-  stage = Taking;
-  read = [];
-  written = [];
-  lost = [];
-  last = a.end;
-  turn = λ readers are. begins;
-  leaves = ap (λ (s : Serving). serving_left s.end) same;
-  consumed = Consumes-nil left;
-  is_lost = none_lost (of_server why);
-  appended = Appends-nil taken;
-  why = asked_why least bound left a.end why (length a.end.input.rest) sound r;
+    → ServerStoppedWithin answer bound calls calls least a.end (serving_left b.end) left left taken taken (of_server why)
+server_stops_asking a b why answer least bound calls left taken same sound r = record {
+  front = record {
+    stage = Taking;
+    read = [];
+    written = [];
+    lost = [];
+    last = a.end;
+    turn = λ readers are. begins;
+    leaves = ap (λ (s : Serving). serving_left s.end) same;
+    consumed = Consumes-nil left;
+    is_lost = none_lost (of_server why);
+    appended = Appends-nil taken;
+    why = asked_why least bound left a.end why (length a.end.input.rest) sound r;
+  };
+  within = λ readers are. omega arith;
 }
 
 take_why : (least bound read held : ℕ) (left_now : Option (List ℕ)) (e : ServerEnd) (f : PumpFault ServerFault)
@@ -236,22 +255,25 @@ fed_now : (a b c : Serving) (read : List ℕ) → b ≡ with_end a (serving_fed 
     → c ≡ with_end a (serving_fed read a.end)
 fed_now a b c read same fed = fed ∙ ap (λ (s : Serving). with_end s (serving_fed read s.end)) (same ∙ fed_none a)
 
-pub server_stops_taking : (a b c : Serving) (f : PumpFault ServerFault) (answer : Job → ℕ → Outcome) (least bound : ℕ)
+pub server_stops_taking : (a b c : Serving) (f : PumpFault ServerFault) (answer : Job → ℕ → Outcome) (least bound calls calls_now : ℕ)
     (left left_now taken : Option (List ℕ)) → may_feed a.end ≡ true → b ≡ with_end a (serving_fed [] a.end)
-    → ServerCameShort least b c left left_now bound f
-    → ServerStopped answer least bound a.end (serving_left c.end) left left_now taken taken f
-server_stops_taking a b c f answer least bound left left_now taken may same s = record {
-  stage = Taking;
-  read = s.read;
-  written = [];
-  lost = s.lost;
-  last = serving_fed s.read a.end;
-  turn = λ readers are. takes s.read may;
-  leaves = ap (λ (x : Serving). serving_left x.end) (fed_now a b c s.read same s.fed);
-  consumed = s.consumed;
-  is_lost = s.is_lost;
-  appended = Appends-nil taken;
-  why = take_why least bound (length s.read) (length a.end.input.rest) left_now (serving_fed s.read a.end) f s.why;
+    → ServerCameShort least b c left left_now bound f → calls_now ≤ calls + bound
+    → ServerStoppedWithin answer bound calls calls_now least a.end (serving_left c.end) left left_now taken taken f
+server_stops_taking a b c f answer least bound calls calls_now left left_now taken may same s most = record {
+  front = record {
+    stage = Taking;
+    read = s.read;
+    written = [];
+    lost = s.lost;
+    last = serving_fed s.read a.end;
+    turn = λ readers are. takes s.read may;
+    leaves = ap (λ (x : Serving). serving_left x.end) (fed_now a b c s.read same s.fed);
+    consumed = s.consumed;
+    is_lost = s.is_lost;
+    appended = Appends-nil taken;
+    why = take_why least bound (length s.read) (length a.end.input.rest) left_now (serving_fed s.read a.end) f s.why;
+  };
+  within = λ readers are. omega (arith, most);
 }
 
 few : (a c : Serving) (read : List ℕ) → c ≡ with_end a (serving_fed read a.end)
@@ -261,10 +283,25 @@ few a c read same = subst (λ (s : Serving). length s.end.input.rest ≤ length 
 
 has_come : (a c : Serving) (answer : Job → ℕ → Outcome) (least come : ℕ) (read : List ℕ) → may_feed a.end ≡ true
     → c ≡ with_end a (serving_fed read a.end) → come ≡ length read → least ≤ come → (readers : Readers)
-    → ServerTurn readers answer least a.end Reading read [] c.end
+    → (t : ServerTurn readers answer least a.end Reading read [] c.end) × (steps_made t ≡ 0)
 has_come a c answer least come read may same many enough readers =
-    has c.end read (subst (λ (s : Serving). ServerTurn readers answer least a.end Taking read [] s.end) (sym same) (takes read may))
-    (omega (arith, many, enough))
+    let t : (t : ServerTurn readers answer least a.end Taking read [] c.end) × (steps_made t ≡ 0) =
+    subst (λ (s : Serving). (t : ServerTurn readers answer least a.end Taking read [] s.end) × (steps_made t ≡ 0)) (sym same)
+    (takes read may, refl) in
+    (has c.end read t.0 (omega (arith, many, enough)), t.1)
+
+-- bytes have come, and it has gone on from there
+comes_on : (a b c d : Serving) (answer : Job → ℕ → Outcome) (least bound mid late come : ℕ) (left left_now : Option (List ℕ))
+    → may_feed a.end ≡ true → b ≡ with_end a (serving_fed [] a.end) → (s : ServerCame b c left left_now bound mid come) → least ≤ come
+    → ServerGoesOn answer Reading mid late c d → (readers : Readers) → AreReaders readers
+    → (t : ServerTurn readers answer least a.end Reading s.read [] d.end) × (late + steps_made t ≤ mid)
+comes_on a b c d answer least bound mid late come left left_now may same s enough goes readers are =
+    let t : (t : ServerTurn readers answer least a.end Reading s.read [] c.end) × (steps_made t ≡ 0) =
+    has_come a c answer least come s.read may (fed_now a b c s.read same s.fed) s.count_is enough readers in
+    let u : (u : ServerTurn readers answer least a.end Reading s.read [] d.end) × (late + steps_made u ≤ mid + steps_made t.0) =
+    goes.turn readers are least a.end s.read t.0 in
+    let none = t.1 in
+    let few = u.1 in (u.0, omega (arith, none, few))
 
 read_why : (least bound mid read held now : ℕ) (left_now : Option (List ℕ)) (e : ServerEnd) (f : PumpFault ServerFault)
     → bound ≤ mid + read → now ≤ held + read → IsServerReadFault mid now e f → ServerWhy least bound read 0 held left_now e f
@@ -275,37 +312,47 @@ read_why least bound mid read held now left_now e fault.TurnsSpent come most r =
 read_why least bound mid read held now left_now e (fault.Core why) come most r = r
 read_why least bound mid read held now left_now e fault.Memory come most r = tt
 
-pub server_stops_reading : (a b c d : Serving) (f : PumpFault ServerFault) (answer : Job → ℕ → Outcome) (least bound mid come : ℕ)
+pub server_stops_reading : (a b c d : Serving) (f : PumpFault ServerFault) (answer : Job → ℕ → Outcome)
+    (least bound calls calls_now mid come : ℕ)
     (left left_now taken : Option (List ℕ)) → may_feed a.end ≡ true → b ≡ with_end a (serving_fed [] a.end)
-    → ServerCame b c left left_now bound mid come → least ≤ come → ServerReadStops c d mid f
-    → ServerStopped answer least bound a.end (serving_left d.end) left left_now taken taken f
-server_stops_reading a b c d f answer least bound mid come left left_now taken may same s enough r = record {
-  stage = Reading;
-  read = s.read;
-  written = [];
-  lost = [];
-  last = r.last.end;
-  turn = λ readers are. (r.goes answer).turn readers are least a.end s.read
-      (has_come a c answer least come s.read may (fed_now a b c s.read same s.fed) s.count_is enough readers);
-  leaves = r.same;
-  consumed = subst (Consumes left left_now) (sym (append-nil s.read)) s.consumed;
-  is_lost = none_lost f;
-  appended = Appends-nil taken;
-  why = read_why least bound mid (length s.read) (length a.end.input.rest) (length c.end.input.rest) left_now r.last.end f s.counted
-      (few a c s.read (fed_now a b c s.read same s.fed)) r.why;
+    → ServerCame b c left left_now bound mid come → least ≤ come → ServerReadStops c d mid f → calls_now + mid ≤ calls + bound
+    → ServerStoppedWithin answer bound calls calls_now least a.end (serving_left d.end) left left_now taken taken f
+server_stops_reading a b c d f answer least bound calls calls_now mid come left left_now taken may same s enough r most = record {
+  front = record {
+    stage = Reading;
+    read = s.read;
+    written = [];
+    lost = [];
+    last = r.last.end;
+    turn = λ readers are. (read_on readers are).0;
+    leaves = r.same;
+    consumed = subst (Consumes left left_now) (sym (append-nil s.read)) s.consumed;
+    is_lost = none_lost f;
+    appended = Appends-nil taken;
+    why = read_why least bound mid (length s.read) (length a.end.input.rest) (length c.end.input.rest) left_now r.last.end f s.counted
+        (few a c s.read (fed_now a b c s.read same s.fed)) r.why;
+  };
+  within = λ readers are. let steps = (read_on readers are).1 in omega (arith, most, steps);
 }
+  where
+    read_on : (readers : Readers) → AreReaders readers
+        → (t : ServerTurn readers answer least a.end Reading s.read [] r.last.end) × (0 + steps_made t ≤ mid)
+    read_on = comes_on a b c r.last answer least bound mid 0 come left left_now may same s enough (r.goes answer)
 
-pub reads_in : (a b c d : Serving) (least bound mid late come : ℕ) (left left_now : Option (List ℕ)) → may_feed a.end ≡ true
+pub reads_in : (a b c d : Serving) (least bound calls calls_now mid late come : ℕ) (left left_now : Option (List ℕ)) → may_feed a.end ≡ true
     → b ≡ with_end a (serving_fed [] a.end) → ServerCame b c left left_now bound mid come → least ≤ come
-    → ((answer : Job → ℕ → Outcome) → ServerGoesOn answer Reading c d) → 2 * mid ≤ 2 * late + length c.end.input.rest
-    → next_of d.end.input.rest ≡ Ok None → ReadIn least a d left left_now bound late come
-reads_in a b c d least bound mid late come left left_now may same s enough goes counted none =
+    → ((answer : Job → ℕ → Outcome) → ServerGoesOn answer Reading mid late c d) → 2 * mid ≤ 2 * late + length c.end.input.rest
+    → next_of d.end.input.rest ≡ Ok None → calls_now + mid ≤ calls + bound
+    → ReadIn least calls calls_now a d left left_now bound late come
+reads_in a b c d least bound calls calls_now mid late come left left_now may same s enough goes counted none most_calls =
     let most = few a c s.read (fed_now a b c s.read same s.fed) in
     let before = s.counted in record {
       read = s.read;
       setup = (goes (λ job n. Outcome.Fault)).setup ∙ ap (λ (x : Serving). x.setup) (fed_now a b c s.read same s.fed);
-      turn = λ readers are answer. (goes answer).turn readers are least a.end s.read
-          (has_come a c answer least come s.read may (fed_now a b c s.read same s.fed) s.count_is enough readers);
+      turn = λ readers are answer.
+          let p : (t : ServerTurn readers answer least a.end Reading s.read [] d.end) × (late + steps_made t ≤ mid) =
+          comes_on a b c d answer least bound mid late come left left_now may same s enough (goes answer) readers are in
+          let steps = p.1 in (p.0, omega (arith, most_calls, steps));
       none = none;
       consumed = s.consumed;
       counted = omega (arith, most, before, counted);
@@ -318,36 +365,43 @@ reads_in a b c d least bound mid late come left left_now may same s enough goes 
 abbrev pub beside : ServerEnd → World
 beside e = record { client = new_client_end (record { features = []; steps = [] }) [] 1; server = e; links = []; written = [] }
 
-pub works_none : (answer : Job → ℕ → Outcome) (s : Serving) → ServerGoesOn answer Working s s
-works_none answer s = record { setup = refl; turn = λ readers are least start read t. t }
+pub works_none : (answer : Job → ℕ → Outcome) (budget : ℕ) (s : Serving) → ServerGoesOn answer Working budget budget s s
+works_none answer budget s = record { setup = refl; turn = λ readers are least start read t. (t, omega arith) }
 
-pub works_same : (answer : Job → ℕ → Outcome) (a b : Serving) → b ≡ a → ServerGoesOn answer Working a b
-works_same answer a b same = subst (ServerGoesOn answer Working a) (sym same) (works_none answer a)
+pub works_same : (answer : Job → ℕ → Outcome) (a b : Serving) → b ≡ a → ServerGoesOn answer Working 1 0 a b
+works_same answer a b same = subst (ServerGoesOn answer Working 1 0 a) (sym same)
+    (goes_less answer Working 1 1 0 a a (works_none answer 1 a) (omega arith))
 
-pub works_on : (answer : Job → ℕ → Outcome) (a b c : Serving) → ServerGoesOn answer Working a b → ServerGoesOn answer Working b c
-    → ServerGoesOn answer Working a c
-works_on answer a b c p q = record {
+pub works_on : (answer : Job → ℕ → Outcome) (budget now then : ℕ) (a b c : Serving) → ServerGoesOn answer Working budget now a b
+    → now ≡ then + 1 → ServerGoesOn answer Working 1 0 b c → ServerGoesOn answer Working budget then a c
+works_on answer budget now then a b c p step q = record {
   setup = q.setup ∙ p.setup;
-  turn = λ readers are least start read t. q.turn readers are least start read (p.turn readers are least start read t);
+  turn = λ readers are least start read t.
+      let u : (u : ServerTurn readers answer least start Working read [] b.end) × (now + steps_made u ≤ budget + steps_made t) =
+      p.turn readers are least start read t in
+      let v : (v : ServerTurn readers answer least start Working read [] c.end) × (0 + steps_made v ≤ 1 + steps_made u.0) =
+      q.turn readers are least start read u.0 in
+      let before = u.1 in
+      let one = v.1 in (v.0, omega (arith, before, one, step));
 }
 
 pub works_turn : (answer : Job → ℕ → Outcome) (a b : Serving) → may_turn a.end.server ≡ true → b ≡ with_end a (serving_turned a.end)
-    → ServerGoesOn answer Working a b
-works_turn answer a b may same = subst (ServerGoesOn answer Working a) (sym same)
-    (record { setup = refl; turn = λ readers are least start read t. turns a.end read t may })
+    → ServerGoesOn answer Working 1 0 a b
+works_turn answer a b may same = subst (ServerGoesOn answer Working 1 0 a) (sym same)
+    (record { setup = refl; turn = λ readers are least start read t. (turns a.end read t may, omega arith) })
 
 pub works_end : (answer : Job → ℕ → Outcome) (a b : Serving) (o : Outcome)
     → Some o ≡ option_map (λ job. answer job (contact_count a.end.server.ledger)) (running_job a.end.server)
-    → b ≡ with_end a (serving_machined o a.end) → ServerGoesOn answer Working a b
+    → b ≡ with_end a (serving_machined o a.end) → ServerGoesOn answer Working 1 0 a b
 works_end answer a b o is same = go (running_job a.end.server) refl is
   where
     go : (job : Option Job) → running_job a.end.server ≡ job
-        → Some o ≡ option_map (λ j. answer j (contact_count a.end.server.ledger)) job → ServerGoesOn answer Working a b
+        → Some o ≡ option_map (λ j. answer j (contact_count a.end.server.ledger)) job → ServerGoesOn answer Working 1 0 a b
     go None e found = absurd (cc)
     go (Some job) e found =
         let ended : o ≡ answer job (contact_count a.end.server.ledger) = cc in
-        subst (ServerGoesOn answer Working a) (sym (same ∙ ap (λ (x : Outcome). with_end a (serving_machined x a.end)) ended))
-        (record { setup = refl; turn = λ readers are least start read t. ends a.end read job t e })
+        subst (ServerGoesOn answer Working 1 0 a) (sym (same ∙ ap (λ (x : Outcome). with_end a (serving_machined x a.end)) ended))
+        (record { setup = refl; turn = λ readers are least start read t. (ends a.end read job t e, omega arith) })
 
 fewer : (r q : Option Line) (m n : ℕ) → one_if r + 2 * m < one_if q + 2 * n → steps_of_one r + 2 * m < steps_of_one q + 2 * n
 fewer None None m n h = h
@@ -387,6 +441,29 @@ most_steps s few = steps_most s.end.server.running (length s.end.server.waiting)
 
 -- ---- the whole turn
 
+-- how often the ports were called
+pub serving_moved_calls : (answer : Job → ℕ → Outcome) (bound calls calls_now least : ℕ) (old new : ServerEnd)
+    (left left_now taken taken_now : Option (List ℕ)) (m : Moved)
+    → ServerMovedWithin answer bound calls calls_now least old new left left_now taken taken_now m → calls_now ≤ calls + bound
+serving_moved_calls answer bound calls calls_now least old new left left_now taken taken_now m h =
+    let most = h.within some_are_readers.0 some_are_readers.1 in omega (arith, most)
+
+pub serving_stopped_calls : (answer : Job → ℕ → Outcome) (bound calls calls_now least : ℕ) (old new : ServerEnd)
+    (left left_now taken taken_now : Option (List ℕ)) (f : PumpFault ServerFault)
+    → ServerStoppedWithin answer bound calls calls_now least old new left left_now taken taken_now f → calls_now ≤ calls + bound
+serving_stopped_calls answer bound calls calls_now least old new left left_now taken taken_now f h =
+    let most = h.within some_are_readers.0 some_are_readers.1 in omega (arith, most)
+
+-- the calls of a port beside those that were counted
+pub serving_stopped_beside : (more : ℕ) (answer : Job → ℕ → Outcome) (bound calls calls_now least : ℕ) (old new : ServerEnd)
+    (left left_now taken taken_now : Option (List ℕ)) (f : PumpFault ServerFault)
+    → ServerStoppedWithin answer bound calls calls_now least old new left left_now taken taken_now f
+    → ServerStoppedWithin answer bound (calls + more) (calls_now + more) least old new left left_now taken taken_now f
+serving_stopped_beside more answer bound calls calls_now least old new left left_now taken taken_now f s = record {
+  front = s.front;
+  within = λ readers are. let before = s.within readers are in omega (arith, before);
+}
+
 work_why : (least bound mid read held : ℕ) (left_now : Option (List ℕ)) (e : ServerEnd) (f : PumpFault ServerFault)
     → 2 * bound ≤ 2 * mid + 3 * read + held → IsWorkFault mid f → ServerWhy least bound read 0 held left_now e f
 work_why least bound mid read held left_now e fault.ReadFailed most r = absurd r
@@ -396,22 +473,43 @@ work_why least bound mid read held left_now e fault.TurnsSpent most r = omega (a
 work_why least bound mid read held left_now e (fault.Core why) most r = absurd r
 work_why least bound mid read held left_now e fault.Memory most r = tt
 
-pub server_stops_working : (a b c : Serving) (f : PumpFault ServerFault) (answer : Job → ℕ → Outcome) (least bound mid come : ℕ)
-    (left left_now taken : Option (List ℕ)) → ReadIn least a b left left_now bound mid come → ServerGoesOn answer Working b c
-    → IsWorkFault mid f → ServerStopped answer least bound a.end (serving_left c.end) left left_now taken taken f
-server_stops_working a b c f answer least bound mid come left left_now taken h goes r = record {
-  stage = Working;
-  read = h.read;
-  written = [];
-  lost = [];
-  last = c.end;
-  turn = λ readers are. goes.turn readers are least a.end h.read (knows b.end h.read (h.turn readers are answer) h.none);
-  leaves = refl;
-  consumed = subst (Consumes left left_now) (sym (append-nil h.read)) h.consumed;
-  is_lost = none_lost f;
-  appended = Appends-nil taken;
-  why = work_why least bound mid (length h.read) (length a.end.input.rest) left_now c.end f h.counted r;
+-- it has read, and has worked on from there
+works_from : (a b c : Serving) (answer : Job → ℕ → Outcome) (least bound calls calls_now mid late come : ℕ)
+    (left left_now : Option (List ℕ)) (h : ReadIn least calls calls_now a b left left_now bound mid come)
+    → ServerGoesOn answer Working mid late b c → (readers : Readers) → AreReaders readers
+    → (t : ServerTurn readers answer least a.end Working h.read [] c.end) × (calls_now + late + steps_made t ≤ calls + bound)
+works_from a b c answer least bound calls calls_now mid late come left left_now h goes readers are =
+    let t : (t : ServerTurn readers answer least a.end Reading h.read [] b.end) × (calls_now + mid + steps_made t ≤ calls + bound) =
+    h.turn readers are answer in
+    let u : (u : ServerTurn readers answer least a.end Working h.read [] c.end) × (late + steps_made u ≤ mid + steps_made t.0) =
+    goes.turn readers are least a.end h.read (knows b.end h.read t.0 h.none) in
+    let before = t.1 in
+    let few = u.1 in (u.0, omega (arith, before, few))
+
+pub server_stops_working : (a b c : Serving) (f : PumpFault ServerFault) (answer : Job → ℕ → Outcome)
+    (least bound calls calls_now more mid late come : ℕ) (left left_now taken : Option (List ℕ))
+    → ReadIn least calls calls_now a b left left_now bound mid come → ServerGoesOn answer Working mid late b c → IsWorkFault mid f
+    → ServerStoppedWithin answer bound (calls + more) (calls_now + more) least a.end (serving_left c.end) left left_now taken taken f
+server_stops_working a b c f answer least bound calls calls_now more mid late come left left_now taken h goes r = record {
+  front = record {
+    stage = Working;
+    read = h.read;
+    written = [];
+    lost = [];
+    last = c.end;
+    turn = λ readers are. (work_on readers are).0;
+    leaves = refl;
+    consumed = subst (Consumes left left_now) (sym (append-nil h.read)) h.consumed;
+    is_lost = none_lost f;
+    appended = Appends-nil taken;
+    why = work_why least bound mid (length h.read) (length a.end.input.rest) left_now c.end f h.counted r;
+  };
+  within = λ readers are. let steps = (work_on readers are).1 in omega (arith, steps);
 }
+  where
+    work_on : (readers : Readers) → AreReaders readers
+        → (t : ServerTurn readers answer least a.end Working h.read [] c.end) × (calls_now + late + steps_made t ≤ calls + bound)
+    work_on = works_from a b c answer least bound calls calls_now mid late come left left_now h goes
 
 idle_turn : (s : Server) → has_work s ≡ false → may_turn s ≡ false
 idle_turn s idle = go (is_some (running_job s)) (may_turn s) idle
@@ -437,49 +535,65 @@ push_why least bound mid late read written held n left_now e fault.TurnsSpent mo
 push_why least bound mid late read written held n left_now e (fault.Core why) most work same r = absurd r
 push_why least bound mid late read written held n left_now e fault.Memory most work same r = absurd r
 
-pub server_stops_writing : (a b c : Serving) (f : PumpFault ServerFault) (answer : Job → ℕ → Outcome) (least bound mid late come : ℕ)
-    (left left_now taken taken_now : Option (List ℕ)) (bytes : List ℕ) → ReadIn least a b left left_now bound mid come
-    → ServerGoesOn answer Working b c → has_work c.end.server ≡ false → mid ≤ late + 129 → bytes ≡ c.end.out
-    → Pushed bytes taken taken_now late f → ServerStopped answer least bound a.end (serving_left c.end) left left_now taken taken_now f
-server_stops_writing a b c f answer least bound mid late come left left_now taken taken_now bytes h goes idle work are pushed =
-    let p : Pushed c.end.out taken taken_now late f = subst (λ (xs : List ℕ). Pushed xs taken taken_now late f) are pushed in record {
-      stage = Writing;
-      read = h.read;
-      written = take p.count c.end.out;
-      lost = [];
-      last = serving_taken p.count c.end;
-      turn = λ readers are. writes c.end h.read p.count
-          (goes.turn readers are least a.end h.read (knows b.end h.read (h.turn readers are answer) h.none))
-          (idle_turn c.end.server idle) (idle_job c.end.server idle) p.within;
-      leaves = refl;
-      consumed = subst (Consumes left left_now) (sym (append-nil h.read)) h.consumed;
-      is_lost = none_lost f;
-      appended = p.appended;
-      why = push_why least bound mid late (length h.read) (length (take p.count c.end.out)) (length a.end.input.rest) p.count left_now
-          (serving_taken p.count c.end) f h.counted work (length-take-le p.count c.end.out p.within) p.why;
+pub server_stops_writing : (a b c : Serving) (f : PumpFault ServerFault) (answer : Job → ℕ → Outcome)
+    (least bound calls calls_now pushes pushes_now mid late come : ℕ) (left left_now taken taken_now : Option (List ℕ)) (bytes : List ℕ)
+    → ReadIn least calls calls_now a b left left_now bound mid come → ServerGoesOn answer Working mid late b c
+    → has_work c.end.server ≡ false → mid ≤ late + 129 → bytes ≡ c.end.out → Pushed bytes taken taken_now late f
+    → pushes_now ≤ pushes + late
+    → ServerStoppedWithin answer bound (calls + pushes) (calls_now + pushes_now) least a.end (serving_left c.end) left left_now taken
+    taken_now f
+server_stops_writing a b c f answer least bound calls calls_now pushes pushes_now mid late come left left_now taken taken_now bytes h goes
+    idle work are pushed most = record {
+      front = record {
+        stage = Writing;
+        read = h.read;
+        written = take p.count c.end.out;
+        lost = [];
+        last = serving_taken p.count c.end;
+        turn = λ readers are. writes c.end h.read p.count (work_on readers are).0 (idle_turn c.end.server idle) (idle_job c.end.server idle) p.within;
+        leaves = refl;
+        consumed = subst (Consumes left left_now) (sym (append-nil h.read)) h.consumed;
+        is_lost = none_lost f;
+        appended = p.appended;
+        why = push_why least bound mid late (length h.read) (length (take p.count c.end.out)) (length a.end.input.rest) p.count left_now
+            (serving_taken p.count c.end) f h.counted work (length-take-le p.count c.end.out p.within) p.why;
+      };
+      within = λ readers are. let steps = (work_on readers are).1 in omega (arith, steps, most);
     }
-
-pub has_served : (a b c d : Serving) (answer : Job → ℕ → Outcome) (least bound mid come gone : ℕ)
-    (left left_now taken taken_now : Option (List ℕ)) (bytes : List ℕ) → ReadIn least a b left left_now bound mid come
-    → ServerGoesOn answer Working b c → has_work c.end.server ≡ false → bytes ≡ c.end.out → gone ≡ length c.end.out
-    → Appends taken taken_now bytes → d ≡ with_end c (serving_taken gone c.end)
-    → ServerMoved answer least a.end d.end left left_now taken taken_now (record { read = come; written = gone })
-has_served a b c d answer least bound mid come gone left left_now taken taken_now bytes h goes idle are is appended same = record {
-  read = h.read;
-  written = c.end.out;
-  turn = λ readers are.
-      subst (λ (s : Serving). ServerTurn readers answer least a.end Writing h.read c.end.out s.end) (sym same)
-      (subst (λ (xs : List ℕ). ServerTurn readers answer least a.end Writing h.read xs (serving_taken gone c.end))
-      (whole gone c.end.out is) (writes c.end h.read gone
-      (goes.turn readers are least a.end h.read (knows b.end h.read (h.turn readers are answer) h.none))
-      (idle_turn c.end.server idle) (idle_job c.end.server idle) (omega (arith, is))));
-  all = ap (λ (s : Serving). s.end.out) same ∙ nothing gone c.end.out is;
-  consumed = h.consumed;
-  appended = subst (Appends taken taken_now) are appended;
-  read_is = h.count_is;
-  written_is = is;
-}
   where
+    work_on : (readers : Readers) → AreReaders readers
+        → (t : ServerTurn readers answer least a.end Working h.read [] c.end) × (calls_now + late + steps_made t ≤ calls + bound)
+    work_on = works_from a b c answer least bound calls calls_now mid late come left left_now h goes
+
+    p : Pushed c.end.out taken taken_now late f
+    p = subst (λ (xs : List ℕ). Pushed xs taken taken_now late f) are pushed
+
+pub has_served : (a b c d : Serving) (answer : Job → ℕ → Outcome)
+    (least bound calls calls_now pushes pushes_now mid late come gone : ℕ) (left left_now taken taken_now : Option (List ℕ))
+    (bytes : List ℕ) → ReadIn least calls calls_now a b left left_now bound mid come
+    → ServerGoesOn answer Working mid late b c → has_work c.end.server ≡ false → bytes ≡ c.end.out → gone ≡ length c.end.out
+    → Appends taken taken_now bytes → d ≡ with_end c (serving_taken gone c.end) → pushes_now ≤ pushes + late
+    → ServerMovedWithin answer bound (calls + pushes) (calls_now + pushes_now) least a.end d.end left left_now taken taken_now
+    (record { read = come; written = gone })
+has_served a b c d answer least bound calls calls_now pushes pushes_now mid late come gone left left_now taken taken_now bytes h goes idle
+    are is appended same most = record {
+      whole = record {
+        read = h.read;
+        written = c.end.out;
+        turn = λ readers are. (wrote readers are).0;
+        all = ap (λ (s : Serving). s.end.out) same ∙ nothing gone c.end.out is;
+        consumed = h.consumed;
+        appended = subst (Appends taken taken_now) are appended;
+        read_is = h.count_is;
+        written_is = is;
+      };
+      within = λ readers are. let steps = (wrote readers are).1 in omega (arith, steps, most);
+    }
+  where
+    work_on : (readers : Readers) → AreReaders readers
+        → (t : ServerTurn readers answer least a.end Working h.read [] c.end) × (calls_now + late + steps_made t ≤ calls + bound)
+    work_on = works_from a b c answer least bound calls calls_now mid late come left left_now h goes
+
     whole : (n : ℕ) (bytes : List ℕ) → n ≡ length bytes → take n bytes ≡ bytes
     whole n [] is = ap (λ (k : ℕ). take k []) is
     whole n (x ∷ xs) is = ap (λ (k : ℕ). take k (x ∷ xs)) is ∙ ap (λ (ys : List ℕ). x ∷ ys) (whole (length xs) xs refl)
@@ -487,6 +601,17 @@ has_served a b c d answer least bound mid come gone left left_now taken taken_no
     nothing : (n : ℕ) (bytes : List ℕ) → n ≡ length bytes → drop n bytes ≡ []
     nothing n [] is = ap (λ (k : ℕ). drop k []) is
     nothing n (x ∷ xs) is = ap (λ (k : ℕ). drop k (x ∷ xs)) is ∙ nothing (length xs) xs refl
+
+    wrote : (readers : Readers) → AreReaders readers
+        → (t : ServerTurn readers answer least a.end Writing h.read c.end.out d.end) × (calls_now + late + steps_made t ≤ calls + bound)
+    wrote readers are =
+        let t : (t : ServerTurn readers answer least a.end Working h.read [] c.end) × (calls_now + late + steps_made t ≤ calls + bound) =
+        work_on readers are in
+        subst (λ (s : Serving). (t : ServerTurn readers answer least a.end Writing h.read c.end.out s.end)
+        × (calls_now + late + steps_made t ≤ calls + bound)) (sym same)
+        (subst (λ (xs : List ℕ). (t : ServerTurn readers answer least a.end Writing h.read xs (serving_taken gone c.end))
+        × (calls_now + late + steps_made t ≤ calls + bound)) (whole gone c.end.out is)
+        (writes c.end h.read gone t.0 (idle_turn c.end.server idle) (idle_job c.end.server idle) (omega (arith, is)), t.1))
 
 -- what the check needs where the server does one thing
 pub ruleset working = (works_same, works_turn, works_end, turn_fewer, end_fewer)

@@ -22,6 +22,10 @@ turns_most = 1000000
 abbrev pub steps_most : ℕ
 steps_most = 1000000
 
+-- how many calls of ports that is together
+abbrev pub calls_most : ℕ
+calls_most = turns_most * steps_most
+
 -- ---- the client's side
 
 -- a client whose run is over: its plan is counted, or nothing is open behind a failure or an abort

@@ -6,7 +6,7 @@ use Rattle.protocol_model.specs.Ends.{ClientEnd, end_fed}
 use Rattle.client_core.specs.declared.faults.ClientFault.{ClientFault}
 use Rattle.link_world.specs.declared.pumps.PumpFault.{PumpFault}
 use Rattle.link_world.specs.declared.pumps.PumpFault.TheVariants as fault
-use Rattle.link_world.specs.Pumps.{Stage, Writing, ClientTurn, HasRefused, IsLost}
+use Rattle.link_world.specs.Pumps.{Stage, Writing, Reading, ClientTurn, lines_read, HasRefused, IsLost}
 
 -- why no more was pushed than so many bytes: the budget is spent, of which each took a step at most
 abbrev pub IsPushFault : {F : Type 0} → (budget count : ℕ) → PumpFault F → Type 0
@@ -32,6 +32,12 @@ IsPullFault budget left_now _ = ⊥
 abbrev pub GoesOn : Stage → List ℕ → List ℕ → ClientEnd → ClientEnd → Type 0
 GoesOn stage read written old new = (readers : Readers) → AreReaders readers → (least : ℕ) (start : ClientEnd)
     → ClientTurn readers least start stage read written old → ClientTurn readers least start stage read written new
+
+-- a client's turn that reads goes on, and each line has taken a step of the budget
+abbrev pub ReadsOn : (budget budget_now : ℕ) → ClientEnd → ClientEnd → Type 0
+ReadsOn budget budget_now old new = (readers : Readers) → AreReaders readers → (least : ℕ) (start : ClientEnd) (read written : List ℕ)
+    → (turn : ClientTurn readers least start Reading read written old)
+    → (further : ClientTurn readers least start Reading read written new) × (budget_now + lines_read further ≤ budget + lines_read turn)
 
 -- a client has sent all that was due, and all that it had written went out, each step one byte or more
 pub record AllOut (old new : ClientEnd) (taken taken_now : Option (List ℕ)) (budget budget_now count : ℕ) : Type 0 where

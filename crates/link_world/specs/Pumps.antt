@@ -1,7 +1,7 @@
 -- Turns of one side of a connection over its ports (this profile): what a side does, in which order, which bytes move, and where it stops.
-use Rattle.std.specs.Prelude.{◌≡◌, ℕ, ◌+◌, ◌*◌, ◌<◌, ◌≤◌, Bool, true, false, ⊤, Option, None, List, [], ◌++◌, length, take, is_some, Ok}
+use Rattle.std.specs.Prelude.{◌≡◌, ℕ, ◌+◌, ◌*◌, ◌<◌, ◌≤◌, Bool, true, false, ⊤, Option, None, Some, List, [], ◌++◌, length, take, is_some, Ok, Err}
 use Rattle.std.specs.Io.KnownBytes.{Appends, Consumes, IsAtEnd}
-use Rattle.line_framing.specs.Next.{next_of}
+use Rattle.line_framing.specs.Next.{Front, next_of}
 use Rattle.protocol_model.specs.Lines.{Readers, AreReaders}
 use Rattle.protocol_model.specs.Client.{due}
 use Rattle.protocol_model.specs.Ends.{ClientEnd, end_sent, end_taken, end_fed, end_read, end_left}
@@ -43,6 +43,22 @@ pub data ClientTurn (readers : Readers) (least : ℕ) (start : ClientEnd) : Stag
   reads : (e : ClientEnd) (read written : List ℕ) → ClientTurn readers least start Reading read written e → may_read e.client ≡ true
       → is_any (next_of e.input.rest) ≡ true → ClientTurn readers least start Reading read written (end_read readers e)
 
+-- how many lines stand at a front as its next: bytes that are no line are none
+abbrev pub next_lines : Front → ℕ
+next_lines (Ok None) = 0
+next_lines (Ok (Some found)) = 1
+next_lines (Err why) = 0
+
+-- how many lines a client's turn that has come so far has read
+abbrev pub lines_read : {readers : Readers} {least : ℕ} {start : ClientEnd} {stage : Stage} {read written : List ℕ} {e : ClientEnd}
+    → ClientTurn readers least start stage read written e → ℕ
+lines_read begins = 0
+lines_read (sends e t is) = lines_read t
+lines_read (writes e count t none within) = lines_read t
+lines_read (takes e read written t out may) = lines_read t
+lines_read (has e read written t enough) = lines_read t
+lines_read (reads e read written t may is) = lines_read t + next_lines (next_of e.input.rest)
+
 -- a client's whole turn: nothing is left to be read, the source has lost the bytes that came in and no others, and the sink has taken those
 -- that went out
 pub record ClientMoved (least : ℕ) (old new : ClientEnd) (left left_now taken taken_now : Option (List ℕ)) (moved : Moved) : Type 0 where
@@ -55,6 +71,13 @@ pub record ClientMoved (least : ℕ) (old new : ClientEnd) (left left_now taken 
   pub appended : Appends taken taken_now written
   pub read_is : moved.read ≡ length read
   pub written_is : moved.written ≡ length written
+
+-- the same in at most so many steps: one for each call of a port, which are counted from one number to another, and one for each line
+pub record ClientMovedWithin (bound calls calls_now least : ℕ) (old new : ClientEnd) (left left_now taken taken_now : Option (List ℕ))
+    (moved : Moved) : Type 0
+  where
+    pub whole : ClientMoved least old new left left_now taken taken_now moved
+    pub within : (readers : Readers) (are : AreReaders readers) → calls_now + lines_read (whole.turn readers are) ≤ calls + bound
 
 -- the client has refused: for want of memory, or as it refuses to read and to send
 abbrev pub HasRefused : ClientEnd → PumpFault ClientFault → Type 0
@@ -93,3 +116,10 @@ pub record ClientStopped (least bound : ℕ) (old new : ClientEnd) (left left_no
     pub is_lost : IsLost fault lost
     pub appended : Appends taken taken_now written
     pub why : ClientWhy least bound (length read) (length written) (length old.input.rest) left_now last fault
+
+-- the same, which has made at most so many steps
+pub record ClientStoppedWithin (bound calls calls_now least : ℕ) (old new : ClientEnd) (left left_now taken taken_now : Option (List ℕ))
+    (fault : PumpFault ClientFault) : Type 0
+  where
+    pub front : ClientStopped least bound old new left left_now taken taken_now fault
+    pub within : (readers : Readers) (are : AreReaders readers) → calls_now + lines_read (front.turn readers are) ≤ calls + bound

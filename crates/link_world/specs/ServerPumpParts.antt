@@ -15,13 +15,16 @@ use Rattle.link_world.specs.declared.pumps.PumpFault.{PumpFault}
 use Rattle.link_world.specs.declared.pumps.PumpFault.TheVariants as fault
 use Rattle.link_world.specs.Pumps.{Stage, Taking, Reading, Working, IsLost}
 use Rattle.link_world.specs.PumpParts.{IsTakeFault}
-use Rattle.link_world.specs.ServerPumps.{ServerTurn, IsServerRefusal}
+use Rattle.link_world.specs.ServerPumps.{ServerTurn, steps_made, IsServerRefusal}
 
--- a stage of a server's turn goes on from one end to another, whatever the turn was before; its setup stays
-pub record ServerGoesOn (answer : Job → ℕ → Outcome) (stage : Stage) (old new : Serving) : Type 0 where
+-- a stage of a server's turn goes on from one end to another, whatever the turn was before, and each step was one of the budget; its
+-- setup stays
+pub record ServerGoesOn (answer : Job → ℕ → Outcome) (stage : Stage) (budget budget_now : ℕ) (old new : Serving) : Type 0 where
   pub setup : new.setup ≡ old.setup
   pub turn : (readers : Readers) → AreReaders readers → (least : ℕ) (start : ServerEnd) (read : List ℕ)
-      → ServerTurn readers answer least start stage read [] old.end → ServerTurn readers answer least start stage read [] new.end
+      → (turn : ServerTurn readers answer least start stage read [] old.end)
+      → (further : ServerTurn readers answer least start stage read [] new.end)
+      × (budget_now + steps_made further ≤ budget + steps_made turn)
 
 -- a server was fed what was pulled, and each step gave one byte or more
 pub record ServerCame (old new : Serving) (left left_now : Option (List ℕ)) (budget budget_now count : ℕ) : Type 0 where
@@ -53,21 +56,24 @@ IsServerReadFault budget held e _ = ⊥
 -- it was then
 pub record ServerReadStops (old new : Serving) (budget : ℕ) (fault : PumpFault ServerFault) : Type 0 where
   pub last : Serving
-  pub goes : (answer : Job → ℕ → Outcome) → ServerGoesOn answer Reading old last
+  pub goes : (answer : Job → ℕ → Outcome) → ServerGoesOn answer Reading budget 0 old last
   pub setup : new.setup ≡ old.setup
   pub same : serving_left new.end ≡ serving_left last.end
   pub why : IsServerReadFault budget (length old.end.input.rest) last.end fault
 
 -- bytes have come, at least so many, and each whole line was read, so many bytes and lines a step
-pub record ReadIn (least : ℕ) (old new : Serving) (left left_now : Option (List ℕ)) (budget budget_now count : ℕ) : Type 0 where
-  pub read : List ℕ
-  pub setup : new.setup ≡ old.setup
-  pub turn : (readers : Readers) → AreReaders readers → (answer : Job → ℕ → Outcome)
-      → ServerTurn readers answer least old.end Reading read [] new.end
-  pub none : next_of new.end.input.rest ≡ Ok None
-  pub consumed : Consumes left left_now read
-  pub counted : 2 * budget ≤ 2 * budget_now + 3 * length read + length old.end.input.rest
-  pub count_is : count ≡ length read
+pub record ReadIn (least calls calls_now : ℕ) (old new : Serving) (left left_now : Option (List ℕ)) (budget budget_now count : ℕ)
+    : Type 0
+  where
+    pub read : List ℕ
+    pub setup : new.setup ≡ old.setup
+    pub turn : (readers : Readers) → AreReaders readers → (answer : Job → ℕ → Outcome)
+        → (turn : ServerTurn readers answer least old.end Reading read [] new.end)
+        × (calls_now + budget_now + steps_made turn ≤ calls + budget)
+    pub none : next_of new.end.input.rest ≡ Ok None
+    pub consumed : Consumes left left_now read
+    pub counted : 2 * budget ≤ 2 * budget_now + 3 * length read + length old.end.input.rest
+    pub count_is : count ≡ length read
 
 -- there is something to do: a job runs, or what waits may have its turn
 abbrev pub has_work : Server → Bool

@@ -39,6 +39,19 @@ pub data ServerTurn (readers : Readers) (answer : Job → ℕ → Outcome) (leas
       → may_turn e.server ≡ false → running_job e.server ≡ None → count ≤ length e.out
       → ServerTurn readers answer least start Writing read (take count e.out) (serving_taken count e)
 
+-- how many lines a server's turn that has come so far has read, how often what waits had its turn, and how often what ran has ended,
+-- together
+abbrev pub steps_made : {readers : Readers} {answer : Job → ℕ → Outcome} {least : ℕ} {start : ServerEnd} {stage : Stage}
+    {read written : List ℕ} {e : ServerEnd} → ServerTurn readers answer least start stage read written e → ℕ
+steps_made begins = 0
+steps_made (takes read may) = 0
+steps_made (has e read t enough) = steps_made t
+steps_made (reads e read t on is) = steps_made t + 1
+steps_made (knows e read t none) = steps_made t
+steps_made (turns e read t may) = steps_made t + 1
+steps_made (ends e read job t runs) = steps_made t + 1
+steps_made (writes e read count t none idle within) = steps_made t
+
 -- a server's whole turn: all has gone out, the source has lost the bytes that came in and no others, and the sink has taken those that
 -- went out
 pub record ServerMoved (answer : Job → ℕ → Outcome) (least : ℕ) (old new : ServerEnd) (left left_now taken taken_now : Option (List ℕ))
@@ -52,6 +65,14 @@ pub record ServerMoved (answer : Job → ℕ → Outcome) (least : ℕ) (old new
     pub appended : Appends taken taken_now written
     pub read_is : moved.read ≡ length read
     pub written_is : moved.written ≡ length written
+
+-- the same in at most so many steps: one for each call of a port, which are counted from one number to another, and one for each line, turn
+-- of what waits and end of what ran
+pub record ServerMovedWithin (answer : Job → ℕ → Outcome) (bound calls calls_now least : ℕ) (old new : ServerEnd)
+    (left left_now taken taken_now : Option (List ℕ)) (moved : Moved) : Type 0
+  where
+    pub whole : ServerMoved answer least old new left left_now taken taken_now moved
+    pub within : (readers : Readers) (are : AreReaders readers) → calls_now + steps_made (whole.turn readers are) ≤ calls + bound
 
 -- a server's refusal as the fault of a pump: want of memory is a fault of its own
 abbrev pub of_server : ServerFault → PumpFault ServerFault
@@ -89,3 +110,10 @@ pub record ServerStopped (answer : Job → ℕ → Outcome) (least bound : ℕ) 
     pub is_lost : IsLost fault lost
     pub appended : Appends taken taken_now written
     pub why : ServerWhy least bound (length read) (length written) (length old.input.rest) left_now last fault
+
+-- the same, which has made at most so many steps
+pub record ServerStoppedWithin (answer : Job → ℕ → Outcome) (bound calls calls_now least : ℕ) (old new : ServerEnd)
+    (left left_now taken taken_now : Option (List ℕ)) (fault : PumpFault ServerFault) : Type 0
+  where
+    pub front : ServerStopped answer least bound old new left left_now taken taken_now fault
+    pub within : (readers : Readers) (are : AreReaders readers) → calls_now + steps_made (front.turn readers are) ≤ calls + bound

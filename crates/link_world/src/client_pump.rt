@@ -5,8 +5,8 @@ ghost use Rattle.std.specs.Result.{IsErrOf};
 ghost use Rattle.line_framing.specs.Next.{next_of};
 ghost use Rattle.protocol_model.specs.Client.{due};
 ghost use Rattle.client_core.specs.Clients.{may_read};
-ghost use Rattle.link_world.specs.Pumps.{Sending, Reading, ClientMoved, ClientStopped, HasRefused};
-ghost use Rattle.link_world.specs.PumpParts.{GoesOn, AllOut, Came, CameShort, IsReadFault};
+ghost use Rattle.link_world.specs.Pumps.{Sending, ClientMovedWithin, ClientStoppedWithin, HasRefused};
+ghost use Rattle.link_world.specs.PumpParts.{GoesOn, ReadsOn, AllOut, Came, CameShort, IsReadFault};
 ghost use Rattle.protocol_model.specs.Ends.{end_left};
 
 use crate::pumps::{Budget, Moved, PIECE, PumpFault, pull_counted, push_counted};
@@ -35,8 +35,9 @@ fn give_out<W: Sink>(
     ensures out { IfOk result (λ count. AllOut client.old client.new (W.taken sink.old)
         (W.taken sink.new) budget.old.left budget.new.left count) }
     ensures stopped { IfErr result (λ fault. (least : ℕ) (left : Option (List ℕ))
-        → ClientStopped least budget.old.left client.old (end_left client.new) left left
-        (W.taken sink.old) (W.taken sink.new) fault) }
+        → ClientStoppedWithin budget.old.left (W.calls sink.old) (W.calls sink.new) least
+        client.old (end_left client.new) left left (W.taken sink.old) (W.taken sink.new) fault) }
+    ensures bounded { W.calls sink.new + budget.new.left ≤ W.calls sink.old + budget.old.left }
     ensures failed { IsErrOf result PumpFault.WriteFailed → W.has_failed sink.new ≡ true }
     ensures works { W.has_failed sink.old ≡ false → W.has_failed sink.new ≡ true
         → IsErrOf result PumpFault.WriteFailed }
@@ -62,6 +63,8 @@ fn take_in<R: Source>(
     ensures enough { IfOk result (λ count. at_least ≤ count) }
     ensures few { IfOk result (λ count. count < at_least + PIECE) }
     ensures unasked { at_least ≡ 0 → source.new ≡ source.old }
+    ensures bounded { R.calls source.new + budget.new.left
+        ≤ R.calls source.old + budget.old.left }
     ensures short { IfErr result (λ fault. CameShort at_least client.old client.new
         (R.left source.old) (R.left source.new) budget.old.left fault) }
     ensures failed { IsErrOf result PumpFault.ReadFailed → R.has_failed source.new ≡ true }
@@ -82,7 +85,7 @@ fn take_in<R: Source>(
 
 /// The client reads each whole line.
 fn read_lines(client: &mut Client, budget: &mut Budget) -> Result<(), PumpFault<ClientFault>>
-    ensures reads { (read written : List ℕ) → GoesOn Reading read written client.old client.new }
+    ensures reads { ReadsOn budget.old.left budget.new.left client.old client.new }
     ensures all { OnOk result (next_of client.new.input.rest ≡ Ok None) }
     ensures may { OnOk result (may_read client.new.client ≡ true) }
     ensures faults { IfErr result (λ fault.
@@ -106,10 +109,13 @@ fn turn<R: Source, W: Sink>(
     at_least: usize,
     bound: u64,
 ) -> Result<Moved, PumpFault<ClientFault>>
-    ensures moved { IfOk result (λ moved. ClientMoved at_least client.old client.new
-        (R.left source.old) (R.left source.new) (W.taken sink.old) (W.taken sink.new) moved) }
-    ensures stopped { IfErr result (λ fault. ClientStopped at_least bound client.old
-        (end_left client.new) (R.left source.old) (R.left source.new)
+    ensures moved { IfOk result (λ moved. ClientMovedWithin bound
+        (R.calls source.old + W.calls sink.old) (R.calls source.new + W.calls sink.new)
+        at_least client.old client.new (R.left source.old) (R.left source.new)
+        (W.taken sink.old) (W.taken sink.new) moved) }
+    ensures stopped { IfErr result (λ fault. ClientStoppedWithin bound
+        (R.calls source.old + W.calls sink.old) (R.calls source.new + W.calls sink.new)
+        at_least client.old (end_left client.new) (R.left source.old) (R.left source.new)
         (W.taken sink.old) (W.taken sink.new) fault) }
     ensures few { IfOk result (λ moved. moved.read < at_least + PIECE) }
     ensures unasked { at_least ≡ 0 → source.new ≡ source.old }
@@ -134,8 +140,8 @@ fn turn<R: Source, W: Sink>(
 /// out; bytes come in, in pieces of at most `PIECE`, until there are `at_least`, and none where that is 0; and it reads each whole line.
 /// What comes behind the last whole line is kept.
 ///
-/// Each push, each pull and each line is a step, and `bound` is how many there may be. A fault stops the turn, and the client has then
-/// left its connection: `ReadFailed` and `WriteFailed` where that port has failed; `Ended` where the input has ended before `at_least`
+/// Each push, each pull and each line is a step, and there are at most `bound`, whatever the answer. A fault stops the turn, and the client
+/// has then left its connection: `ReadFailed` and `WriteFailed` where that port has failed; `Ended` where the input has ended before `at_least`
 /// bytes had come; `TurnsSpent`; `Core` where the client itself refuses, as one on no connection does (`NotNow`), and one that was or is
 /// now Faulted; `Memory`, and only then may bytes that had come be lost.
 pub fn client_turns<R: Source, W: Sink>(
@@ -145,10 +151,14 @@ pub fn client_turns<R: Source, W: Sink>(
     at_least: usize,
     bound: u64,
 ) -> Result<Moved, PumpFault<ClientFault>>
-    ensures moved { IfOk result (λ moved. ClientMoved at_least client.old client.new
-        (R.left source.old) (R.left source.new) (W.taken sink.old) (W.taken sink.new) moved) }
-    ensures stopped { IfErr result (λ fault. ClientStopped at_least bound client.old client.new
-        (R.left source.old) (R.left source.new) (W.taken sink.old) (W.taken sink.new) fault) }
+    ensures moved { IfOk result (λ moved. ClientMovedWithin bound
+        (R.calls source.old + W.calls sink.old) (R.calls source.new + W.calls sink.new)
+        at_least client.old client.new (R.left source.old) (R.left source.new)
+        (W.taken sink.old) (W.taken sink.new) moved) }
+    ensures stopped { IfErr result (λ fault. ClientStoppedWithin bound
+        (R.calls source.old + W.calls sink.old) (R.calls source.new + W.calls sink.new)
+        at_least client.old client.new (R.left source.old) (R.left source.new)
+        (W.taken sink.old) (W.taken sink.new) fault) }
     ensures few { IfOk result (λ moved. moved.read < at_least + PIECE) }
     ensures unasked { at_least ≡ 0 → source.new ≡ source.old }
     ensures read_failed { IsErrOf result PumpFault.ReadFailed

@@ -1,8 +1,8 @@
 // A client and a server over the ports of one connection, which have their turns by turns.
 
-ghost use Rattle.std.specs.Prelude.{◌≡◌, true, false, IfOk, OnOk, OnErr, IfErr};
+ghost use Rattle.std.specs.Prelude.{◌≡◌, ◌≤◌, ◌+◌, true, false, IfOk, OnOk, OnErr, IfErr};
 ghost use Rattle.std.specs.Result.{IsErrOf};
-ghost use Rattle.link_world.specs.LinkRuns.{client_side, server_side, are_still, PairMoved, PairStopped, LoopRan, LoopStopped};
+ghost use Rattle.link_world.specs.LinkRuns.{calls_most, client_side, server_side, are_still, PairMoved, PairStopped, LoopRan, LoopStopped};
 
 use crate::links::{LoopFault, STEPS_MAX, TURNS_MAX, Watcher, watched_turn};
 use crate::machines::Machine;
@@ -46,6 +46,10 @@ fn pair<M: Machine, CR: Source, CW: Sink, SR: Source, SW: Sink, N: Watcher>(
         fault) }
     ensures client_left { OnErr result (client.new.client.on ≡ false) }
     ensures server_left { OnErr result (server.new.end.server.on ≡ false) }
+    ensures client_bounded { CR.calls client_source.new + CW.calls client_sink.new
+        ≤ CR.calls client_source.old + CW.calls client_sink.old + STEPS_MAX }
+    ensures server_bounded { SR.calls server_source.new + SW.calls server_sink.new
+        ≤ SR.calls server_source.old + SW.calls server_sink.old + STEPS_MAX }
     ensures setup { server.new.setup ≡ server.old.setup }
     ensures keeps { M.answers machine.new ≡ M.answers machine.old }
     ensures client_read_failed { IsErrOf result (LoopFault.Client PumpFault.ReadFailed)
@@ -123,6 +127,10 @@ pub fn loop_link<M: Machine, CR: Source, CW: Sink, SR: Source, SW: Sink, N: Watc
         fault) }
     ensures client_left { OnErr result (client.new.client.on ≡ false) }
     ensures server_left { OnErr result (server.new.end.server.on ≡ false) }
+    ensures client_bounded { CR.calls client_source.new + CW.calls client_sink.new
+        ≤ CR.calls client_source.old + CW.calls client_sink.old + calls_most }
+    ensures server_bounded { SR.calls server_source.new + SW.calls server_sink.new
+        ≤ SR.calls server_source.old + SW.calls server_sink.old + calls_most }
     ensures setup { server.new.setup ≡ server.old.setup }
     ensures keeps { M.answers machine.new ≡ M.answers machine.old }
     ensures client_read_failed { IsErrOf result (LoopFault.Client PumpFault.ReadFailed)

@@ -1,9 +1,9 @@
 // Whole connections over their ports: the turns of one side, one behind another.
 
-ghost use Rattle.std.specs.Prelude.{◌≡◌, ◌↔◌, ◌<◌, ◌+◌, true, false, IsOk, IfOk, OnOk, OnErr, IfErr};
+ghost use Rattle.std.specs.Prelude.{◌≡◌, ◌↔◌, ◌<◌, ◌≤◌, ◌+◌, true, false, IsOk, IfOk, OnOk, OnErr, IfErr};
 ghost use Rattle.std.specs.Result.{IsErrOf};
-ghost use Rattle.link_world.specs.Pumps.{ClientMoved, ClientStopped};
-ghost use Rattle.link_world.specs.LinkRuns.{is_over, ClientRan, ClientRunStopped, ServerRunStopped};
+ghost use Rattle.link_world.specs.Pumps.{ClientMovedWithin, ClientStoppedWithin};
+ghost use Rattle.link_world.specs.LinkRuns.{calls_most, is_over, ClientRan, ClientRunStopped, ServerRunStopped};
 
 use crate::client_pump::client_turns;
 use crate::machines::Machine;
@@ -66,11 +66,14 @@ pub(crate) fn watched_turn<R: Source, W: Sink, N: Watcher>(
     at_least: usize,
     watcher: &mut N,
 ) -> Result<Moved, PumpFault<ClientFault>>
-    ensures moved { IfOk result (λ moved. ClientMoved at_least client.old client.new
-        (R.left source.old) (R.left source.new) (W.taken sink.old) (W.taken sink.new) moved) }
-    ensures stopped { IfErr result (λ fault. ClientStopped at_least STEPS_MAX client.old
-        client.new (R.left source.old) (R.left source.new) (W.taken sink.old) (W.taken sink.new)
-        fault) }
+    ensures moved { IfOk result (λ moved. ClientMovedWithin STEPS_MAX
+        (R.calls source.old + W.calls sink.old) (R.calls source.new + W.calls sink.new)
+        at_least client.old client.new (R.left source.old) (R.left source.new)
+        (W.taken sink.old) (W.taken sink.new) moved) }
+    ensures stopped { IfErr result (λ fault. ClientStoppedWithin STEPS_MAX
+        (R.calls source.old + W.calls sink.old) (R.calls source.new + W.calls sink.new)
+        at_least client.old client.new (R.left source.old) (R.left source.new)
+        (W.taken sink.old) (W.taken sink.new) fault) }
     ensures few { IfOk result (λ moved. moved.read < at_least + PIECE) }
     ensures unasked { at_least ≡ 0 → source.new ≡ source.old }
     ensures read_failed { IsErrOf result PumpFault.ReadFailed
@@ -107,6 +110,8 @@ pub fn watch_link<R: Source, W: Sink, N: Watcher>(
     ensures stopped { IfErr result (λ fault. ClientRunStopped client.old client.new
         (R.left source.old) (R.left source.new) (W.taken sink.old) (W.taken sink.new) fault) }
     ensures left { OnErr result (client.new.client.on ≡ false) }
+    ensures bounded { R.calls source.new + W.calls sink.new
+        ≤ R.calls source.old + W.calls sink.old + calls_most }
     ensures read_failed { IsErrOf result PumpFault.ReadFailed
         → R.has_failed source.new ≡ true }
     ensures write_failed { IsErrOf result PumpFault.WriteFailed
@@ -140,6 +145,8 @@ pub fn run_link<R: Source, W: Sink>(
     ensures stopped { IfErr result (λ fault. ClientRunStopped client.old client.new
         (R.left source.old) (R.left source.new) (W.taken sink.old) (W.taken sink.new) fault) }
     ensures left { OnErr result (client.new.client.on ≡ false) }
+    ensures bounded { R.calls source.new + W.calls sink.new
+        ≤ R.calls source.old + W.calls sink.old + calls_most }
     ensures read_failed { IsErrOf result PumpFault.ReadFailed
         → R.has_failed source.new ≡ true }
     ensures write_failed { IsErrOf result PumpFault.WriteFailed
@@ -183,6 +190,8 @@ pub fn serve_link<M: Machine, R: Source, W: Sink>(
         (W.taken sink.new) fault) }
     ensures normal { IsErrOf result PumpFault.Ended → ⊥ }
     ensures left { server.new.end.server.on ≡ false }
+    ensures bounded { R.calls source.new + W.calls sink.new
+        ≤ R.calls source.old + W.calls sink.old + calls_most }
     ensures setup { server.new.setup ≡ server.old.setup }
     ensures keeps { M.answers machine.new ≡ M.answers machine.old }
     ensures read_failed { IsErrOf result PumpFault.ReadFailed

@@ -76,6 +76,7 @@ impl Budget {
         ensures ok { OnOk result (self.old.left ≡ self.new.left + 1) }
         ensures spent { OnErr result (self.old.left ≡ 0) }
         ensures err { IfErr result (λ fault. fault ≡ PumpFault.TurnsSpent) }
+        ensures less { self.new.left ≤ self.old.left }
     {
         if self.left == 0 {
             return Err(PumpFault::TurnsSpent);
@@ -94,6 +95,7 @@ pub(crate) fn push_counted<W: Sink, F>(
 ) -> Result<(), PumpFault<F>>
     ensures all { OnOk result (Appends (W.taken sink.old) (W.taken sink.new) bytes.now) }
     ensures counted { OnOk result (budget.old.left ≤ budget.new.left + length bytes.now) }
+    ensures bounded { W.calls sink.new + budget.new.left ≤ W.calls sink.old + budget.old.left }
     ensures front { IfErr result (λ fault.
         Pushed bytes.now (W.taken sink.old) (W.taken sink.new) budget.old.left fault) }
     ensures failed { IsErrOf result PumpFault.WriteFailed → W.has_failed sink.new ≡ true }
@@ -125,6 +127,8 @@ pub(crate) fn pull_counted<R: Source, F>(
     ensures came { IfOk result (λ count.
         Consumes (R.left source.old) (R.left source.new) (take count piece.new)) }
     ensures counted { OnOk result (budget.old.left ≡ budget.new.left + 1) }
+    ensures bounded { R.calls source.new + budget.new.left
+        ≤ R.calls source.old + budget.old.left }
     ensures none { OnErr result (Consumes (R.left source.old) (R.left source.new) []) }
     ensures faults { IfErr result (λ fault.
         IsPullFault budget.old.left (R.left source.new) fault) }

@@ -12,7 +12,7 @@ ghost use Rattle.server_core.specs.Steady.{IsRunnable};
 ghost use Rattle.protocol_model.specs.declared.machine.Job.{Job as OneJob};
 ghost use Rattle.protocol_model.specs.declared.machine.Outcome.{Outcome as OneOutcome};
 ghost use Rattle.link_world.specs.Pumps.{Reading, Working};
-ghost use Rattle.link_world.specs.ServerPumps.{ServerMoved, ServerStopped};
+ghost use Rattle.link_world.specs.ServerPumps.{ServerMovedWithin, ServerStoppedWithin};
 ghost use Rattle.link_world.specs.ServerPumpParts.{ServerGoesOn, ServerCame, ServerCameShort, ServerReadStops, ReadIn, IsWorkFault, has_work, steps_of};
 
 use crate::machines::Machine;
@@ -34,6 +34,8 @@ fn take_in<R: Source>(
     ensures enough { IfOk result (λ count. at_least ≤ count) }
     ensures few { IfOk result (λ count. count < at_least + PIECE) }
     ensures unasked { at_least ≡ 0 → source.new ≡ source.old }
+    ensures bounded { R.calls source.new + budget.new.left
+        ≤ R.calls source.old + budget.old.left }
     ensures short { IfErr result (λ fault. ServerCameShort at_least server.old server.new
         (R.left source.old) (R.left source.new) budget.old.left fault) }
     ensures failed { IsErrOf result PumpFault.ReadFailed → R.has_failed source.new ≡ true }
@@ -55,7 +57,7 @@ fn take_in<R: Source>(
 /// The server reads each whole line.
 fn read_lines(server: &mut Server, budget: &mut Budget) -> Result<(), PumpFault<ServerFault>>
     ensures reads { OnOk result ((answer : OneJob → ℕ → OneOutcome)
-        → ServerGoesOn answer Reading server.old server.new) }
+        → ServerGoesOn answer Reading budget.old.left budget.new.left server.old server.new) }
     ensures all { OnOk result (next_of server.new.end.input.rest ≡ Ok None) }
     ensures counted { OnOk result (2 * budget.old.left
         ≤ 2 * budget.new.left + length server.old.end.input.rest) }
@@ -79,10 +81,12 @@ fn read_in<R: Source>(
     at_least: usize,
     budget: &mut Budget,
 ) -> Result<usize, PumpFault<ServerFault>>
-    ensures read { IfOk result (λ count. ReadIn at_least server.old server.new
-        (R.left source.old) (R.left source.new) budget.old.left budget.new.left count) }
+    ensures read { IfOk result (λ count. ReadIn at_least (R.calls source.old)
+        (R.calls source.new) server.old server.new (R.left source.old) (R.left source.new)
+        budget.old.left budget.new.left count) }
     ensures stopped { IfErr result (λ fault. (answer : OneJob → ℕ → OneOutcome)
-        (taken : Option (List ℕ)) → ServerStopped answer at_least budget.old.left server.old.end
+        (taken : Option (List ℕ)) → ServerStoppedWithin answer budget.old.left
+        (R.calls source.old) (R.calls source.new) at_least server.old.end
         (serving_left server.new.end) (R.left source.old) (R.left source.new) taken taken fault) }
     ensures setup { server.new.setup ≡ server.old.setup }
     ensures few { IfOk result (λ count. count < at_least + PIECE) }
@@ -127,7 +131,7 @@ fn has_work(server: &Server) -> bool
 #[tactic(auto, using(crate::proofs::ServerPumps::working))]
 fn work_once<M: Machine>(server: &mut Server, machine: &mut M) -> Result<(), PumpFault<ServerFault>>
     requires { has_work server.old.end.server ≡ true }
-    ensures goes { ServerGoesOn (M.answers machine.old) Working server.old server.new }
+    ensures goes { ServerGoesOn (M.answers machine.old) Working 1 0 server.old server.new }
     ensures less { OnOk result (steps_of server.new.end.server < steps_of server.old.end.server) }
     ensures memory { IfErr result (λ fault. fault ≡ PumpFault.Memory) }
     ensures keeps { M.answers machine.new ≡ M.answers machine.old }
@@ -146,7 +150,8 @@ fn work<M: Machine>(
     machine: &mut M,
     budget: &mut Budget,
 ) -> Result<(), PumpFault<ServerFault>>
-    ensures goes { ServerGoesOn (M.answers machine.old) Working server.old server.new }
+    ensures goes { ServerGoesOn (M.answers machine.old) Working budget.old.left budget.new.left
+        server.old server.new }
     ensures idle { OnOk result (has_work server.new.end.server ≡ false) }
     ensures counted { OnOk result (budget.old.left ≤ budget.new.left + 129) }
     ensures faults { IfErr result (λ fault. IsWorkFault budget.old.left fault) }
@@ -169,12 +174,14 @@ fn turn<M: Machine, R: Source, W: Sink>(
     at_least: usize,
     bound: u64,
 ) -> Result<Moved, PumpFault<ServerFault>>
-    ensures moved { IfOk result (λ moved. ServerMoved (M.answers machine.old) at_least
-        server.old.end server.new.end (R.left source.old) (R.left source.new)
+    ensures moved { IfOk result (λ moved. ServerMovedWithin (M.answers machine.old) bound
+        (R.calls source.old + W.calls sink.old) (R.calls source.new + W.calls sink.new)
+        at_least server.old.end server.new.end (R.left source.old) (R.left source.new)
         (W.taken sink.old) (W.taken sink.new) moved) }
-    ensures stopped { IfErr result (λ fault. ServerStopped (M.answers machine.old) at_least bound
-        server.old.end (serving_left server.new.end) (R.left source.old) (R.left source.new)
-        (W.taken sink.old) (W.taken sink.new) fault) }
+    ensures stopped { IfErr result (λ fault. ServerStoppedWithin (M.answers machine.old) bound
+        (R.calls source.old + W.calls sink.old) (R.calls source.new + W.calls sink.new)
+        at_least server.old.end (serving_left server.new.end) (R.left source.old)
+        (R.left source.new) (W.taken sink.old) (W.taken sink.new) fault) }
     ensures setup { server.new.setup ≡ server.old.setup }
     ensures keeps { M.answers machine.new ≡ M.answers machine.old }
     ensures few { IfOk result (λ moved. moved.read < at_least + PIECE) }
@@ -201,8 +208,8 @@ fn turn<M: Machine, R: Source, W: Sink>(
 /// until there are `at_least`, and none where that is 0; the server reads each whole line; while it can, what runs ends as the machine
 /// answers, and what waits has its turn; and all that it has answered goes out. What comes behind the last whole line is kept.
 ///
-/// Each pull, line, turn, outcome and push is a step, and `bound` is how many there may be. A fault stops the turn, and the server has
-/// then left its connection: `ReadFailed` and `WriteFailed` where that port has failed; `Ended` where the input has ended before
+/// Each pull, line, turn, outcome and push is a step, and there are at most `bound`, whatever the answer. A fault stops the turn, and the
+/// server has then left its connection: `ReadFailed` and `WriteFailed` where that port has failed; `Ended` where the input has ended before
 /// `at_least` bytes had come; `TurnsSpent`; `Core` where the server itself refuses, as one on no connection does (`NotNow`), and one that
 /// meets bytes that are no lines (`Framing`); `Memory`, and only then may bytes that had come be lost.
 pub fn serve_turns<M: Machine, R: Source, W: Sink>(
@@ -213,11 +220,13 @@ pub fn serve_turns<M: Machine, R: Source, W: Sink>(
     at_least: usize,
     bound: u64,
 ) -> Result<Moved, PumpFault<ServerFault>>
-    ensures moved { IfOk result (λ moved. ServerMoved (M.answers machine.old) at_least
-        server.old.end server.new.end (R.left source.old) (R.left source.new)
+    ensures moved { IfOk result (λ moved. ServerMovedWithin (M.answers machine.old) bound
+        (R.calls source.old + W.calls sink.old) (R.calls source.new + W.calls sink.new)
+        at_least server.old.end server.new.end (R.left source.old) (R.left source.new)
         (W.taken sink.old) (W.taken sink.new) moved) }
-    ensures stopped { IfErr result (λ fault. ServerStopped (M.answers machine.old) at_least bound
-        server.old.end server.new.end (R.left source.old) (R.left source.new)
+    ensures stopped { IfErr result (λ fault. ServerStoppedWithin (M.answers machine.old) bound
+        (R.calls source.old + W.calls sink.old) (R.calls source.new + W.calls sink.new)
+        at_least server.old.end server.new.end (R.left source.old) (R.left source.new)
         (W.taken sink.old) (W.taken sink.new) fault) }
     ensures setup { server.new.setup ≡ server.old.setup }
     ensures keeps { M.answers machine.new ≡ M.answers machine.old }

@@ -21,4 +21,5 @@ loop-read-preserved g c = (
   grind (arith, common_steps),
   grind (arith, common_steps),
   grind (arith, common_steps),
+  grind (arith, common_steps),
 )

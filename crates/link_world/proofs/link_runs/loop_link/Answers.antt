@@ -9,7 +9,7 @@ use Rattle.link_world.proofs.LoopRuns.{pair_goes, loop_stops, loop_spends}
 use Rattle.link_world.proofs.link_runs.loop_link.Goals as goal
 
 pub loop-pair-init : goal.loop-pair-init
-loop-pair-init g c = (run.starts, refl, refl, λ works. works, λ works. works, λ works. works, λ works. works)
+loop-pair-init g c = (run.starts, refl, refl, omega arith, omega arith, λ works. works, λ works. works, λ works. works, λ works. works)
 
 pub returns-in_err-by_client-clause-stopped : goal.returns-in_err-by_client-clause-stopped
 returns-in_err-by_client-clause-stopped g c = if_err c.from_residual.result _ _ c.from_residual.ensures.0 c.from_residual.ensures.1
@@ -35,6 +35,8 @@ loop-pair-preserved g c = (
       c.in_ok-by_client.ensures.moved (search rules),
   c.pair.ensures.setup ∙ c.loop-pair.invariant.1,
   c.pair.ensures.keeps ∙ c.loop-pair.invariant.2,
+  grind (arith, common_steps),
+  grind (arith, common_steps),
   grind (arith, common_steps),
   grind (arith, common_steps),
   grind (arith, common_steps),

@@ -1,4 +1,4 @@
-use Rattle.std.proofs.Common.{◌≡◌, false}
+use Rattle.std.proofs.Common.{◌≡◌, ◌≤◌, ◌+◌, ◌*◌, false}
 use Rattle.link_world.specs.LinkRuns.{client_side, server_side, LoopRun}
 use Rattle.link_world.proofs.link_runs.loop_link.Given as goal
 
@@ -11,6 +11,10 @@ invariant-loop-pair g l =
     (server_side l.server.end (g.SR.Source.left l.server_source) (g.SW.Sink.taken l.server_sink))
     × (l.server.setup ≡ l.initial.server.setup)
     × (g.M.Machine.answers l.machine ≡ g.M.Machine.answers l.initial.machine)
+    × (g.CR.Source.calls l.client_source + g.CW.Sink.calls l.client_sink
+    ≤ g.CR.Source.calls l.initial.client_source + g.CW.Sink.calls l.initial.client_sink + l._pair * 1000000)
+    × (g.SR.Source.calls l.server_source + g.SW.Sink.calls l.server_sink
+    ≤ g.SR.Source.calls l.initial.server_source + g.SW.Sink.calls l.initial.server_sink + l._pair * 1000000)
     × (g.CR.Source.has_failed l.initial.client_source ≡ false → g.CR.Source.has_failed l.client_source ≡ false)
     × (g.CW.Sink.has_failed l.initial.client_sink ≡ false → g.CW.Sink.has_failed l.client_sink ≡ false)
     × (g.SR.Source.has_failed l.initial.server_source ≡ false → g.SR.Source.has_failed l.server_source ≡ false)

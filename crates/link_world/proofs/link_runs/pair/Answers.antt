@@ -2,16 +2,33 @@ use Rattle.std.proofs.Common.{ap}
 use Rattle.protocol_model.specs.Ends.{ClientEnd}
 use Rattle.server_core.specs.Serving.{Serving}
 use Rattle.link_world.specs.LinkRuns.{client_side, server_side, client_stops, server_stops}
+use Rattle.link_world.proofs.ClientPumps.{moved_calls, stopped_calls}
+use Rattle.link_world.proofs.ServerPumps.{serving_moved_calls, serving_stopped_calls}
 use Rattle.link_world.proofs.link_runs.pair.Goals as goal
 
 pub returns-in-Err-clause-stopped : goal.returns-in-Err-clause-stopped
-returns-in-Err-clause-stopped g c = client_stops c.in-Err.fault c.in-Err.ensures.stopped
+returns-in-Err-clause-stopped g c = client_stops c.in-Err.fault c.in-Err.ensures.stopped.front
     (ap (λ (s : Serving). server_side s.end (g.SR.Source.left c.args.server_source.now) (g.SW.Sink.taken c.args.server_sink.now))
     c.leave.ensures)
 
 pub returns-in-Err-serve_turns-clause-stopped : goal.returns-in-Err-serve_turns-clause-stopped
 returns-in-Err-serve_turns-clause-stopped g c = server_stops
     (client_side c.watched_turn.new.client (g.CR.Source.left c.watched_turn.new.source) (g.CW.Sink.taken c.watched_turn.new.sink))
-    c.in-Ok.moved c.in-Err-serve_turns.fault c.in-Ok.ensures.moved c.in-Err-serve_turns.ensures.stopped
+    c.in-Ok.moved c.in-Err-serve_turns.fault c.in-Ok.ensures.moved.whole c.in-Err-serve_turns.ensures.stopped.front
     (ap (λ (e : ClientEnd). client_side e (g.CR.Source.left c.watched_turn.new.source) (g.CW.Sink.taken c.watched_turn.new.sink))
     c.leave-in-Err-serve_turns.ensures)
+
+pub returns-in-Err-clause-client_bounded : goal.returns-in-Err-clause-client_bounded
+returns-in-Err-clause-client_bounded g c = stopped_calls _ _ _ _ _ _ _ _ _ _ _ c.in-Err.ensures.stopped
+
+pub returns-in-Ok-serve_turns-clause-client_bounded : goal.returns-in-Ok-serve_turns-clause-client_bounded
+returns-in-Ok-serve_turns-clause-client_bounded g c = moved_calls _ _ _ _ _ _ _ _ _ _ _ c.in-Ok.ensures.moved
+
+pub returns-in-Ok-serve_turns-clause-server_bounded : goal.returns-in-Ok-serve_turns-clause-server_bounded
+returns-in-Ok-serve_turns-clause-server_bounded g c = serving_moved_calls _ _ _ _ _ _ _ _ _ _ _ _ c.in-Ok-serve_turns.ensures.moved
+
+pub returns-in-Err-serve_turns-clause-client_bounded : goal.returns-in-Err-serve_turns-clause-client_bounded
+returns-in-Err-serve_turns-clause-client_bounded g c = moved_calls _ _ _ _ _ _ _ _ _ _ _ c.in-Ok.ensures.moved
+
+pub returns-in-Err-serve_turns-clause-server_bounded : goal.returns-in-Err-serve_turns-clause-server_bounded
+returns-in-Err-serve_turns-clause-server_bounded g c = serving_stopped_calls _ _ _ _ _ _ _ _ _ _ _ _ c.in-Err-serve_turns.ensures.stopped

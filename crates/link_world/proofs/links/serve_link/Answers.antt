@@ -4,6 +4,7 @@ use Rattle.server_core.specs.Serving.{Serving}
 use Rattle.server_core.specs.declared.faults.ServerFault.{ServerFault}
 use Rattle.link_world.specs.declared.pumps.PumpFault.{PumpFault}
 use Rattle.link_world.specs.LinkRuns.{ServerRunStopped}
+use Rattle.link_world.proofs.ServerPumps.{serving_moved_calls, serving_stopped_calls}
 use Rattle.link_world.proofs.ServerRuns.{server_starts, server_goes, server_stops, server_spends, is_ended, is_stopped}
 use Rattle.link_world.proofs.links.serve_link.Goals.{After-end_of}
 use Rattle.link_world.proofs.links.serve_link.Given.{Over}
@@ -20,7 +21,7 @@ stops g c = server_stops (g.M.Machine.answers c.args.machine.now) (g.M.Machine.a
     c.args.server.now.end c.loop-turn.server.end c.serve_turns.new.server.end (g.R.Source.left c.args.source.now)
     (g.R.Source.left c.loop-turn.source) (g.R.Source.left c.serve_turns.new.source) (g.W.Sink.taken c.args.sink.now)
     (g.W.Sink.taken c.loop-turn.sink) (g.W.Sink.taken c.serve_turns.new.sink) c.in-Err.fault c.loop-turn.invariant.0
-    c.loop-turn-test.true c.loop-turn.invariant.2 c.in-Err.ensures.stopped
+    c.loop-turn-test.true c.loop-turn.invariant.2 c.in-Err.ensures.stopped.front
 
 pub loop-turn-init : goal.loop-turn-init
 loop-turn-init g c = (
@@ -28,12 +29,19 @@ loop-turn-init g c = (
       (g.W.Sink.taken c.args.sink.now),
   refl,
   refl,
+  omega arith,
   λ works. works,
   λ works. works,
 )
 
 pub returns-in-Err-clause-ended : goal.returns-in-Err-clause-ended
 returns-in-Err-clause-ended g c = is_ended c.end_of.result c.in-Err.fault (Stopped g c) c.end_of.ensures.ended (stops g c)
+
+pub returns-in-Err-clause-bounded : goal.returns-in-Err-clause-bounded
+returns-in-Err-clause-bounded g c =
+    let before = c.loop-turn.invariant.3 in
+    let few = c.loop-turn-test.true in
+    let more = serving_stopped_calls _ _ _ _ _ _ _ _ _ _ _ _ c.in-Err.ensures.stopped in omega (arith, before, few, more)
 
 pub returns-in-Err-clause-stopped : goal.returns-in-Err-clause-stopped
 returns-in-Err-clause-stopped g c = is_stopped c.end_of.result c.in-Err.fault (Stopped g c) c.end_of.ensures.same (stops g c)
@@ -44,9 +52,11 @@ loop-turn-preserved g c = (
       c.args.server.now.end c.loop-turn.server.end c.serve_turns.new.server.end (g.R.Source.left c.args.source.now)
       (g.R.Source.left c.loop-turn.source) (g.R.Source.left c.serve_turns.new.source) (g.W.Sink.taken c.args.sink.now)
       (g.W.Sink.taken c.loop-turn.sink) (g.W.Sink.taken c.serve_turns.new.sink) c.in_default.field-0 c.loop-turn.invariant.0
-      c.loop-turn.invariant.2 c.in_default.ensures.moved,
+      c.loop-turn.invariant.2 c.in_default.ensures.moved.whole,
   c.serve_turns.ensures.setup ∙ c.loop-turn.invariant.1,
   c.serve_turns.ensures.keeps ∙ c.loop-turn.invariant.2,
+  (let before = c.loop-turn.invariant.3 in
+  let more = serving_moved_calls _ _ _ _ _ _ _ _ _ _ _ _ c.in_default.ensures.moved in omega (arith, before, more)),
   grind (arith, common_steps),
   grind (arith, common_steps),
 )

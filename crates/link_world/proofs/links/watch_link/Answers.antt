@@ -1,12 +1,13 @@
-use Rattle.std.proofs.Common.{rules, arith}
+use Rattle.std.proofs.Common.{rules, arith, ◌<◌}
 use Rattle.std.proofs.lemmas.Grind.{common_steps}
-use Rattle.link_world.proofs.ClientPumps.{if_err}
+use Rattle.link_world.proofs.ClientPumps.{if_err, moved_calls, stopped_calls}
 use Rattle.link_world.proofs.ClientRuns.{client_starts, client_goes, client_stops, client_spends}
 use Rattle.link_world.proofs.links.watch_link.Goals as goal
 
 pub loop-client-init : goal.loop-client-init
 loop-client-init g c = (
   client_starts c.args.client.now (g.R.Source.left c.args.source.now) (g.W.Sink.taken c.args.sink.now),
+  omega arith,
   omega arith,
   λ works. works,
   λ works. works,
@@ -22,15 +23,23 @@ returns-in_err-watched_turn-clause-stopped g c = if_err c.from_residual.result _
     (client_stops c.loop-client.turns c.args.client.now c.loop-client.client c.watched_turn.new.client (g.R.Source.left c.args.source.now)
     (g.R.Source.left c.loop-client.source) (g.R.Source.left c.watched_turn.new.source) (g.W.Sink.taken c.args.sink.now)
     (g.W.Sink.taken c.loop-client.sink) (g.W.Sink.taken c.watched_turn.new.sink) c.in_err-watched_turn.field-0.0
-    c.loop-client.invariant.0 (search rules) (grind arith) c.in_err-watched_turn.ensures.stopped)
+    c.loop-client.invariant.0 (search rules) (grind arith) c.in_err-watched_turn.ensures.stopped.front)
+
+pub returns-in_err-watched_turn-clause-bounded : goal.returns-in_err-watched_turn-clause-bounded
+returns-in_err-watched_turn-clause-bounded g c =
+    let before = c.loop-client.invariant.2 in
+    let few : c.loop-client.turns < 1000000 = grind arith in
+    let more = stopped_calls _ _ _ _ _ _ _ _ _ _ _ c.in_err-watched_turn.ensures.stopped in omega (arith, before, few, more)
 
 pub loop-client-preserved : goal.loop-client-preserved
 loop-client-preserved g c = (
   client_goes c.loop-client.turns c.args.client.now c.loop-client.client c.watched_turn.new.client (g.R.Source.left c.args.source.now)
       (g.R.Source.left c.loop-client.source) (g.R.Source.left c.watched_turn.new.source) (g.W.Sink.taken c.args.sink.now)
       (g.W.Sink.taken c.loop-client.sink) (g.W.Sink.taken c.watched_turn.new.sink) c.in_ok-watched_turn.field-0
-      c.loop-client.invariant.0 (search rules) c.in_ok-watched_turn.ensures.moved,
+      c.loop-client.invariant.0 (search rules) c.in_ok-watched_turn.ensures.moved.whole,
   grind (arith, common_steps),
+  (let before = c.loop-client.invariant.2 in
+  let more = moved_calls _ _ _ _ _ _ _ _ _ _ _ c.in_ok-watched_turn.ensures.moved in omega (arith, before, more)),
   grind (arith, common_steps),
   grind (arith, common_steps),
 )

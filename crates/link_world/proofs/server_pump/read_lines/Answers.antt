@@ -3,9 +3,12 @@ use Rattle.server_core.specs.declared.faults.ServerFault.{ServerFault}
 use Rattle.link_world.specs.Pumps.{Reading}
 use Rattle.link_world.specs.ServerPumpParts.{ServerGoesOn, ServerReadStops}
 use Rattle.link_world.proofs.ClientPumps.{if_err}
-use Rattle.link_world.proofs.ServerPumps.{server_lines_more, server_lines_spent, server_read_stops, is_on}
+use Rattle.link_world.proofs.ServerPumps.{goes_less, server_lines_none, server_lines_more, server_lines_spent, server_read_stops, is_on}
 use Rattle.link_world.proofs.server_pump.read_lines.Goals.{then-has_line+in_ok-count, else-has_line}
 use Rattle.link_world.proofs.server_pump.read_lines.Goals as goal
+
+pub loop-budget-init : goal.loop-budget-init
+loop-budget-init c = server_lines_none c.args.server.now c.args.budget.now.left
 
 pub returns-in_err-read_one-clause-stops : goal.returns-in_err-read_one-clause-stops
 returns-in_err-read_one-clause-stops c = if_err c.from_residual-in_err-read_one.result _ _ c.from_residual-in_err-read_one.ensures.0
@@ -28,5 +31,8 @@ returns-in_err-count-clause-stops c = if_err c.from_residual.result _ _ c.from_r
     c.in_err-count.ensures.spent))
 
 pub returns-then-not-branch-clause-reads : goal.returns-then-not-branch-clause-reads
-returns-then-not-branch-clause-reads c = λ answer. subst (ServerGoesOn answer Reading c.args.server.now)
-    (sym (c.in_ok-read_one.ensures.unread (ap (λ (b : Bool). Ok b) (search rules)))) (c.loop-budget.invariant.goes answer)
+returns-then-not-branch-clause-reads c = λ answer.
+    subst (ServerGoesOn answer Reading c.args.budget.now.left c.if-has_line.budget.left c.args.server.now)
+    (sym (c.in_ok-read_one.ensures.unread (ap (λ (b : Bool). Ok b) (search rules))))
+    (goes_less answer Reading c.args.budget.now.left c.loop-budget.budget.left c.if-has_line.budget.left c.args.server.now
+    c.loop-budget.server (c.loop-budget.invariant.goes answer) (grind arith))

@@ -22,4 +22,5 @@ loop-read-preserved g c = (
   grind (arith, common_steps),
   grind (arith, common_steps),
   grind (arith, common_steps),
+  grind (arith, common_steps),
 )
