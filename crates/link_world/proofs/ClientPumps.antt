@@ -1,10 +1,10 @@
 -- What a client's turn makes of its end.
-use Rattle.std.proofs.Common.{◌≡◌, ◌≢◌, ◌⊎◌, inl, inr, ℕ, ◌+◌, ◌*◌, ◌<◌, ◌≤◌, Bool, true, false, not, ◌&&◌, List, [], ◌∷◌, ◌++◌, length, take, drop}
+use Rattle.std.proofs.Common.{◌≡◌, ◌≢◌, inl, inr, ℕ, ◌+◌, ◌*◌, ◌<◌, ◌≤◌, Bool, true, false, not, ◌&&◌, List, [], ◌∷◌, ◌++◌, length, take, drop}
 use Rattle.std.proofs.Common.{refl, sym, ◌∙◌, ap, subst, arith, append_assoc, append-nil, length-append, length-take-le, is_some, Option, Some, None, Ok, Err}
-use Rattle.std.proofs.Common.{IsErr, IsErrAnd, IfErr, Result, IsTrue, ◌↔◌, MatchOption}
+use Rattle.std.proofs.Common.{IsErr, IsErrAnd, IfErr, Result, IsTrue, ◌↔◌}
 use Rattle.std.proofs.lemmas.Bool.{false≢true}
 use Rattle.std.proofs.lemmas.List.{take-append-le}
-use Rattle.std.specs.Io.KnownBytes.{Appends, Consumes, IsAtEnd}
+use Rattle.std.specs.Io.KnownBytes.{Appends, Consumes}
 use Rattle.std.proofs.KnownBytes.{Consumes-nil, Consumes-trans, Appends-nil}
 use Rattle.line_framing.specs.Next.{Front, next_of, IsFound}
 use Rattle.line_framing.specs.Framing.{IsLineDue, Framing, fed, fed_behind, left_by}
@@ -21,7 +21,6 @@ use Rattle.client_core.specs.Clients.{is_faulted, may_read}
 use Rattle.client_core.specs.Refusals.{IsRefused, IsSendRefused, IsReadRefused}
 use Rattle.client_core.specs.declared.faults.ClientFault.{ClientFault}
 use Rattle.client_core.specs.declared.faults.ClientFault.TheVariants as client_fault
-use Rattle.link_world.specs.declared.pumps.Moved.{Moved}
 use Rattle.link_world.specs.declared.pumps.PumpFault.{PumpFault}
 use Rattle.link_world.specs.declared.pumps.PumpFault.TheVariants as fault
 use Rattle.link_world.specs.Pumps.{Stage, Sending, Writing, Taking, Reading, ClientTurn, begins, sends, writes, takes, has, reads}
@@ -114,18 +113,6 @@ unread_within bound calls calls_now least old new left left_now taken taken_now 
   within = λ readers are.
       let none = none_read readers least old s.stage s.read s.written s.last (s.turn readers are) is in omega (arith, most, none);
 }
-
--- how often the ports were called
-pub moved_calls : (bound calls calls_now least : ℕ) (old new : ClientEnd) (left left_now taken taken_now : Option (List ℕ)) (m : Moved)
-    → ClientMovedWithin bound calls calls_now least old new left left_now taken taken_now m → calls_now ≤ calls + bound
-moved_calls bound calls calls_now least old new left left_now taken taken_now m h =
-    let most = h.within some_are_readers.0 some_are_readers.1 in omega (arith, most)
-
-pub stopped_calls : (bound calls calls_now least : ℕ) (old new : ClientEnd) (left left_now taken taken_now : Option (List ℕ))
-    (f : PumpFault ClientFault) → ClientStoppedWithin bound calls calls_now least old new left left_now taken taken_now f
-    → calls_now ≤ calls + bound
-stopped_calls bound calls calls_now least old new left left_now taken taken_now f h =
-    let most = h.within some_are_readers.0 some_are_readers.1 in omega (arith, most)
 
 -- the calls of a port beside those that were counted
 pub stopped_beside : (more bound calls calls_now least : ℕ) (old new : ClientEnd) (left left_now taken taken_now : Option (List ℕ))

@@ -1,8 +1,7 @@
 -- What pushes and pulls that are counted have done.
-use Rattle.std.proofs.Common.{◌≡◌, ℕ, ◌≤◌, List, [], length, take, refl, sym, Option, Some, None}
+use Rattle.std.proofs.Common.{ℕ, ◌≤◌, List, [], length, take, sym, Option, Some, None}
 use Rattle.std.specs.Io.KnownBytes.{Appends, Consumes, Keeps}
 use Rattle.std.proofs.KnownBytes.{Consumes-nil, Appends-kept}
-use Rattle.std.proofs.lemmas.Grind.{common_steps}
 use Rattle.byte_ports.proofs.Moved.{Appends-more}
 use Rattle.link_world.specs.declared.pumps.PumpFault.{PumpFault}
 use Rattle.link_world.specs.PumpParts.{Pushed, IsPushFault}

@@ -1,16 +1,15 @@
 -- What a server's turn makes of its end.
-use Rattle.std.proofs.Common.{◌≡◌, ◌≢◌, inl, inr, ℕ, ◌+◌, ◌*◌, ◌<◌, ◌≤◌, Bool, true, false, not, ◌&&◌, ◌||◌, List, [], ◌∷◌, ◌++◌, length, take, drop}
+use Rattle.std.proofs.Common.{◌≡◌, ℕ, ◌+◌, ◌*◌, ◌<◌, ◌≤◌, Bool, true, false, ◌&&◌, ◌||◌, List, [], ◌∷◌, ◌++◌, length, take, drop}
 use Rattle.std.proofs.Common.{refl, sym, ◌∙◌, ap, subst, arith, append-nil, length-append, length-take-le, is_some, is_none, Option, Some, None, Ok, Err}
 use Rattle.std.proofs.Common.{option_map, Result}
 use Rattle.std.proofs.lemmas.Bool.{false≢true, and_parts}
 use Rattle.std.proofs.lemmas.List.{take-append-le}
-use Rattle.std.specs.Io.KnownBytes.{Appends, Consumes, IsAtEnd}
+use Rattle.std.specs.Io.KnownBytes.{Appends, Consumes}
 use Rattle.std.proofs.KnownBytes.{Consumes-nil, Consumes-trans, Appends-nil}
 use Rattle.line_framing.specs.Next.{Front, next_of}
 use Rattle.line_framing.specs.Framing.{IsLineDue, IsSound, Framing, fed, fed_behind}
 use Rattle.line_framing.specs.declared.faults.FramingFault.{FramingFault}
 use Rattle.contact_ledger.specs.Ledgers.{contact_count}
-use Rattle.dmis_program.specs.Meaning.{Meaning}
 use Rattle.protocol_model.specs.Lines.{Readers, AreReaders}
 use Rattle.protocol_model.specs.Server.{Server, running_job, may_end}
 use Rattle.protocol_model.specs.Ends.{ServerEnd, serving_fed, serving_read, serving_turned, serving_machined, serving_taken, serving_left}
@@ -24,14 +23,13 @@ use Rattle.server_core.specs.Serving.{Serving, with_end, may_feed, may_turn, IsF
 use Rattle.server_core.specs.Steady.{IsRunnable}
 use Rattle.server_core.specs.declared.faults.ServerFault.{ServerFault}
 use Rattle.server_core.specs.declared.faults.ServerFault.TheVariants as server_fault
-use Rattle.link_world.specs.declared.pumps.Moved.{Moved}
 use Rattle.link_world.specs.declared.pumps.PumpFault.{PumpFault}
 use Rattle.link_world.specs.declared.pumps.PumpFault.TheVariants as fault
-use Rattle.link_world.specs.Pumps.{Stage, Writing, Taking, Reading, Working, IsLost}
+use Rattle.link_world.specs.Pumps.{Stage, Writing, Taking, Reading, Working}
 use Rattle.link_world.specs.PumpParts.{Pushed, IsPushFault, IsPullFault, IsTakeFault}
 use Rattle.link_world.specs.ServerPumps.{ServerTurn, begins, takes, has, reads, knows, turns, ends, writes}
-use Rattle.link_world.specs.ServerPumps.{ServerMoved, ServerStopped, ServerMovedWithin, ServerStoppedWithin, steps_made}
-use Rattle.link_world.specs.ServerPumps.{ServerWhy, IsServerRefusal, of_server}
+use Rattle.link_world.specs.ServerPumps.{ServerMovedWithin, ServerStoppedWithin, steps_made}
+use Rattle.link_world.specs.ServerPumps.{ServerWhy, of_server}
 use Rattle.link_world.specs.ServerPumpParts.{ServerGoesOn, ServerCame, ServerCameShort, ServerReadStops, IsServerReadFault, ReadIn}
 use Rattle.link_world.specs.ServerPumpParts.{has_work, steps_of, steps_of_one, IsWorkFault}
 use Rattle.link_world.proofs.ServerWork.{one_if, turn_less, machine_less}
@@ -440,19 +438,6 @@ pub most_steps : (s : Serving) → length s.end.server.waiting ≤ 64 → steps_
 most_steps s few = steps_most s.end.server.running (length s.end.server.waiting) few
 
 -- ---- the whole turn
-
--- how often the ports were called
-pub serving_moved_calls : (answer : Job → ℕ → Outcome) (bound calls calls_now least : ℕ) (old new : ServerEnd)
-    (left left_now taken taken_now : Option (List ℕ)) (m : Moved)
-    → ServerMovedWithin answer bound calls calls_now least old new left left_now taken taken_now m → calls_now ≤ calls + bound
-serving_moved_calls answer bound calls calls_now least old new left left_now taken taken_now m h =
-    let most = h.within some_are_readers.0 some_are_readers.1 in omega (arith, most)
-
-pub serving_stopped_calls : (answer : Job → ℕ → Outcome) (bound calls calls_now least : ℕ) (old new : ServerEnd)
-    (left left_now taken taken_now : Option (List ℕ)) (f : PumpFault ServerFault)
-    → ServerStoppedWithin answer bound calls calls_now least old new left left_now taken taken_now f → calls_now ≤ calls + bound
-serving_stopped_calls answer bound calls calls_now least old new left left_now taken taken_now f h =
-    let most = h.within some_are_readers.0 some_are_readers.1 in omega (arith, most)
 
 -- the calls of a port beside those that were counted
 pub serving_stopped_beside : (more : ℕ) (answer : Job → ℕ → Outcome) (bound calls calls_now least : ℕ) (old new : ServerEnd)

@@ -1,5 +1,5 @@
 -- Turns of one side of a connection over its ports (this profile): what a side does, in which order, which bytes move, and where it stops.
-use Rattle.std.specs.Prelude.{◌≡◌, ℕ, ◌+◌, ◌*◌, ◌<◌, ◌≤◌, Bool, true, false, ⊤, Option, None, Some, List, [], ◌++◌, length, take, is_some, Ok, Err}
+use Rattle.std.specs.Prelude.{◌≡◌, ℕ, ◌+◌, ◌*◌, ◌<◌, ◌≤◌, true, ⊤, Option, None, Some, List, [], ◌++◌, length, take, is_some, Ok, Err}
 use Rattle.std.specs.Io.KnownBytes.{Appends, Consumes, IsAtEnd}
 use Rattle.line_framing.specs.Next.{Front, next_of}
 use Rattle.protocol_model.specs.Lines.{Readers, AreReaders}

@@ -1,5 +1,5 @@
 -- What calls say of the parts of a server's turn (this profile). A budget is how many steps may still be made.
-use Rattle.std.specs.Prelude.{◌≡◌, ℕ, ◌+◌, ◌*◌, ◌<◌, ◌≤◌, Bool, ◌||◌, ⊤, Option, None, Some, is_some, List, [], ◌++◌, length}
+use Rattle.std.specs.Prelude.{◌≡◌, ℕ, ◌+◌, ◌*◌, ◌≤◌, Bool, ◌||◌, ⊤, Option, None, Some, is_some, List, [], ◌++◌, length}
 use Rattle.std.specs.Prelude.{Ok}
 use Rattle.std.specs.Io.KnownBytes.{Consumes}
 use Rattle.line_framing.specs.Next.{next_of}
@@ -13,7 +13,7 @@ use Rattle.server_core.specs.Serving.{Serving, with_end, may_turn}
 use Rattle.server_core.specs.declared.faults.ServerFault.{ServerFault}
 use Rattle.link_world.specs.declared.pumps.PumpFault.{PumpFault}
 use Rattle.link_world.specs.declared.pumps.PumpFault.TheVariants as fault
-use Rattle.link_world.specs.Pumps.{Stage, Taking, Reading, Working, IsLost}
+use Rattle.link_world.specs.Pumps.{Stage, Reading, IsLost}
 use Rattle.link_world.specs.PumpParts.{IsTakeFault}
 use Rattle.link_world.specs.ServerPumps.{ServerTurn, steps_made, IsServerRefusal}
 

@@ -1,5 +1,5 @@
 -- Turns of a server and its machine over the ports of a connection (this profile).
-use Rattle.std.specs.Prelude.{◌≡◌, ℕ, ◌+◌, ◌*◌, ◌<◌, ◌≤◌, Bool, true, false, ⊤, Option, None, Some, List, [], ◌++◌, length, take, Ok, Err}
+use Rattle.std.specs.Prelude.{◌≡◌, ℕ, ◌+◌, ◌*◌, ◌<◌, ◌≤◌, true, false, ⊤, Option, None, Some, List, [], ◌++◌, length, take, Ok, Err}
 use Rattle.std.specs.Io.KnownBytes.{Appends, Consumes, IsAtEnd}
 use Rattle.line_framing.specs.Next.{next_of}
 use Rattle.contact_ledger.specs.Ledgers.{contact_count}

@@ -1,4 +1,4 @@
-use Rattle.std.proofs.Common.{rules, arith, ap, length, List, ℕ}
+use Rattle.std.proofs.Common.{arith, ap, length}
 use Rattle.link_world.proofs.ClientPumps.{if_err, stops_sending, stops_writing, all_out}
 use Rattle.link_world.proofs.client_pump.give_out.Goals as goal
 

@@ -1,4 +1,4 @@
-use Rattle.std.proofs.Common.{rules, arith, ◌∙◌, ap, ◌≡◌, ◌+◌}
+use Rattle.std.proofs.Common.{rules, arith, ◌∙◌, ap}
 use Rattle.protocol_model.specs.Ends.{ClientEnd}
 use Rattle.line_framing.specs.Next.{next_of}
 use Rattle.client_core.specs.Clients.{may_read}

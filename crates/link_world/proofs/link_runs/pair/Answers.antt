@@ -1,9 +1,8 @@
-use Rattle.std.proofs.Common.{ap}
+use Rattle.std.proofs.Common.{ap, arith}
 use Rattle.protocol_model.specs.Ends.{ClientEnd}
 use Rattle.server_core.specs.Serving.{Serving}
+use Rattle.protocol_model.proofs.written_lines.ReadersExist.{some_are_readers}
 use Rattle.link_world.specs.LinkRuns.{client_side, server_side, client_stops, server_stops}
-use Rattle.link_world.proofs.ClientPumps.{moved_calls, stopped_calls}
-use Rattle.link_world.proofs.ServerPumps.{serving_moved_calls, serving_stopped_calls}
 use Rattle.link_world.proofs.link_runs.pair.Goals as goal
 
 pub returns-in-Err-clause-stopped : goal.returns-in-Err-clause-stopped
@@ -19,16 +18,16 @@ returns-in-Err-serve_turns-clause-stopped g c = server_stops
     c.leave-in-Err-serve_turns.ensures)
 
 pub returns-in-Err-clause-client_bounded : goal.returns-in-Err-clause-client_bounded
-returns-in-Err-clause-client_bounded g c = stopped_calls _ _ _ _ _ _ _ _ _ _ _ c.in-Err.ensures.stopped
+returns-in-Err-clause-client_bounded g c = let most = c.in-Err.ensures.stopped.within some_are_readers.0 some_are_readers.1 in omega (arith, most)
 
 pub returns-in-Ok-serve_turns-clause-client_bounded : goal.returns-in-Ok-serve_turns-clause-client_bounded
-returns-in-Ok-serve_turns-clause-client_bounded g c = moved_calls _ _ _ _ _ _ _ _ _ _ _ c.in-Ok.ensures.moved
+returns-in-Ok-serve_turns-clause-client_bounded g c = let most = c.in-Ok.ensures.moved.within some_are_readers.0 some_are_readers.1 in omega (arith, most)
 
 pub returns-in-Ok-serve_turns-clause-server_bounded : goal.returns-in-Ok-serve_turns-clause-server_bounded
-returns-in-Ok-serve_turns-clause-server_bounded g c = serving_moved_calls _ _ _ _ _ _ _ _ _ _ _ _ c.in-Ok-serve_turns.ensures.moved
+returns-in-Ok-serve_turns-clause-server_bounded g c = let most = c.in-Ok-serve_turns.ensures.moved.within some_are_readers.0 some_are_readers.1 in omega (arith, most)
 
 pub returns-in-Err-serve_turns-clause-client_bounded : goal.returns-in-Err-serve_turns-clause-client_bounded
-returns-in-Err-serve_turns-clause-client_bounded g c = moved_calls _ _ _ _ _ _ _ _ _ _ _ c.in-Ok.ensures.moved
+returns-in-Err-serve_turns-clause-client_bounded g c = let most = c.in-Ok.ensures.moved.within some_are_readers.0 some_are_readers.1 in omega (arith, most)
 
 pub returns-in-Err-serve_turns-clause-server_bounded : goal.returns-in-Err-serve_turns-clause-server_bounded
-returns-in-Err-serve_turns-clause-server_bounded g c = serving_stopped_calls _ _ _ _ _ _ _ _ _ _ _ _ c.in-Err-serve_turns.ensures.stopped
+returns-in-Err-serve_turns-clause-server_bounded g c = let most = c.in-Err-serve_turns.ensures.stopped.within some_are_readers.0 some_are_readers.1 in omega (arith, most)

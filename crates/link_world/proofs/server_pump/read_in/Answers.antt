@@ -1,4 +1,4 @@
-use Rattle.std.proofs.Common.{rules, arith, []}
+use Rattle.std.proofs.Common.{arith, []}
 use Rattle.link_world.proofs.ClientPumps.{if_err}
 use Rattle.link_world.proofs.ServerPumps.{may_stay, server_stops_asking, server_stops_taking, server_stops_reading, reads_in}
 use Rattle.link_world.proofs.server_pump.read_in.Goals as goal

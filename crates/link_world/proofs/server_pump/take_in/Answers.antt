@@ -1,4 +1,4 @@
-use Rattle.std.proofs.Common.{rules, arith, take}
+use Rattle.std.proofs.Common.{arith, take}
 use Rattle.std.proofs.lemmas.Grind.{common_steps}
 use Rattle.link_world.proofs.ClientPumps.{if_err}
 use Rattle.link_world.proofs.ServerPumps.{server_came_more, server_feeds_none}

@@ -1,4 +1,4 @@
-use Rattle.std.proofs.Common.{rules, arith, ◌+◌, ap, length, ◌∙◌}
+use Rattle.std.proofs.Common.{arith, ap, length, ◌∙◌}
 use Rattle.protocol_model.specs.Ends.{serving_left}
 use Rattle.server_core.specs.Serving.{Serving}
 use Rattle.link_world.proofs.ClientPumps.{if_err}

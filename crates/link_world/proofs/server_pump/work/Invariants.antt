@@ -1,4 +1,4 @@
-use Rattle.std.proofs.Common.{◌≡◌, ◌+◌, ◌≤◌, length}
+use Rattle.std.proofs.Common.{◌≡◌, ◌+◌, ◌≤◌}
 use Rattle.link_world.specs.Pumps.{Working}
 use Rattle.link_world.specs.ServerPumpParts.{ServerGoesOn, steps_of}
 use Rattle.link_world.proofs.server_pump.work.Given as goal
