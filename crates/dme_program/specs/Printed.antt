@@ -1,64 +1,18 @@
--- What is shown for the fault of an order, and the exit status of a fault (this profile).
-use Rattle.std.specs.Prelude.{◌≡◌, ℕ, List, string_bytes, Option, Some}
-use Rattle.tool_rack.specs.declared.faults.SetupFault.TheVariants as setup
-use Rattle.dmis_program.specs.declared.faults.ProgramFault.TheVariants as program
-use Rattle.link_world.specs.declared.schedule_faults.ScheduleFault.TheVariants as schedule
-use Rattle.dme_program.specs.declared.reading.FilesFault.{FilesFault}
-use Rattle.dme_program.specs.declared.reading.FilesFault.TheVariants as files
-use Rattle.dme_program.specs.declared.reading.Role.{Role}
-use Rattle.dme_program.specs.declared.reading.Role.TheVariants as role
+-- What is shown for words that ask for nothing, and the exit status of a fault (this profile).
+use Rattle.std.specs.Prelude.{ℕ}
 use Rattle.dme_words.specs.declared.words.WordsFault.{WordsFault}
 use Rattle.dme_words.specs.declared.words.WordsFault.TheVariants as words
-use Rattle.contact_ledger.specs.declared.faults.TextFault.TheVariants as ledger
-use Rattle.dme_program.specs.declared.faults.FileNames.{FileNames}
+use Rattle.dme_orders.specs.Printed.{status_of}
+use Rattle.dme_orders.specs.declared.faults.OrderFault.TheVariants as order
 use Rattle.dme_program.specs.declared.faults.Fault.{Fault}
 use Rattle.dme_program.specs.declared.faults.Fault.TheVariants as fault
 
 -- what is shown for words that ask for nothing
 abbrev pub words_shown : WordsFault → Fault
 words_shown (words.Line error) = fault.Words error
-words_shown words.Memory = fault.Memory
+words_shown words.Memory = fault.Order order.Memory
 
--- 1 for input that is refused, for files and for connections, 2 for the command line, 4 for want of memory
-abbrev pub status_of : Fault → ℕ
-status_of (fault.Words error) = 2
-status_of (fault.Program cause) = 1
-status_of (fault.Setup cause) = 1
-status_of (fault.Schedule cause) = 1
-status_of (fault.Features cause) = 1
-status_of (fault.Contacts cause) = 1
-status_of (fault.CannotRead file) = 1
-status_of fault.CannotWriteOutput = 1
-status_of (fault.CannotWrite file) = 1
-status_of fault.NotOurs = 1
-status_of (fault.ConnectionFailed cause) = 1
-status_of fault.Memory = 4
-
--- the file of this name is shown as one that cannot be read
-abbrev pub ShowsFile : Option (List ℕ) → Fault → Type 0
-ShowsFile name (fault.CannotRead file) = name ≡ Some (string_bytes file)
-ShowsFile name _ = ⊥
-
--- the name of an order's file, by what it is to the order
-abbrev pub name_in : FileNames → Role → List ℕ
-name_in names role.Setup = string_bytes names.setup
-name_in names role.Schedule = string_bytes names.schedule
-name_in names role.Features = string_bytes names.features
-name_in names role.Contacts = string_bytes names.contacts
-name_in names role.Program = string_bytes names.program
-
--- what is shown for the fault of an order, by the names of its files: the refusal, or the file
-abbrev pub AreFilesShown : FilesFault → (Role → List ℕ) → Fault → Type 0
-AreFilesShown (files.Setup setup.Memory) names shown = shown ≡ fault.Memory
-AreFilesShown (files.Setup cause) names shown = shown ≡ fault.Setup cause
-AreFilesShown (files.Schedule schedule.Memory) names shown = shown ≡ fault.Memory
-AreFilesShown (files.Schedule cause) names shown = shown ≡ fault.Schedule cause
-AreFilesShown (files.Features ledger.Memory) names shown = shown ≡ fault.Memory
-AreFilesShown (files.Features cause) names shown = shown ≡ fault.Features cause
-AreFilesShown (files.Contacts ledger.Memory) names shown = shown ≡ fault.Memory
-AreFilesShown (files.Contacts cause) names shown = shown ≡ fault.Contacts cause
-AreFilesShown (files.Program program.Memory) names shown = shown ≡ fault.Memory
-AreFilesShown (files.Program cause) names shown = shown ≡ fault.Program cause
-AreFilesShown (files.Unread role) names shown = ShowsFile (Some (names role)) shown
-AreFilesShown files.Write names shown = shown ≡ fault.CannotWriteOutput
-AreFilesShown files.Memory names shown = shown ≡ fault.Memory
+-- 2 for the command line, else the status of the order's fault
+abbrev pub exit_status : Fault → ℕ
+exit_status (fault.Words error) = 2
+exit_status (fault.Order cause) = status_of cause

@@ -3,13 +3,10 @@
 ghost use Rattle.std.specs.Prelude.{◌≡◌, true};
 ghost use Rattle.client_core.specs.Clients.{is_window};
 
-use crate::faults::{Fault, FileNames, shown_files};
 use crate::files::NamedSource;
-use crate::looping::loop_over;
-use crate::preparing::setup_and_program;
 use crate::progress::Progress;
-use crate::reading::FilesFault;
 use byte_ports::{Reading, Writing};
+use dme_orders::{FileNames, FilesFault, OrderFault, loop_over, setup_and_program, shown_files};
 use dmis_program::Program;
 use std::io::{self, ErrorKind};
 use std::net::{Net, TcpListener, TcpStream};
@@ -30,8 +27,8 @@ fn cause(kind: ErrorKind) -> &'static str {
 }
 
 /// What is shown for a connection that does not come about, and its cause where more is asked for.
-pub(crate) fn no_connection(error: &io::Error, is_told: bool) -> Fault {
-    Fault::ConnectionFailed(if is_told { cause(error.kind()) } else { "" })
+pub(crate) fn no_connection(error: &io::Error, is_told: bool) -> OrderFault {
+    OrderFault::ConnectionFailed(if is_told { cause(error.kind()) } else { "" })
 }
 
 /// A connection of this process to itself, both ends.
@@ -52,7 +49,7 @@ fn loop_program<R: Print + Eprint + Net<Listener = TcpListener, Stream = TcpStre
     program: Program,
     window: u8,
     is_told: bool,
-) -> Result<u8, Fault>
+) -> Result<u8, OrderFault>
     requires { is_window window ≡ true }
 {
     let (near, far) = match own_connection(rt) {
@@ -79,7 +76,7 @@ fn loop_program<R: Print + Eprint + Net<Listener = TcpListener, Stream = TcpStre
 }
 
 /// What is shown for a fault of no file.
-pub(crate) fn of_output<R: AllocGlobal>(rt: &R, fault: FilesFault) -> Fault {
+pub(crate) fn of_output<R: AllocGlobal>(rt: &R, fault: FilesFault) -> OrderFault {
     let alloc = rt.alloc();
     let names = FileNames {
         setup: String::new(alloc),
@@ -110,7 +107,7 @@ pub fn loop_named<
         + Eprint
         + Net<Listener = TcpListener, Stream = TcpStream>
         + AllocGlobal,
->(rt: &R, setup: String, window: u8, is_told: bool, program: String) -> Result<u8, Fault>
+>(rt: &R, setup: String, window: u8, is_told: bool, program: String) -> Result<u8, OrderFault>
     requires { is_window window ≡ true }
 {
     match loop_files(rt, setup.as_str(), program.as_str()) {

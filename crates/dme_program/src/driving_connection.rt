@@ -4,16 +4,15 @@ ghost use Rattle.std.specs.Prelude.{◌≡◌, true};
 ghost use Rattle.client_core.specs.Clients.{is_window};
 
 use crate::connecting::{no_connection, of_output};
-use crate::driving::{Driven, drive};
-use crate::ends::kept_client;
-use crate::faults::{Fault, FileNames, shown_files};
 use crate::files::NamedSource;
-use crate::preparing::features_and_program;
 use crate::progress::Progress;
-use crate::reading::FilesFault;
 use crate::text_files::NamedFile;
 use byte_ports::{Reading, Writing};
 use contact_ledger::FeatureLedger;
+use dme_orders::{
+    Driven, FileNames, FilesFault, OrderFault, drive, features_and_program, kept_client,
+    shown_files,
+};
 use dmis_program::Program;
 use std::io;
 use std::net::{Net, TcpListener, TcpStream};
@@ -44,11 +43,11 @@ fn run_verdict<R: Eprint>(
     driven: Driven,
     features: Option<String>,
     is_told: bool,
-) -> Result<u8, Fault> {
+) -> Result<u8, OrderFault> {
     let verdict = driven.ended.verdict(is_told);
     match features {
         Some(name) if !driven.is_kept => {
-            let unwritten = Fault::CannotWrite(name);
+            let unwritten = OrderFault::CannotWrite(name);
             if verdict.is_err() {
                 let _ = eprint!(rt; "{unwritten}");
                 return verdict;
@@ -71,7 +70,7 @@ fn run_program<
     window: u8,
     features: Option<String>,
     is_told: bool,
-) -> Result<u8, Fault>
+) -> Result<u8, OrderFault>
     requires { is_window window ≡ true }
 {
     let mut file = NamedFile::new(rt, features.as_deref())?;
@@ -114,7 +113,7 @@ pub fn run_named<
     features: Option<String>,
     is_told: bool,
     program: String,
-) -> Result<u8, Fault>
+) -> Result<u8, OrderFault>
     requires { is_window window ≡ true }
 {
     match run_files(rt, setup.as_str(), features.as_deref(), program.as_str()) {

@@ -3,41 +3,47 @@
 ghost use Rattle.std.specs.Prelude.{◌≡◌, true, is_some, IfOk, IfErr};
 ghost use Rattle.client_core.specs.Clients.{is_window};
 ghost use Rattle.dme_words.specs.Ordered.{IsReady};
-ghost use Rattle.dme_program.specs.Reading.{On};
+ghost use Rattle.dme_orders.specs.Reading.{On};
 
-use crate::auditing::audit_files;
 use crate::connecting::loop_named;
 use crate::driving_connection::run_named;
-use crate::faults::{Fault, FileNames, shown_files};
+use crate::faults::Fault;
 use crate::files::NamedSource;
-use crate::orders::check_under_setup;
-use crate::reading::{FilesFault, Role};
 use crate::serving_connections::serve_named;
-use crate::simulating::simulate;
-use crate::verdicts::status;
 use byte_ports::Writing;
 use client_core::State;
-use dme_words::{Order, read_words};
+use dme_orders::{
+    FileNames, FilesFault, OrderFault, Role, audit_files, check_under_setup, shown_files, simulate,
+    status,
+};
+use dme_words::{Order, WordsFault, read_words};
+use std::alloc::{AllocError, Global};
 use std::env::{self, Env};
 use std::io;
 use std::net::{Net, TcpListener, TcpStream};
 use std::rt::Files;
 
 /// The words of the command line; the first names the program in `clap`'s texts, whatever file it runs from.
-fn read_order<R: Env + AllocGlobal>(rt: &R) -> Result<Order, Fault>
-    ensures { IfOk result IsReady }
-{
-    let alloc = rt.alloc();
-    let Ok(given) = env::args(rt) else {
-        return Err(Fault::Memory);
-    };
-    let given = given.collect::<Vec<String>>(alloc)?;
+fn words_of(alloc: Global, given: &[String]) -> Result<Vec<&str>, AllocError> {
     let mut words = Vec::new(alloc);
     words.push("dme")?;
     for word in given.iter().skip(1) {
         words.push(word.as_str())?;
     }
-    Ok(read_words(alloc, words.as_slice())?)
+    Ok(words)
+}
+
+/// The order that the command line asks for.
+fn read_order<R: Env + AllocGlobal>(rt: &R) -> Result<Order, WordsFault>
+    ensures { IfOk result IsReady }
+{
+    let alloc = rt.alloc();
+    let Ok(given) = env::args(rt) else {
+        return Err(WordsFault::Memory);
+    };
+    let given = given.collect::<Vec<String>>(alloc)?;
+    let words = words_of(alloc, given.as_slice())?;
+    read_words(alloc, words.as_slice())
 }
 
 /// The setup of a file is read, where one is named, and then the program of a file; `-` is standard input, which is empty for the
@@ -66,7 +72,7 @@ fn check<R: Files + Input + Print + AllocGlobal>(
     rt: &R,
     setup: Option<String>,
     program: String,
-) -> Result<(), Fault> {
+) -> Result<(), OrderFault> {
     match check_files(rt, setup.as_deref(), program.as_str()) {
         Ok(()) => Ok(()),
         Err(fault) => {
@@ -114,7 +120,7 @@ fn simulate_named<R: Files + Input + Print + AllocGlobal>(
     schedule: String,
     window: u8,
     program: String,
-) -> Result<u8, Fault>
+) -> Result<u8, OrderFault>
     requires { is_window window ≡ true }
 {
     match simulate_files(
@@ -169,7 +175,7 @@ fn audit_named<R: Files + Input + Print + AllocGlobal>(
     features: String,
     contacts: String,
     program: String,
-) -> Result<u8, Fault> {
+) -> Result<u8, OrderFault> {
     match audit_named_files(
         rt,
         setup.as_str(),
@@ -191,17 +197,18 @@ fn audit_named<R: Files + Input + Print + AllocGlobal>(
     }
 }
 
-/// Reads the command line and does what it asks for. The exit status of an order that was carried out.
-pub fn run<
-    R: Env
-        + Files
+/// Carries out an order: its exit status.
+fn carry_out<
+    R: Files
         + Input
         + Print
         + Eprint
         + Net<Listener = TcpListener, Stream = TcpStream>
         + AllocGlobal,
->(rt: &R) -> Result<u8, Fault> {
-    match read_order(rt)? {
+>(rt: &R, order: Order) -> Result<u8, OrderFault>
+    requires { IsReady order }
+{
+    match order {
         Order::Check { setup, program } => {
             check(rt, setup, program)?;
             Ok(0)
@@ -241,4 +248,18 @@ pub fn run<
             program,
         } => run_named(rt, setup, host, port, window, features, progress, program),
     }
+}
+
+/// Reads the command line and does what it asks for. The exit status of an order that was carried out.
+pub fn run<
+    R: Env
+        + Files
+        + Input
+        + Print
+        + Eprint
+        + Net<Listener = TcpListener, Stream = TcpStream>
+        + AllocGlobal,
+>(rt: &R) -> Result<u8, Fault> {
+    let order = read_order(rt)?;
+    Ok(carry_out(rt, order)?)
 }

@@ -1,13 +1,13 @@
 // The order `serve`, on files, sockets and the standard streams.
 
 use crate::connecting::{no_connection, of_output};
-use crate::ended::shown_break;
-use crate::faults::{Fault, FileNames, shown_files};
 use crate::files::NamedSource;
-use crate::reading::{FilesFault, read_setup};
-use crate::serving::{close_service, serve_one, with_break};
 use crate::text_files::NamedFile;
 use byte_ports::{Reading, Writing};
+use dme_orders::{
+    FileNames, FilesFault, OrderFault, close_service, read_setup, serve_one, shown_break,
+    shown_files, with_break,
+};
 use link_world::{LoopFault, PumpFault, Simulated};
 use server_core::{Server, ServerFault};
 use std::io;
@@ -54,13 +54,13 @@ fn service_verdict<R: Eprint>(
     broken: Option<PumpFault<ServerFault>>,
     unwritten: Option<String>,
     is_told: bool,
-) -> Result<u8, Fault> {
+) -> Result<u8, OrderFault> {
     match (broken, unwritten) {
         (None, None) => Ok(0),
-        (None, Some(name)) => Err(Fault::CannotWrite(name)),
+        (None, Some(name)) => Err(OrderFault::CannotWrite(name)),
         (Some(fault), None) => Err(shown_break(LoopFault::Server(fault), is_told)),
         (Some(fault), Some(name)) => {
-            let shown = Fault::CannotWrite(name);
+            let shown = OrderFault::CannotWrite(name);
             let _ = eprint!(rt; "{shown}");
             Err(shown_break(LoopFault::Server(fault), is_told))
         }
@@ -77,7 +77,7 @@ fn serve_setup<
     connections: u32,
     contacts: Option<String>,
     is_told: bool,
-) -> Result<u8, Fault> {
+) -> Result<u8, OrderFault> {
     let mut file = NamedFile::new(rt, contacts.as_deref())?;
     let mut machine = Simulated::new(rt.alloc(), &setup)?;
     let mut server = Server::new(rt.alloc(), setup)?;
@@ -133,7 +133,7 @@ pub fn serve_named<
     connections: u32,
     contacts: Option<String>,
     is_told: bool,
-) -> Result<u8, Fault> {
+) -> Result<u8, OrderFault> {
     match serve_file(rt, setup.as_str()) {
         Ok(read) => serve_setup(rt, read, port, connections, contacts, is_told),
         Err(fault) => {

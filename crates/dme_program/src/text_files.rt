@@ -1,22 +1,13 @@
-// Files that are replaced as a whole.
+// Files of the file system that are replaced as a whole.
 
-ghost use Rattle.std.specs.Prelude.{◌≡◌, List, ℕ, Option, None, OnOk, OnErr, IfSome};
+ghost use Rattle.std.specs.Prelude.{None};
 
 use byte_ports::Failed;
+use dme_orders::TextFile;
 use std::alloc::{AllocError, Global};
 use std::fs::{self, OpenFile};
 use std::io::Write;
 use std::rt::Files;
-
-/// A file that is replaced as a whole. `kept` is its text, where it tells it.
-pub trait TextFile {
-    ghost kept: { Self → Option (List ℕ) };
-
-    /// Puts a text in the place of the file's. Where that fails, the file has the text that it had.
-    fn replace(&mut self, text: &[u8]) -> Result<(), Failed>
-        ensures ok { OnOk result (IfSome (kept self.new) (λ now. now ≡ text.now)) }
-        ensures err { OnErr result (kept self.new ≡ kept self.old) };
-}
 
 /// A file of this name, `-` too, or none where none is named. A text is written beside it, behind `.new`, forced to the device, and takes
 /// the file's name, so that a crash leaves the old text or the new one. A link, a device or a pipe of this name is written itself. It does

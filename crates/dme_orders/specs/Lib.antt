@@ -1,0 +1,14 @@
+pub mod Plan
+pub mod Numbered
+pub mod Checked
+pub mod Printed
+pub mod UnderSetup
+pub mod Verdicts
+pub mod Reading
+pub mod Simulating
+pub mod Auditing
+pub mod Broken
+pub mod Ends
+pub mod Looping
+pub mod Driving
+pub mod Serving

@@ -1,0 +1,56 @@
+-- What a program leaves that is run over one connection between both ends (this profile).
+use Rattle.std.specs.Prelude.{◌≡◌, ℕ, List, [], Option, None, Some}
+use Rattle.std.specs.Io.KnownBytes.{Appends}
+use Rattle.byte_ports.specs.Transfers.{AppendsFront}
+use Rattle.tool_rack.specs.Setups.{SetupValue}
+use Rattle.dmis_program.specs.Meaning.{Meaning}
+use Rattle.protocol_model.specs.Ends.{ClientEnd, ServerEnd}
+use Rattle.protocol_model.specs.declared.machine.Job.{Job}
+use Rattle.protocol_model.specs.declared.machine.Outcome.{Outcome}
+use Rattle.link_world.specs.LinkRuns.{ClientSide, ServerSide, client_side, server_side, LoopRan, LoopStopped}
+use Rattle.link_world.specs.Machines.{simulated}
+use Rattle.link_world.specs.Reports.{report_text}
+use Rattle.link_world.specs.declared.links.LoopFault.{LoopFault}
+use Rattle.dme_orders.specs.Ends.{first_client, first_server, ends_shown}
+use Rattle.dme_orders.specs.declared.ended.Ended.{Ended}
+
+-- what the four ports of a connection's two ends tell
+pub record FourTold : Type 0 where
+  pub client_left : Option (List ℕ)
+  pub client_taken : Option (List ℕ)
+  pub server_left : Option (List ℕ)
+  pub server_taken : Option (List ℕ)
+
+-- turns of both sides up to a pair in which nothing moved, or up to the fault that broke them off
+abbrev pub LoopCame : (Job → ℕ → Outcome) → ClientSide → ClientSide → ServerSide → ServerSide → Option LoopFault → Type 0
+LoopCame answer c c_now s s_now None = LoopRan answer c c_now s s_now
+LoopCame answer c c_now s s_now (Some fault) = LoopStopped answer c c_now s s_now fault
+
+-- the client of a program and the server of a setup with its simulated machine, both on connection 1, have had their turns; this is how
+-- that has ended, and this the report of what they then are
+pub record LeavesLoop (window : ℕ) (setup : SetupValue) (program : Meaning) (ports ports_now : FourTold) (ended : Ended) (text : List ℕ)
+    : Type 0 where
+  pub client : ClientEnd
+  pub server : ServerEnd
+  pub came : LoopCame (simulated setup.shifts)
+      (client_side (first_client program [] window) ports.client_left ports.client_taken)
+      (client_side client ports_now.client_left ports_now.client_taken)
+      (server_side (first_server setup) ports.server_left ports.server_taken)
+      (server_side server ports_now.server_left ports_now.server_taken) ended.broken
+  pub stands : ended.state ≡ client.client.state
+  pub told : text ≡ report_text (ends_shown client server.server.ledger)
+
+-- the report was written behind what was there, and nothing else
+pub record PrintsLoop (window : ℕ) (setup : SetupValue) (program : Meaning) (ports ports_now : FourTold) (ended : Ended)
+    (old new : Option (List ℕ)) : Type 0 where
+  pub text : List ℕ
+  pub leaves : LeavesLoop window setup program ports ports_now ended text
+  pub written : Appends old new text
+
+-- a front of the report was written, short of all
+pub record PrintsLoopFront (window : ℕ) (setup : SetupValue) (program : Meaning) (ports ports_now : FourTold)
+    (old new : Option (List ℕ)) : Type 0 where
+  pub ended : Ended
+  pub text : List ℕ
+  pub leaves : LeavesLoop window setup program ports ports_now ended text
+  pub written : AppendsFront old new text

@@ -1,0 +1,175 @@
+// A program is run on a server over a connection, over ports.
+
+ghost use Rattle.std.specs.Prelude.{◌≡◌, ◌<◌, length, true, false, Some, OnOk, OnErr, IfOk, IfErr, IsErrOf};
+ghost use Rattle.contact_ledger.specs.FeatureTexts.{IsFeatures};
+ghost use Rattle.protocol_model.specs.Ends.{end_connected};
+ghost use Rattle.client_core.specs.Clients.{may_connect};
+ghost use Rattle.dme_orders.specs.Reading.{UnlessUnwritten, IsOfOutput};
+ghost use Rattle.dme_orders.specs.Driving.{RunCame, Keeps, LeavesRun, PrintsRun, PrintsRunFront};
+
+use crate::ended::Ended;
+use crate::ends::end_report;
+use crate::reading::FilesFault;
+use crate::simulating::write_text;
+use crate::text_files::TextFile;
+use byte_ports::{Failed, Sink, Source};
+use client_core::{Client, ClientFault};
+use contact_ledger::laws::written_features_are_read_back;
+use contact_ledger::write_features;
+use link_world::{LoopFault, PumpFault, Watcher, watch_link};
+use std::alloc::{AllocError, Global};
+
+/// How a run on a server has ended.
+#[derive(Clone, Copy, Debug, PartialEq, Eq)]
+pub struct Driven {
+    /// How its connection has ended.
+    pub ended: Ended,
+    /// Whether the features file has the features now.
+    pub is_kept: bool,
+}
+
+/// The client comes to connection 1. Only want of memory is an `Err`.
+fn come(client: &mut Client) -> Result<(), AllocError>
+    requires { may_connect 1 client.old.client ≡ true }
+    ensures { OnOk result (client.new ≡ end_connected 1 client.old) }
+{
+    match client.connected(1) {
+        Ok(()) => Ok(()),
+        Err(ClientFault::Memory) => Err(AllocError),
+        Err(_) => unreachable!(),
+    }
+}
+
+/// The client has its turns; why they were broken off, where they were.
+fn turns_of_client<R: Source, W: Sink, N: Watcher>(
+    client: &mut Client,
+    source: &mut R,
+    sink: &mut W,
+    watcher: &mut N,
+) -> Option<LoopFault>
+    ensures came { RunCame client.old client.new (R.left source.old) (R.left source.new)
+        (W.taken sink.old) (W.taken sink.new) result }
+    ensures read_failed { result ≡ Some (LoopFault.Client PumpFault.ReadFailed)
+        → R.has_failed source.new ≡ true }
+    ensures write_failed { result ≡ Some (LoopFault.Client PumpFault.WriteFailed)
+        → W.has_failed sink.new ≡ true }
+    ensures source_works { R.has_failed source.old ≡ false → R.has_failed source.new ≡ true
+        → result ≡ Some (LoopFault.Client PumpFault.ReadFailed) }
+    ensures sink_works { W.has_failed sink.old ≡ false → W.has_failed sink.new ≡ true
+        → result ≡ Some (LoopFault.Client PumpFault.WriteFailed) }
+{
+    match watch_link(client, source, sink, watcher) {
+        Ok(()) => None,
+        Err(fault) => Some(LoopFault::Client(fault)),
+    }
+}
+
+/// The text of the features that a client holds, as they are read back from it. Only want of memory is an `Err`.
+fn features_text(alloc: Global, client: &Client) -> Result<Vec<u8>, AllocError>
+    ensures { IfOk result (λ text. IsFeatures text.items
+        client.now.client.table.tally.features) }
+{
+    written_features_are_read_back();
+    let mut text = Vec::new(alloc);
+    write_features(&mut text, client.features())?;
+    Ok(text)
+}
+
+/// The features that a client holds are put in their file; whether that was possible. Only want of memory is an `Err`.
+fn keep_features<F: TextFile>(
+    alloc: Global,
+    client: &Client,
+    file: &mut F,
+) -> Result<bool, AllocError>
+    ensures kept { IfOk result (λ is_kept. Keeps is_kept (F.kept file.old) (F.kept file.new)
+        (λ text. IsFeatures text client.now.client.table.tally.features)) }
+    ensures err { OnErr result (F.kept file.new ≡ F.kept file.old) }
+{
+    let text = features_text(alloc, client)?;
+    match file.replace(text.as_slice()) {
+        Ok(()) => Ok(true),
+        Err(Failed) => Ok(false),
+    }
+}
+
+/// A client has its turns, and its features are put in their file; how that has ended, and the report of it. Only want of memory is an
+/// `Err`.
+fn turned<R: Source, W: Sink, N: Watcher, F: TextFile>(
+    alloc: Global,
+    client: Client,
+    source: &mut R,
+    sink: &mut W,
+    watcher: &mut N,
+    file: &mut F,
+) -> Result<(Driven, Vec<u8>), AllocError>
+    requires { may_connect 1 client.client ≡ true }
+    ensures leaves { IfOk result (λ end. LeavesRun client
+        (record { left = R.left source.old; taken = W.taken sink.old; kept = F.kept file.old })
+        (record { left = R.left source.new; taken = W.taken sink.new; kept = F.kept file.new })
+        end.0 end.1.items) }
+    ensures some { IfOk result (λ end. 0 < length end.1.items) }
+    ensures read_failed { IfOk result (λ end. end.0.ended.broken
+        ≡ Some (LoopFault.Client PumpFault.ReadFailed) → R.has_failed source.new ≡ true) }
+    ensures write_failed { IfOk result (λ end. end.0.ended.broken
+        ≡ Some (LoopFault.Client PumpFault.WriteFailed) → W.has_failed sink.new ≡ true) }
+    ensures source_works { R.has_failed source.old ≡ false → R.has_failed source.new ≡ true
+        → IfOk result (λ end. end.0.ended.broken ≡ Some (LoopFault.Client PumpFault.ReadFailed)) }
+    ensures sink_works { W.has_failed sink.old ≡ false → W.has_failed sink.new ≡ true
+        → IfOk result (λ end. end.0.ended.broken ≡ Some (LoopFault.Client PumpFault.WriteFailed)) }
+{
+    let mut client = client;
+    come(&mut client)?;
+    let broken = turns_of_client(&mut client, source, sink, watcher);
+    let is_kept = keep_features(alloc, &client, file)?;
+    let text = end_report(alloc, &client)?;
+    let state = client.state();
+    let ended = Ended { state, broken };
+    Ok((Driven { ended, is_kept }, text))
+}
+
+/// Runs a program on a server: a client that may come to connection 1 comes to it and has its turns, its features are put in their file,
+/// and its report is written, without contacts. It answers how that has ended; both are done as well where a fault has broken the turns
+/// off, and the report is written as well where the file could not be. `Memory` and `Write` are the only `Err`s.
+pub fn drive<R: Source, W: Sink, N: Watcher, F: TextFile, O: Sink>(
+    alloc: Global,
+    client: Client,
+    source: &mut R,
+    sink: &mut W,
+    watcher: &mut N,
+    file: &mut F,
+    out: &mut O,
+) -> Result<Driven, FilesFault>
+    requires { may_connect 1 client.client ≡ true }
+
+    // Just the report of what the client has become was written, and its file keeps what it then holds.
+    ensures ok { IfOk result (λ driven. PrintsRun client
+        (record { left = R.left source.old; taken = W.taken sink.old; kept = F.kept file.old })
+        (record { left = R.left source.new; taken = W.taken sink.new; kept = F.kept file.new })
+        driven (O.taken out.old) (O.taken out.new)) }
+    ensures works { OnOk result (O.has_failed out.new ≡ false) }
+
+    // A port of the connection is told as what broke it off where it has failed, and only there.
+    ensures read_failed { IfOk result (λ driven. driven.ended.broken
+        ≡ Some (LoopFault.Client PumpFault.ReadFailed) → R.has_failed source.new ≡ true) }
+    ensures write_failed { IfOk result (λ driven. driven.ended.broken
+        ≡ Some (LoopFault.Client PumpFault.WriteFailed) → W.has_failed sink.new ≡ true) }
+    ensures source_works { R.has_failed source.old ≡ false → R.has_failed source.new ≡ true
+        → IfOk result (λ driven. driven.ended.broken ≡ Some (LoopFault.Client PumpFault.ReadFailed)) }
+    ensures sink_works { W.has_failed sink.old ≡ false → W.has_failed sink.new ≡ true
+        → IfOk result (λ driven. driven.ended.broken ≡ Some (LoopFault.Client PumpFault.WriteFailed)) }
+
+    // The output is blamed where it has failed, and only there; but for that nothing was written to it.
+    ensures faults { IfErr result IsOfOutput }
+    ensures unwritten { O.has_failed out.old ≡ false → O.has_failed out.new ≡ true
+        → IsErrOf result FilesFault.Write }
+    ensures write { IsErrOf result FilesFault.Write → O.has_failed out.new ≡ true }
+    ensures front { IsErrOf result FilesFault.Write → PrintsRunFront client
+        (record { left = R.left source.old; taken = W.taken sink.old; kept = F.kept file.old })
+        (record { left = R.left source.new; taken = W.taken sink.new; kept = F.kept file.new })
+        (O.taken out.old) (O.taken out.new) }
+    ensures silent { IfErr result (UnlessUnwritten (out.new ≡ out.old)) }
+{
+    let (driven, text) = turned(alloc, client, source, sink, watcher, file)?;
+    write_text(out, text.as_slice())?;
+    Ok(driven)
+}

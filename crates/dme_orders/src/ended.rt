@@ -1,0 +1,88 @@
+// How an order over a connection has ended, and what is shown of it.
+
+ghost use Rattle.std.specs.Prelude.{◌≡◌, ◌↔◌, IsOk, IfOk, IfErr, IfSome, None};
+ghost use Rattle.dme_orders.specs.Printed.{status_of};
+ghost use Rattle.dme_orders.specs.Verdicts.{status_of_state};
+ghost use Rattle.dme_orders.specs.Broken.{IsBreakShown, break_status};
+
+use crate::faults::OrderFault;
+use crate::verdicts::status;
+use client_core::{ClientFault, State};
+use link_world::{LoopFault, PumpFault};
+use server_core::ServerFault;
+
+/// How an order over a connection has ended.
+#[derive(Clone, Copy, Debug, PartialEq, Eq)]
+pub struct Ended {
+    /// The state in which the client stands at last.
+    pub state: State,
+    /// Why the connection was broken off, where it was.
+    pub broken: Option<LoopFault>,
+}
+
+/// What a client's refusal says of its connection, as a line.
+fn client_cause(fault: ClientFault) -> &'static str {
+    match fault {
+        ClientFault::Faulted(_) => "the server answered what has no place\n",
+        ClientFault::NotNow | ClientFault::Memory => "the client is on no connection\n",
+    }
+}
+
+/// What a server's refusal says of its connection, as a line.
+fn server_cause(fault: ServerFault) -> &'static str {
+    match fault {
+        ServerFault::Framing(_) => "the client sent bytes that are no lines\n",
+        _ => "the server is on no connection\n",
+    }
+}
+
+/// Why a connection was broken off, as a line.
+fn cause(fault: LoopFault) -> &'static str {
+    match fault {
+        LoopFault::Client(PumpFault::Core(why)) => client_cause(why),
+        LoopFault::Server(PumpFault::Core(why)) => server_cause(why),
+        LoopFault::Client(PumpFault::ReadFailed) | LoopFault::Server(PumpFault::ReadFailed) => {
+            "the connection could not be read\n"
+        }
+        LoopFault::Client(PumpFault::WriteFailed) | LoopFault::Server(PumpFault::WriteFailed) => {
+            "the connection could not be written\n"
+        }
+        LoopFault::Client(PumpFault::Ended) => "the server has left the connection\n",
+        LoopFault::Server(PumpFault::Ended) => "the client has left the connection\n",
+        LoopFault::Client(PumpFault::TurnsSpent) | LoopFault::Server(PumpFault::TurnsSpent) => {
+            "too many steps were made\n"
+        }
+        LoopFault::Client(PumpFault::Memory) | LoopFault::Server(PumpFault::Memory) => "",
+    }
+}
+
+/// What is shown for a connection that was broken off: want of memory as such, all else as a connection that failed, and with its cause
+/// as a second line where more is asked for.
+pub fn shown_break(fault: LoopFault, is_told: bool) -> OrderFault
+    ensures shown { IsBreakShown fault result }
+    ensures status { status_of result ≡ break_status fault }
+{
+    match fault {
+        LoopFault::Client(PumpFault::Memory) | LoopFault::Server(PumpFault::Memory) => {
+            OrderFault::Memory
+        }
+        _ => OrderFault::ConnectionFailed(if is_told { cause(fault) } else { "" }),
+    }
+}
+
+impl Ended {
+    /// The exit status of an order whose connection was not broken off, as its client's last state has it; else what is shown for that.
+    pub fn verdict(self, is_told: bool) -> Result<u8, OrderFault>
+        ensures can { IsOk result ↔ (self.broken ≡ None) }
+        ensures status { IfOk result (λ status. status ≡ status_of_state self.state) }
+        ensures shown { IfErr result (λ shown. IfSome self.broken
+            (λ fault. IsBreakShown fault shown)) }
+        ensures broken { IfErr result (λ shown. IfSome self.broken
+            (λ fault. status_of shown ≡ break_status fault)) }
+    {
+        match self.broken {
+            Some(fault) => Err(shown_break(fault, is_told)),
+            None => Ok(status(self.state)),
+        }
+    }
+}

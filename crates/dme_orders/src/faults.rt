@@ -1,0 +1,135 @@
+// What is shown for an order that was not carried out, and the exit status that goes with it.
+
+ghost use Rattle.std.specs.Prelude.{◌≡◌, string_bytes};
+ghost use Rattle.dme_orders.specs.Printed.{status_of, name_in, AreFilesShown};
+
+use crate::reading::{FilesFault, Role};
+use contact_ledger::TextFault;
+use dmis_program::ProgramFault;
+use link_world::ScheduleFault;
+use std::alloc::{AllocError, AllocFailed};
+use thiserror::Error;
+use tool_rack::SetupFault;
+
+/// Why an order was not carried out, as it is shown on standard error.
+#[derive(Debug, Drop, Error)]
+pub enum OrderFault {
+    /// A DMIS program that is refused; never for want of memory.
+    #[error("dme: {0}\n")]
+    Program(ProgramFault),
+    /// A setup that is refused; never for want of memory.
+    #[error("dme: {0} in setup\n")]
+    Setup(SetupFault),
+    /// A schedule that is refused; never for want of memory.
+    #[error("dme: {0} in schedule\n")]
+    Schedule(ScheduleFault),
+    /// Features that are refused; never for want of memory.
+    #[error("dme: {0} in features\n")]
+    Features(TextFault),
+    /// Contacts that are refused; never for want of memory.
+    #[error("dme: {0} in contacts\n")]
+    Contacts(TextFault),
+    /// A file that cannot be opened or read; `-` is standard input.
+    #[error("dme: cannot read {0}\n")]
+    CannotRead(String),
+    /// Standard output, which cannot be written.
+    #[error("dme: cannot write -\n")]
+    CannotWriteOutput,
+    /// A file of features or of contacts that cannot be written.
+    #[error("dme: cannot write {0}\n")]
+    CannotWrite(String),
+    /// Features of a file that are not the first ones of the program.
+    #[error("dme: C4 NotOurs\n")]
+    NotOurs,
+    /// No connection, or one that was broken off; behind it a second line of the cause, or nothing.
+    #[error("dme: connection failed\n{0}")]
+    ConnectionFailed(&'static str),
+    /// Want of memory.
+    #[error("dme: out of memory\n")]
+    Memory,
+}
+
+impl From<AllocError> for OrderFault {
+    ghost use Rattle.std.specs.Prelude.{◌≡◌};
+    ghost use Rattle.dme_orders.specs.declared.faults.OrderFault.TheVariants as fault;
+
+    ghost from_gives = { λ _ e. e ≡ fault.Memory };
+
+    fn from(_error: AllocError) -> OrderFault {
+        OrderFault::Memory
+    }
+}
+
+impl<T: Drop> From<AllocFailed<T>> for OrderFault {
+    ghost use Rattle.std.specs.Prelude.{◌≡◌};
+    ghost use Rattle.dme_orders.specs.declared.faults.OrderFault.TheVariants as fault;
+
+    ghost from_gives = { λ _ e. e ≡ fault.Memory };
+
+    fn from(_error: AllocFailed<T>) -> OrderFault {
+        OrderFault::Memory
+    }
+}
+
+impl OrderFault {
+    /// The exit status: 1 for refused input, a file or a connection, 4 for want of memory.
+    pub fn status(&self) -> u8
+        ensures { result ≡ status_of self.now }
+    {
+        match self {
+            OrderFault::Program(_) | OrderFault::Setup(_) | OrderFault::Schedule(_) => 1,
+            OrderFault::Features(_) | OrderFault::Contacts(_) => 1,
+            OrderFault::CannotRead(_)
+            | OrderFault::CannotWriteOutput
+            | OrderFault::CannotWrite(_) => 1,
+            OrderFault::NotOurs | OrderFault::ConnectionFailed(_) => 1,
+            OrderFault::Memory => 4,
+        }
+    }
+}
+
+/// The names of an order's files. A file that the order does not have has an empty name.
+#[derive(Debug, Drop)]
+pub struct FileNames {
+    pub setup: String,
+    pub schedule: String,
+    pub features: String,
+    pub contacts: String,
+    pub program: String,
+}
+
+impl FileNames {
+    /// The name of the file that is this to the order.
+    fn of(self, role: Role) -> String
+        ensures { string_bytes result ≡ name_in self role }
+    {
+        match role {
+            Role::Setup => self.setup,
+            Role::Schedule => self.schedule,
+            Role::Features => self.features,
+            Role::Contacts => self.contacts,
+            Role::Program => self.program,
+        }
+    }
+}
+
+/// What is shown for the fault of an order, with the names of its files.
+pub fn shown_files(fault: FilesFault, names: FileNames) -> OrderFault
+    ensures { AreFilesShown fault (name_in names) result }
+{
+    match fault {
+        FilesFault::Setup(SetupFault::Memory)
+        | FilesFault::Schedule(ScheduleFault::Memory)
+        | FilesFault::Features(TextFault::Memory)
+        | FilesFault::Contacts(TextFault::Memory)
+        | FilesFault::Program(ProgramFault::Memory)
+        | FilesFault::Memory => OrderFault::Memory,
+        FilesFault::Setup(cause) => OrderFault::Setup(cause),
+        FilesFault::Schedule(cause) => OrderFault::Schedule(cause),
+        FilesFault::Features(cause) => OrderFault::Features(cause),
+        FilesFault::Contacts(cause) => OrderFault::Contacts(cause),
+        FilesFault::Program(cause) => OrderFault::Program(cause),
+        FilesFault::Unread(role) => OrderFault::CannotRead(names.of(role)),
+        FilesFault::Write => OrderFault::CannotWriteOutput,
+    }
+}

@@ -1,0 +1,50 @@
+//! The orders of the program `dme` over ports: each is a function that is proved for every source, sink, file and watcher, whatever stands
+//! behind them. Of files, sockets and the command line this crate knows nothing. What the orders print is this profile's.
+//!
+//! - `orders`: a program is checked under a setup, where one is named
+//! - `reading`: the files of an order are read and understood
+//! - `simulating`: a program is run by a schedule on a simulated machine
+//! - `auditing`: a client's features are judged by a server's contacts
+//! - `preparing`: the files of an order over a connection are read before there is one
+//! - `looping`: a program is run over one connection between both ends
+//! - `driving`: a program is run on a server over a connection, and its features are kept
+//! - `serving`: connections are served, and what was done is kept and shown
+//! - `text_files`: files that are replaced as a whole, as the orders see them
+//! - `ends`, `ended`: the two ends of a connection and their reports; how it has ended, and what is shown of that
+//! - `check`: the command lines of a program, from any reader to any writer
+//! - `plan`: the commands of a program on a new connection, as text
+//! - `verdicts`: the verdict of an audit as a line, and the exit statuses of orders that were carried out
+//! - `faults`: what is shown for an order that was not carried out, and its exit status
+#![tactic(auto)]
+
+mod auditing;
+mod check;
+mod driving;
+mod ended;
+mod ends;
+mod faults;
+mod looping;
+mod orders;
+mod plan;
+mod preparing;
+mod reading;
+mod serving;
+mod simulating;
+mod text_files;
+mod verdicts;
+
+pub use auditing::audit_files;
+pub use check::{CheckFault, check_plan};
+pub use driving::{Driven, drive};
+pub use ended::{Ended, shown_break};
+pub use ends::kept_client;
+pub use faults::{FileNames, OrderFault, shown_files};
+pub use looping::loop_over;
+pub use orders::check_under_setup;
+pub use plan::plan_text;
+pub use preparing::{features_and_program, setup_and_program};
+pub use reading::{FilesFault, Role, read_setup};
+pub use serving::{close_service, serve_one, with_break};
+pub use simulating::simulate;
+pub use text_files::TextFile;
+pub use verdicts::{status, write_verdict};

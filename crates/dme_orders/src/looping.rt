@@ -1,0 +1,169 @@
+// A program is run over one connection between both ends, over ports.
+
+ghost use Rattle.std.specs.Prelude.{◌≡◌, ◌<◌, length, true, false, OnOk, OnErr, IfOk, IfErr, IsErrOf};
+ghost use Rattle.client_core.specs.Clients.{is_window};
+ghost use Rattle.link_world.specs.LinkRuns.{client_side, server_side};
+ghost use Rattle.dme_orders.specs.Reading.{UnlessUnwritten, IsOfOutput};
+ghost use Rattle.dme_orders.specs.Looping.{LoopCame, LeavesLoop, PrintsLoop, PrintsLoopFront};
+
+use crate::ended::Ended;
+use crate::ends::{ends_report, first_client, first_server};
+use crate::reading::FilesFault;
+use crate::simulating::write_text;
+use byte_ports::{Sink, Source};
+use client_core::Client;
+use dmis_program::Program;
+use link_world::{LoopFault, Machine, Simulated, Watcher, loop_link};
+use server_core::Server;
+use std::alloc::{AllocError, Global};
+use tool_rack::Setup;
+
+/// Both ends have their turns; why they were broken off, where they were.
+fn turns_of_both<M: Machine, CR: Source, CW: Sink, SR: Source, SW: Sink, N: Watcher>(
+    client: &mut Client,
+    client_source: &mut CR,
+    client_sink: &mut CW,
+    server: &mut Server,
+    machine: &mut M,
+    server_source: &mut SR,
+    server_sink: &mut SW,
+    watcher: &mut N,
+) -> Option<LoopFault>
+    ensures came { LoopCame (M.answers machine.old)
+        (client_side client.old (CR.left client_source.old) (CW.taken client_sink.old))
+        (client_side client.new (CR.left client_source.new) (CW.taken client_sink.new))
+        (server_side server.old.end (SR.left server_source.old) (SW.taken server_sink.old))
+        (server_side server.new.end (SR.left server_source.new) (SW.taken server_sink.new))
+        result }
+{
+    match loop_link(
+        client,
+        client_source,
+        client_sink,
+        server,
+        machine,
+        server_source,
+        server_sink,
+        watcher,
+    ) {
+        Ok(()) => None,
+        Err(fault) => Some(fault),
+    }
+}
+
+/// Both ends have their turns; how that has ended, and the report of them. Only want of memory is an `Err`.
+fn looped<CR: Source, CW: Sink, SR: Source, SW: Sink, N: Watcher>(
+    alloc: Global,
+    setup: Setup,
+    program: Program,
+    window: u8,
+    client_source: &mut CR,
+    client_sink: &mut CW,
+    server_source: &mut SR,
+    server_sink: &mut SW,
+    watcher: &mut N,
+) -> Result<(Ended, Vec<u8>), AllocError>
+    requires { is_window window ≡ true }
+    ensures leaves { IfOk result (λ end. LeavesLoop window setup program
+        (record {
+          client_left = CR.left client_source.old;
+          client_taken = CW.taken client_sink.old;
+          server_left = SR.left server_source.old;
+          server_taken = SW.taken server_sink.old;
+        })
+        (record {
+          client_left = CR.left client_source.new;
+          client_taken = CW.taken client_sink.new;
+          server_left = SR.left server_source.new;
+          server_taken = SW.taken server_sink.new;
+        })
+        end.0 end.1.items) }
+    ensures some { IfOk result (λ end. 0 < length end.1.items) }
+{
+    let mut machine = Simulated::new(alloc, &setup)?;
+    let mut server = first_server(alloc, setup)?;
+    let mut client = first_client(alloc, program, window)?;
+    let broken = turns_of_both(
+        &mut client,
+        client_source,
+        client_sink,
+        &mut server,
+        &mut machine,
+        server_source,
+        server_sink,
+        watcher,
+    );
+    let text = ends_report(alloc, &client, server.ledger())?;
+    let state = client.state();
+    Ok((Ended { state, broken }, text))
+}
+
+/// Runs a program of both ends: a new client of the program, with this window, and the server of the setup with its simulated machine,
+/// each on connection 1 and over its own ports, have their turns in turn, and the report of both is written. It answers how that has ended;
+/// the report is written as well where a fault has broken it off. `Memory` and `Write` are the only `Err`s.
+pub fn loop_over<CR: Source, CW: Sink, SR: Source, SW: Sink, N: Watcher, W: Sink>(
+    alloc: Global,
+    setup: Setup,
+    program: Program,
+    window: u8,
+    client_source: &mut CR,
+    client_sink: &mut CW,
+    server_source: &mut SR,
+    server_sink: &mut SW,
+    watcher: &mut N,
+    sink: &mut W,
+) -> Result<Ended, FilesFault>
+    requires { is_window window ≡ true }
+
+    // Just the report of what both ends have become was written.
+    ensures ok { IfOk result (λ ended. PrintsLoop window setup program
+        (record {
+          client_left = CR.left client_source.old;
+          client_taken = CW.taken client_sink.old;
+          server_left = SR.left server_source.old;
+          server_taken = SW.taken server_sink.old;
+        })
+        (record {
+          client_left = CR.left client_source.new;
+          client_taken = CW.taken client_sink.new;
+          server_left = SR.left server_source.new;
+          server_taken = SW.taken server_sink.new;
+        })
+        ended (W.taken sink.old) (W.taken sink.new)) }
+    ensures works { OnOk result (W.has_failed sink.new ≡ false) }
+
+    // A sink is blamed where it has failed, and only there; but for that nothing was written.
+    ensures faults { IfErr result (λ fault. IsOfOutput fault) }
+    ensures unwritten { W.has_failed sink.old ≡ false → W.has_failed sink.new ≡ true
+        → IsErrOf result FilesFault.Write }
+    ensures write { IsErrOf result FilesFault.Write → W.has_failed sink.new ≡ true }
+    ensures front { IsErrOf result FilesFault.Write → PrintsLoopFront window setup program
+        (record {
+          client_left = CR.left client_source.old;
+          client_taken = CW.taken client_sink.old;
+          server_left = SR.left server_source.old;
+          server_taken = SW.taken server_sink.old;
+        })
+        (record {
+          client_left = CR.left client_source.new;
+          client_taken = CW.taken client_sink.new;
+          server_left = SR.left server_source.new;
+          server_taken = SW.taken server_sink.new;
+        })
+        (W.taken sink.old) (W.taken sink.new) }
+    ensures silent { IfErr result (UnlessUnwritten (sink.new ≡ sink.old)) }
+{
+    let (ended, text) = looped(
+        alloc,
+        setup,
+        program,
+        window,
+        client_source,
+        client_sink,
+        server_source,
+        server_sink,
+        watcher,
+    )?;
+    write_text(sink, text.as_slice())?;
+    Ok(ended)
+}

@@ -1,0 +1,169 @@
+// The files of an order are read, each to its end, and understood.
+
+ghost use Rattle.std.specs.Prelude.{◌≡◌, Ok, IfOk, IfErr};
+ghost use Rattle.dme_orders.specs.Reading.{Reads, WhyNoText, ReadsSetup, WhyNoSetup, ReadsSchedule, WhyNoSchedule, ReadsProgram, WhyNoProgram};
+ghost use Rattle.dme_orders.specs.Reading.{ReadsFeatures, WhyNoFeatures, ReadsContacts, WhyNoContacts};
+
+use crate::check::{CheckFault, read_input};
+use byte_ports::Source;
+use contact_ledger::{FeatureLedger, ServerLedger, TextFault, read_contacts, read_features};
+use dmis_program::{Frames, Program, ProgramFault};
+use link_world::{Schedule, ScheduleFault};
+use std::alloc::{AllocError, Global};
+use tool_rack::{Setup, SetupFault};
+
+/// What a file is to an order.
+#[derive(Clone, Copy, Debug, PartialEq, Eq)]
+pub enum Role {
+    /// The machine's setup.
+    Setup,
+    /// The schedule of a simulation.
+    Schedule,
+    /// The features of an audit.
+    Features,
+    /// The contacts of an audit.
+    Contacts,
+    /// The DMIS program.
+    Program,
+}
+
+/// Why an order was not carried out.
+#[derive(Clone, Copy, Debug, PartialEq, Eq)]
+pub enum FilesFault {
+    /// The setup is refused; never for want of memory.
+    Setup(SetupFault),
+    /// The schedule is refused; never for want of memory.
+    Schedule(ScheduleFault),
+    /// The features are refused; never for want of memory.
+    Features(TextFault),
+    /// The contacts are refused; never for want of memory.
+    Contacts(TextFault),
+    /// The program is refused, under the setup's frames; never for want of memory.
+    Program(ProgramFault),
+    /// A source has failed, or a million pulls have not come to the end of its text.
+    Unread(Role),
+    /// The sink has failed; it may have taken a front of the text.
+    Write,
+    /// Want of memory.
+    Memory,
+}
+
+impl From<CheckFault> for FilesFault {
+    ghost use Rattle.std.specs.Prelude.{◌≡◌};
+    ghost use Rattle.dme_orders.specs.Reading.{told_of_program};
+
+    ghost from_gives = { λ fault e. e ≡ told_of_program fault };
+
+    fn from(fault: CheckFault) -> FilesFault {
+        match fault {
+            CheckFault::Program(cause) => FilesFault::Program(cause),
+            CheckFault::Read => FilesFault::Unread(Role::Program),
+            CheckFault::Write => FilesFault::Write,
+            CheckFault::Memory => FilesFault::Memory,
+        }
+    }
+}
+
+impl From<AllocError> for FilesFault {
+    ghost use Rattle.std.specs.Prelude.{◌≡◌};
+    ghost use Rattle.dme_orders.specs.declared.reading.FilesFault.TheVariants as fault;
+
+    ghost from_gives = { λ _ e. e ≡ fault.Memory };
+
+    fn from(_error: AllocError) -> FilesFault {
+        FilesFault::Memory
+    }
+}
+
+/// The whole text of a source.
+fn read_text<S: Source>(alloc: Global, source: &mut S, role: Role) -> Result<Vec<u8>, FilesFault>
+    ensures ok { IfOk result (λ text. Reads S.left S.has_failed (λ told. text.items ≡ told)
+        source.old source.new) }
+    ensures unread { IfErr result (WhyNoText S.left S.has_failed source.old source.new role) }
+{
+    match read_input(alloc, source) {
+        Ok(text) => Ok(text),
+        Err(CheckFault::Read) => Err(FilesFault::Unread(role)),
+        Err(CheckFault::Memory) => Err(FilesFault::Memory),
+        Err(CheckFault::Program(_) | CheckFault::Write) => unreachable!(),
+    }
+}
+
+/// The setup that a source gives.
+pub fn read_setup<S: Source>(alloc: Global, source: &mut S) -> Result<Setup, FilesFault>
+    ensures ok { IfOk result (ReadsSetup S.left S.has_failed source.old source.new) }
+    ensures err { IfErr result (WhyNoSetup S.left S.has_failed source.old source.new) }
+{
+    let text = read_text(alloc, source, Role::Setup)?;
+    match Setup::read(alloc, text.as_slice()) {
+        Ok(setup) => Ok(setup),
+        Err(SetupFault::Memory) => Err(FilesFault::Memory),
+        Err(refused) => Err(FilesFault::Setup(refused)),
+    }
+}
+
+/// The schedule that a source gives.
+pub(crate) fn read_schedule<S: Source>(
+    alloc: Global,
+    source: &mut S,
+) -> Result<Schedule, FilesFault>
+    ensures ok { IfOk result (ReadsSchedule S.left S.has_failed source.old source.new) }
+    ensures err { IfErr result (WhyNoSchedule S.left S.has_failed source.old source.new) }
+{
+    let text = read_text(alloc, source, Role::Schedule)?;
+    match Schedule::read(alloc, text.as_slice()) {
+        Ok(schedule) => Ok(schedule),
+        Err(ScheduleFault::Memory) => Err(FilesFault::Memory),
+        Err(refused) => Err(FilesFault::Schedule(refused)),
+    }
+}
+
+/// The features that a source gives.
+pub(crate) fn features_from<S: Source>(
+    alloc: Global,
+    source: &mut S,
+) -> Result<FeatureLedger, FilesFault>
+    ensures ok { IfOk result (ReadsFeatures S.left S.has_failed source.old source.new) }
+    ensures err { IfErr result (WhyNoFeatures S.left S.has_failed source.old source.new) }
+{
+    let text = read_text(alloc, source, Role::Features)?;
+    match read_features(alloc, text.as_slice()) {
+        Ok(features) => Ok(features),
+        Err(TextFault::Memory) => Err(FilesFault::Memory),
+        Err(refused) => Err(FilesFault::Features(refused)),
+    }
+}
+
+/// The contacts that a source gives, among a server's other acts.
+pub(crate) fn contacts_from<S: Source>(
+    alloc: Global,
+    source: &mut S,
+) -> Result<ServerLedger, FilesFault>
+    ensures ok { IfOk result (ReadsContacts S.left S.has_failed source.old source.new) }
+    ensures err { IfErr result (WhyNoContacts S.left S.has_failed source.old source.new) }
+{
+    let text = read_text(alloc, source, Role::Contacts)?;
+    match read_contacts(alloc, text.as_slice()) {
+        Ok(ledger) => Ok(ledger),
+        Err(TextFault::Memory) => Err(FilesFault::Memory),
+        Err(refused) => Err(FilesFault::Contacts(refused)),
+    }
+}
+
+/// The program that a source gives under these frames.
+pub(crate) fn read_program<S: Source>(
+    alloc: Global,
+    frames: &Frames,
+    source: &mut S,
+) -> Result<Program, FilesFault>
+    ensures ok { IfOk result (ReadsProgram S.left S.has_failed source.old source.new frames.now) }
+    ensures err { IfErr result (WhyNoProgram S.left S.has_failed source.old source.new
+        frames.now) }
+{
+    let text = read_text(alloc, source, Role::Program)?;
+    match Program::read(alloc, text.as_slice(), frames) {
+        Ok(program) => Ok(program),
+        Err(ProgramFault::Memory) => Err(FilesFault::Memory),
+        Err(refused) => Err(FilesFault::Program(refused)),
+    }
+}

@@ -1,0 +1,121 @@
+// Connections are served, and what was done is kept and shown, over ports.
+
+ghost use Rattle.std.specs.Prelude.{◌≡◌, ◌≢◌, ◌⊎◌, ◌↔◌, true, false, None, Some, IsOk, OnOk, OnErr, IfOk, IfErr, IfSome, IsErrOf};
+ghost use Rattle.std.specs.Io.KnownBytes.{Appends};
+ghost use Rattle.byte_ports.specs.Transfers.{AppendsFront};
+ghost use Rattle.contact_ledger.specs.ContactTexts.{contacts_text};
+ghost use Rattle.protocol_model.specs.Ends.{serving_accepted};
+ghost use Rattle.server_core.specs.Serving.{may_accept};
+ghost use Rattle.link_world.specs.Reports.{reported, contact_rows};
+ghost use Rattle.dme_orders.specs.Driving.{Keeps};
+ghost use Rattle.dme_orders.specs.Reading.{UnlessUnwritten, IsOfOutput};
+ghost use Rattle.dme_orders.specs.Serving.{ServeCame};
+
+use crate::reading::FilesFault;
+use crate::text_files::TextFile;
+use byte_ports::{Failed, Sink, Source, push_all};
+use contact_ledger::{ServerLedger, write_contacts};
+use link_world::{Machine, PumpFault, serve_link, write_contact_rows};
+use server_core::{Server, ServerFault};
+use std::alloc::{AllocError, Global};
+
+/// A server comes to the connection of this number and has its turns on it, until the input has ended, and it has then left. A fault of a
+/// turn is the answer, and so is that the server may not come to this connection: then it is as it was.
+pub fn serve_one<M: Machine, R: Source, W: Sink>(
+    server: &mut Server,
+    machine: &mut M,
+    number: u64,
+    source: &mut R,
+    sink: &mut W,
+) -> Result<(), PumpFault<ServerFault>>
+    ensures came { may_accept number server.old.end.server ≡ true
+        → ServeCame (M.answers machine.old) (serving_accepted number server.old.end)
+        server.new.end (R.left source.old) (R.left source.new) (W.taken sink.old)
+        (W.taken sink.new) result }
+    ensures refused { may_accept number server.old.end.server ≡ false
+        → IsErrOf result (PumpFault.Core ServerFault.NotNow) × (server.new ≡ server.old) }
+    ensures left { may_accept number server.old.end.server ≡ true
+        → server.new.end.server.on ≡ false }
+    ensures keeps { M.answers machine.new ≡ M.answers machine.old }
+
+    // A port is blamed where it has failed, and only there.
+    ensures read_failed { IsErrOf result PumpFault.ReadFailed → R.has_failed source.new ≡ true }
+    ensures write_failed { IsErrOf result PumpFault.WriteFailed → W.has_failed sink.new ≡ true }
+    ensures source_works { R.has_failed source.old ≡ false → R.has_failed source.new ≡ true
+        → IsErrOf result PumpFault.ReadFailed }
+    ensures sink_works { W.has_failed sink.old ≡ false → W.has_failed sink.new ≡ true
+        → IsErrOf result PumpFault.WriteFailed }
+{
+    server.accept(number)?;
+    serve_link(server, machine, source, sink)
+}
+
+/// Why connections were broken off: want of memory, where one was for that, else the first cause of them, none where none was.
+pub fn with_break(
+    before: Option<PumpFault<ServerFault>>,
+    now: Result<(), PumpFault<ServerFault>>,
+) -> Option<PumpFault<ServerFault>>
+    ensures none { (result ≡ None) ↔ ((before ≡ None) × IsOk now) }
+    ensures memory { (result ≡ Some PumpFault.Memory)
+        ↔ ((before ≡ Some PumpFault.Memory) ⊎ IsErrOf now PumpFault.Memory) }
+    ensures first { IfSome before (λ fault. fault ≢ PumpFault.Memory
+        → (result ≡ Some fault) ⊎ IsErrOf now PumpFault.Memory) }
+{
+    match now {
+        Ok(()) => before,
+        Err(PumpFault::Memory) => Some(PumpFault::Memory),
+        Err(fault) => match before {
+            Some(earlier) => Some(earlier),
+            None => Some(fault),
+        },
+    }
+}
+
+/// What a server did is put in its file; whether that was possible. Only want of memory is an `Err`.
+fn keep_contacts<F: TextFile>(
+    alloc: Global,
+    ledger: &ServerLedger,
+    file: &mut F,
+) -> Result<bool, AllocError>
+    ensures kept { IfOk result (λ is_kept. Keeps is_kept (F.kept file.old) (F.kept file.new)
+        (λ text. text ≡ contacts_text ledger.now)) }
+    ensures err { OnErr result (F.kept file.new ≡ F.kept file.old) }
+{
+    let mut text = Vec::new(alloc);
+    write_contacts(&mut text, ledger)?;
+    match file.replace(text.as_slice()) {
+        Ok(()) => Ok(true),
+        Err(Failed) => Ok(false),
+    }
+}
+
+/// Puts what a server did in its file, and writes the lines of its contacts; whether the file has it now. The lines are written as well
+/// where the file could not be. `Memory` and `Write` are the only `Err`s.
+pub fn close_service<F: TextFile, O: Sink>(
+    alloc: Global,
+    ledger: &ServerLedger,
+    file: &mut F,
+    out: &mut O,
+) -> Result<bool, FilesFault>
+    ensures kept { IfOk result (λ is_kept. Keeps is_kept (F.kept file.old) (F.kept file.new)
+        (λ text. text ≡ contacts_text ledger.now)) }
+    ensures shown { OnOk result (Appends (O.taken out.old) (O.taken out.new)
+        (contact_rows (reported ledger.now))) }
+
+    // The output is blamed where it has failed, and only there; but for that nothing was written to it.
+    ensures faults { IfErr result IsOfOutput }
+    ensures unwritten { O.has_failed out.old ≡ false → O.has_failed out.new ≡ true
+        → IsErrOf result FilesFault.Write }
+    ensures write { IsErrOf result FilesFault.Write → O.has_failed out.new ≡ true }
+    ensures front { IsErrOf result FilesFault.Write → AppendsFront (O.taken out.old)
+        (O.taken out.new) (contact_rows (reported ledger.now)) }
+    ensures silent { IfErr result (UnlessUnwritten (out.new ≡ out.old)) }
+{
+    let is_kept = keep_contacts(alloc, ledger, file)?;
+    let mut rows = Vec::new(alloc);
+    write_contact_rows(&mut rows, ledger)?;
+    match push_all(out, rows.as_slice()) {
+        Ok(()) => Ok(is_kept),
+        Err(Failed) => Err(FilesFault::Write),
+    }
+}

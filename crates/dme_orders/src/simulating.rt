@@ -1,0 +1,164 @@
+// A simulation as a whole, over ports: a program is run by a schedule on the simulated machine of a setup.
+
+ghost use Rattle.std.specs.Prelude.{◌≡◌, ◌<◌, List, length, true, false, OnOk, OnErr, IfOk, IfErr, IsErrOf};
+ghost use Rattle.std.specs.Io.KnownBytes.{Appends};
+ghost use Rattle.byte_ports.specs.Transfers.{AppendsFront};
+ghost use Rattle.tool_rack.specs.Setups.{SetupValue};
+ghost use Rattle.link_world.specs.declared.schedules.Instruction.{Instruction};
+ghost use Rattle.link_world.specs.Reports.{report_text};
+ghost use Rattle.client_core.specs.Clients.{is_window};
+ghost use Rattle.protocol_model.specs.World.{start};
+ghost use Rattle.dme_orders.specs.Reading.{ReadsSetup, WhyNoSetup, ReadsSchedule, WhyNoSchedule, WhyNoProgram};
+ghost use Rattle.dme_orders.specs.Reading.{On, IsNotOf, UnlessUnwritten};
+ghost use Rattle.dme_orders.specs.Simulating.{IsPlayed, shown_of, LeavesReport, OfThree, PrintsReport, PrintsReportFront};
+
+use crate::reading::{FilesFault, Role, read_program, read_schedule, read_setup};
+use byte_ports::{Failed, Sink, Source, push_all};
+use client_core::State;
+use dmis_program::Program;
+use link_world::{NewFault, Schedule, World, write_report};
+use std::alloc::{AllocError, Global};
+use tool_rack::Setup;
+
+/// The world of a program and a setup in which nothing has happened. Only want of memory is an `Err`.
+fn new_world(alloc: Global, program: Program, setup: Setup, window: u8) -> Result<World, AllocError>
+    requires { is_window window ≡ true }
+    ensures { IfOk result (λ world. world
+        ≡ record { setup = setup; world = start program setup.tools window }) }
+{
+    match World::new(alloc, program, setup, window) {
+        Ok(world) => Ok(world),
+        Err(NewFault::Memory) => Err(AllocError),
+        Err(NewFault::BadWindow(_, _)) => unreachable!(),
+    }
+}
+
+/// Plays a schedule in a new world. Only want of memory is an `Err`.
+fn played(
+    alloc: Global,
+    setup: Setup,
+    schedule: &Schedule,
+    program: Program,
+    window: u8,
+) -> Result<World, AllocError>
+    requires { is_window window ≡ true }
+    ensures { IfOk result (λ end. IsPlayed window setup schedule.now program end.world) }
+{
+    let mut world = new_world(alloc, program, setup, window)?;
+    schedule.play(&mut world)?;
+    Ok(world)
+}
+
+/// The state in which the client of a world stands, and the world's report. Only want of memory is an `Err`.
+fn reported(alloc: Global, world: &World) -> Result<(State, Vec<u8>), AllocError>
+    ensures state { IfOk result (λ end. end.0 ≡ world.now.world.client.client.state) }
+    ensures text { IfOk result (λ end. end.1.items ≡ report_text (shown_of world.now.world)) }
+    ensures some { IfOk result (λ end. 0 < length end.1.items) }
+{
+    let report = world.report()?;
+    let mut text = Vec::new(alloc);
+    write_report(&mut text, &report)?;
+    Ok((report.state, text))
+}
+
+/// Plays a schedule in a new world: the client's last state, and the world's report. Only want of memory is an `Err`.
+fn simulated_report(
+    alloc: Global,
+    setup: Setup,
+    schedule: &Schedule,
+    program: Program,
+    window: u8,
+) -> Result<(State, Vec<u8>), AllocError>
+    requires { is_window window ≡ true }
+    ensures leaves { IfOk result (λ end. LeavesReport window setup schedule.now program
+        end.0 end.1.items) }
+    ensures some { IfOk result (λ end. 0 < length end.1.items) }
+{
+    let world = played(alloc, setup, schedule, program, window)?;
+    reported(alloc, &world)
+}
+
+/// Writes a text that is not empty.
+pub(crate) fn write_text<W: Sink>(sink: &mut W, text: &[u8]) -> Result<(), FilesFault>
+    requires { 0 < length text.now }
+    ensures ok { OnOk result (Appends (W.taken sink.old) (W.taken sink.new) text.now) }
+    ensures works { OnOk result (W.has_failed sink.new ≡ false) }
+    ensures front { OnErr result (AppendsFront (W.taken sink.old) (W.taken sink.new) text.now) }
+    ensures fails { OnErr result (W.has_failed sink.new ≡ true) }
+    ensures fault { IfErr result (λ fault. fault ≡ FilesFault.Write) }
+{
+    match push_all(sink, text) {
+        Ok(()) => Ok(()),
+        Err(Failed) => Err(FilesFault::Write),
+    }
+}
+
+/// Reads a setup, then a schedule, then a program under the setup's frames, each to the end of its text and understood before the next is
+/// read; plays the schedule in a new world of the program and the setup, with this window; and writes the world's report. It answers the
+/// state in which the client stands at last.
+///
+/// It writes only once the whole report stands. No file is blamed but for its own first refusal, or where it was not read.
+pub fn simulate<S: Source, C: Source, R: Source, W: Sink>(
+    alloc: Global,
+    setup: &mut S,
+    schedule: &mut C,
+    window: u8,
+    program: &mut R,
+    sink: &mut W,
+) -> Result<State, FilesFault>
+    requires { is_window window ≡ true }
+
+    // The three are accepted, and just the report of the world that the schedule leaves was written.
+    ensures ok { IfOk result (λ state. OfThree (S.left setup.old) (C.left schedule.old)
+        (R.left program.old) (PrintsReport window state (W.taken sink.old) (W.taken sink.new))) }
+    ensures works { OnOk result ((S.has_failed setup.new ≡ false)
+        × (C.has_failed schedule.new ≡ false) × (R.has_failed program.new ≡ false)
+        × (W.has_failed sink.new ≡ false)) }
+
+    // The setup is blamed only for what is wrong with it, and then nothing else is read.
+    ensures no_setup { IfErr result (On Role.Setup (WhyNoSetup S.left S.has_failed
+        setup.old setup.new)) }
+    ensures setup_first { IfErr result (On Role.Setup (λ _. (schedule.new ≡ schedule.old)
+        × (program.new ≡ program.old))) }
+
+    // The schedule is blamed only where the setup is accepted, and then the program is not read.
+    ensures no_schedule { IfErr result (On Role.Schedule (WhyNoSchedule C.left C.has_failed
+        schedule.old schedule.new)) }
+    ensures schedule_second { IfErr result (On Role.Schedule (λ _. (program.new ≡ program.old)
+        × ((said : SetupValue) × ReadsSetup S.left S.has_failed setup.old setup.new said))) }
+
+    // The program is blamed only where both are accepted, and only under the setup's frames.
+    ensures no_program { IfErr result (On Role.Program (λ fault. (said : SetupValue)
+        × ReadsSetup S.left S.has_failed setup.old setup.new said
+        × WhyNoProgram R.left R.has_failed program.old program.new said.frames fault)) }
+    ensures program_last { IfErr result (On Role.Program (λ _. (asked : List Instruction)
+        × ReadsSchedule C.left C.has_failed schedule.old schedule.new asked)) }
+
+    // No other file is blamed.
+    ensures others { IfErr result (λ fault. IsNotOf Role.Features fault
+        × IsNotOf Role.Contacts fault) }
+
+    // A source that fails is blamed.
+    ensures setup_unread { S.has_failed setup.old ≡ false → S.has_failed setup.new ≡ true
+        → IsErrOf result (FilesFault.Unread Role.Setup) }
+    ensures schedule_unread { C.has_failed schedule.old ≡ false → C.has_failed schedule.new ≡ true
+        → IsErrOf result (FilesFault.Unread Role.Schedule) }
+    ensures program_unread { R.has_failed program.old ≡ false → R.has_failed program.new ≡ true
+        → IsErrOf result (FilesFault.Unread Role.Program) }
+
+    // A sink is blamed where it has failed, and only there; but for that nothing was written.
+    ensures unwritten { W.has_failed sink.old ≡ false → W.has_failed sink.new ≡ true
+        → IsErrOf result FilesFault.Write }
+    ensures write { IsErrOf result FilesFault.Write → W.has_failed sink.new ≡ true }
+    ensures front { IsErrOf result FilesFault.Write → OfThree (S.left setup.old)
+        (C.left schedule.old) (R.left program.old)
+        (PrintsReportFront window (W.taken sink.old) (W.taken sink.new)) }
+    ensures silent { IfErr result (UnlessUnwritten (sink.new ≡ sink.old)) }
+{
+    let setup = read_setup(alloc, setup)?;
+    let schedule = read_schedule(alloc, schedule)?;
+    let program = read_program(alloc, setup.frames(), program)?;
+    let (state, text) = simulated_report(alloc, setup, &schedule, program, window)?;
+    write_text(sink, text.as_slice())?;
+    Ok(state)
+}

@@ -1,0 +1,15 @@
+// Files that are replaced as a whole.
+
+ghost use Rattle.std.specs.Prelude.{◌≡◌, List, ℕ, Option, OnOk, OnErr, IfSome};
+
+use byte_ports::Failed;
+
+/// A file that is replaced as a whole. `kept` is its text, where it tells it.
+pub trait TextFile {
+    ghost kept: { Self → Option (List ℕ) };
+
+    /// Puts a text in the place of the file's. Where that fails, the file has the text that it had.
+    fn replace(&mut self, text: &[u8]) -> Result<(), Failed>
+        ensures ok { OnOk result (IfSome (kept self.new) (λ now. now ≡ text.now)) }
+        ensures err { OnErr result (kept self.new ≡ kept self.old) };
+}

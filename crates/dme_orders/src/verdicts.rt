@@ -1,0 +1,76 @@
+// The verdict of an audit as a line, and the exit statuses of orders that were carried out.
+
+ghost use Rattle.std.specs.Prelude.{◌≡◌, ◌≤◌, ◌++◌, length, IfOk, OnOk, string_bytes};
+ghost use Rattle.fixed_um.specs.Calls.{Writes};
+ghost use Rattle.ledger_audit.specs.Verdicts.{IfNoRun};
+ghost use Rattle.dme_orders.specs.Verdicts.{start_fields, status_of_state, verdict_status, verdict_text};
+
+use client_core::State;
+use contact_ledger::Feature;
+use ledger_audit::Verdict;
+use std::alloc::{AllocError, Global};
+
+/// The exit status of a run that ended with its client in this state: 3 where it was stopped or has met what has no place, else 0.
+pub fn status(state: State) -> u8
+    ensures { result ≡ status_of_state state }
+{
+    match state {
+        State::Halted | State::Faulted => 3,
+        State::Apart | State::Running | State::Failing | State::Aborting | State::Done => 0,
+    }
+}
+
+/// Appends the numbers at which runs begin. Only want of memory is an `Err`.
+fn push_starts(text: &mut String, starts: &[u64]) -> Result<(), AllocError>
+    ensures { OnOk result (string_bytes text.new
+        ≡ string_bytes text.old ++ start_fields starts.now) }
+{
+    for start in starts {
+        write!(text, " {start}")?;
+    }
+    Ok(())
+}
+
+/// The line of a verdict. Only want of memory is an `Err`.
+fn verdict_text(
+    alloc: Global,
+    features: &[Feature],
+    verdict: &Verdict,
+) -> Result<String, AllocError>
+    requires { IfNoRun verdict.now (λ count. (1 ≤ count) × (count ≤ length features.now)) }
+    ensures { IfOk result (λ text. string_bytes text ≡ verdict_text features.now verdict.now) }
+{
+    let mut text = String::new(alloc);
+    match verdict {
+        Verdict::Starts(starts) => {
+            text.push_str("RUNS")?;
+            push_starts(&mut text, starts.as_slice())?;
+            text.push_str("\n")?;
+        }
+        Verdict::NoRun(count) => {
+            let label = &features[*count - 1].label;
+            writeln!(text, "NONE {count} {label}")?;
+        }
+    }
+    Ok(text)
+}
+
+/// Appends the line of an audit's verdict on features, and answers the exit status: `RUNS` and the number at which each run begins, 0;
+/// or `NONE`, the count of the first features that have no runs and the label of the last of them, 3 (this profile). The caller owes
+/// that there are so many features. Only want of memory is an `Err`, and then nothing is appended.
+pub fn write_verdict(
+    out: &mut Vec<u8>,
+    features: &[Feature],
+    verdict: &Verdict,
+) -> Result<u8, AllocError>
+    requires { IfNoRun verdict.now (λ count. (1 ≤ count) × (count ≤ length features.now)) }
+    ensures text { Writes result out.old out.new (verdict_text features.now verdict.now) }
+    ensures status { IfOk result (λ status. status ≡ verdict_status verdict.now) }
+{
+    let text = verdict_text(*out.allocator(), features, verdict)?;
+    out.extend_from_slice(text.as_bytes())?;
+    match verdict {
+        Verdict::Starts(_) => Ok(0),
+        Verdict::NoRun(_) => Ok(3),
+    }
+}
