@@ -1,5 +1,5 @@
--- What is shown for a connection that was broken off (this profile).
-use Rattle.std.specs.Prelude.{◌≡◌, ℕ}
+-- Why a connection was broken off, and what is shown for that (this profile).
+use Rattle.std.specs.Prelude.{◌≡◌, ℕ, Bool, true, false, Option, Some}
 use Rattle.client_core.specs.declared.faults.ClientFault.{ClientFault}
 use Rattle.server_core.specs.declared.faults.ServerFault.{ServerFault}
 use Rattle.link_world.specs.declared.pumps.PumpFault.{PumpFault}
@@ -8,6 +8,10 @@ use Rattle.link_world.specs.declared.links.LoopFault.{LoopFault}
 use Rattle.link_world.specs.declared.links.LoopFault.TheVariants as link
 use Rattle.dme_orders.specs.declared.faults.OrderFault.{OrderFault}
 use Rattle.dme_orders.specs.declared.faults.OrderFault.TheVariants as fault
+
+-- this fault blames a port: it broke the connection off only where the port has failed, and it did where a port that worked has failed
+abbrev pub Blames : LoopFault → Option LoopFault → Bool → Bool → Type 0
+Blames fault broken before after = (broken ≡ Some fault → after ≡ true) × (before ≡ false → after ≡ true → broken ≡ Some fault)
 
 -- a connection is shown as one that failed
 abbrev pub IsConnectionShown : OrderFault → Type 0

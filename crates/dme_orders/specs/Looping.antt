@@ -21,6 +21,14 @@ pub record FourTold : Type 0 where
   pub server_left : Option (List ℕ)
   pub server_taken : Option (List ℕ)
 
+abbrev pub four_told : (client_left client_taken server_left server_taken : Option (List ℕ)) → FourTold
+four_told client_left client_taken server_left server_taken = record {
+  client_left = client_left;
+  client_taken = client_taken;
+  server_left = server_left;
+  server_taken = server_taken;
+}
+
 -- turns of both sides up to a pair in which nothing moved, or up to the fault that broke them off
 abbrev pub LoopCame : (Job → ℕ → Outcome) → ClientSide → ClientSide → ServerSide → ServerSide → Option LoopFault → Type 0
 LoopCame answer c c_now s s_now None = LoopRan answer c c_now s s_now

@@ -1,11 +1,11 @@
 // A program is run on a server over a connection, over ports.
 
 ghost use Rattle.std.specs.Prelude.{◌≡◌, ◌<◌, length, true, false, Some, OnOk, OnErr, IfOk, IfErr, IsErrOf};
-ghost use Rattle.contact_ledger.specs.FeatureTexts.{IsFeatures};
 ghost use Rattle.protocol_model.specs.Ends.{end_connected};
 ghost use Rattle.client_core.specs.Clients.{may_connect};
 ghost use Rattle.dme_orders.specs.Reading.{UnlessUnwritten, IsOfOutput};
-ghost use Rattle.dme_orders.specs.Driving.{RunCame, Keeps, LeavesRun, PrintsRun, PrintsRunFront};
+ghost use Rattle.dme_orders.specs.Broken.{Blames};
+ghost use Rattle.dme_orders.specs.Driving.{run_told, IsFeaturesText, RunCame, Keeps, LeavesRun, PrintsRun, PrintsRunFront};
 
 use crate::ended::Ended;
 use crate::ends::end_report;
@@ -49,14 +49,10 @@ fn turns_of_client<R: Source, W: Sink, N: Watcher>(
 ) -> Option<LoopFault>
     ensures came { RunCame client.old client.new (R.left source.old) (R.left source.new)
         (W.taken sink.old) (W.taken sink.new) result }
-    ensures read_failed { result ≡ Some (LoopFault.Client PumpFault.ReadFailed)
-        → R.has_failed source.new ≡ true }
-    ensures write_failed { result ≡ Some (LoopFault.Client PumpFault.WriteFailed)
-        → W.has_failed sink.new ≡ true }
-    ensures source_works { R.has_failed source.old ≡ false → R.has_failed source.new ≡ true
-        → result ≡ Some (LoopFault.Client PumpFault.ReadFailed) }
-    ensures sink_works { W.has_failed sink.old ≡ false → W.has_failed sink.new ≡ true
-        → result ≡ Some (LoopFault.Client PumpFault.WriteFailed) }
+    ensures read { Blames (LoopFault.Client PumpFault.ReadFailed) result
+        (R.has_failed source.old) (R.has_failed source.new) }
+    ensures written { Blames (LoopFault.Client PumpFault.WriteFailed) result
+        (W.has_failed sink.old) (W.has_failed sink.new) }
 {
     match watch_link(client, source, sink, watcher) {
         Ok(()) => None,
@@ -66,7 +62,7 @@ fn turns_of_client<R: Source, W: Sink, N: Watcher>(
 
 /// The text of the features that a client holds, as they are read back from it. Only want of memory is an `Err`.
 fn features_text(alloc: Global, client: &Client) -> Result<Vec<u8>, AllocError>
-    ensures { IfOk result (λ text. IsFeatures text.items
+    ensures { IfOk result (λ text. IsFeaturesText text.items
         client.now.client.table.tally.features) }
 {
     written_features_are_read_back();
@@ -82,7 +78,7 @@ fn keep_features<F: TextFile>(
     file: &mut F,
 ) -> Result<bool, AllocError>
     ensures kept { IfOk result (λ is_kept. Keeps is_kept (F.kept file.old) (F.kept file.new)
-        (λ text. IsFeatures text client.now.client.table.tally.features)) }
+        (λ text. IsFeaturesText text client.now.client.table.tally.features)) }
     ensures err { OnErr result (F.kept file.new ≡ F.kept file.old) }
 {
     let text = features_text(alloc, client)?;
@@ -104,18 +100,14 @@ fn turned<R: Source, W: Sink, N: Watcher, F: TextFile>(
 ) -> Result<(Driven, Vec<u8>), AllocError>
     requires { may_connect 1 client.client ≡ true }
     ensures leaves { IfOk result (λ end. LeavesRun client
-        (record { left = R.left source.old; taken = W.taken sink.old; kept = F.kept file.old })
-        (record { left = R.left source.new; taken = W.taken sink.new; kept = F.kept file.new })
+        (run_told (R.left source.old) (W.taken sink.old) (F.kept file.old))
+        (run_told (R.left source.new) (W.taken sink.new) (F.kept file.new))
         end.0 end.1.items) }
     ensures some { IfOk result (λ end. 0 < length end.1.items) }
-    ensures read_failed { IfOk result (λ end. end.0.ended.broken
-        ≡ Some (LoopFault.Client PumpFault.ReadFailed) → R.has_failed source.new ≡ true) }
-    ensures write_failed { IfOk result (λ end. end.0.ended.broken
-        ≡ Some (LoopFault.Client PumpFault.WriteFailed) → W.has_failed sink.new ≡ true) }
-    ensures source_works { R.has_failed source.old ≡ false → R.has_failed source.new ≡ true
-        → IfOk result (λ end. end.0.ended.broken ≡ Some (LoopFault.Client PumpFault.ReadFailed)) }
-    ensures sink_works { W.has_failed sink.old ≡ false → W.has_failed sink.new ≡ true
-        → IfOk result (λ end. end.0.ended.broken ≡ Some (LoopFault.Client PumpFault.WriteFailed)) }
+    ensures read { IfOk result (λ end. Blames (LoopFault.Client PumpFault.ReadFailed)
+        end.0.ended.broken (R.has_failed source.old) (R.has_failed source.new)) }
+    ensures written { IfOk result (λ end. Blames (LoopFault.Client PumpFault.WriteFailed)
+        end.0.ended.broken (W.has_failed sink.old) (W.has_failed sink.new)) }
 {
     let mut client = client;
     come(&mut client)?;
@@ -143,20 +135,16 @@ pub fn drive<R: Source, W: Sink, N: Watcher, F: TextFile, O: Sink>(
 
     // Just the report of what the client has become was written, and its file keeps what it then holds.
     ensures ok { IfOk result (λ driven. PrintsRun client
-        (record { left = R.left source.old; taken = W.taken sink.old; kept = F.kept file.old })
-        (record { left = R.left source.new; taken = W.taken sink.new; kept = F.kept file.new })
+        (run_told (R.left source.old) (W.taken sink.old) (F.kept file.old))
+        (run_told (R.left source.new) (W.taken sink.new) (F.kept file.new))
         driven (O.taken out.old) (O.taken out.new)) }
     ensures works { OnOk result (O.has_failed out.new ≡ false) }
 
     // A port of the connection is told as what broke it off where it has failed, and only there.
-    ensures read_failed { IfOk result (λ driven. driven.ended.broken
-        ≡ Some (LoopFault.Client PumpFault.ReadFailed) → R.has_failed source.new ≡ true) }
-    ensures write_failed { IfOk result (λ driven. driven.ended.broken
-        ≡ Some (LoopFault.Client PumpFault.WriteFailed) → W.has_failed sink.new ≡ true) }
-    ensures source_works { R.has_failed source.old ≡ false → R.has_failed source.new ≡ true
-        → IfOk result (λ driven. driven.ended.broken ≡ Some (LoopFault.Client PumpFault.ReadFailed)) }
-    ensures sink_works { W.has_failed sink.old ≡ false → W.has_failed sink.new ≡ true
-        → IfOk result (λ driven. driven.ended.broken ≡ Some (LoopFault.Client PumpFault.WriteFailed)) }
+    ensures read { IfOk result (λ driven. Blames (LoopFault.Client PumpFault.ReadFailed)
+        driven.ended.broken (R.has_failed source.old) (R.has_failed source.new)) }
+    ensures written { IfOk result (λ driven. Blames (LoopFault.Client PumpFault.WriteFailed)
+        driven.ended.broken (W.has_failed sink.old) (W.has_failed sink.new)) }
 
     // The output is blamed where it has failed, and only there; but for that nothing was written to it.
     ensures faults { IfErr result IsOfOutput }
@@ -164,8 +152,8 @@ pub fn drive<R: Source, W: Sink, N: Watcher, F: TextFile, O: Sink>(
         → IsErrOf result FilesFault.Write }
     ensures write { IsErrOf result FilesFault.Write → O.has_failed out.new ≡ true }
     ensures front { IsErrOf result FilesFault.Write → PrintsRunFront client
-        (record { left = R.left source.old; taken = W.taken sink.old; kept = F.kept file.old })
-        (record { left = R.left source.new; taken = W.taken sink.new; kept = F.kept file.new })
+        (run_told (R.left source.old) (W.taken sink.old) (F.kept file.old))
+        (run_told (R.left source.new) (W.taken sink.new) (F.kept file.new))
         (O.taken out.old) (O.taken out.new) }
     ensures silent { IfErr result (UnlessUnwritten (out.new ≡ out.old)) }
 {

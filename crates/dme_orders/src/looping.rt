@@ -4,7 +4,8 @@ ghost use Rattle.std.specs.Prelude.{◌≡◌, ◌<◌, length, true, false, OnO
 ghost use Rattle.client_core.specs.Clients.{is_window};
 ghost use Rattle.link_world.specs.LinkRuns.{client_side, server_side};
 ghost use Rattle.dme_orders.specs.Reading.{UnlessUnwritten, IsOfOutput};
-ghost use Rattle.dme_orders.specs.Looping.{LoopCame, LeavesLoop, PrintsLoop, PrintsLoopFront};
+ghost use Rattle.dme_orders.specs.Broken.{Blames};
+ghost use Rattle.dme_orders.specs.Looping.{four_told, LoopCame, LeavesLoop, PrintsLoop, PrintsLoopFront};
 
 use crate::ended::Ended;
 use crate::ends::{ends_report, first_client, first_server};
@@ -13,7 +14,7 @@ use crate::simulating::write_text;
 use byte_ports::{Sink, Source};
 use client_core::Client;
 use dmis_program::Program;
-use link_world::{LoopFault, Machine, Simulated, Watcher, loop_link};
+use link_world::{LoopFault, Machine, PumpFault, Simulated, Watcher, loop_link};
 use server_core::Server;
 use std::alloc::{AllocError, Global};
 use tool_rack::Setup;
@@ -35,6 +36,14 @@ fn turns_of_both<M: Machine, CR: Source, CW: Sink, SR: Source, SW: Sink, N: Watc
         (server_side server.old.end (SR.left server_source.old) (SW.taken server_sink.old))
         (server_side server.new.end (SR.left server_source.new) (SW.taken server_sink.new))
         result }
+    ensures client_read { Blames (LoopFault.Client PumpFault.ReadFailed)
+        result (CR.has_failed client_source.old) (CR.has_failed client_source.new) }
+    ensures client_write { Blames (LoopFault.Client PumpFault.WriteFailed)
+        result (CW.has_failed client_sink.old) (CW.has_failed client_sink.new) }
+    ensures server_read { Blames (LoopFault.Server PumpFault.ReadFailed)
+        result (SR.has_failed server_source.old) (SR.has_failed server_source.new) }
+    ensures server_write { Blames (LoopFault.Server PumpFault.WriteFailed)
+        result (SW.has_failed server_sink.old) (SW.has_failed server_sink.new) }
 {
     match loop_link(
         client,
@@ -65,20 +74,20 @@ fn looped<CR: Source, CW: Sink, SR: Source, SW: Sink, N: Watcher>(
 ) -> Result<(Ended, Vec<u8>), AllocError>
     requires { is_window window ≡ true }
     ensures leaves { IfOk result (λ end. LeavesLoop window setup program
-        (record {
-          client_left = CR.left client_source.old;
-          client_taken = CW.taken client_sink.old;
-          server_left = SR.left server_source.old;
-          server_taken = SW.taken server_sink.old;
-        })
-        (record {
-          client_left = CR.left client_source.new;
-          client_taken = CW.taken client_sink.new;
-          server_left = SR.left server_source.new;
-          server_taken = SW.taken server_sink.new;
-        })
+        (four_told (CR.left client_source.old) (CW.taken client_sink.old)
+        (SR.left server_source.old) (SW.taken server_sink.old))
+        (four_told (CR.left client_source.new) (CW.taken client_sink.new)
+        (SR.left server_source.new) (SW.taken server_sink.new))
         end.0 end.1.items) }
     ensures some { IfOk result (λ end. 0 < length end.1.items) }
+    ensures client_read { IfOk result (λ end. Blames (LoopFault.Client PumpFault.ReadFailed)
+        end.0.broken (CR.has_failed client_source.old) (CR.has_failed client_source.new)) }
+    ensures client_write { IfOk result (λ end. Blames (LoopFault.Client PumpFault.WriteFailed)
+        end.0.broken (CW.has_failed client_sink.old) (CW.has_failed client_sink.new)) }
+    ensures server_read { IfOk result (λ end. Blames (LoopFault.Server PumpFault.ReadFailed)
+        end.0.broken (SR.has_failed server_source.old) (SR.has_failed server_source.new)) }
+    ensures server_write { IfOk result (λ end. Blames (LoopFault.Server PumpFault.WriteFailed)
+        end.0.broken (SW.has_failed server_sink.old) (SW.has_failed server_sink.new)) }
 {
     let mut machine = Simulated::new(alloc, &setup)?;
     let mut server = first_server(alloc, setup)?;
@@ -117,20 +126,22 @@ pub fn loop_over<CR: Source, CW: Sink, SR: Source, SW: Sink, N: Watcher, W: Sink
 
     // Just the report of what both ends have become was written.
     ensures ok { IfOk result (λ ended. PrintsLoop window setup program
-        (record {
-          client_left = CR.left client_source.old;
-          client_taken = CW.taken client_sink.old;
-          server_left = SR.left server_source.old;
-          server_taken = SW.taken server_sink.old;
-        })
-        (record {
-          client_left = CR.left client_source.new;
-          client_taken = CW.taken client_sink.new;
-          server_left = SR.left server_source.new;
-          server_taken = SW.taken server_sink.new;
-        })
+        (four_told (CR.left client_source.old) (CW.taken client_sink.old)
+        (SR.left server_source.old) (SW.taken server_sink.old))
+        (four_told (CR.left client_source.new) (CW.taken client_sink.new)
+        (SR.left server_source.new) (SW.taken server_sink.new))
         ended (W.taken sink.old) (W.taken sink.new)) }
     ensures works { OnOk result (W.has_failed sink.new ≡ false) }
+
+    // A port of the connection is told as what broke it off where it has failed, and only there.
+    ensures client_read { IfOk result (λ ended. Blames (LoopFault.Client PumpFault.ReadFailed)
+        ended.broken (CR.has_failed client_source.old) (CR.has_failed client_source.new)) }
+    ensures client_write { IfOk result (λ ended. Blames (LoopFault.Client PumpFault.WriteFailed)
+        ended.broken (CW.has_failed client_sink.old) (CW.has_failed client_sink.new)) }
+    ensures server_read { IfOk result (λ ended. Blames (LoopFault.Server PumpFault.ReadFailed)
+        ended.broken (SR.has_failed server_source.old) (SR.has_failed server_source.new)) }
+    ensures server_write { IfOk result (λ ended. Blames (LoopFault.Server PumpFault.WriteFailed)
+        ended.broken (SW.has_failed server_sink.old) (SW.has_failed server_sink.new)) }
 
     // A sink is blamed where it has failed, and only there; but for that nothing was written.
     ensures faults { IfErr result (λ fault. IsOfOutput fault) }
@@ -138,18 +149,10 @@ pub fn loop_over<CR: Source, CW: Sink, SR: Source, SW: Sink, N: Watcher, W: Sink
         → IsErrOf result FilesFault.Write }
     ensures write { IsErrOf result FilesFault.Write → W.has_failed sink.new ≡ true }
     ensures front { IsErrOf result FilesFault.Write → PrintsLoopFront window setup program
-        (record {
-          client_left = CR.left client_source.old;
-          client_taken = CW.taken client_sink.old;
-          server_left = SR.left server_source.old;
-          server_taken = SW.taken server_sink.old;
-        })
-        (record {
-          client_left = CR.left client_source.new;
-          client_taken = CW.taken client_sink.new;
-          server_left = SR.left server_source.new;
-          server_taken = SW.taken server_sink.new;
-        })
+        (four_told (CR.left client_source.old) (CW.taken client_sink.old)
+        (SR.left server_source.old) (SW.taken server_sink.old))
+        (four_told (CR.left client_source.new) (CW.taken client_sink.new)
+        (SR.left server_source.new) (SW.taken server_sink.new))
         (W.taken sink.old) (W.taken sink.new) }
     ensures silent { IfErr result (UnlessUnwritten (sink.new ≡ sink.old)) }
 {
