@@ -1,0 +1,224 @@
+// What `dme` refuses by a code.
+
+ghost use Rattle.std.specs.Prelude.{◌≡◌, ◌≤◌, true, find, length, MatchOption};
+ghost use Rattle.std.specs.List.{prefix_len};
+ghost use Rattle.refusal_guide.specs.declared.topics.TheConstants.{TOPICS};
+ghost use Rattle.refusal_guide.specs.Titles.{title_of, is_of_code, code_in, is_called};
+
+/// What `dme` refuses by a code, or its server answers by a number.
+#[derive(Clone, Copy, Debug, PartialEq, Eq)]
+pub enum Topic {
+    /// The first statement of a program is no `DMISMN`.
+    NotDmis,
+    /// A program without an `ENDFIL`.
+    Truncated,
+    /// A line of more than 4,096 bytes.
+    LineTooLong,
+    /// A byte that may not stand where it stands.
+    BadByte,
+    /// A statement that is not carried out.
+    Unsupported,
+    /// Parameters of the wrong number or form.
+    BadArguments,
+    /// A numeral of a program that is refused.
+    BadNumeral,
+    /// A statement that belongs into a measurement block.
+    OutsideBlock,
+    /// A statement that cannot stand in a measurement block.
+    InsideBlock,
+    /// A measurement block with fewer touches than it names.
+    TooFewPoints,
+    /// A frame that the setup does not have.
+    UnknownFrame,
+    /// Another unit than the millimetre.
+    NotMillimetres,
+    /// A mode without `PROG`.
+    NoProgMode,
+    /// A direction of no length.
+    ZeroVector,
+    /// A touch before any tool was selected.
+    NoTool,
+    /// A program of more than 10,000 statements.
+    TooLarge,
+    /// What is no numeral.
+    NotNumeral,
+    /// A numeral of more than 30 digits.
+    TooManyDigits,
+    /// A numeral past its limit.
+    NumeralTooLarge,
+    /// A line of a setup that says nothing.
+    SetupLine,
+    /// A tool or a frame of a setup for the second time.
+    SetupTwice,
+    /// A numeral of a setup that is refused.
+    SetupNumeral,
+    /// A line of a schedule that asks for nothing.
+    ScheduleLine,
+    /// A line of a features or contacts file that cannot stand in its place.
+    Damaged,
+    /// Features that are not the first ones of the program.
+    NotOurs,
+    /// The server's error for a line without a tag.
+    NoTag,
+    /// The server's error for a tag under which a command runs or waits.
+    TagInUse,
+    /// The server's error for a name of no command.
+    UnknownCommand,
+    /// The server's error for arguments that do not read.
+    BadCommand,
+    /// The server's error for a command without a session.
+    NoSession,
+    /// The server's error for a second session.
+    SessionOpen,
+    /// The server's error for a command that was aborted.
+    Aborted,
+    /// The server's error for a command in the error state.
+    ErrorState,
+    /// The server's error for a command too many.
+    QueueFull,
+    /// The server's error for a machine that is not homed.
+    NotHomed,
+    /// The server's error for a touch without a tool.
+    NoToolInHead,
+    /// The server's error for a tool that the rack lacks.
+    UnknownTool,
+    /// The server's error for a target outside the machine's volume.
+    OutOfVolume,
+    /// The server's error for a touch that met nothing.
+    NoSurface,
+    /// The server's error for a machine that failed.
+    MachineFault,
+}
+
+const TOPICS: [Topic; 40] = [
+    Topic::NotDmis,
+    Topic::Truncated,
+    Topic::LineTooLong,
+    Topic::BadByte,
+    Topic::Unsupported,
+    Topic::BadArguments,
+    Topic::BadNumeral,
+    Topic::OutsideBlock,
+    Topic::InsideBlock,
+    Topic::TooFewPoints,
+    Topic::UnknownFrame,
+    Topic::NotMillimetres,
+    Topic::NoProgMode,
+    Topic::ZeroVector,
+    Topic::NoTool,
+    Topic::TooLarge,
+    Topic::NotNumeral,
+    Topic::TooManyDigits,
+    Topic::NumeralTooLarge,
+    Topic::SetupLine,
+    Topic::SetupTwice,
+    Topic::SetupNumeral,
+    Topic::ScheduleLine,
+    Topic::Damaged,
+    Topic::NotOurs,
+    Topic::NoTag,
+    Topic::TagInUse,
+    Topic::UnknownCommand,
+    Topic::BadCommand,
+    Topic::NoSession,
+    Topic::SessionOpen,
+    Topic::Aborted,
+    Topic::ErrorState,
+    Topic::QueueFull,
+    Topic::NotHomed,
+    Topic::NoToolInHead,
+    Topic::UnknownTool,
+    Topic::OutOfVolume,
+    Topic::NoSurface,
+    Topic::MachineFault,
+];
+
+fn code_len(title: &[u8]) -> usize
+    ensures count { result ≡ prefix_len is_of_code title.now }
+    ensures within { result ≤ length title.now }
+{
+    title.iter().take_while(|byte| **byte != b' ').count()
+}
+
+/// The code with which a title begins.
+fn code_in(title: &[u8]) -> &[u8]
+    ensures { result.now ≡ code_in title.now }
+{
+    let (code, _) = title.split_at(code_len(title));
+    code
+}
+
+/// Whether a title begins with this code, its letters in any case.
+fn is_called(title: &[u8], code: &[u8]) -> bool
+    ensures { result ≡ is_called title.now code.now }
+{
+    code.eq_ignore_ascii_case(code_in(title))
+}
+
+fn find_topic(code: &[u8]) -> Option<Topic>
+    ensures { result ≡ find (λ topic. is_called (title_of topic) code.now) TOPICS }
+{
+    TOPICS
+        .iter()
+        .copied()
+        .find(|topic| is_called(topic.title().as_bytes(), code))
+}
+
+impl Topic {
+    /// Its code and its name, as they are printed: `P5 Unsupported`, `9012 Unknown tool`.
+    pub fn title(self) -> &'static str
+        ensures { result.now ≡ title_of self }
+    {
+        match self {
+            Topic::NotDmis => "P1 NotDmis",
+            Topic::Truncated => "P2 Truncated",
+            Topic::LineTooLong => "P3 LineTooLong",
+            Topic::BadByte => "P4 BadByte",
+            Topic::Unsupported => "P5 Unsupported",
+            Topic::BadArguments => "P6 BadArguments",
+            Topic::BadNumeral => "P7 BadNumeral",
+            Topic::OutsideBlock => "P8 OutsideBlock",
+            Topic::InsideBlock => "P9 InsideBlock",
+            Topic::TooFewPoints => "P10 TooFewPoints",
+            Topic::UnknownFrame => "P11 UnknownFrame",
+            Topic::NotMillimetres => "P12 NotMillimetres",
+            Topic::NoProgMode => "P13 NoProgMode",
+            Topic::ZeroVector => "P14 ZeroVector",
+            Topic::NoTool => "P15 NoTool",
+            Topic::TooLarge => "P16 TooLarge",
+            Topic::NotNumeral => "N1 NotNumeral",
+            Topic::TooManyDigits => "N2 TooManyDigits",
+            Topic::NumeralTooLarge => "N3 TooLarge",
+            Topic::SetupLine => "S1 BadLine",
+            Topic::SetupTwice => "S2 Twice",
+            Topic::SetupNumeral => "S3 BadNumeral",
+            Topic::ScheduleLine => "H1 BadLine",
+            Topic::Damaged => "K1 Damaged",
+            Topic::NotOurs => "C4 NotOurs",
+            Topic::NoTag => "9001 No tag",
+            Topic::TagInUse => "9002 Tag in use",
+            Topic::UnknownCommand => "9003 Unknown command",
+            Topic::BadCommand => "9004 Bad arguments",
+            Topic::NoSession => "9005 No session",
+            Topic::SessionOpen => "9006 Session open",
+            Topic::Aborted => "9007 Aborted",
+            Topic::ErrorState => "9008 Error state",
+            Topic::QueueFull => "9009 Queue full",
+            Topic::NotHomed => "9010 Not homed",
+            Topic::NoToolInHead => "9011 No tool",
+            Topic::UnknownTool => "9012 Unknown tool",
+            Topic::OutOfVolume => "9013 Out of volume",
+            Topic::NoSurface => "9014 No surface",
+            Topic::MachineFault => "9015 Machine fault",
+        }
+    }
+
+    /// The topic of a code, its letters in any case; none where no title begins with it.
+    pub fn of_code(code: &[u8]) -> Option<Topic>
+        ensures { MatchOption result
+            ((topic : Topic) → is_called (title_of topic) code.now ≡ true → ⊥)
+            (λ topic. is_called (title_of topic) code.now ≡ true) }
+    {
+        find_topic(code)
+    }
+}
