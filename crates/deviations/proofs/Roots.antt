@@ -27,7 +27,7 @@ below w = omega arith
 pub half_reached : (s t w h : ℕ) → IsRootBelow s t w → t ≤ 4 * h → w * t + h ≤ s - w * w * t → IsNearestRoot s t (w + 1)
 half_reached s t w h r q le = record {
   reached = let a = r.reached in let more : squared (2 * w + 1) * t ≤ 4 * s = omega (arith, a, q, le) in
-    subst (λ x. squared x * t ≤ 4 * s) (sym (halves w)) more;
+      subst (λ x. squared x * t ≤ 4 * s) (sym (halves w)) more;
   short = let b = r.short in omega (arith, b);
 }
 
@@ -36,7 +36,7 @@ pub half_missed : (s t w h : ℕ) → 0 < t → IsRootBelow s t w → 4 * h < t 
 half_missed s t zero h p r q lt = record { reached = omega arith; short = omega (arith, q, lt) }
 half_missed s t (suc w) h p r q lt = record {
   reached = let a = r.reached in let less : squared (2 * w + 1) * t ≤ 4 * s = omega (arith, a) in
-    subst (λ x. squared x * t ≤ 4 * s) (sym (below w)) less;
+      subst (λ x. squared x * t ≤ 4 * s) (sym (below w)) less;
   short = let a = r.reached in omega (arith, a, q, lt);
 }
 

@@ -1,0 +1,192 @@
+// The rows of a table of deviations.
+
+ghost use Rattle.std.specs.Prelude.{◌≡◌, ◌≤◌, ◌+◌, ◌++◌, length, true, false, IfOk, IfErr, OnOk};
+ghost use Rattle.std.specs.List.{AllByRecursion, AllZip};
+ghost use Rattle.client_core.specs.Clients.{is_ours, are_ours};
+ghost use Rattle.contact_ledger.specs.Ledgers.{HaveOrigins};
+ghost use Rattle.dmis_program.specs.Programs.{IsFeature, IsTouch};
+ghost use Rattle.fixed_um.specs.Points.{IsInVolume};
+ghost use Rattle.deviations.specs.declared.faults.RowsFault.TheVariants.{NotOurs};
+ghost use Rattle.deviations.specs.Along.{IsDeviation};
+ghost use Rattle.deviations.specs.Rows.{
+  connection_of,
+  places_from,
+  feature_places,
+  places_of,
+  IsAlongNormal,
+  IsRow,
+};
+
+use crate::along::{Deviation, along_normal};
+use crate::faults::RowsFault;
+use contact_ledger::{Feature, Origin};
+use dmis_program::{Program, Touch, Wanted};
+use fixed_um::{Dir, Name, Point};
+use std::alloc::{AllocError, Global};
+use std::marker::Model;
+
+/// A measured point and what asked for it.
+#[derive(Drop)]
+pub struct Place<'a> {
+    feature: &'a Name,
+    number: u64,
+    touch: &'a Touch,
+    measured: Point,
+    connection: Option<u64>,
+}
+
+impl<'a> Model for Place<'a> {
+    ghost use Rattle.deviations.specs.Rows.{Place};
+    ghost use Rattle.fixed_um.specs.Points.{IsInVolume};
+
+    ghost Value = { Place };
+
+    ghost view = { λ p. record {
+      feature = p.feature.now;
+      number = p.number;
+      touch = p.touch.now;
+      measured = p.measured;
+      connection = p.connection;
+    } };
+
+    ghost invariant = { λ p. IsInVolume p.touch.now.target };
+}
+
+/// A row of a table of deviations (this profile): a measured point, what asked for it, and how far it lies from there.
+#[derive(Drop)]
+pub struct Row<'a> {
+    place: Place<'a>,
+    deviation: Deviation,
+    along: Option<i128>,
+}
+
+impl<'a> Model for Row<'a> {
+    ghost use Rattle.deviations.specs.Rows.{Row};
+
+    ghost Value = { Row };
+
+    ghost view = { λ r. record { place = r.place; deviation = r.deviation; along = r.along } };
+}
+
+fn is_ours(wanted: &Wanted, feature: &Feature) -> bool
+    ensures { result ≡ is_ours wanted.now feature.now }
+{
+    feature.label.as_bytes() == wanted.label.as_bytes()
+        && feature.points.len() == wanted.touches.as_slice().len()
+}
+
+fn connection_of(origin: Option<Origin>) -> Option<u64>
+    ensures { result ≡ connection_of origin }
+{
+    match origin {
+        Some(origin) => Some(origin.connection),
+        None => None,
+    }
+}
+
+/// Adds the places of a feature's points.
+fn push_places<'a>(
+    places: &mut Vec<Place<'a>>,
+    wanted: &'a Wanted,
+    feature: &'a Feature,
+) -> Result<(), AllocError>
+    requires { IsFeature wanted.now }
+    ensures { OnOk result (places.new.items ≡ places.old.items
+        ++ feature_places wanted.now feature.now) }
+{
+    let connection = connection_of(feature.origin);
+    let mut touches = wanted.touches.as_slice();
+    let mut points = feature.points.as_slice();
+    let mut number = 1;
+    while let [point, other_points @ ..] = points {
+        let [touch, other_touches @ ..] = touches else {
+            return Ok(());
+        };
+        places.push(Place {
+            feature: &feature.label,
+            number,
+            touch,
+            measured: *point,
+            connection,
+        })?;
+        number += 1;
+        touches = other_touches;
+        points = other_points;
+    }
+    Ok(())
+}
+
+/// The places of features that are the first of the wanted ones.
+fn places_of<'a>(
+    alloc: Global,
+    wanted: &'a [Wanted],
+    features: &'a [Feature],
+) -> Result<Vec<Place<'a>>, RowsFault>
+    requires { AllByRecursion IsFeature wanted.now }
+    ensures places { IfOk result (λ places. places.items ≡ places_of wanted.now features.now) }
+    ensures ours { OnOk result (are_ours wanted.now features.now ≡ true) }
+    ensures not_ours { IfErr result (λ fault. fault ≡ NotOurs
+        → are_ours wanted.now features.now ≡ false) }
+{
+    let mut places = Vec::new(alloc);
+    let mut wanted = wanted;
+    let mut features = features;
+    while let [feature, later @ ..] = features {
+        let [first, others @ ..] = wanted else {
+            return Err(RowsFault::NotOurs);
+        };
+        if !is_ours(first, feature) {
+            return Err(RowsFault::NotOurs);
+        }
+        push_places(&mut places, first, feature)?;
+        wanted = others;
+        features = later;
+    }
+    Ok(places)
+}
+
+fn along_of(deviation: Deviation, normal: Option<Dir>) -> Option<i128>
+    requires { IsDeviation deviation }
+    ensures { IsAlongNormal deviation normal result }
+{
+    match normal {
+        Some(direction) => Some(along_normal(deviation, direction)),
+        None => None,
+    }
+}
+
+impl<'a> Row<'a> {
+    fn of(place: Place<'a>) -> Row<'a>
+        ensures { IsRow place.entry result }
+    {
+        let deviation = Deviation::of(place.measured, place.touch.target);
+        let along = along_of(deviation, place.touch.dir);
+        Row {
+            place,
+            deviation,
+            along,
+        }
+    }
+}
+
+/// The table of deviations of features, which are the first ones of a program: a row for each measured point, in the order of the features
+/// and of their points. They are `NotOurs` where their labels or their counts of points are not those of the program.
+#[tactic(auto, using(crate::proofs::Tables::zip_push))]
+pub fn rows<'a>(
+    alloc: Global,
+    program: &'a Program,
+    features: &'a [Feature],
+) -> Result<Vec<Row<'a>>, RowsFault>
+    ensures rows { IfOk result (λ rows. AllZip IsRow
+        (places_of program.now.features features.now) rows.items) }
+    ensures ours { OnOk result (are_ours program.now.features features.now ≡ true) }
+    ensures not_ours { IfErr result (λ fault. fault ≡ NotOurs
+        → are_ours program.now.features features.now ≡ false) }
+{
+    let places = places_of(alloc, program.features(), features)?;
+    let mut rows = Vec::with_capacity(alloc, places.len())?;
+    for place in places {
+        rows.push(Row::of(place))?;
+    }
+    Ok(rows)
+}
