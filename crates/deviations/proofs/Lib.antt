@@ -1,2 +1,3 @@
 pub mod Roots
 pub mod Tables
+pub mod Digits

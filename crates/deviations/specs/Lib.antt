@@ -1,2 +1,3 @@
 pub mod Along
 pub mod Rows
+pub mod Records

@@ -21,7 +21,7 @@ use crate::along::{Deviation, along_normal};
 use crate::faults::RowsFault;
 use contact_ledger::{Feature, Origin};
 use dmis_program::{Program, Touch, Wanted};
-use fixed_um::{Dir, Name, Point};
+use fixed_um::{Dir, Frame, Name, Point};
 use std::alloc::{AllocError, Global};
 use std::marker::Model;
 
@@ -156,6 +156,76 @@ fn along_of(deviation: Deviation, normal: Option<Dir>) -> Option<i128>
 }
 
 impl<'a> Row<'a> {
+    /// The label of the feature.
+    pub fn feature(&self) -> &Name
+        ensures { result.now ≡ self.now.place.feature }
+    {
+        self.place.feature
+    }
+
+    /// The number of the point in its feature, from 1.
+    pub fn number(&self) -> u64
+        ensures { result ≡ self.now.place.number }
+    {
+        self.place.number
+    }
+
+    /// Where the program asks for a touch, in the axes of the frame.
+    pub fn nominal(&self) -> Point
+        ensures { result ≡ self.now.place.touch.target }
+    {
+        self.place.touch.target
+    }
+
+    /// The outward normal of the surface there, where the program gives one.
+    pub fn normal(&self) -> Option<Dir>
+        ensures { result ≡ self.now.place.touch.dir }
+    {
+        self.place.touch.dir
+    }
+
+    /// Where the point was measured, in the axes of the frame.
+    pub fn measured(&self) -> Point
+        ensures { result ≡ self.now.place.measured }
+    {
+        self.place.measured
+    }
+
+    /// The measured point less the nominal one.
+    pub fn deviation(&self) -> Deviation
+        ensures { result ≡ self.now.deviation }
+    {
+        self.deviation
+    }
+
+    /// The deviation along the normal in micrometres, where there is a normal.
+    pub fn along(&self) -> Option<i128>
+        ensures { result ≡ self.now.along }
+    {
+        self.along
+    }
+
+    /// The tool of the touch.
+    pub fn tool(&self) -> &Name
+        ensures { result.now ≡ self.now.place.touch.tool }
+    {
+        &self.place.touch.tool
+    }
+
+    /// The frame of the touch.
+    pub fn frame(&self) -> Frame
+        ensures { result ≡ self.now.place.touch.frame }
+    {
+        self.place.touch.frame
+    }
+
+    /// The number of the connection that the feature comes from, where it is known.
+    pub fn connection(&self) -> Option<u64>
+        ensures { result ≡ self.now.place.connection }
+    {
+        self.place.connection
+    }
+
     fn of(place: Place<'a>) -> Row<'a>
         ensures { IsRow place.entry result }
     {

@@ -1,0 +1,64 @@
+-- The table of deviations as records of comma-separated values (RFC 4180), with a header. Lengths are in millimetres with three decimals,
+-- components of normals have six; a field is empty where there is nothing to say.
+use Rattle.std.specs.Prelude.{◌≡◌, ⊤, ℕ, List, [], ◌∷◌, ◌++◌, codes, decimal, ℤ, Option, Some, None, Result, OnOk}
+use Rattle.csv.specs.Records.{fields_of, partial_of}
+use Rattle.csv.specs.Writing.{default_writer, row_text}
+use Rattle.csv.specs.declared.record.ByteRecord.{ByteRecord}
+use Rattle.fixed_um.specs.Points.{zero_point}
+use Rattle.fixed_um.specs.Shapes.{Direction}
+use Rattle.fixed_um.specs.Written.{written, written_component}
+use Rattle.fixed_um.specs.declared.frames.Frame.{Frame}
+use Rattle.fixed_um.specs.declared.frames.Frame.TheVariants.{Machine, Part}
+use Rattle.contact_ledger.specs.Fields.{point_fields}
+use Rattle.deviations.specs.declared.along.Deviation.{Deviation}
+use Rattle.deviations.specs.Rows.{Row}
+
+-- fields joined those of a record
+abbrev pub Joins : {A E : Type 0} → Result A E → ByteRecord → ByteRecord → List (List ℕ) → Type 0
+Joins result old new fields = OnOk result ((fields_of new ≡ fields_of old ++ fields) × (partial_of new ≡ []))
+
+-- the components of a normal, or as many empty fields
+abbrev pub normal_fields : Option Direction → List (List ℕ)
+normal_fields (Some d) = written_component d.i ∷ written_component d.j ∷ written_component d.k ∷ []
+normal_fields None = [] ∷ [] ∷ [] ∷ []
+
+-- the lengths of a deviation
+abbrev pub deviation_fields : Deviation → List (List ℕ)
+deviation_fields v = written v.x ∷ written v.y ∷ written v.z ∷ []
+
+-- the deviation along the normal
+abbrev pub along_fields : Option ℤ → List (List ℕ)
+along_fields (Some r) = written r ∷ []
+along_fields None = [] ∷ []
+
+-- whose axes, and where their zero point stands in machine axes
+abbrev pub frame_columns : Frame → List (List ℕ)
+frame_columns Machine = codes "MACHINE" ∷ point_fields zero_point
+frame_columns (Part offset) = codes "PART" ∷ point_fields offset
+
+-- the number of a connection
+abbrev pub connection_fields : Option ℕ → List (List ℕ)
+connection_fields (Some n) = decimal n ∷ []
+connection_fields None = [] ∷ []
+
+-- the names of the columns
+abbrev pub header : List (List ℕ)
+header = codes "feature" ∷ codes "point" ∷ codes "nominal_x" ∷ codes "nominal_y" ∷ codes "nominal_z" ∷ codes "normal_i" ∷ codes "normal_j"
+    ∷ codes "normal_k" ∷ codes "measured_x" ∷ codes "measured_y" ∷ codes "measured_z" ∷ codes "deviation_x" ∷ codes "deviation_y"
+    ∷ codes "deviation_z" ∷ codes "deviation_along_normal" ∷ codes "tool" ∷ codes "frame" ∷ codes "frame_x" ∷ codes "frame_y"
+    ∷ codes "frame_z" ∷ codes "connection" ∷ []
+
+-- the record of a row
+abbrev pub record_of : Row → List (List ℕ)
+record_of r = (r.place.feature ∷ decimal r.place.number ∷ []) ++ (point_fields r.place.touch.target ++ (normal_fields r.place.touch.dir
+    ++ (point_fields r.place.measured ++ (deviation_fields r.deviation ++ (along_fields r.along ++ ((r.place.touch.tool ∷ [])
+    ++ (frame_columns r.place.touch.frame ++ connection_fields r.place.connection)))))))
+
+-- the text of a list of rows
+abbrev pub records_text : List Row → List ℕ
+records_text [] = []
+records_text (r ∷ rows) = row_text default_writer (record_of r) ++ records_text rows
+
+-- the text of a table
+abbrev pub csv_text : List Row → List ℕ
+csv_text rows = row_text default_writer header ++ records_text rows
