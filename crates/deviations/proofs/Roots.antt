@@ -1,5 +1,5 @@
 -- The nearest whole number to a root, from the whole number below it.
-use Rattle.std.proofs.Common.{◌≡◌, ℕ, zero, suc, ◌+◌, ◌-◌, ◌*◌, ◌/◌, ◌%◌, ◌<◌, ◌≤◌, ℤ, unsigned_abs, subst, sym, arith, mod-lt, div-add-mod', mul-le-mul_left, mul-le-mul_right}
+use Rattle.std.proofs.Common.{◌≡◌, ℕ, zero, suc, ◌+◌, ◌-◌, ◌*◌, ◌/◌, ◌%◌, ◌<◌, ◌≤◌, ℤ, unsigned_abs, subst, sym, arith, mod-lt, div-add-mod', mul-le-mul, mul-le-mul_right, ap, ◌∙◌}
 use Rattle.deviations.specs.Along.{squared, IsNearestRoot, IsAlong, scalar_product, squared_length, on_side_of}
 use Rattle.fixed_um.specs.Shapes.{Direction}
 use Rattle.deviations.specs.declared.along.Deviation.{Deviation}
@@ -52,3 +52,15 @@ along_is v d p m l n r e f g near on same =
       near = subst (λ x. IsNearestRoot (squared (unsigned_abs (scalar_product v d))) (squared_length d) x) (sym same) c;
       side = subst (λ x. r ≡ on_side_of (scalar_product v d) x) (sym same) o;
     }
+
+-- no number is nearest below another
+none_less : (s t n m : ℕ) → IsNearestRoot s t n → IsNearestRoot s t m → n < m → ⊥
+none_less s t n m p q lt = let a : 2 * n + 1 ≤ 2 * m - 1 = omega (arith, lt) in
+    let b : squared (2 * n + 1) * t ≤ squared (2 * m - 1) * t = mul-le-mul_right t (mul-le-mul a a) in let c = p.short in let d = q.reached in
+    omega (arith, b, c, d)
+
+one_root : (s t n m : ℕ) → IsNearestRoot s t n → IsNearestRoot s t m → n ≡ m
+one_root s t n m p q = let f : n < m → ⊥ = none_less s t n m p q in let g : m < n → ⊥ = none_less s t m n q p in grind (arith, f, g)
+
+pub one_along : (v : Deviation) (d : Direction) (r s : ℤ) → IsAlong v d r → IsAlong v d s → r ≡ s
+one_along v d r s a b = a.side ∙ (ap (on_side_of (scalar_product v d)) (one_root _ _ _ _ a.near b.near) ∙ sym b.side)

@@ -14,6 +14,9 @@ ghost use Rattle.deviations.specs.Along.{
   IsNearestRoot,
   IsAlong,
 };
+ghost use Rattle.std.specs.Prelude.{ℤ};
+ghost use Rattle.fixed_um.specs.Shapes.{Direction};
+ghost use Rattle.deviations.specs.declared.along.Deviation.{Deviation};
 
 use fixed_um::{Dir, Point, Um};
 
@@ -132,3 +135,9 @@ pub fn along_normal(deviation: Deviation, direction: Dir) -> i128
     let root = nearest_root(magnitude * magnitude, squared_length(direction));
     on_side_of(product, root)
 }
+
+/// What is along a direction is one length, whoever computes it.
+pub fn one_length_is_along()
+    ensures { (deviation : Deviation) (direction : Direction) (one other : ℤ)
+        → IsAlong deviation direction one → IsAlong deviation direction other → one ≡ other }
+{}

@@ -12,7 +12,7 @@ mod printed;
 mod records;
 pub mod rows;
 
-pub use along::{Deviation, along_normal};
+pub use along::{Deviation, along_normal, one_length_is_along};
 pub use faults::RowsFault;
 pub use records::write_csv;
-pub use rows::Row;
+pub use rows::{Row, rows_of};

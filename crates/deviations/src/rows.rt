@@ -242,7 +242,7 @@ impl<'a> Row<'a> {
 /// The table of deviations of features, which are the first ones of a program: a row for each measured point, in the order of the features
 /// and of their points. They are `NotOurs` where their labels or their counts of points are not those of the program.
 #[tactic(auto, using(crate::proofs::Tables::zip_push))]
-pub fn rows<'a>(
+pub fn rows_of<'a>(
     alloc: Global,
     program: &'a Program,
     features: &'a [Feature],
