@@ -555,8 +555,8 @@ stops_reading a b c d e f least bound calls calls_now mid late now count come le
         (subst (λ (x : ClientEnd). length x.input.rest ≤ length b.input.rest + length s.read)
         (sym (s.fed ∙ ap (end_fed s.read) (same ∙ fed_none b))) (longer b.input.fault b.input.rest s.read))
 
-pub has_moved : (a b c d e : ClientEnd) (least bound calls calls_now mid late now count come : ℕ) (left left_now taken taken_now : Option (List ℕ))
-    → AllOut a b taken taken_now bound mid count → may_read b.client ≡ true
+pub has_moved : (a b c d e : ClientEnd) (least bound calls calls_now mid late now count come : ℕ)
+    (left left_now taken taken_now : Option (List ℕ)) → AllOut a b taken taken_now bound mid count → may_read b.client ≡ true
     → c ≡ end_fed [] b → Came c d left left_now mid late come → least ≤ come
     → ReadsOn late now d e → next_of e.input.rest ≡ Ok None → may_read e.client ≡ true → calls_now + late ≤ calls + bound
     → ClientMovedWithin bound calls calls_now least a e left left_now taken taken_now (record { read = come; written = count })

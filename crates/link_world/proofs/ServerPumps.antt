@@ -535,7 +535,8 @@ server_stops_writing a b c f answer least bound calls calls_now pushes pushes_no
         written = take p.count c.end.out;
         lost = [];
         last = serving_taken p.count c.end;
-        turn = λ readers are. writes c.end h.read p.count (work_on readers are).0 (idle_turn c.end.server idle) (idle_job c.end.server idle) p.within;
+        turn = λ readers are. writes c.end h.read p.count (work_on readers are).0 (idle_turn c.end.server idle)
+            (idle_job c.end.server idle) p.within;
         leaves = refl;
         consumed = subst (Consumes left left_now) (sym (append-nil h.read)) h.consumed;
         is_lost = none_lost f;

@@ -141,9 +141,9 @@ fn turn<R: Source, W: Sink>(
 /// What comes behind the last whole line is kept.
 ///
 /// Each push, each pull and each line is a step, and there are at most `bound`, whatever the answer. A fault stops the turn, and the client
-/// has then left its connection: `ReadFailed` and `WriteFailed` where that port has failed; `Ended` where the input has ended before `at_least`
-/// bytes had come; `TurnsSpent`; `Core` where the client itself refuses, as one on no connection does (`NotNow`), and one that was or is
-/// now Faulted; `Memory`, and only then may bytes that had come be lost.
+/// has then left its connection: `ReadFailed` and `WriteFailed` where that port has failed; `Ended` where the input has ended before
+/// `at_least` bytes had come; `TurnsSpent`; `Core` where the client itself refuses, as one on no connection does (`NotNow`), and one that
+/// was or is now Faulted; `Memory`, and only then may bytes that had come be lost.
 pub fn client_turns<R: Source, W: Sink>(
     client: &mut Client,
     source: &mut R,

@@ -18,16 +18,21 @@ returns-in-Err-serve_turns-clause-stopped g c = server_stops
     c.leave-in-Err-serve_turns.ensures)
 
 pub returns-in-Err-clause-client_bounded : goal.returns-in-Err-clause-client_bounded
-returns-in-Err-clause-client_bounded g c = let most = c.in-Err.ensures.stopped.within some_are_readers.0 some_are_readers.1 in omega (arith, most)
+returns-in-Err-clause-client_bounded g c =
+    let most = c.in-Err.ensures.stopped.within some_are_readers.0 some_are_readers.1 in omega (arith, most)
 
 pub returns-in-Ok-serve_turns-clause-client_bounded : goal.returns-in-Ok-serve_turns-clause-client_bounded
-returns-in-Ok-serve_turns-clause-client_bounded g c = let most = c.in-Ok.ensures.moved.within some_are_readers.0 some_are_readers.1 in omega (arith, most)
+returns-in-Ok-serve_turns-clause-client_bounded g c =
+    let most = c.in-Ok.ensures.moved.within some_are_readers.0 some_are_readers.1 in omega (arith, most)
 
 pub returns-in-Ok-serve_turns-clause-server_bounded : goal.returns-in-Ok-serve_turns-clause-server_bounded
-returns-in-Ok-serve_turns-clause-server_bounded g c = let most = c.in-Ok-serve_turns.ensures.moved.within some_are_readers.0 some_are_readers.1 in omega (arith, most)
+returns-in-Ok-serve_turns-clause-server_bounded g c =
+    let most = c.in-Ok-serve_turns.ensures.moved.within some_are_readers.0 some_are_readers.1 in omega (arith, most)
 
 pub returns-in-Err-serve_turns-clause-client_bounded : goal.returns-in-Err-serve_turns-clause-client_bounded
-returns-in-Err-serve_turns-clause-client_bounded g c = let most = c.in-Ok.ensures.moved.within some_are_readers.0 some_are_readers.1 in omega (arith, most)
+returns-in-Err-serve_turns-clause-client_bounded g c =
+    let most = c.in-Ok.ensures.moved.within some_are_readers.0 some_are_readers.1 in omega (arith, most)
 
 pub returns-in-Err-serve_turns-clause-server_bounded : goal.returns-in-Err-serve_turns-clause-server_bounded
-returns-in-Err-serve_turns-clause-server_bounded g c = let most = c.in-Err-serve_turns.ensures.stopped.within some_are_readers.0 some_are_readers.1 in omega (arith, most)
+returns-in-Err-serve_turns-clause-server_bounded g c =
+    let most = c.in-Err-serve_turns.ensures.stopped.within some_are_readers.0 some_are_readers.1 in omega (arith, most)

@@ -10,7 +10,8 @@ pub returns-in_err-feed-clause-stopped : goal.returns-in_err-feed-clause-stopped
 returns-in_err-feed-clause-stopped g c = if_err c.from_residual.result _ _ c.from_residual.ensures.0
     c.from_residual.ensures.1
     (λ answer taken. server_stops_asking c.args.server.now c.feed.new.self c.in_err-feed.field-0.0 answer c.args.at_least
-    c.args.budget.now.left (g.R.Source.calls c.args.source.now) (g.R.Source.left c.args.source.now) taken c.in_err-feed.ensures.leads.1 c.view-known.ensures.kept
+    c.args.budget.now.left (g.R.Source.calls c.args.source.now) (g.R.Source.left c.args.source.now) taken
+    c.in_err-feed.ensures.leads.1 c.view-known.ensures.kept
     c.in_err-feed.ensures.others)
 
 pub returns-in_err-count-clause-stopped : goal.returns-in_err-count-clause-stopped

@@ -9,7 +9,8 @@ pub returns-in_err-work-clause-stopped : goal.returns-in_err-work-clause-stopped
 returns-in_err-work-clause-stopped g c = if_err c.from_residual-in_err-work.result _ _ c.from_residual-in_err-work.ensures.0
     c.from_residual-in_err-work.ensures.1
     (server_stops_working c.args.server.now c.read_in.new.server c.work.new.server c.in_err-work.field-0.0
-    (g.M.Machine.answers c.args.machine.now) c.args.at_least c.args.bound (g.R.Source.calls c.args.source.now) (g.R.Source.calls c.read_in.new.source)
+    (g.M.Machine.answers c.args.machine.now) c.args.at_least c.args.bound
+    (g.R.Source.calls c.args.source.now) (g.R.Source.calls c.read_in.new.source)
     (g.W.Sink.calls c.args.sink.now) c.read_in.new.budget.left c.work.new.budget.left _
     (g.R.Source.left c.args.source.now) (g.R.Source.left c.read_in.new.source) (g.W.Sink.taken c.args.sink.now)
     c.in_ok-read.ensures.read c.work.ensures.goes c.in_err-work.ensures.faults)
@@ -18,7 +19,8 @@ pub returns-in_err-push_counted-clause-stopped : goal.returns-in_err-push_counte
 returns-in_err-push_counted-clause-stopped g c = if_err c.from_residual-in_err-push_counted.result _ _
     c.from_residual-in_err-push_counted.ensures.0 c.from_residual-in_err-push_counted.ensures.1
     (server_stops_writing c.args.server.now c.read_in.new.server c.work.new.server c.in_err-push_counted.field-0.0
-    (g.M.Machine.answers c.args.machine.now) c.args.at_least c.args.bound (g.R.Source.calls c.args.source.now) (g.R.Source.calls c.read_in.new.source)
+    (g.M.Machine.answers c.args.machine.now) c.args.at_least c.args.bound
+    (g.R.Source.calls c.args.source.now) (g.R.Source.calls c.read_in.new.source)
     (g.W.Sink.calls c.args.sink.now) (g.W.Sink.calls c.push_counted.new.sink) c.read_in.new.budget.left c.work.new.budget.left _
     (g.R.Source.left c.args.source.now) (g.R.Source.left c.read_in.new.source) (g.W.Sink.taken c.args.sink.now)
     (g.W.Sink.taken c.push_counted.new.sink) c.out.result.now c.in_ok-read.ensures.read c.work.ensures.goes c.in_ok-work.ensures.idle
@@ -27,7 +29,8 @@ returns-in_err-push_counted-clause-stopped g c = if_err c.from_residual-in_err-p
 
 pub returns-clause-moved : goal.returns-clause-moved
 returns-clause-moved g c = has_served c.args.server.now c.read_in.new.server c.work.new.server c.sent.new.self
-    (g.M.Machine.answers c.args.machine.now) c.args.at_least c.args.bound (g.R.Source.calls c.args.source.now) (g.R.Source.calls c.read_in.new.source)
+    (g.M.Machine.answers c.args.machine.now) c.args.at_least c.args.bound
+    (g.R.Source.calls c.args.source.now) (g.R.Source.calls c.read_in.new.source)
     (g.W.Sink.calls c.args.sink.now) (g.W.Sink.calls c.push_counted.new.sink) c.read_in.new.budget.left c.work.new.budget.left _ _
     (g.R.Source.left c.args.source.now) (g.R.Source.left c.read_in.new.source) (g.W.Sink.taken c.args.sink.now)
     (g.W.Sink.taken c.push_counted.new.sink) c.out.result.now c.in_ok-read.ensures.read c.work.ensures.goes c.in_ok-work.ensures.idle
