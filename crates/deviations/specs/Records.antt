@@ -1,6 +1,6 @@
 -- The table of deviations as records of comma-separated values (RFC 4180), with a header. Lengths are in millimetres with three decimals,
 -- components of normals have six; a field is empty where there is nothing to say.
-use Rattle.std.specs.Prelude.{◌≡◌, ⊤, ℕ, List, [], ◌∷◌, ◌++◌, codes, decimal, ℤ, Option, Some, None, Result, OnOk}
+use Rattle.std.specs.Prelude.{◌≡◌, ℕ, List, [], ◌∷◌, ◌++◌, codes, decimal, ℤ, Option, Some, None, Result, OnOk}
 use Rattle.csv.specs.Records.{fields_of, partial_of}
 use Rattle.csv.specs.Writing.{default_writer, row_text}
 use Rattle.csv.specs.declared.record.ByteRecord.{ByteRecord}

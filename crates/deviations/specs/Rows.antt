@@ -1,6 +1,5 @@
 -- The measured points of features, each beside the touch that a program asks for (ISO 22093) and how far it lies from it.
 use Rattle.std.specs.Prelude.{◌≡◌, ⊤, ℕ, ◌+◌, ℤ, List, [], ◌∷◌, ◌++◌, Option, Some, None, option_map}
-use Rattle.fixed_um.specs.Points.{IsInVolume}
 use Rattle.fixed_um.specs.Shapes.{Direction}
 use Rattle.fixed_um.specs.declared.lengths.Point.{Point}
 use Rattle.contact_ledger.specs.declared.features.Origin.{Origin}

@@ -1,4 +1,4 @@
-use Rattle.std.proofs.Common.{rules, ◌≡◌}
+use Rattle.std.proofs.Common.{rules}
 use Rattle.deviations.proofs.Roots.{along_is}
 use Rattle.deviations.proofs.along.along_normal.Goals as goal
 

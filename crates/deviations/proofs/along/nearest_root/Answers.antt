@@ -1,6 +1,5 @@
-use Rattle.std.proofs.Common.{rules, ◌≡◌, ◌≤◌, ◌<◌, ◌*◌, ◌+◌, ℕ, ◌-◌, ◌/◌, arith}
+use Rattle.std.proofs.Common.{arith}
 use Rattle.std.proofs.lemmas.Grind.{div_ceil_times}
-use Rattle.deviations.specs.Along.{squared, IsNearestRoot}
 use Rattle.deviations.proofs.Roots.{IsRootBelow, root_below, half_reached, half_missed}
 use Rattle.deviations.proofs.along.nearest_root.Goals as goal
 

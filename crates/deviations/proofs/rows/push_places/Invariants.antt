@@ -1,7 +1,7 @@
 use Rattle.std.proofs.Common.{◌≡◌, ◌≤◌, ◌+◌, ◌++◌, length}
 use Rattle.std.specs.List.{AllByRecursion}
 use Rattle.dmis_program.specs.Programs.{IsTouch}
-use Rattle.deviations.specs.Rows.{places_from, feature_places, connection_of}
+use Rattle.deviations.specs.Rows.{places_from, feature_places}
 use Rattle.deviations.proofs.rows.push_places.Given as goal
 
 abbrev pub invariant-loop-points : goal.invariant-loop-points
