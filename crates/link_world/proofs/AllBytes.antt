@@ -11,7 +11,7 @@ use Rattle.protocol_model.specs.Ends.{ClientEnd}
 use Rattle.server_core.specs.Serving.{Serving}
 use Rattle.link_world.specs.declared.connection.Connection.{Connection}
 use Rattle.link_world.specs.Links.{Linked, with_world, seen, links_of, IsReached}
-use Rattle.link_world.specs.Schedules.{IsOne, possible, all_up, all_down}
+use Rattle.protocol_model.specs.Rounds.{IsOne, possible, all_up, all_down}
 use Rattle.link_world.specs.Parts.{Makes, Tells}
 use Rattle.link_world.proofs.EventLists.{not_done}
 use Rattle.link_world.proofs.Linking.{links_get}

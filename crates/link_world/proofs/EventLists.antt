@@ -6,7 +6,7 @@ use Rattle.protocol_model.specs.Lines.{Readers}
 use Rattle.protocol_model.specs.World.{World, can, happens, after, run_of}
 use Rattle.protocol_model.specs.declared.events.Event.{Event}
 use Rattle.link_world.specs.Links.{Linked, with_world}
-use Rattle.link_world.specs.Schedules.{AreWhile}
+use Rattle.protocol_model.specs.Rounds.{AreWhile}
 use Rattle.link_world.specs.Parts.{is_any, Makes}
 use Rattle.link_world.proofs.Undisturbed.{after_can}
 

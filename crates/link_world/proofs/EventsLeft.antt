@@ -53,7 +53,7 @@ due_runs : (c : Client) (b asks : Bool)
 due_runs c true asks e = refl
 due_runs c false asks e = absurd (false≢true e)
 
-due_there : (window open_now : ℕ) (b : Bool) → is_some (cond b (first_due window open_now []) None) ≡ true → ⊥
+pub due_there : (window open_now : ℕ) (b : Bool) → is_some (cond b (first_due window open_now []) None) ≡ true → ⊥
 due_there window open_now true e = false≢true e
 due_there window open_now false e = false≢true e
 

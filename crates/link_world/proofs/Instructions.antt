@@ -13,14 +13,15 @@ use Rattle.protocol_model.proofs.written_lines.ReadersExist.{some_are_readers}
 use Rattle.protocol_model.proofs.whole_run.SameProgram.{run_same, run_window}
 use Rattle.link_world.specs.Claims.{IsSound, IsTold, DoNotDisagree}
 use Rattle.link_world.specs.Links.{Linked, with_world, IsReached}
-use Rattle.link_world.specs.Schedules.{IsOne, Then, AreMade, ArePlayed, Plays, IsRound}
+use Rattle.protocol_model.specs.Rounds.{IsOne, Then, IsRound}
+use Rattle.link_world.specs.Schedules.{AreMade, ArePlayed, Plays}
 use Rattle.link_world.specs.Parts.{Makes, PlaysPart}
 use Rattle.link_world.specs.declared.schedules.Instruction.{Instruction}
 use Rattle.link_world.specs.declared.schedules.Instruction.TheVariants as instruction
 use Rattle.link_world.proofs.AllBytes.{one_cut}
 use Rattle.link_world.proofs.EventLists.{run_append, leads_more}
 use Rattle.link_world.proofs.Reached.{sound, told, agree}
-use Rattle.link_world.proofs.SameKind.{IsSameKind}
+use Rattle.link_world.specs.Finishing.{IsSameKind}
 
 -- ---- one event
 

@@ -25,6 +25,11 @@ pub mod ServerWork
 pub mod WorkLists
 pub mod Thens
 pub mod RoundLists
+pub mod Unsent
+pub mod Resting
+pub mod Turning
+pub mod Rejoining
+pub mod Ending
 pub mod Instructions
 pub mod PumpPorts
 pub mod ClientPumps

@@ -11,7 +11,9 @@ use Rattle.protocol_model.specs.declared.machine.Job.{Job}
 use Rattle.protocol_model.specs.declared.machine.Outcome.{Outcome}
 use Rattle.protocol_model.specs.declared.events.Event.{Event}
 use Rattle.link_world.specs.Links.{Linked, with_world}
-use Rattle.link_world.specs.Schedules.{IsRound, AreRounds, all_of, AreCounted, AreQuiet, rounds_most}
+use Rattle.protocol_model.specs.Rounds.{IsRound, AreRounds, all_of}
+use Rattle.link_world.specs.Schedules.{AreCounted, AreQuiet, rounds_most}
+use Rattle.link_world.specs.Finishing.{AreTurns}
 use Rattle.link_world.specs.Parts.{is_any, Makes}
 use Rattle.link_world.proofs.EventLists.{run_append, leads_more, none_there}
 
@@ -172,6 +174,49 @@ quiet_cut readers answer i l k m h few one = record {
     end = inr (
       refl,
       (let count = h.made.count in omega (arith, count, few)),
+      behind readers answer true l k h.events h.made.rounds one.events h.leads h.made.whole one.made,
+    );
+  };
+  leads = leads_more readers l k m h.events one.events h.leads one.leads;
+  told_is = tt;
+}
+
+-- ---- while a command is due
+
+pub turns_whole : (readers : Readers) (answer : Job → ℕ → Outcome) (n : ℕ) (l k : Linked)
+    → Makes readers (SoMany readers answer true n) false None l k → IsRound readers answer false k.world []
+    → Makes readers (AreTurns readers answer n) false None l k
+turns_whole readers answer n l k h still = record {
+  events = h.events;
+  made = record {
+    rounds = h.made.rounds;
+    rest = [];
+    whole = h.made.whole ∙ sym (append-nil (all_of h.made.rounds));
+    end = inl (
+      record {
+        busy = record { are = h.made.are; busy = h.made.busy refl };
+        still = behind readers answer false l k h.events h.made.rounds [] h.leads h.made.whole still;
+      },
+      h.made.count,
+      refl,
+    );
+  };
+  leads = h.leads;
+  told_is = tt;
+}
+
+pub turns_cut : (readers : Readers) (answer : Job → ℕ → Outcome) (n : ℕ) (l k m : Linked)
+    → Makes readers (SoMany readers answer true n) false None l k → Makes readers (IsRound readers answer) true None k m
+    → Makes readers (AreTurns readers answer 0) true None l m
+turns_cut readers answer n l k m h one = record {
+  events = h.events ++ one.events;
+  made = record {
+    rounds = h.made.rounds;
+    rest = one.events;
+    whole = ap (λ (es : List Event). es ++ one.events) h.made.whole;
+    end = inr (
+      refl,
+      record { are = h.made.are; busy = h.made.busy refl },
       behind readers answer true l k h.events h.made.rounds one.events h.leads h.made.whole one.made,
     );
   };

@@ -36,7 +36,7 @@ use Rattle.protocol_model.proofs.whole_run.Carrying.{IsCarried}
 use Rattle.protocol_model.proofs.whole_run.WholeRun.{run_carried, start_carried, always_sound, always_told}
 use Rattle.server_core.specs.Serving.{may_feed, may_turn}
 use Rattle.link_world.specs.Machines.{fits_job, simulated}
-use Rattle.link_world.specs.Schedules.{AreWork, ending, ended, working}
+use Rattle.protocol_model.specs.Rounds.{AreWork, ending, ended, working}
 use Rattle.link_world.specs.Pumps.{Stage, Writing, Taking, Reading, Working}
 use Rattle.link_world.specs.ServerPumps.{ServerTurn, begins, takes, has, reads, knows, turns, ends, writes}
 use Rattle.link_world.specs.Joined.{IsServerTurn, TurnLeads, AreFit, server_joined}

@@ -6,7 +6,7 @@ use Rattle.protocol_model.specs.Lines.{Readers, AreReaders}
 use Rattle.protocol_model.specs.World.{World}
 use Rattle.protocol_model.specs.declared.events.Event.{Event}
 use Rattle.link_world.specs.Links.{Linked}
-use Rattle.link_world.specs.Schedules.{Then}
+use Rattle.protocol_model.specs.Rounds.{Then}
 use Rattle.link_world.specs.Parts.{is_any, Makes, Tells, PlaysPart}
 use Rattle.link_world.proofs.EventLists.{leads_more, any_append}
 

@@ -8,7 +8,7 @@ use Rattle.protocol_model.specs.declared.events.Event.{Event}
 use Rattle.protocol_model.specs.declared.events.Event.TheVariants as event
 use Rattle.protocol_model.specs.declared.machine.Job.{Job}
 use Rattle.protocol_model.specs.declared.machine.Outcome.{Outcome}
-use Rattle.link_world.specs.Schedules.{Then, AreWhile, IsOne, possible, AreWork, ending, working}
+use Rattle.protocol_model.specs.Rounds.{Then, AreWhile, IsOne, possible, AreWork, ending, working}
 use Rattle.link_world.specs.Joined.{IsClientTurn, IsServerTurn, TurnLeads}
 use Rattle.link_world.proofs.EventLists.{run_append, done_now, not_done}
 

@@ -12,7 +12,7 @@ use Rattle.protocol_model.specs.declared.events.Event.TheVariants as event
 use Rattle.protocol_model.proofs.written_lines.ReadersExist.{some_are_readers}
 use Rattle.server_core.specs.Steady.{IsRunnable}
 use Rattle.link_world.specs.Links.{Linked, with_world}
-use Rattle.link_world.specs.Schedules.{AreWork, ending, ended, working}
+use Rattle.protocol_model.specs.Rounds.{AreWork, ending, ended, working}
 use Rattle.link_world.specs.Parts.{Makes}
 use Rattle.link_world.proofs.EventLists.{any_more, leads_more, done_now}
 use Rattle.link_world.proofs.ServerWork.{work_left, turn_less, machine_less}

@@ -8,7 +8,7 @@ use Rattle.protocol_model.specs.declared.events.Event.TheVariants as event
 use Rattle.protocol_model.specs.declared.machine.Job.{Job}
 use Rattle.protocol_model.specs.declared.machine.Outcome.{Outcome}
 use Rattle.link_world.specs.Machines.{fits_job}
-use Rattle.link_world.specs.Schedules.{Then, AreWhile, IsOne, possible, AreWork}
+use Rattle.protocol_model.specs.Rounds.{Then, AreWhile, IsOne, possible, AreWork}
 use Rattle.client_core.specs.Calls.{Call, behind_call, behind_calls}
 use Rattle.client_core.specs.declared.faults.ClientFault.{ClientFault}
 use Rattle.server_core.specs.declared.faults.ServerFault.{ServerFault}

@@ -9,6 +9,7 @@ pub mod ReportRows
 pub mod ScheduleTexts
 pub mod ScheduleCarrying
 pub mod ScheduleRows
+pub mod Finishing
 pub mod Parts
 pub mod Pumps
 pub mod PumpParts

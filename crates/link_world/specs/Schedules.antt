@@ -1,88 +1,15 @@
 -- What the instructions of a schedule make of a world: the events, in order (this profile). A list of events that is cut has ended early, for
 -- want of memory; of a list that is not cut it is said where it ends.
-use Rattle.std.specs.Prelude.{◌≡◌, ◌≢◌, ◌⊎◌, ℕ, ◌≤◌, ◌<◌, Bool, true, false, if◌then◌else◌, Option, Some, None, List, [], ◌∷◌, ◌++◌, length, All}
-use Rattle.std.specs.List.{flat_map}
-use Rattle.contact_ledger.specs.Ledgers.{contact_count}
+use Rattle.std.specs.Prelude.{◌≡◌, ◌≢◌, ◌⊎◌, ℕ, ◌≤◌, ◌<◌, Bool, true, false, Some, List, [], ◌∷◌, ◌++◌, length, All}
 use Rattle.protocol_model.specs.Lines.{Readers}
-use Rattle.protocol_model.specs.Server.{running_job}
-use Rattle.protocol_model.specs.World.{World, can, happens, after, run_of, client_link, server_link}
+use Rattle.protocol_model.specs.Rounds.{IsOne, AreWhile, Then, all_up, all_down, ending, IsRound, AreRounds, all_of}
+use Rattle.protocol_model.specs.World.{World, run_of}
 use Rattle.protocol_model.specs.declared.events.Event.{Event}
 use Rattle.protocol_model.specs.declared.events.Event.TheVariants as event
 use Rattle.protocol_model.specs.declared.machine.Job.{Job}
 use Rattle.protocol_model.specs.declared.machine.Outcome.{Outcome}
 use Rattle.link_world.specs.declared.schedules.Instruction.{Instruction}
 use Rattle.link_world.specs.declared.schedules.Instruction.TheVariants as instruction
-
--- a list ends where this holds; one that is cut ends anywhere
-abbrev pub MayEnd : Bool → Type 0 → Type 0
-MayEnd true P = Unit {0}
-MayEnd false P = P
-
--- this event where there is one, and no other
-abbrev pub IsOne : Option Event → Bool → List Event → Type 0
-IsOne None cut events = events ≡ []
-IsOne (Some e) cut events = (events ≡ e ∷ []) ⊎ ((cut ≡ true) × (events ≡ []))
-
--- an event, again and again while it can happen
-abbrev pub AreWhile : Readers → Event → Bool → World → List Event → Type 0
-AreWhile readers e cut w [] = MayEnd cut (can e w ≡ false)
-AreWhile readers e cut w (f ∷ fs) = (f ≡ e) × (can e w ≡ true) × AreWhile readers e cut (happens readers e w) fs
-
--- one list behind another: the second in the world that the first leaves; where the first is cut, there is no second
-pub record Then (readers : Readers) (A B : Bool → World → List Event → Type 0) (cut : Bool) (w : World) (events : List Event) : Type 0
-  where
-    pub front : List Event
-    pub back : List Event
-    pub whole : events ≡ front ++ back
-    pub parts : (A false w front × B cut (run_of readers front w) back) ⊎ ((cut ≡ true) × A true w front × (back ≡ []))
-
--- an event where it can happen
-abbrev pub possible : Event → World → Option Event
-possible e w = if can e w then Some e else None
-
--- all bytes that wait on the way up, and on the way down
-abbrev pub all_up : World → Option Event
-all_up w = possible (event.Up (length (server_link w).up)) w
-
-abbrev pub all_down : World → Option Event
-all_down w = possible (event.Down (length (client_link w).down)) w
-
--- what runs ends as a machine answers to its job, whose number is that of the next contact
-abbrev pub ended : (Job → ℕ → Outcome) → ℕ → Option Job → Option Event
-ended answer n None = None
-ended answer n (Some job) = Some (event.Machine (answer job n))
-
-abbrev pub ending : (Job → ℕ → Outcome) → World → Option Event
-ending answer w = ended answer (contact_count w.server.server.ledger) (running_job w.server.server)
-
--- what the server has to do: what runs ends, else what waits first has its turn
-abbrev pub working : Option Event → World → Option Event
-working (Some e) w = Some e
-working None w = possible event.ServerTurn w
-
--- turns and ends while there is one
-abbrev pub AreWork : Readers → (Job → ℕ → Outcome) → Bool → World → List Event → Type 0
-AreWork readers answer cut w [] = MayEnd cut (working (ending answer w) w ≡ None)
-AreWork readers answer cut w (e ∷ es) = (working (ending answer w) w ≡ Some e) × AreWork readers answer cut (after readers e w) es
-
--- a quiet round: the client sends all that is due, all of it comes to the server, which reads it all and does it all, and all answers come
--- to the client, which reads them all
-abbrev pub IsRound : Readers → (Job → ℕ → Outcome) → Bool → World → List Event → Type 0
-IsRound readers answer =
-    Then readers (AreWhile readers event.ClientSends) (
-    Then readers (λ cut w. IsOne (all_up w) cut) (
-    Then readers (AreWhile readers event.ServerReads) (
-    Then readers (AreWork readers answer) (
-    Then readers (λ cut w. IsOne (all_down w) cut) (AreWhile readers event.ClientReads)))))
-
--- whole rounds, one behind another
-abbrev pub AreRounds : Readers → (Job → ℕ → Outcome) → World → List (List Event) → Type 0
-AreRounds readers answer w [] = Unit {0}
-AreRounds readers answer w (r ∷ rs) = IsRound readers answer false w r × AreRounds readers answer (run_of readers r w) rs
-
--- the events of rounds, one behind another
-abbrev pub all_of : List (List Event) → List Event
-all_of rounds = flat_map (λ r. r) rounds
 
 -- so many rounds; where they are cut, fewer, and what there was of the next
 pub record AreCounted (readers : Readers) (answer : Job → ℕ → Outcome) (n : ℕ) (cut : Bool) (w : World) (events : List Event) : Type 0

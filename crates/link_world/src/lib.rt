@@ -8,6 +8,7 @@
 //! - `machines`: what ends the jobs of a server, and the simulated machine
 //! - `schedules`: lists of instructions that events are made of; `schedule_reading`, `schedule_faults`: schedules read from a text
 //! - `playing`, `rounds`: schedules played on a world, and the quiet rounds in which all that can happens
+//! - `finishing`: what is left of a program, brought to its end, and the undisturbed run
 //! - `pumps`, `client_pump`, `server_pump`: turns of one side over the ports of its connection, beside the world
 //! - `links`, `link_runs`: whole connections, as turns of one side or of both
 //! - `reports`, `report_text`: what a world shows, and its text
@@ -20,6 +21,7 @@ mod client_events;
 mod client_pump;
 mod connection;
 mod faults;
+mod finishing;
 pub mod joined;
 pub mod laws;
 mod link_runs;
@@ -41,6 +43,7 @@ mod world;
 
 pub use client_pump::client_turns;
 pub use faults::{NewFault, WorldFault};
+pub use finishing::{Quiet, quiet_run};
 pub use joined::{
     a_pumped_client_holds_first_features, turns_of_a_client_are_events,
     turns_of_a_server_are_events, two_pumps_are_a_world,

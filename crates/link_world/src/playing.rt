@@ -4,7 +4,8 @@ ghost use Rattle.std.specs.Prelude.{◌≡◌, true, false, length, Some, OnOk, 
 ghost use Rattle.protocol_model.specs.Lines.{Readers, AreReaders};
 ghost use Rattle.protocol_model.specs.World.{can, after, client_link, server_link};
 ghost use Rattle.link_world.specs.Links.{with_world};
-ghost use Rattle.link_world.specs.Schedules.{AreWhile, IsOne, all_up, all_down, ending, AreMade, ArePlayed, Plays};
+ghost use Rattle.protocol_model.specs.Rounds.{AreWhile, IsOne, all_up, all_down, ending};
+ghost use Rattle.link_world.specs.Schedules.{AreMade, ArePlayed, Plays};
 ghost use Rattle.link_world.specs.Parts.{repeats, Tells, PlaysPart};
 ghost use Rattle.link_world.specs.Claims.{IsSound, IsTold, DoNotDisagree};
 ghost use Rattle.link_world.specs.Machines.{simulated};

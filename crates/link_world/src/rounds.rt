@@ -4,7 +4,8 @@ ghost use Rattle.std.specs.Prelude.{◌≡◌, true, Some, IfSome};
 ghost use Rattle.protocol_model.specs.World.{can};
 ghost use Rattle.protocol_model.specs.declared.lines.Line.{Line as OneLine};
 ghost use Rattle.server_core.specs.Steady.{IsRunnable};
-ghost use Rattle.link_world.specs.Schedules.{AreWork, IsRound, AreCounted, AreQuiet, ending, working};
+ghost use Rattle.protocol_model.specs.Rounds.{AreWork, IsRound, ending, working};
+ghost use Rattle.link_world.specs.Schedules.{AreCounted, AreQuiet};
 ghost use Rattle.link_world.specs.Parts.{Tells, PlaysPart};
 
 use crate::machines::Machine;

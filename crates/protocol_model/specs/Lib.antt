@@ -17,3 +17,6 @@ pub mod HomingRows
 pub mod PlanReading
 pub mod Positions
 pub mod Undisturbed
+pub mod Rounds
+pub mod PlainExecution
+pub mod Finishing

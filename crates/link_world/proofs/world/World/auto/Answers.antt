@@ -1,5 +1,5 @@
 use Rattle.std.proofs.Common.{sym}
-use Rattle.link_world.specs.Schedules.{ending}
+use Rattle.protocol_model.specs.Rounds.{ending}
 use Rattle.link_world.proofs.Instructions.{part_as, none_made}
 use Rattle.link_world.proofs.world.World.auto.Goals as goal
 

@@ -1,5 +1,5 @@
 use Rattle.std.proofs.Common.{Some}
-use Rattle.link_world.specs.Schedules.{IsOne}
+use Rattle.protocol_model.specs.Rounds.{IsOne}
 use Rattle.link_world.proofs.Instructions.{once_made, once_cut}
 use Rattle.link_world.proofs.Thens.{part_cut}
 use Rattle.link_world.proofs.world.World.once.Goals as goal

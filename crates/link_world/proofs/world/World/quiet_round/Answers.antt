@@ -1,5 +1,5 @@
 use Rattle.std.proofs.Common.{true, false, None, Some, Bool, subst}
-use Rattle.link_world.specs.Schedules.{IsRound}
+use Rattle.protocol_model.specs.Rounds.{IsRound}
 use Rattle.link_world.specs.Parts.{Makes}
 use Rattle.link_world.proofs.Thens.{then_more, then_cut, tells_cut, any_of_six}
 use Rattle.link_world.proofs.world.World.quiet_round.Goals as goal

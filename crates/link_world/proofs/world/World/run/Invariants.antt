@@ -2,7 +2,7 @@ use Rattle.std.proofs.Common.{◌≡◌, ◌+◌, take}
 use Rattle.protocol_model.specs.Lines.{Readers, AreReaders}
 use Rattle.link_world.specs.Claims.{IsSound, IsTold, DoNotDisagree}
 use Rattle.link_world.specs.Runs.{HasRun}
-use Rattle.link_world.proofs.SameKind.{IsSameKind}
+use Rattle.link_world.specs.Finishing.{IsSameKind}
 use Rattle.link_world.proofs.world.World.run.Given as goal
 
 abbrev pub invariant-loop-event : goal.invariant-loop-event

@@ -1,0 +1,283 @@
+-- When what is left can be brought to its end, and where both ends stand behind coming to the next connection.
+use Rattle.std.proofs.Common.{◌≡◌, ◌≢◌, ℕ, zero, suc, ◌+◌, ◌*◌, ◌≤◌, ◌<◌, nat_lt, Bool, true, false, not, cond, ◌&&◌, List, [], ◌∷◌, ◌++◌}
+use Rattle.std.proofs.Common.{length, length-append, refl, sym, ◌∙◌, ap, subst, arith, rules, Option, Some, None, is_some, IsTrue}
+use Rattle.std.proofs.lemmas.Bool.{false≢true, ltb-true}
+use Rattle.fixed_um.specs.declared.frames.Frame.{Frame}
+use Rattle.fixed_um.specs.declared.frames.Frame.TheVariants.{Machine, Part}
+use Rattle.dme_line.specs.declared.commands.Command.TheVariants as command
+use Rattle.dmis_program.specs.Meaning.{Meaning, block_touches}
+use Rattle.dmis_program.specs.declared.steps.Step.{Step}
+use Rattle.dmis_program.specs.declared.steps.Step.TheVariants as step
+use Rattle.contact_ledger.specs.Ledgers.{connection_most}
+use Rattle.contact_ledger.specs.declared.features.Feature.{Feature}
+use Rattle.protocol_model.specs.Client.{Client, due, first_due, is_apart, is_running, client_left, left_state}
+use Rattle.protocol_model.specs.Open.{count_open, is_asking}
+use Rattle.protocol_model.specs.Ends.{ClientEnd}
+use Rattle.protocol_model.specs.Finishing.{CanFinish, rejoining, rejoined, plan_left}
+use Rattle.protocol_model.specs.Lines.{Readers, AreReaders}
+use Rattle.protocol_model.specs.Plan.{is_empty, plan, planned, behind, up_to, tool_behind, frame_behind, tooling, framing, stepping, measuring}
+use Rattle.protocol_model.specs.World.{World, can, happens, after, run_of}
+use Rattle.protocol_model.specs.declared.events.Event.{Event}
+use Rattle.protocol_model.specs.declared.events.Event.TheVariants as event
+use Rattle.protocol_model.specs.declared.held.Held.{Held}
+use Rattle.protocol_model.specs.declared.plans.Does.TheVariants.{Nothing}
+use Rattle.protocol_model.specs.declared.plans.Planned.{Planned}
+use Rattle.protocol_model.specs.declared.plans.Start.{Start}
+use Rattle.protocol_model.specs.declared.states.State.{State}
+use Rattle.client_core.specs.Always.{FitsState}
+use Rattle.server_core.specs.Serving.{Serving}
+use Rattle.link_world.specs.declared.connection.Connection.{Connection}
+use Rattle.link_world.specs.Finishing.{commands_most, AreFirstOfJoining}
+use Rattle.link_world.specs.Links.{Linked, seen, with_world, IsReached}
+use Rattle.link_world.specs.Parts.{Makes}
+use Rattle.link_world.proofs.EventLists.{leads_more, done_now}
+use Rattle.link_world.proofs.Reached.{made}
+use Rattle.link_world.proofs.Undisturbed.{program_is}
+
+below_yes : (n : ℕ) → n < connection_most → IsTrue (nat_lt n connection_most)
+below_yes n lt = search rules
+
+pub finish_at : (l : Linked) (client : ClientEnd) (server : Serving) (cs : List Connection) (written : List ℕ) (n : ℕ)
+    → seen client server cs written ≡ l → IsReached (seen client server cs written) → n ≡ length cs
+    → l.world.client.client.state ≢ State.Done
+    → (IsTrue (nat_lt n 4000000000) → CanFinish l.world) × (CanFinish l.world → IsTrue (nat_lt n 4000000000))
+finish_at l client server cs written n view h long undone =
+    let count : n ≡ l.world.client.client.last = long ∙ (made client server cs written h ∙ ap (λ (k : Linked). k.world.client.client.last) view) in (
+      λ few. record {
+        undone = undone;
+        connections = subst (λ (i : ℕ). i < connection_most) count (ltb-true _ _ few);
+      },
+      λ may. below_yes n (subst (λ (i : ℕ). i < connection_most) (sym count) may.connections),
+    )
+
+-- ---- the events of joining
+
+joins_one : (readers : Readers) (e : Event) (l k m : Linked) (es : List Event) → k ≡ with_world l (run_of readers es l.world)
+    → m ≡ with_world k (after readers e k.world) → m ≡ with_world l (run_of readers (es ++ e ∷ []) l.world)
+joins_one readers e l k m es first then = leads_more readers l k m es (e ∷ []) first then
+
+-- each of them happened
+pub joins_all : (readers : Readers) (l a b c m : Linked) (n : ℕ) → n ≡ suc l.world.client.client.last
+    → a ≡ with_world l (after readers event.ClientLeaves l.world) → b ≡ with_world a (after readers event.ServerLeaves a.world)
+    → c ≡ with_world b (after readers event.Connect b.world) → m ≡ with_world c (after readers (event.Accept n) c.world)
+    → m ≡ with_world l (rejoined readers l.world)
+joins_all readers l a b c m n is first second third fourth =
+    subst (λ (k : ℕ). m ≡ with_world l (run_of readers (event.ClientLeaves ∷ event.ServerLeaves ∷ event.Connect ∷ event.Accept k ∷ []) l.world))
+    is
+    (joins_one readers (event.Accept n) l c m (event.ClientLeaves ∷ event.ServerLeaves ∷ event.Connect ∷ [])
+    (joins_one readers event.Connect l b c (event.ClientLeaves ∷ event.ServerLeaves ∷ [])
+    (joins_one readers event.ServerLeaves l a b (event.ClientLeaves ∷ []) first second) third) fourth)
+
+-- the first of them happened, and the next wanted memory
+pub joins_cut : (readers : Readers) (l k m : Linked) (es more : List Event) → k ≡ with_world l (run_of readers es l.world) → m ≡ k
+    → es ++ more ≡ rejoining l.world → Makes readers AreFirstOfJoining true None l m
+joins_cut readers l k m es more leads same parts = record {
+  events = es;
+  made = record { more = more; parts = parts };
+  leads = same ∙ leads;
+  told_is = tt;
+}
+
+pub joins_none : (readers : Readers) (l m : Linked) → m ≡ l → Makes readers AreFirstOfJoining true None l m
+joins_none readers l m same = joins_cut readers l l m [] (rejoining l.world) refl same refl
+
+pub joins_client : (readers : Readers) (l a m : Linked) → a ≡ with_world l (after readers event.ClientLeaves l.world) → m ≡ a
+    → Makes readers AreFirstOfJoining true None l m
+joins_client readers l a m first same = joins_cut readers l a m (event.ClientLeaves ∷ []) _ first same refl
+
+pub joins_server : (readers : Readers) (l a b m : Linked) → a ≡ with_world l (after readers event.ClientLeaves l.world)
+    → b ≡ with_world a (after readers event.ServerLeaves a.world) → m ≡ b → Makes readers AreFirstOfJoining true None l m
+joins_server readers l a b m first second same =
+    joins_cut readers l b m (event.ClientLeaves ∷ event.ServerLeaves ∷ []) _
+    (joins_one readers event.ServerLeaves l a b (event.ClientLeaves ∷ []) first second) same refl
+
+pub joins_connect : (readers : Readers) (l a b c m : Linked) → a ≡ with_world l (after readers event.ClientLeaves l.world)
+    → b ≡ with_world a (after readers event.ServerLeaves a.world) → c ≡ with_world b (after readers event.Connect b.world) → m ≡ c
+    → Makes readers AreFirstOfJoining true None l m
+joins_connect readers l a b c m first second third same =
+    joins_cut readers l c m (event.ClientLeaves ∷ event.ServerLeaves ∷ event.Connect ∷ []) _
+    (joins_one readers event.Connect l b c (event.ClientLeaves ∷ event.ServerLeaves ∷ [])
+    (joins_one readers event.ServerLeaves l a b (event.ClientLeaves ∷ []) first second) third) same refl
+
+-- the number of the next connection
+pub next_at : (l : Linked) (client : ClientEnd) (server : Serving) (cs : List Connection) (written : List ℕ) (n : ℕ)
+    → seen client server cs written ≡ l → IsReached (seen client server cs written) → n ≡ length cs → n + 1 ≡ suc l.world.client.client.last
+next_at l client server cs written n view h long =
+    let count : n ≡ l.world.client.client.last = long ∙ (made client server cs written h ∙ ap (λ (k : Linked). k.world.client.client.last) view) in
+    omega (arith, count)
+
+-- ---- the client behind them
+
+-- a client that may come to a connection, with what it kept
+record IsFree (c d : Client) : Type 0 where
+  pub apart : is_apart d.state ≡ true
+  pub last : d.last ≡ c.last
+  pub program : d.program ≡ c.program
+  pub window : d.window ≡ c.window
+  pub features : d.table.tally.features ≡ c.table.tally.features
+
+left_free : (c : Client) (b : Bool) → c.on ≡ b → c.state ≢ State.Done → FitsState c.state c.on → IsFree c (cond b (client_left c) c)
+left_free c true on undone fits = record { apart = go c.state undone; last = refl; program = refl; window = refl; features = refl }
+  where
+    go : (s : State) → s ≢ State.Done → is_apart (left_state s) ≡ true
+    go State.Apart undone = refl
+    go State.Running undone = refl
+    go State.Failing undone = refl
+    go State.Aborting undone = refl
+    go State.Halted undone = refl
+    go State.Done undone = absurd (undone refl)
+    go State.Faulted undone = refl
+left_free c false off undone fits = record {
+  apart = go c.state undone (subst (FitsState c.state) off fits);
+  last = refl;
+  program = refl;
+  window = refl;
+  features = refl;
+}
+  where
+    go : (s : State) → s ≢ State.Done → FitsState s false → is_apart s ≡ true
+    go State.Apart undone off = refl
+    go State.Running undone on = absurd (false≢true on)
+    go State.Failing undone on = absurd (false≢true on)
+    go State.Aborting undone on = absurd (false≢true on)
+    go State.Halted undone on = absurd (false≢true on)
+    go State.Done undone fits = absurd (undone refl)
+    go State.Faulted undone on = absurd (false≢true on)
+
+-- a client on a new connection, with the plan for what is left
+pub record IsJoined (w v : World) : Type 0 where
+  pub state : v.client.client.state ≡ State.Running
+  pub standard : v.client.client.table.standard ≡ []
+  pub unsent : v.client.client.table.tally.unsent ≡ plan_left w
+  pub window : v.client.client.window ≡ w.client.client.window
+
+client_leaves : (readers : Readers) (w : World) → w.client.client.state ≢ State.Done → FitsState w.client.client.state w.client.client.on
+    → IsFree w.client.client (after readers event.ClientLeaves w).client.client
+client_leaves readers w undone fits =
+    subst (IsFree w.client.client) (by w.client.client.on) (left_free w.client.client w.client.client.on refl undone fits)
+  where
+    by : (b : Bool) → cond b (client_left w.client.client) w.client.client
+        ≡ (cond b (happens readers event.ClientLeaves w) w).client.client
+    by true = refl
+    by false = refl
+
+server_leaves : (readers : Readers) (w : World) → (after readers event.ServerLeaves w).client ≡ w.client
+server_leaves readers w = by (can event.ServerLeaves w)
+  where
+    by : (b : Bool) → (cond b (happens readers event.ServerLeaves w) w).client ≡ w.client
+    by true = refl
+    by false = refl
+
+accepts_same : (readers : Readers) (n : ℕ) (w : World) → (after readers (event.Accept n) w).client ≡ w.client
+accepts_same readers n w = by (can (event.Accept n) w)
+  where
+    by : (b : Bool) → (cond b (happens readers (event.Accept n) w) w).client ≡ w.client
+    by true = refl
+    by false = refl
+
+connects : (readers : Readers) (w v : World) → IsFree w.client.client v.client.client → w.client.client.last < connection_most
+    → IsJoined w (after readers event.Connect v)
+connects readers w v free few =
+    subst (IsJoined w) (sym (done_now readers event.Connect v may)) (record {
+      state = refl;
+      standard = refl;
+      unsent = ap (λ (p : Meaning). plan p (length v.client.client.table.tally.features) Start.NewConnection) free.program
+          ∙ ap (λ (fs : List Feature). plan w.client.client.program (length fs) Start.NewConnection) free.features;
+      window = free.window;
+    })
+  where
+    below : nat_lt v.client.client.last connection_most ≡ true
+    below = search (rules, below_yes v.client.client.last (subst (λ (i : ℕ). i < connection_most) (sym free.last) few))
+
+    may : can event.Connect v ≡ true
+    may = ap (λ (b : Bool). b && nat_lt v.client.client.last connection_most) free.apart ∙ below
+
+pub joined_at : (readers : Readers) (w : World) → CanFinish w → FitsState w.client.client.state w.client.client.on
+    → IsJoined w (rejoined readers w)
+joined_at readers w may fits =
+    let left : World = after readers event.ServerLeaves (after readers event.ClientLeaves w) in
+    let free : IsFree w.client.client left.client.client =
+    subst (λ (e : ClientEnd). IsFree w.client.client e.client) (sym (server_leaves readers (after readers event.ClientLeaves w)))
+    (client_leaves readers w may.undone fits) in
+    let joined : IsJoined w (after readers event.Connect left) = connects readers w left free may.connections in
+    let same : (rejoined readers w).client ≡ (after readers event.Connect left).client =
+    accepts_same readers (suc w.client.client.last) (after readers event.Connect left) in record {
+      state = ap (λ (e : ClientEnd). e.client.state) same ∙ joined.state;
+      standard = ap (λ (e : ClientEnd). e.client.table.standard) same ∙ joined.standard;
+      unsent = ap (λ (e : ClientEnd). e.client.table.tally.unsent) same ∙ joined.unsent;
+      window = ap (λ (e : ClientEnd). e.client.window) same ∙ joined.window;
+    }
+
+-- something is due there
+pub joined_due : (w v : World) → IsJoined w v → 1 ≤ w.client.client.window → is_some (due v.client.client) ≡ true
+joined_due w v joined some =
+    ap (λ (s : State). is_some (cond (is_running s && not (is_asking v.client.client.table.standard)) (first_due v.client.client.window
+    (count_open v.client.client.table.standard) v.client.client.table.tally.unsent) None)) joined.state
+    ∙ (ap (λ (hs : List Held). is_some (cond (not (is_asking hs)) (first_due v.client.client.window (count_open hs)
+    v.client.client.table.tally.unsent) None)) joined.standard
+    ∙ (ap (λ (ps : List Planned). is_some (first_due v.client.client.window 0 ps)) joined.unsent
+    ∙ (ap (λ (n : ℕ). is_some (first_due n 0 (plan_left w))) joined.window ∙ go w.client.client.window some)))
+  where
+    below : (n : ℕ) → 0 < n → IsTrue (nat_lt 0 n)
+    below n lt = search rules
+
+    some_below : (n : ℕ) → 1 ≤ n → nat_lt 0 n ≡ true
+    some_below n le = search (rules, below n (omega (arith, le)))
+
+    go : (n : ℕ) → 1 ≤ n → is_some (first_due n 0 (plan_left w)) ≡ true
+    go n le = ap (λ (b : Bool). is_some (cond {A = Option Planned} (b && true)
+        (Some (planned command.StartSession Nothing)) None)) (some_below n le)
+
+-- ---- how many commands there are
+
+behind_few : (k : ℕ) (ss : List Step) → length (behind k ss) ≤ length ss
+behind_few zero ss = omega arith
+behind_few (suc k) [] = omega arith
+behind_few (suc k) (step.Goto p ∷ ss) = let few = behind_few (suc k) ss in omega (arith, few)
+behind_few (suc k) (step.Begin l ∷ ss) = let few = behind_few (suc k) ss in omega (arith, few)
+behind_few (suc k) (step.Touch t ∷ ss) = go (is_empty (block_touches ss)) (behind_few k ss) (behind_few (suc k) ss)
+  where
+    go : (b : Bool) → length (behind k ss) ≤ length ss → length (behind (suc k) ss) ≤ length ss
+        → length (cond b (behind k ss) (behind (suc k) ss)) ≤ suc (length ss)
+    go true few more = omega (arith, few)
+    go false few more = omega (arith, more)
+behind_few (suc k) (step.Tool n ∷ ss) = let few = behind_few (suc k) ss in omega (arith, few)
+behind_few (suc k) (step.Recall p ∷ ss) = let few = behind_few (suc k) ss in omega (arith, few)
+behind_few (suc k) (step.End ∷ ss) = let few = behind_few (suc k) ss in omega (arith, few)
+
+stepping_few : (frame : Frame) (ss : List Step) → length (stepping frame ss) ≤ 2 * length ss
+stepping_few frame [] = omega arith
+stepping_few frame (step.Goto p ∷ ss) = let few = stepping_few frame ss in omega (arith, few)
+stepping_few frame (step.Begin l ∷ ss) = let few = stepping_few frame ss in omega (arith, few)
+stepping_few frame (step.Touch t ∷ ss) = let few = stepping_few frame ss in omega (arith, few)
+stepping_few frame (step.Tool n ∷ ss) = let few = stepping_few frame ss in omega (arith, few)
+stepping_few frame (step.Recall p ∷ ss) = let few = stepping_few (Part p) ss in omega (arith, few)
+stepping_few frame (step.End ∷ ss) = let few = stepping_few frame ss in omega (arith, few)
+
+tooling_few : (tool : Option (List ℕ)) (ps : List Planned) → length (tooling tool ++ ps) ≤ 1 + length ps
+tooling_few None ps = omega arith
+tooling_few (Some n) ps = omega arith
+
+framing_few : (frame : Frame) (ps : List Planned) → length (framing frame ++ ps) ≤ 2 + length ps
+framing_few Machine ps = omega arith
+framing_few (Part p) ps = omega arith
+
+measuring_few : (tool : Option (List ℕ)) (frame : Frame) (ss : List Step) → length (measuring tool frame ss) ≤ 4 + 2 * length ss
+measuring_few tool frame ss =
+    let last : List Planned = planned command.EndSession Nothing ∷ [] in
+    let a = tooling_few tool (framing frame ++ (stepping frame ss ++ last)) in
+    let b = framing_few frame (stepping frame ss ++ last) in
+    let c = length-append (stepping frame ss) last in
+    let d = stepping_few frame ss in omega (arith, a, b, c, d)
+
+plan_few : (p : Meaning) (k : ℕ) → length p.steps ≤ 10000 → length (plan p k Start.NewConnection) ≤ commands_most
+plan_few p k short =
+    let a = measuring_few (tool_behind None (up_to k p.steps)) (frame_behind Machine (up_to k p.steps)) (behind k p.steps) in
+    let b = behind_few k p.steps in omega (arith, a, b, short)
+
+pub left_few : (l : Linked) → IsReached l → length (plan_left l.world) ≤ commands_most
+left_few l h = plan_few l.world.client.client.program (length l.world.client.client.table.tally.features) (program_is l h).short
+
+-- a call told that what is left can be brought to its end
+pub may_by : (w : World) (told : Bool) → told ≡ true → (IsTrue told → CanFinish w) × (CanFinish w → IsTrue told) → CanFinish w
+may_by w told is h = h.0 (search rules)

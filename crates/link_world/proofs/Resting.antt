@@ -1,0 +1,518 @@
+-- A quiet round leaves nothing to do but what is due.
+use Rattle.std.proofs.Common.{◌≡◌, ◌⊎◌, inl, inr, ℕ, zero, suc, ◌-◌, nat_le, Bool, true, false, not, cond, ◌&&◌, List, [], ◌∷◌, ◌++◌, length, refl}
+use Rattle.std.proofs.Common.{ap, subst, sym, ◌∙◌, Option, Some, None, is_none, is_some, Result, Ok, Err, drop, slice_index_or, slice_set, ◌<◌, ◌≤◌, ◌≢◌, arith}
+use Rattle.std.proofs.lemmas.Bool.{false≢true, and_parts}
+use Rattle.contact_ledger.specs.Ledgers.{contact_count}
+use Rattle.contact_ledger.specs.declared.acts.Act.{Act}
+use Rattle.line_framing.specs.Next.{Front, next_of}
+use Rattle.line_framing.specs.declared.faults.FramingFault.{FramingFault}
+use Rattle.line_framing.specs.Framing.{Framing}
+use Rattle.protocol_model.specs.Lines.{Readers, reading_of}
+use Rattle.protocol_model.specs.Client.{Client, due}
+use Rattle.protocol_model.specs.Plan.{is_empty}
+use Rattle.protocol_model.specs.Server.{Server, Answer, server_read, server_turned, server_machined, running_job}
+use Rattle.protocol_model.specs.Ends.{ServerEnd, front_served, with_answer}
+use Rattle.protocol_model.specs.Rounds.{MayEnd, IsOne, AreWhile, Then, possible, all_up, all_down, ended, ending, working, AreWork, IsRound}
+use Rattle.protocol_model.specs.World.{World, Link, no_link, link_of, with_link, client_link, server_link, is_line, is_faulted, has_some, can}
+use Rattle.protocol_model.specs.World.{happens, after, run_of, server_writes}
+use Rattle.protocol_model.specs.declared.events.Event.{Event}
+use Rattle.protocol_model.specs.declared.events.Event.TheVariants as event
+use Rattle.protocol_model.specs.declared.machine.Job.{Job}
+use Rattle.protocol_model.specs.declared.machine.Outcome.{Outcome}
+use Rattle.protocol_model.specs.declared.states.State.{State}
+use Rattle.protocol_model.proofs.invariant.Moves.{Moves, read_moves, turned_moves, machined_moves}
+use Rattle.link_world.proofs.AllBytes.{possible_now, not_possible}
+use Rattle.link_world.proofs.EventLists.{run_append, done_now}
+use Rattle.link_world.proofs.Unsent.{unsent, front_few, is_calm, AreCalm, run_few, sent_less}
+
+-- ---- parts of a round that were not cut
+
+pub then_whole : (readers : Readers) (A B : Bool → World → List Event → Type 0) (w : World) (es : List Event)
+    → (h : Then readers A B false w es) → A false w h.front × B false (run_of readers h.front w) h.back
+then_whole readers A B w es h = go h.parts
+  where
+    go : (A false w h.front × B false (run_of readers h.front w) h.back) ⊎ ((false ≡ true) × A true w h.front × (h.back ≡ []))
+        → A false w h.front × B false (run_of readers h.front w) h.back
+    go (inl both) = both
+    go (inr cut) = absurd (false≢true cut.0)
+
+pub first_is : (readers : Readers) (e f : Event) (w : World) → f ≡ e → can e w ≡ true → after readers f w ≡ happens readers e w
+first_is readers e f w is may = ap (λ (x : Event). after readers x w) is ∙ done_now readers e w may
+
+-- an event is not possible behind its repetition
+while_over : (readers : Readers) (e : Event) (w : World) (es : List Event) → AreWhile readers e false w es
+    → can e (run_of readers es w) ≡ false
+while_over readers e w [] h = h
+while_over readers e w (f ∷ fs) h =
+    subst (λ (v : World). can e (run_of readers fs v) ≡ false) (sym (first_is readers e f w h.0 h.1))
+    (while_over readers e (happens readers e w) fs h.2)
+
+-- what an event keeps where it happens, its repetition keeps
+while_keeps : (readers : Readers) (e : Event) (P : World → Type 0)
+    → ((v : World) → can e v ≡ true → P v → P (happens readers e v)) → (w : World) (es : List Event) → AreWhile readers e false w es
+    → P w → P (run_of readers es w)
+while_keeps readers e P keeps w [] h p = p
+while_keeps readers e P keeps w (f ∷ fs) h p =
+    subst (λ (v : World). P (run_of readers fs v)) (sym (first_is readers e f w h.0 h.1))
+    (while_keeps readers e P keeps (happens readers e w) fs h.2 (keeps w h.1 p))
+
+-- what an event keeps where it happens, it keeps
+after_keeps : (readers : Readers) (e : Event) (P : World → Type 0) → ((v : World) → P v → P (happens readers e v)) → (w : World) → P w
+    → P (after readers e w)
+after_keeps readers e P keeps w p = go (can e w)
+  where
+    go : (b : Bool) → P (cond b (happens readers e w) w)
+    go true = keeps w p
+    go false = p
+
+-- what is possible is that event
+pub possible_is : (e f : Event) (b : Bool) → cond {A = Option Event} b (Some e) None ≡ Some f → f ≡ e
+possible_is e f true is = cc
+possible_is e f false is = absurd (cc)
+
+-- what one event keeps, one that is possible or none keeps
+one_keeps : (readers : Readers) (e : Event) (P : World → Type 0) → ((v : World) → P v → P (happens readers e v)) → (w : World)
+    (es : List Event) → IsOne (possible e w) false es → P w → P (run_of readers es w)
+one_keeps readers e P keeps w es one p = go (possible e w) refl one
+  where
+    go : (o : Option Event) → possible e w ≡ o → IsOne o false es → P (run_of readers es w)
+    go None is none = subst (λ (x : List Event). P (run_of readers x w)) (sym none) p
+    go (Some f) is (inl same) =
+        subst (λ (x : List Event). P (run_of readers x w)) (sym same)
+        (subst (λ (x : Event). P (after readers x w)) (sym (possible_is e f (can e w) is)) (after_keeps readers e P keeps w p))
+    go (Some f) is (inr cut) = absurd (false≢true cut.0)
+
+-- what turns and ends keep, work keeps
+work_keeps : (readers : Readers) (answer : Job → ℕ → Outcome) (P : World → Type 0)
+    → ((v : World) → P v → P (happens readers event.ServerTurn v))
+    → ((o : Outcome) (v : World) → P v → P (happens readers (event.Machine o) v)) → (w : World) (es : List Event)
+    → AreWork readers answer false w es → P w → P (run_of readers es w)
+work_keeps readers answer P turns ends w [] h p = p
+work_keeps readers answer P turns ends w (e ∷ es) h p =
+    work_keeps readers answer P turns ends (after readers e w) es h.1 (go (running_job w.server.server) h.0)
+  where
+    go : (job : Option Job) → working (ended answer (contact_count w.server.server.ledger) job) w ≡ Some e → P (after readers e w)
+    go None is =
+        subst (λ (x : Event). P (after readers x w)) (sym (possible_is event.ServerTurn e (can event.ServerTurn w) is))
+        (after_keeps readers event.ServerTurn P turns w p)
+    go (Some job) is =
+        let same : e ≡ event.Machine (answer job (contact_count w.server.server.ledger)) = cc in
+        subst (λ (x : Event). P (after readers x w)) (sym same)
+        (after_keeps readers (event.Machine (answer job (contact_count w.server.server.ledger))) P
+        (ends (answer job (contact_count w.server.server.ledger))) w p)
+
+-- nothing is left to do behind work
+work_over : (readers : Readers) (answer : Job → ℕ → Outcome) (w : World) (es : List Event) → AreWork readers answer false w es
+    → working (ending answer (run_of readers es w)) (run_of readers es w) ≡ None
+work_over readers answer w [] h = h
+work_over readers answer w (e ∷ es) h = work_over readers answer (after readers e w) es h.1
+
+-- ---- bytes of connections
+
+-- other bytes down on one connection change no bytes up
+up_at : (links : List Link) (i k : ℕ) (bytes : List ℕ)
+    → (slice_index_or (slice_set links i (record { up = (slice_index_or links i no_link).up; down = bytes })) k no_link).up
+    ≡ (slice_index_or links k no_link).up
+up_at [] i k bytes = refl
+up_at (l ∷ ls) zero zero bytes = refl
+up_at (l ∷ ls) zero (suc k) bytes = refl
+up_at (l ∷ ls) (suc i) zero bytes = refl
+up_at (l ∷ ls) (suc i) (suc k) bytes = up_at ls i k bytes
+
+-- a connection that is given no bytes one way has none there
+no_up : (links : List Link) (i : ℕ) (new : Link) → new.up ≡ [] → (slice_index_or (slice_set links i new) i no_link).up ≡ []
+no_up [] i new none = refl
+no_up (l ∷ ls) zero new none = none
+no_up (l ∷ ls) (suc i) new none = no_up ls i new none
+
+no_down : (links : List Link) (i : ℕ) (new : Link) → new.down ≡ [] → (slice_index_or (slice_set links i new) i no_link).down ≡ []
+no_down [] i new none = refl
+no_down (l ∷ ls) zero new none = none
+no_down (l ∷ ls) (suc i) new none = no_down ls i new none
+
+drop_all : (bytes : List ℕ) → drop (length bytes) bytes ≡ []
+drop_all [] = refl
+drop_all (b ∷ bytes) = drop_all bytes
+
+nothing : (a b : Bool) → (a && (b && false)) ≡ false
+nothing true true = refl
+nothing true false = refl
+nothing false b = refl
+
+-- no byte waits that could move up, and none that could move down
+abbrev CannotUp : World → Type 0
+CannotUp w = can (event.Up (length (server_link w).up)) w ≡ false
+
+abbrev CannotDown : World → Type 0
+CannotDown w = can (event.Down (length (client_link w).down)) w ≡ false
+
+-- no line can be read by the server
+abbrev CannotRead : World → Type 0
+CannotRead w = can event.ServerReads w ≡ false
+
+-- the server has nothing to do
+abbrev IsIdle : (Job → ℕ → Outcome) → World → Type 0
+IsIdle answer w = working (ending answer w) w ≡ None
+
+no_bytes_up : (w : World) → (server_link w).up ≡ [] → CannotUp w
+no_bytes_up w none =
+    ap (λ (bytes : List ℕ). w.server.server.on && (is_none w.server.input.fault && has_some (length bytes) bytes)) none
+    ∙ nothing w.server.server.on (is_none w.server.input.fault)
+
+no_bytes_down : (w : World) → (client_link w).down ≡ [] → CannotDown w
+no_bytes_down w none =
+    ap (λ (bytes : List ℕ). w.client.client.on && (not (is_faulted w.client.client.state) && has_some (length bytes) bytes)) none
+    ∙ nothing w.client.client.on (not (is_faulted w.client.client.state))
+
+-- behind all that moves up, nothing can
+up_over : (readers : Readers) (w : World) (es : List Event) → IsOne (all_up w) false es → CannotUp (run_of readers es w)
+up_over readers w es one = go (can (event.Up (length (server_link w).up)) w) refl
+  where
+    moves : Event
+    moves = event.Up (length (server_link w).up)
+
+    only : (es ≡ moves ∷ []) ⊎ ((false ≡ true) × (es ≡ [])) → es ≡ moves ∷ []
+    only (inl same) = same
+    only (inr cut) = absurd (false≢true cut.0)
+
+    go : (b : Bool) → can moves w ≡ b → CannotUp (run_of readers es w)
+    go true may =
+        subst (λ (x : List Event). CannotUp (run_of readers x w))
+        (sym (only (subst (λ (o : Option Event). IsOne o false es) (possible_now moves w may) one)))
+        (subst CannotUp (sym (done_now readers moves w may))
+        (no_bytes_up (happens readers moves w) (no_up w.links (w.server.server.last - 1) _ (drop_all (server_link w).up))))
+    go false never =
+        subst (λ (x : List Event). CannotUp (run_of readers x w))
+        (sym (subst (λ (o : Option Event). IsOne o false es) (not_possible moves w never) one)) never
+
+-- behind all that moves down, nothing can
+down_over : (readers : Readers) (w : World) (es : List Event) → IsOne (all_down w) false es → CannotDown (run_of readers es w)
+down_over readers w es one = go (can (event.Down (length (client_link w).down)) w) refl
+  where
+    moves : Event
+    moves = event.Down (length (client_link w).down)
+
+    only : (es ≡ moves ∷ []) ⊎ ((false ≡ true) × (es ≡ [])) → es ≡ moves ∷ []
+    only (inl same) = same
+    only (inr cut) = absurd (false≢true cut.0)
+
+    go : (b : Bool) → can moves w ≡ b → CannotDown (run_of readers es w)
+    go true may =
+        subst (λ (x : List Event). CannotDown (run_of readers x w))
+        (sym (only (subst (λ (o : Option Event). IsOne o false es) (possible_now moves w may) one)))
+        (subst CannotDown (sym (done_now readers moves w may))
+        (no_bytes_down (happens readers moves w) (no_down w.links (w.client.client.last - 1) _ (drop_all (client_link w).down))))
+    go false never =
+        subst (λ (x : List Event). CannotDown (run_of readers x w))
+        (sym (subst (λ (o : Option Event). IsOne o false es) (not_possible moves w never) one)) never
+
+-- ---- what later parts keep
+
+-- the server's side of the bytes up is as it was
+record SameUp (w v : World) : Type 0 where
+  pub on : v.server.server.on ≡ w.server.server.on
+  pub fault : v.server.input.fault ≡ w.server.input.fault
+  pub up : (server_link v).up ≡ (server_link w).up
+
+keeps_up : (w v : World) → SameUp w v → CannotUp w → CannotUp v
+keeps_up w v same h =
+    ap (λ (b : Bool). b && (is_none v.server.input.fault && has_some (length (server_link v).up) (server_link v).up)) same.on
+    ∙ (ap (λ (f : Option FramingFault). w.server.server.on && (is_none f && has_some (length (server_link v).up) (server_link v).up)) same.fault
+    ∙ (ap (λ (bytes : List ℕ). w.server.server.on && (is_none w.server.input.fault && has_some (length bytes) bytes)) same.up ∙ h))
+
+answers_same : (w : World) (input : Framing) (a : Answer) (acts : List Act) → Moves w.server.server a.server acts
+    → input.fault ≡ w.server.input.fault → SameUp w (server_writes w (with_answer w.server input a))
+answers_same w input a acts moves fault = record {
+  on = moves.on;
+  fault = fault;
+  up = ap (λ (n : ℕ). (link_of (server_writes w (with_answer w.server input a)).links n).up) moves.last
+      ∙ up_at w.links (w.server.server.last - 1) (w.server.server.last - 1) _;
+}
+
+read_keeps_up : (readers : Readers) (w : World) → can event.ServerReads w ≡ true → CannotUp w
+    → CannotUp (happens readers event.ServerReads w)
+read_keeps_up readers w may h =
+    keeps_up w (happens readers event.ServerReads w) (go (next_of w.server.input.rest) (and_parts _ _ (and_parts _ _ may).1).1) h
+  where
+    go : (f : Front) → is_line f ≡ true → SameUp w (server_writes w (front_served readers w.server f))
+    go (Ok None) line = absurd (false≢true line)
+    go (Ok (Some (line, rest))) there =
+        answers_same w (record (w.server.input) { rest = rest }) (server_read w.server.server (reading_of (readers.command line))) []
+        (read_moves w.server.server (reading_of (readers.command line))) refl
+    go (Err why) line = absurd (false≢true line)
+
+turn_keeps_up : (readers : Readers) (w : World) → CannotUp w → CannotUp (happens readers event.ServerTurn w)
+turn_keeps_up readers w h =
+    let m = turned_moves w.server.server in
+    keeps_up w (happens readers event.ServerTurn w) (answers_same w w.server.input (server_turned w.server.server) m.0 m.1 refl) h
+
+end_keeps_up : (readers : Readers) (o : Outcome) (w : World) → CannotUp w → CannotUp (happens readers (event.Machine o) w)
+end_keeps_up readers o w h =
+    let m = machined_moves w.server.server o in
+    keeps_up w (happens readers (event.Machine o) w) (answers_same w w.server.input (server_machined w.server.server o) m.0 m.1 refl) h
+
+turn_keeps_lines : (readers : Readers) (w : World) → CannotRead w → CannotRead (happens readers event.ServerTurn w)
+turn_keeps_lines readers w h =
+    ap (λ (b : Bool). b && (is_none w.server.input.fault && is_line (next_of w.server.input.rest))) (turned_moves w.server.server).1.on ∙ h
+
+end_keeps_lines : (readers : Readers) (o : Outcome) (w : World) → CannotRead w → CannotRead (happens readers (event.Machine o) w)
+end_keeps_lines readers o w h =
+    ap (λ (b : Bool). b && (is_none w.server.input.fault && is_line (next_of w.server.input.rest))) (machined_moves w.server.server o).1.on ∙ h
+
+down_keeps_up : (readers : Readers) (k : ℕ) (w : World) → CannotUp w → CannotUp (happens readers (event.Down k) w)
+down_keeps_up readers k w h = keeps_up w (happens readers (event.Down k) w) (record {
+  on = refl;
+  fault = refl;
+  up = up_at w.links (w.client.client.last - 1) (w.server.server.last - 1) _;
+}) h
+
+heard_keeps_down : (readers : Readers) (w : World) → can event.ClientReads w ≡ true → CannotDown w
+    → CannotDown (happens readers event.ClientReads w)
+heard_keeps_down readers w may h =
+    let on : w.client.client.on ≡ true = (and_parts _ _ may).0 in
+    let awake : not (is_faulted w.client.client.state) ≡ true = (and_parts _ _ (and_parts _ _ may).1).0 in
+    let none : has_some (length (client_link w).down) (client_link w).down ≡ false = blocked _ _ _ on awake h in
+    let here : (link_of w.links (happens readers event.ClientReads w).client.client.last).down ≡ (client_link w).down =
+    ap (λ (n : ℕ). (link_of w.links n).down) (front_few readers w.client.client (next_of w.client.input.rest)).last in
+    ap (λ (b : Bool). (happens readers event.ClientReads w).client.client.on
+    && (not (is_faulted (happens readers event.ClientReads w).client.client.state) && b))
+    (ap (λ (bytes : List ℕ). has_some (length bytes) bytes) here ∙ none)
+    ∙ nothing (happens readers event.ClientReads w).client.client.on
+    (not (is_faulted (happens readers event.ClientReads w).client.client.state))
+  where
+    blocked : (a b c : Bool) → a ≡ true → b ≡ true → (a && (b && c)) ≡ false → c ≡ false
+    blocked true true c on awake is = is
+    blocked false b c on awake is = absurd (false≢true on)
+    blocked true false c on awake is = absurd (false≢true awake)
+
+-- what is to be done hangs on the server alone
+idle_by : (o : Option Event) (w v : World) → v.server ≡ w.server → working o w ≡ None → working o v ≡ None
+idle_by None w v same is =
+    ap (λ (s : ServerEnd). cond {A = Option Event} (is_none s.server.running && not (is_empty s.server.waiting)) (Some event.ServerTurn) None)
+    same ∙ is
+idle_by (Some e) w v same is = is
+
+heard_keeps_idle : (readers : Readers) (answer : Job → ℕ → Outcome) (w : World) → IsIdle answer w
+    → IsIdle answer (happens readers event.ClientReads w)
+heard_keeps_idle readers answer w h = idle_by (ending answer w) w (happens readers event.ClientReads w) refl h
+
+down_keeps_idle : (readers : Readers) (answer : Job → ℕ → Outcome) (k : ℕ) (w : World) → IsIdle answer w
+    → IsIdle answer (happens readers (event.Down k) w)
+down_keeps_idle readers answer k w h = idle_by (ending answer w) w (happens readers (event.Down k) w) refl h
+
+-- ---- a whole round
+
+-- nothing is left to do but what is due
+record Rests (answer : Job → ℕ → Outcome) (w : World) : Type 0 where
+  pub up : CannotUp w
+  pub lines : CannotRead w
+  pub idle : IsIdle answer w
+  pub down : CannotDown w
+  pub heard : can event.ClientReads w ≡ false
+
+behind_both : (readers : Readers) (answer : Job → ℕ → Outcome) (A B : Bool → World → List Event → Type 0) (w : World) (es : List Event)
+    → (h : Then readers A B false w es) → Rests answer (run_of readers h.back (run_of readers h.front w)) → Rests answer (run_of readers es w)
+behind_both readers answer A B w es h rests =
+    subst (Rests answer) (sym (ap (λ (x : List Event). run_of readers x w) h.whole ∙ run_append readers h.front h.back w)) rests
+
+rests_heard : (readers : Readers) (answer : Job → ℕ → Outcome) (w : World) (es : List Event)
+    → AreWhile readers event.ClientReads false w es → CannotUp w → CannotRead w → IsIdle answer w → CannotDown w
+    → Rests answer (run_of readers es w)
+rests_heard readers answer w es h up lines idle down = record {
+  up = while_keeps readers event.ClientReads CannotUp (λ v may p. p) w es h up;
+  lines = while_keeps readers event.ClientReads CannotRead (λ v may p. p) w es h lines;
+  idle = while_keeps readers event.ClientReads (IsIdle answer) (λ v may p. heard_keeps_idle readers answer v p) w es h idle;
+  down = while_keeps readers event.ClientReads CannotDown (heard_keeps_down readers) w es h down;
+  heard = while_over readers event.ClientReads w es h;
+}
+
+-- the parts of a round, from the last on
+abbrev Lowers : Readers → Bool → World → List Event → Type 0
+Lowers readers = Then readers (λ cut w. IsOne (all_down w) cut) (AreWhile readers event.ClientReads)
+
+abbrev Works : Readers → (Job → ℕ → Outcome) → Bool → World → List Event → Type 0
+Works readers answer = Then readers (AreWork readers answer) (Lowers readers)
+
+abbrev Serves : Readers → (Job → ℕ → Outcome) → Bool → World → List Event → Type 0
+Serves readers answer = Then readers (AreWhile readers event.ServerReads) (Works readers answer)
+
+abbrev Raises : Readers → (Job → ℕ → Outcome) → Bool → World → List Event → Type 0
+Raises readers answer = Then readers (λ cut w. IsOne (all_up w) cut) (Serves readers answer)
+
+rests_lowered : (readers : Readers) (answer : Job → ℕ → Outcome) (w : World) (es : List Event) → Lowers readers false w es → CannotUp w
+    → CannotRead w → IsIdle answer w → Rests answer (run_of readers es w)
+rests_lowered readers answer w es h up lines idle =
+    let both = then_whole readers (λ cut w. IsOne (all_down w) cut) (AreWhile readers event.ClientReads) w es h in
+    let n : ℕ = length (client_link w).down in
+    behind_both readers answer (λ cut w. IsOne (all_down w) cut) (AreWhile readers event.ClientReads) w es h
+    (rests_heard readers answer (run_of readers h.front w) h.back both.1
+    (one_keeps readers (event.Down n) CannotUp (down_keeps_up readers n) w h.front both.0 up)
+    (one_keeps readers (event.Down n) CannotRead (λ v p. p) w h.front both.0 lines)
+    (one_keeps readers (event.Down n) (IsIdle answer) (down_keeps_idle readers answer n) w h.front both.0 idle)
+    (down_over readers w h.front both.0))
+
+rests_worked : (readers : Readers) (answer : Job → ℕ → Outcome) (w : World) (es : List Event) → Works readers answer false w es → CannotUp w
+    → CannotRead w → Rests answer (run_of readers es w)
+rests_worked readers answer w es h up lines =
+    let both = then_whole readers (AreWork readers answer) (Lowers readers) w es h in
+    behind_both readers answer (AreWork readers answer) (Lowers readers) w es h
+    (rests_lowered readers answer (run_of readers h.front w) h.back both.1
+    (work_keeps readers answer CannotUp (turn_keeps_up readers) (end_keeps_up readers) w h.front both.0 up)
+    (work_keeps readers answer CannotRead (turn_keeps_lines readers) (end_keeps_lines readers) w h.front both.0 lines)
+    (work_over readers answer w h.front both.0))
+
+rests_served : (readers : Readers) (answer : Job → ℕ → Outcome) (w : World) (es : List Event) → Serves readers answer false w es → CannotUp w
+    → Rests answer (run_of readers es w)
+rests_served readers answer w es h up =
+    let both = then_whole readers (AreWhile readers event.ServerReads) (Works readers answer) w es h in
+    behind_both readers answer (AreWhile readers event.ServerReads) (Works readers answer) w es h
+    (rests_worked readers answer (run_of readers h.front w) h.back both.1
+    (while_keeps readers event.ServerReads CannotUp (read_keeps_up readers) w h.front both.0 up)
+    (while_over readers event.ServerReads w h.front both.0))
+
+rests_raised : (readers : Readers) (answer : Job → ℕ → Outcome) (w : World) (es : List Event) → Raises readers answer false w es
+    → Rests answer (run_of readers es w)
+rests_raised readers answer w es h =
+    let both = then_whole readers (λ cut w. IsOne (all_up w) cut) (Serves readers answer) w es h in
+    behind_both readers answer (λ cut w. IsOne (all_up w) cut) (Serves readers answer) w es h
+    (rests_served readers answer (run_of readers h.front w) h.back both.1 (up_over readers w h.front both.0))
+
+rests : (readers : Readers) (answer : Job → ℕ → Outcome) (w : World) (es : List Event) → IsRound readers answer false w es
+    → Rests answer (run_of readers es w)
+rests readers answer w es h =
+    let both = then_whole readers (AreWhile readers event.ClientSends) (Raises readers answer) w es h in
+    behind_both readers answer (AreWhile readers event.ClientSends) (Raises readers answer) w es h
+    (rests_raised readers answer (run_of readers h.front w) h.back both.1)
+
+-- where nothing is due behind a round, the next does nothing
+pub round_still : (readers : Readers) (answer : Job → ℕ → Outcome) (w : World) (es : List Event) → IsRound readers answer false w es
+    → due (run_of readers es w).client.client ≡ None → IsRound readers answer false (run_of readers es w) []
+round_still readers answer w es h none = go (run_of readers es w) (rests readers answer w es h) none
+  where
+    nothing_there : (e : Event) (v : World) → can e v ≡ false → IsOne (possible e v) false []
+    nothing_there e v never = subst (λ (o : Option Event). IsOne o false []) (sym (not_possible e v never)) refl
+
+    go : (v : World) → Rests answer v → due v.client.client ≡ None → IsRound readers answer false v []
+    go v r none = record {
+      front = [];
+      back = [];
+      whole = refl;
+      parts = inl (
+        ap is_some none,
+        record {
+          front = [];
+          back = [];
+          whole = refl;
+          parts = inl (
+            nothing_there (event.Up (length (server_link v).up)) v r.up,
+            record {
+              front = [];
+              back = [];
+              whole = refl;
+              parts = inl (
+                r.lines,
+                record {
+                  front = [];
+                  back = [];
+                  whole = refl;
+                  parts = inl (
+                    r.idle,
+                    record {
+                      front = [];
+                      back = [];
+                      whole = refl;
+                      parts = inl (nothing_there (event.Down (length (client_link v).down)) v r.down, r.heard);
+                    },
+                  );
+                },
+              );
+            },
+          );
+        },
+      );
+    }
+
+-- ---- its events
+
+calm_append : (es fs : List Event) → AreCalm es → AreCalm fs → AreCalm (es ++ fs)
+calm_append [] fs p q = q
+calm_append (e ∷ es) fs p q = (p.0, calm_append es fs p.1 q)
+
+while_calm : (readers : Readers) (e : Event) (w : World) (es : List Event) → is_calm e ≡ true → AreWhile readers e false w es → AreCalm es
+while_calm readers e w [] calm h = tt
+while_calm readers e w (f ∷ fs) calm h = (ap is_calm h.0 ∙ calm, while_calm readers e (happens readers e w) fs calm h.2)
+
+one_calm : (e : Event) (w : World) (es : List Event) → is_calm e ≡ true → IsOne (possible e w) false es → AreCalm es
+one_calm e w es calm one = go (possible e w) refl one
+  where
+    go : (o : Option Event) → possible e w ≡ o → IsOne o false es → AreCalm es
+    go None is none = subst AreCalm (sym none) tt
+    go (Some f) is (inl same) = subst AreCalm (sym same) (ap is_calm (possible_is e f (can e w) is) ∙ calm, tt)
+    go (Some f) is (inr cut) = absurd (false≢true cut.0)
+
+work_calm : (readers : Readers) (answer : Job → ℕ → Outcome) (w : World) (es : List Event) → AreWork readers answer false w es → AreCalm es
+work_calm readers answer w [] h = tt
+work_calm readers answer w (e ∷ es) h = (go (running_job w.server.server) h.0, work_calm readers answer (after readers e w) es h.1)
+  where
+    go : (job : Option Job) → working (ended answer (contact_count w.server.server.ledger) job) w ≡ Some e → is_calm e ≡ true
+    go None is = ap is_calm (possible_is event.ServerTurn e (can event.ServerTurn w) is)
+    go (Some job) is =
+        let same : e ≡ event.Machine (answer job (contact_count w.server.server.ledger)) = cc in ap is_calm same
+
+both_calm : (readers : Readers) (A B : Bool → World → List Event → Type 0) (w : World) (es : List Event)
+    → (h : Then readers A B false w es) → AreCalm h.front → AreCalm h.back → AreCalm es
+both_calm readers A B w es h p q = subst AreCalm (sym h.whole) (calm_append h.front h.back p q)
+
+lowered_calm : (readers : Readers) (w : World) (es : List Event) → Lowers readers false w es → AreCalm es
+lowered_calm readers w es h =
+    let both = then_whole readers (λ cut w. IsOne (all_down w) cut) (AreWhile readers event.ClientReads) w es h in
+    both_calm readers (λ cut w. IsOne (all_down w) cut) (AreWhile readers event.ClientReads) w es h
+    (one_calm (event.Down (length (client_link w).down)) w h.front refl both.0)
+    (while_calm readers event.ClientReads (run_of readers h.front w) h.back refl both.1)
+
+worked_calm : (readers : Readers) (answer : Job → ℕ → Outcome) (w : World) (es : List Event) → Works readers answer false w es → AreCalm es
+worked_calm readers answer w es h =
+    let both = then_whole readers (AreWork readers answer) (Lowers readers) w es h in
+    both_calm readers (AreWork readers answer) (Lowers readers) w es h
+    (work_calm readers answer w h.front both.0) (lowered_calm readers (run_of readers h.front w) h.back both.1)
+
+served_calm : (readers : Readers) (answer : Job → ℕ → Outcome) (w : World) (es : List Event) → Serves readers answer false w es → AreCalm es
+served_calm readers answer w es h =
+    let both = then_whole readers (AreWhile readers event.ServerReads) (Works readers answer) w es h in
+    both_calm readers (AreWhile readers event.ServerReads) (Works readers answer) w es h
+    (while_calm readers event.ServerReads w h.front refl both.0) (worked_calm readers answer (run_of readers h.front w) h.back both.1)
+
+raised_calm : (readers : Readers) (answer : Job → ℕ → Outcome) (w : World) (es : List Event) → Raises readers answer false w es → AreCalm es
+raised_calm readers answer w es h =
+    let both = then_whole readers (λ cut w. IsOne (all_up w) cut) (Serves readers answer) w es h in
+    both_calm readers (λ cut w. IsOne (all_up w) cut) (Serves readers answer) w es h
+    (one_calm (event.Up (length (server_link w).up)) w h.front refl both.0)
+    (served_calm readers answer (run_of readers h.front w) h.back both.1)
+
+cons_there : (e : Event) (es : List Event) → e ∷ es ≡ [] → ⊥
+cons_there e es is = cc
+
+-- ---- what a round begins with
+
+-- a round that begins where something is due begins with its being sent, and leaves less to be sent
+pub round_fewer : (readers : Readers) (answer : Job → ℕ → Outcome) (w : World) (es : List Event) → IsRound readers answer false w es
+    → is_some (due w.client.client) ≡ true → (happens readers event.ClientSends w).client.client.state ≢ State.Faulted
+    → (es ≢ []) × (unsent (run_of readers es w) < unsent w)
+round_fewer readers answer w es h some fine =
+    let both = then_whole readers (AreWhile readers event.ClientSends) (Raises readers answer) w es h in
+    go h.front h.back both.0 h.whole (raised_calm readers answer (run_of readers h.front w) h.back both.1)
+  where
+    go : (front back : List Event) → AreWhile readers event.ClientSends false w front → es ≡ front ++ back → AreCalm back
+        → (es ≢ []) × (unsent (run_of readers es w) < unsent w)
+    go [] back none whole calm = absurd (false≢true (sym none ∙ some))
+    go (f ∷ fs) back sends whole calm =
+        let first : after readers f w ≡ happens readers event.ClientSends w = first_is readers event.ClientSends f w sends.0 sends.1 in
+        let less : unsent (happens readers event.ClientSends w) < unsent w = sent_less readers w sends.1 fine in
+        let few : unsent (run_of readers (fs ++ back) (happens readers event.ClientSends w)) ≤ unsent (happens readers event.ClientSends w) =
+        run_few readers (fs ++ back) (happens readers event.ClientSends w)
+        (calm_append fs back (while_calm readers event.ClientSends (happens readers event.ClientSends w) fs refl sends.2) calm) in
+        let same : run_of readers es w ≡ run_of readers (fs ++ back) (happens readers event.ClientSends w) =
+        ap (λ (x : List Event). run_of readers x w) whole ∙ ap (run_of readers (fs ++ back)) first in (
+          λ none. cons_there f (fs ++ back) (sym whole ∙ none),
+          subst (λ (v : World). unsent v < unsent w) (sym same) (omega (arith, few, less)),
+        )
