@@ -6,4 +6,5 @@ pub mod invariant
 pub mod each_event
 pub mod whole_run
 pub mod undisturbed_run
+pub mod quiet_run
 pub mod worked_rows

@@ -14,6 +14,7 @@
 //! - `streams`: what a stream of written lines hands out
 //! - `readers`: that lines can be read as the interface says
 //! - `undisturbed`: what is written, done and counted in a run that nothing disturbs
+//! - `quiet`: a broken link is brought to its end by quiet rounds, in a stated number of them
 //! - `rows`: worked rows, as examples that the definitions compute
 //! - `origins`: worked rows of where features come from
 //! - `homing`: worked rows of the question whether the machine is homed
@@ -31,6 +32,7 @@ pub mod origins;
 pub mod plan_laws;
 pub mod plans;
 pub mod positions;
+pub mod quiet;
 pub mod readers;
 pub mod replies;
 pub mod rows;
@@ -49,6 +51,7 @@ pub use machine::{Job, Outcome};
 pub use plan_laws::plans_measure_what_is_left;
 pub use plans::{Does, Planned, Start};
 pub use positions::plans_go_on_behind_the_last_touch;
+pub use quiet::quiet_rounds_are_few;
 pub use readers::readers_exist;
 pub use replies::table_accepts_the_language;
 pub use states::{Cause, State};

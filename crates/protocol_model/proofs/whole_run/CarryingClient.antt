@@ -162,7 +162,8 @@ pub record StaysOn (c d : Client) : Type 0 where
   pub on : d.on ≡ c.on
   pub last : d.last ≡ c.last
 
-sends_stays : (c : Client) (ps : List Planned) (n : Option ℕ) → StaysOn c (sends_next c ps n).client
+-- a client that sends does
+pub sends_stays : (c : Client) (ps : List Planned) (n : Option ℕ) → StaysOn c (sends_next c ps n).client
 sends_stays c [] n = record { on = refl; last = refl }
 sends_stays c (p ∷ ps) None = record { on = refl; last = refl }
 sends_stays c (p ∷ ps) (Some n) = record { on = refl; last = refl }

@@ -1,0 +1,116 @@
+-- What a client becomes by what it reads: itself, Faulted, or what one reply makes of it.
+use Rattle.std.proofs.Common.{◌≡◌, ℕ, suc, ◌≤◌, Bool, true, false, cond, List, [], ◌∷◌, length, refl, arith, le_refl, le_trans, Option, Some, None}
+use Rattle.std.proofs.Common.{Result, Ok, Err}
+use Rattle.fixed_um.specs.declared.lengths.Point.{Point}
+use Rattle.dme_line.specs.declared.tags.Tag.{Tag}
+use Rattle.dme_line.specs.declared.tags.Tag.TheVariants.{Event}
+use Rattle.dme_line.specs.declared.commands.Kind.{Kind}
+use Rattle.dme_line.specs.declared.commands.Kind.TheVariants as kind
+use Rattle.dme_line.specs.declared.homed.NotHomedText.{NotHomedText}
+use Rattle.dme_line.specs.declared.points.NotPoint.{NotPoint}
+use Rattle.dme_line.specs.declared.responses.Mark.{Mark as Marked}
+use Rattle.dme_line.specs.declared.responses.Mark.TheVariants as mark
+use Rattle.dme_line.specs.declared.responses.Response.{Response}
+use Rattle.dme_line.specs.declared.responses.NotResponse.{NotResponse}
+use Rattle.line_framing.specs.Next.{Front}
+use Rattle.line_framing.specs.declared.faults.FramingFault.TheVariants as framing
+use Rattle.protocol_model.specs.Replies.{Mark, tag_is}
+use Rattle.protocol_model.specs.Lines.{Readers}
+use Rattle.protocol_model.specs.Client.{Client, Table, faulted, client_hears, client_read, heard_on, heard, is_homing, passed_over}
+use Rattle.protocol_model.specs.Client.{without_homing}
+use Rattle.protocol_model.specs.Ends.{held_under, given_point, given_homed, given_for, given_under, response_read, line_read}
+use Rattle.protocol_model.specs.Ends.{front_read}
+use Rattle.protocol_model.proofs.table.Basics.{if_false}
+use Rattle.protocol_model.proofs.table.Replying.{fine}
+use Rattle.protocol_model.proofs.table.Asking.{step_leaves}
+use Rattle.protocol_model.proofs.plan.PassedOver.{passes}
+use Rattle.protocol_model.specs.declared.held.Datum.TheVariants as datum
+use Rattle.protocol_model.specs.declared.plans.Planned.{Planned}
+use Rattle.protocol_model.specs.declared.states.Cause.{Cause}
+
+-- what holds of a client, of it Faulted, and of it behind each reply that has its place
+pub record Closed (c : Client) (P : Client → Type 0) : Type 0 where
+  pub same : P c
+  pub fault : (cause : Cause) → P (faulted cause c)
+  pub hears : (t : Tag) (m : Mark) (b : Table) → heard c.program.features c.table t m ≡ fine b → P (client_hears c t m (Ok b))
+
+read_cases : (c : Client) (t : Tag) (m : Mark) (P : Client → Type 0) → Closed c P → P (client_read c t m)
+read_cases c t m P k = go (tag_is t (Event 0)) refl
+  where
+    by : (r : Result Table Cause) → heard c.program.features c.table t m ≡ r → P (client_hears c t m r)
+    by (Ok b) e = k.hears t m b e
+    by (Err cause) e = k.fault cause
+
+    go : (z : Bool) → tag_is t (Event 0) ≡ z → P (cond z c (client_hears c t m (heard_on c.program.features c.table t m)))
+    go true e = k.same
+    go false e = by (heard_on c.program.features c.table t m)
+        (if_false {A = Result Table Cause} (tag_is t (Event 0)) (fine c.table) (heard_on c.program.features c.table t m) e)
+
+either : (P : Client → Type 0) (b : Bool) (x y : Client) → P x → P y → P (cond b x y)
+either P true x y p q = p
+either P false x y p q = q
+
+point_cases : (c : Client) (t : Tag) (r : Result Point NotPoint) (P : Client → Type 0) → Closed c P → P (given_point c t r)
+point_cases c t (Ok p) P k = read_cases c t (Mark.Given (datum.Point p)) P k
+point_cases c t (Err why) P k = k.fault Cause.NotResponse
+
+homed_cases : (c : Client) (t : Tag) (r : Result Bool NotHomedText) (P : Client → Type 0) → Closed c P → P (given_homed c t r)
+homed_cases c t (Ok homed) P k = read_cases c t (Mark.Given (datum.Homed homed)) P k
+homed_cases c t (Err why) P k = k.fault Cause.NotResponse
+
+for_cases : (readers : Readers) (c : Client) (t : Tag) (text : List ℕ) (x : Kind) (P : Client → Type 0) → Closed c P
+    → P (given_for readers c t text x)
+for_cases readers c t text kind.PtMeas P k = point_cases c t (readers.point text) P k
+for_cases readers c t text kind.IsHomed P k = homed_cases c t (readers.homed text) P k
+for_cases readers c t text kind.StartSession P k = k.fault Cause.OutOfOrder
+for_cases readers c t text kind.EndSession P k = k.fault Cause.OutOfOrder
+for_cases readers c t text kind.ClearAllErrors P k = k.fault Cause.OutOfOrder
+for_cases readers c t text kind.Home P k = k.fault Cause.OutOfOrder
+for_cases readers c t text kind.OnPtMeasReport P k = k.fault Cause.OutOfOrder
+for_cases readers c t text kind.GoTo P k = k.fault Cause.OutOfOrder
+for_cases readers c t text kind.ChangeTool P k = k.fault Cause.OutOfOrder
+for_cases readers c t text kind.SetCsyTransformation P k = k.fault Cause.OutOfOrder
+for_cases readers c t text kind.SetCoordSystem P k = k.fault Cause.OutOfOrder
+for_cases readers c t text kind.AbortE P k = k.fault Cause.OutOfOrder
+
+under_cases : (readers : Readers) (c : Client) (t : Tag) (text : List ℕ) (held : Option Kind) (P : Client → Type 0) → Closed c P
+    → P (given_under readers c t text held)
+under_cases readers c t text None P k = k.fault Cause.UnknownTag
+under_cases readers c t text (Some x) P k = for_cases readers c t text x P k
+
+response_cases : (readers : Readers) (c : Client) (t : Tag) (m : Marked) (P : Client → Type 0) → Closed c P
+    → P (response_read readers c t m)
+response_cases readers c t mark.Ack P k = read_cases c t Mark.Ack P k
+response_cases readers c t (mark.Given text) P k = either P (tag_is t (Event 0)) c (given_under readers c t text (held_under t c)) k.same
+    (under_cases readers c t text (held_under t c) P k)
+response_cases readers c t mark.Done P k = read_cases c t Mark.Done P k
+response_cases readers c t (mark.Error text) P k = read_cases c t Mark.Error P k
+
+line_cases : (readers : Readers) (c : Client) (r : Result Response NotResponse) (P : Client → Type 0) → Closed c P
+    → P (line_read readers c r)
+line_cases readers c (Ok r) P k = response_cases readers c r.tag r.mark P k
+line_cases readers c (Err refused) P k = k.fault Cause.NotResponse
+
+-- so it holds of the client behind whatever it reads
+pub front_cases : (readers : Readers) (c : Client) (f : Front) (P : Client → Type 0) → Closed c P → P (front_read readers c f)
+front_cases readers c (Ok None) P k = k.same
+front_cases readers c (Ok (Some (line, rest))) P k = line_cases readers c (readers.response line) P k
+front_cases readers c (Err framing.LineTooLong) P k = k.fault Cause.LineTooLong
+front_cases readers c (Err framing.BadByte) P k = k.fault Cause.BadByte
+
+-- ---- what a client that reads has not sent
+
+-- what it reads adds nothing to what is unsent
+pub reads_unsent : (readers : Readers) (c : Client) (f : Front) (most : ℕ) → length c.table.tally.unsent ≤ most
+    → length (front_read readers c f).table.tally.unsent ≤ most
+reads_unsent readers c f most h = front_cases readers c f (λ (d : Client). length d.table.tally.unsent ≤ most) (record {
+  same = h;
+  fault = λ cause. h;
+  hears = λ t m b is. step_leaves c.program.features c.table t m b (λ (ps : List Planned). length ps ≤ most) is h
+      (λ ps told le. passes (λ (qs : List Planned). length qs ≤ most) (λ p qs e le. omega (arith, le)) told ps le);
+})
+
+-- a client that reads is on its connection as it was
+pub reads_on : (readers : Readers) (c : Client) (f : Front) → (front_read readers c f).on ≡ c.on
+reads_on readers c f = front_cases readers c f (λ (d : Client). d.on ≡ c.on)
+    (record { same = refl; fault = λ cause. refl; hears = λ t m b is. refl })

@@ -1,0 +1,231 @@
+-- Both ends leave, connect and accept: nothing is on its way, and the client has the plan for what is left.
+use Rattle.std.proofs.Common.{◌≡◌, ◌⊎◌, inl, inr, ℕ, suc, ◌<◌, ◌≤◌, Bool, true, false, cond, not, ◌&&◌, List, [], ◌∷◌, ◌++◌, length}
+use Rattle.std.proofs.Common.{refl, sym, ◌∙◌, ap, subst, arith, Option, Some, None, Ok, Err, nat_lt, nat_le}
+use Rattle.std.proofs.lemmas.Bool.{false≢true, and_parts, le-leb}
+use Rattle.contact_ledger.specs.Ledgers.{connection_most}
+use Rattle.line_framing.specs.Framing.{Framing}
+use Rattle.line_framing.specs.Next.{Front, next_of}
+use Rattle.contact_ledger.specs.declared.features.Feature.{Feature}
+use Rattle.dmis_program.specs.Meaning.{Meaning}
+use Rattle.protocol_model.specs.Lines.{Readers, AreReaders, reading_of}
+use Rattle.protocol_model.specs.Plan.{plan}
+use Rattle.protocol_model.specs.declared.plans.Start.{Start}
+use Rattle.protocol_model.specs.Client.{Client, Table, client_connected, left_state, no_tally, is_apart}
+use Rattle.protocol_model.specs.Server.{Server, may_end}
+use Rattle.protocol_model.specs.Ends.{ServerEnd, end_left, serving_left, serving_accepted, front_served}
+use Rattle.protocol_model.specs.World.{World, Link, no_link, link_of, server_link, client_link, can, happens, after, run_of, connected}
+use Rattle.protocol_model.specs.Finishing.{CanFinish, rejoined, plan_left}
+use Rattle.protocol_model.specs.declared.events.Event.{Event}
+use Rattle.protocol_model.specs.declared.events.Event.TheVariants.{Connect, Accept, ClientSends, Up, ServerReads, ServerTurn, Machine, Down}
+use Rattle.protocol_model.specs.declared.events.Event.TheVariants.{ClientReads, ClientLeaves, ServerLeaves, Abort, Resume, ClientRestart}
+use Rattle.protocol_model.specs.declared.events.Event.TheVariants.{ServerRestart}
+use Rattle.protocol_model.specs.declared.lines.Line.{Line}
+use Rattle.protocol_model.specs.declared.states.State.{State}
+use Rattle.protocol_model.proofs.invariant.Holding.{IsOff, IsLive, IsAtRest, IsIdle}
+use Rattle.protocol_model.proofs.invariant.Moves.{read_moves, turned_moves, machined_moves}
+use Rattle.protocol_model.proofs.each_event.ServerEvents.{not_nothing, on_by}
+use Rattle.protocol_model.proofs.whole_run.Carrying.{lined, IsCarried}
+use Rattle.protocol_model.proofs.whole_run.CarryingClient.{client_left_carried, server_left_carried}
+use Rattle.protocol_model.proofs.whole_run.Links.{link_new}
+use Rattle.protocol_model.proofs.whole_run.WholeRun.{happens_carried}
+use Rattle.protocol_model.proofs.quiet_run.Joining.{IsJoined, after_is}
+use Rattle.protocol_model.proofs.quiet_run.Phases.{IsStill}
+
+-- ---- both ends have left
+
+-- nothing is measured whole, and neither end is on a connection; what both keep is as it was
+record HasParted (b w : World) : Type 0 where
+  carried : IsCarried w
+  apart : w.client.client.state ≡ State.Apart
+  last : w.client.client.last ≡ b.client.client.last
+  kept : w.client.client.program ≡ b.client.client.program
+  window : w.client.client.window ≡ b.client.client.window
+  features : w.client.client.table.tally.features ≡ b.client.client.table.tally.features
+
+record IsParted (b w : World) : Type 0 where
+  client : HasParted b w
+  off : w.server.server.on ≡ false
+  rack : w.server.server.rack ≡ b.server.server.rack
+  ledger : w.server.server.ledger ≡ b.server.server.ledger
+  session : (b.server.server.on ≡ false → b.server.server.session ≡ false) → w.server.server.session ≡ false
+
+undone_left : (s : State) → (s ≡ State.Done → ⊥) → left_state s ≡ State.Apart
+undone_left State.Done h = absurd (h refl)
+undone_left State.Apart h = refl
+undone_left State.Running h = refl
+undone_left State.Failing h = refl
+undone_left State.Aborting h = refl
+undone_left State.Halted h = refl
+undone_left State.Faulted h = refl
+
+undone_rest : (s : State) → (s ≡ State.Done → ⊥) → IsAtRest s → s ≡ State.Apart
+undone_rest State.Done h r = absurd (h refl)
+undone_rest State.Apart h r = refl
+undone_rest State.Running h r = absurd r
+undone_rest State.Failing h r = absurd r
+undone_rest State.Aborting h r = absurd r
+undone_rest State.Halted h r = absurd r
+undone_rest State.Faulted h r = absurd r
+
+client_parts : (readers : Readers) (b : World) → IsCarried b → CanFinish b → HasParted b (after readers ClientLeaves b)
+client_parts readers b k f = go b.client.client.on refl
+  where
+    off_rest : b.client.client.on ≡ false → IsOff (lined b k.up k.down) ⊎ IsLive (lined b k.up k.down) → b.client.client.state ≡ State.Apart
+    off_rest e (inl off) = undone_rest b.client.client.state f.undone off.rest
+    off_rest e (inr live) = absurd (false≢true (sym e ∙ live.on))
+
+    go : (t : Bool) → b.client.client.on ≡ t → HasParted b (cond t (record b { client = end_left b.client }) b)
+    go true e = record {
+      carried = client_left_carried b k;
+      apart = undone_left b.client.client.state f.undone;
+      last = refl;
+      kept = refl;
+      window = refl;
+      features = refl;
+    }
+    go false e = record {
+      carried = k;
+      apart = off_rest e k.inv.side;
+      last = refl;
+      kept = refl;
+      window = refl;
+      features = refl;
+    }
+
+-- the server was not touched so far
+server_as : (readers : Readers) (b : World) → (after readers ClientLeaves b).server ≡ b.server
+server_as readers b = go b.client.client.on
+  where
+    go : (t : Bool) → (cond t (record b { client = end_left b.client }) b).server ≡ b.server
+    go true = refl
+    go false = refl
+
+server_parts : (readers : Readers) (b w : World) → HasParted b w → w.server ≡ b.server → IsParted b (after readers ServerLeaves w)
+server_parts readers b w h is = go w.server.server.on refl
+  where
+    go : (t : Bool) → w.server.server.on ≡ t → IsParted b (cond t (record w { server = serving_left w.server }) w)
+    go true e = record {
+      client = record {
+        carried = server_left_carried w h.carried;
+        apart = h.apart;
+        last = h.last;
+        kept = h.kept;
+        window = h.window;
+        features = h.features;
+      };
+      off = refl;
+      rack = ap (λ (s : ServerEnd). s.server.rack) is;
+      ledger = ap (λ (s : ServerEnd). s.server.ledger) is;
+      session = λ p. refl;
+    }
+    go false e = record {
+      client = h;
+      off = e;
+      rack = ap (λ (s : ServerEnd). s.server.rack) is;
+      ledger = ap (λ (s : ServerEnd). s.server.ledger) is;
+      session = λ p. ap (λ (s : ServerEnd). s.server.session) is ∙ p (ap (λ (s : ServerEnd). s.server.on) (sym is) ∙ e);
+    }
+
+-- ---- both ends are on the next connection
+
+-- the table of a client that begins the plan for what was left
+abbrev pub begun : World → Table
+begun b = record {
+  standard = [];
+  event = [];
+  tally = record
+      (no_tally (suc b.client.client.last) b.client.client.table.tally.features) { todo = plan_left b; unsent = plan_left b };
+}
+
+-- both ends are still on the next connection; the client begins the plan for what was left, and the server keeps what it kept
+pub record IsRejoined (b w : World) : Type 0 where
+  pub still : IsStill w
+  pub running : w.client.client.state ≡ State.Running
+  pub table : w.client.client.table ≡ begun b
+  pub program : w.client.client.program ≡ b.client.client.program
+  pub window : w.client.client.window ≡ b.client.client.window
+  pub rack : w.server.server.rack ≡ b.server.server.rack
+  pub ledger : w.server.server.ledger ≡ b.server.server.ledger
+  pub error : w.server.server.error ≡ false
+  pub session : (b.server.server.on ≡ false → b.server.server.session ≡ false) → w.server.server.session ≡ false
+
+abbrev taken : World → ℕ → World
+taken w n = record (connected w) { server = serving_accepted n w.server }
+
+takes : (readers : Readers) → AreReaders readers → (b w : World) → CanFinish b → IsParted b w
+    → IsRejoined b (after readers (Accept (suc b.client.client.last)) (after readers Connect w))
+takes readers are b w f p =
+    subst (λ (v : World). IsRejoined b (after readers (Accept n) v)) (sym (after_is readers Connect w may_connect))
+    (subst (IsRejoined b) (sym (after_is readers (Accept n) (connected w) may_accept)) (record {
+      still = record {
+        joined = record {
+          carried = happens_carried readers are (Accept n) (connected w)
+              (happens_carried readers are Connect w p.client.carried may_connect) may_accept;
+          on = refl;
+          client_on = refl;
+          same = ap suc (sym p.client.last);
+          jobs = subst Rattle.protocol_model.proofs.quiet_run.Jobs.RunsJob (sym idle.running) tt;
+        };
+        up = ap (λ (l : Link). l.up) new_one;
+        read = ap (λ (i : Framing). i.rest) (p.client.carried.at_rest p.off);
+        running = idle.running;
+        waiting = idle.waiting;
+        down = ap (λ (i : ℕ). (link_of (w.links ++ no_link ∷ []) (suc i)).down) p.client.last ∙ ap (λ (l : Link). l.down) new_one;
+        heard = refl;
+      };
+      running = refl;
+      table = ap (λ (i : ℕ). (client_connected (suc i) w.client.client).table) p.client.last ∙ begins;
+      program = p.client.kept;
+      window = p.client.window;
+      rack = p.rack;
+      ledger = p.ledger;
+      error = idle.error;
+      session = p.session;
+    }))
+  where
+    n : ℕ
+    n = suc b.client.client.last
+
+    idle : IsIdle w.server.server
+    idle = p.client.carried.inv.idle p.off
+
+    made : length w.links ≡ b.client.client.last
+    made = p.client.carried.wired.made ∙ p.client.last
+
+    new_one : link_of (w.links ++ no_link ∷ []) n ≡ no_link
+    new_one = ap (λ (i : ℕ). link_of (w.links ++ no_link ∷ []) (suc i)) (sym made) ∙ link_new w.links no_link
+
+    table_for : Meaning → List Feature → Table
+    table_for q fs = record {
+      standard = [];
+      event = [];
+      tally = record
+          (no_tally n fs) { todo = plan q (length fs) Start.NewConnection; unsent = plan q (length fs) Start.NewConnection };
+    }
+
+    begins : (client_connected n w.client.client).table ≡ begun b
+    begins = ap (λ (q : Meaning). table_for q w.client.client.table.tally.features) p.client.kept
+        ∙ ap (table_for b.client.client.program) p.client.features
+
+    may_connect : can Connect w ≡ true
+    may_connect = ap (λ (s : State). is_apart s && nat_lt w.client.client.last connection_most) p.client.apart
+        ∙ (ap (λ (i : ℕ). nat_lt i connection_most) p.client.last ∙ le-leb n connection_most f.connections)
+
+    long : {k : ℕ} (l : List Link) → length l ≡ k → length (l ++ no_link ∷ []) ≡ suc k
+    long [] e = ap suc e
+    long (x ∷ l) e = ap suc (long l refl) ∙ ap suc e
+
+    above : suc w.server.server.last ≤ n
+    above = let le : w.server.server.last ≤ w.client.client.last = p.client.carried.inv.numbers in omega (arith, le, p.client.last)
+
+    there : n ≤ length (w.links ++ no_link ∷ [])
+    there = let e : length (w.links ++ no_link ∷ []) ≡ n = long w.links made in omega (arith, e)
+
+    may_accept : can (Accept n) (connected w) ≡ true
+    may_accept = ap (λ (t : Bool). not t && (nat_lt w.server.server.last n && nat_le n (length (w.links ++ no_link ∷ [])))) p.off
+        ∙ (ap (λ (t : Bool). t && nat_le n (length (w.links ++ no_link ∷ []))) (le-leb (suc w.server.server.last) n above)
+        ∙ le-leb n (length (w.links ++ no_link ∷ [])) there)
+
+-- so it is where something is left to measure, and a connection
+pub rejoins : (readers : Readers) → AreReaders readers → (b : World) → IsCarried b → CanFinish b → IsRejoined b (rejoined readers b)
+rejoins readers are b k f = takes readers are b _ f (server_parts readers b _ (client_parts readers b k f) (server_as readers b))
