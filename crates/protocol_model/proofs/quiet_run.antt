@@ -5,3 +5,7 @@ pub mod Joining
 pub mod Phases
 pub mod Rejoining
 pub mod Bounded
+pub mod Ready
+pub mod Succeeding
+pub mod Going
+pub mod Finished

@@ -1,5 +1,5 @@
--- How a link is brought to its end, wherever it was broken: both ends leave, the client connects, the server takes that connection, and quiet
--- rounds follow; what the machine owes, and what is measured then (this profile).
+-- How a link is brought to its end, wherever it was broken: both ends leave, the client connects, the server takes that connection, and
+-- quiet rounds follow; what the rack and the machine owe, and what is measured then (this profile).
 use Rattle.std.specs.Prelude.{◌≡◌, ◌≢◌, ℕ, suc, ◌<◌, true, List, [], ◌∷◌, ◌++◌, length, drop, bytes_eq}
 use Rattle.std.specs.List.{list_any}
 use Rattle.fixed_um.specs.Points.{point_sum}

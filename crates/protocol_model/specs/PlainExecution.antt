@@ -1,5 +1,5 @@
--- What a program measures, plainly: the machine's answers to its touches, numbered one after another (this profile). No command, no connection
--- and no state is in it.
+-- What a program measures, plainly: the machine's answers to its touches, numbered one after another (this profile). No command, no
+-- connection and no state is in it.
 use Rattle.std.specs.Prelude.{ℕ, suc, ◌+◌, List, [], ◌∷◌, length}
 use Rattle.fixed_um.specs.Points.{zero_point, point_sum, point_difference}
 use Rattle.fixed_um.specs.declared.lengths.Point.{Point}

@@ -1,5 +1,5 @@
--- Quiet rounds, in which the client, the server and its machine do all that they can, as lists of events from a world (this profile). A list
--- that is cut has ended early, for want of memory; of a list that is not cut it is said where it ends.
+-- Quiet rounds, in which the client, the server and its machine do all that they can, as lists of events from a world (this profile). A
+-- list that is cut has ended early, for want of memory; of a list that is not cut it is said where it ends.
 use Rattle.std.specs.Prelude.{◌≡◌, ◌≢◌, ◌⊎◌, ℕ, Bool, true, false, if◌then◌else◌, Option, Some, None, List, [], ◌∷◌, ◌++◌, length, All}
 use Rattle.std.specs.List.{flat_map}
 use Rattle.contact_ledger.specs.Ledgers.{contact_count}

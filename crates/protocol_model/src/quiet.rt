@@ -5,11 +5,12 @@ ghost use Rattle.dmis_program.specs.Meaning.{Meaning};
 ghost use Rattle.dmis_program.specs.Programs.{IsProgram};
 ghost use Rattle.protocol_model.specs.Lines.{Readers, AreReaders};
 ghost use Rattle.protocol_model.specs.World.{start, run_of};
-ghost use Rattle.protocol_model.specs.Rounds.{AreBusy};
-ghost use Rattle.protocol_model.specs.Finishing.{CanFinish, rejoined, plan_left};
+ghost use Rattle.protocol_model.specs.Rounds.{all_of, AreBusy, AreAllBusy};
+ghost use Rattle.protocol_model.specs.Finishing.{CanFinish, rejoined, plan_left, CanMeasure, HasMeasured};
 ghost use Rattle.protocol_model.specs.declared.events.Event.{Event as OneEvent};
 ghost use Rattle.protocol_model.specs.declared.machine.Job.{Job as OneJob};
 ghost use Rattle.protocol_model.specs.declared.machine.Outcome.{Outcome as OneOutcome};
+ghost use Rattle.protocol_model.specs.declared.states.State.TheVariants as State;
 
 /// After every list of events, from any program, any rack and any window up to 16, where something is left to measure and a connection is
 /// left: let both ends leave, let the client connect and the server take that connection, and let quiet rounds follow.
@@ -25,4 +26,33 @@ pub fn quiet_rounds_are_few()
         → AreBusy readers answer
         (rejoined readers (run_of readers events (start program rack window))) rounds
         → length rounds ≤ length (plan_left (run_of readers events (start program rack window))) }
+{}
+
+/// The same, where the window is at least 1, the rack has each tool, each target lies in the volume, and the machine does what it is asked:
+///
+/// - `done`: behind the last round that does something the client is Done;
+/// - `features`: it holds the features that it held before, unchanged, and then those of the plain execution of what was left, its touches
+///   numbered from the server's count of contacts on. Nothing else depends on what went wrong before.
+pub fn quiet_rounds_measure_what_is_left()
+    ensures done { (readers : Readers) → AreReaders readers
+        → (answer : OneJob → ℕ → OneOutcome) (program : Meaning) (rack : List (List ℕ))
+        (window : ℕ) (events : List OneEvent) (rounds : List (List OneEvent))
+        → IsProgram program → 1 ≤ window → window ≤ 16
+        → CanFinish (run_of readers events (start program rack window))
+        → CanMeasure answer (run_of readers events (start program rack window))
+        → AreAllBusy readers answer
+        (rejoined readers (run_of readers events (start program rack window))) rounds
+        → (run_of readers (all_of rounds) (rejoined readers
+        (run_of readers events (start program rack window)))).client.client.state ≡ State.Done }
+    ensures features { (readers : Readers) → AreReaders readers
+        → (answer : OneJob → ℕ → OneOutcome) (program : Meaning) (rack : List (List ℕ))
+        (window : ℕ) (events : List OneEvent) (rounds : List (List OneEvent))
+        → IsProgram program → 1 ≤ window → window ≤ 16
+        → CanFinish (run_of readers events (start program rack window))
+        → CanMeasure answer (run_of readers events (start program rack window))
+        → AreAllBusy readers answer
+        (rejoined readers (run_of readers events (start program rack window))) rounds
+        → HasMeasured answer (run_of readers events (start program rack window))
+        (run_of readers (all_of rounds) (rejoined readers
+        (run_of readers events (start program rack window)))) }
 {}

@@ -271,6 +271,30 @@ reads_standard w table left x waiting coming aborts r =
         (joins w table left x waiting coming aborts w.server r refl refl refl refl refl refl e
         (λ f. absurd (false≢true (sym e ∙ n.stopped f))) (λ f. (n.clean f).fits e) free)
 
+-- where there is no error, a standard line joins what waits
+pub reads_queued : (w : World) (table : Table) (left : List Wanted) (x : Line) (waiting coming : List Line) (aborts : List ℕ)
+    → IsReading w table left x waiting coming aborts → w.server.error ≡ false
+    → server_read w.server (Ok x) ≡ answers (queued x.tag (Ok x.command) w.server) (Reply.Ack x.tag ∷ [])
+reads_queued w table left x waiting coming aborts r error =
+    let n = r.near in
+    let free : is_held x.tag (all_received (listed w.server.running ++ waiting)) ≡ false =
+    apart_from (all_received (listed w.server.running ++ waiting)) (sent_now x) (all_sent coming)
+    (subst AreDistinct n.standard_is r.distinct) in
+    let standard : AreStandard (x ∷ coming) =
+    standard_behind waiting (x ∷ coming) (standard_behind (listed w.server.running) (waiting ++ x ∷ coming) n.standard) in
+    let room : nat_le 64 (length w.server.waiting) ≡ false =
+    ap (λ (l : List Waiting). nat_le 64 (length l)) n.waiting_is
+    ∙ lt-leb 64 (length (all_wait waiting)) (omega (
+      arith,
+      wait_long waiting,
+      few_wait (listed w.server.running) waiting (sent_now x ∷ all_sent coming),
+      subst (λ (hs : List Held). count_open hs ≤ 16) n.standard_is r.few,
+    )) in
+    let clear : Bool = not (is_clear (Ok x.command)) in
+    stands_is w.server x waiting n.waiting_is free standard.1
+    ∙ (if_false {A = Answer} _ _ _ (ap (λ (b : Bool). b && clear) error) ∙ (if_false {A = Answer} _ _ _ error
+    ∙ if_false {A = Answer} _ _ _ room))
+
 -- ---- an abort
 
 tidy_pairs : (ls : List Line) → AreStandard ls → IsTidy None (all_fail 9007 (all_wait ls))

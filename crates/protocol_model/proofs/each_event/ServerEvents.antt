@@ -26,7 +26,8 @@ use Rattle.protocol_model.specs.declared.machine.Outcome.{Outcome}
 
 -- ---- a line is read
 
-few_open : (w : World) → Inv w → (live : IsLive w) → count_open live.table.standard ≤ 16
+-- no more commands are open behind what is read than the window allows
+pub few_open : (w : World) → Inv w → (live : IsLive w) → count_open live.table.standard ≤ 16
 few_open w inv live = le_trans (reads_counts w.client.program.features w.down w.client.table live.table live.reads)
     (le_trans live.within inv.window)
 
@@ -47,7 +48,8 @@ read_here w table left x y up rest e h =
     subst (λ (l : List Line). IsAnswered w table l (server_read w.server (Ok x))) others
     (subst (λ (z : Line). IsAnswered w table rest (server_read w.server (Ok z))) same h)
 
-reads_next : (w : World) (inv : Inv w) (live : IsLive w) (x : Line) (up queued coming : List Line) (aborts : List ℕ)
+-- the answer to the next line shows what an event of the server has to show
+pub reads_next : (w : World) (inv : Inv w) (live : IsLive w) (x : Line) (up queued coming : List Line) (aborts : List ℕ)
     → IsNearBy live.table live.left w.up w.server.running w.server.waiting w.server.error (know_of w.server) queued coming
     aborts
     → coming ++ abort_lines aborts ≡ x ∷ up → IsAnswered w live.table up (server_read w.server (Ok x))

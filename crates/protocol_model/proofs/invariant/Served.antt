@@ -214,7 +214,8 @@ served_cut [] (f ∷ fs) ms h = absurd h
 served_cut (w ∷ ws) (f ∷ fs) ms h = let rest = served_cut ws fs h.0 h.2
     in (w ∷ rest.0, ap (λ (l : List Wanted). w ∷ l) rest.1, ap suc rest.2)
 
-have_drop : (k : ℕ) (ws : List Wanted) → HaveTouches ws → HaveTouches (drop k ws)
+-- those behind the first k have
+pub have_drop : (k : ℕ) (ws : List Wanted) → HaveTouches ws → HaveTouches (drop k ws)
 have_drop zero ws h = h
 have_drop (suc k) [] h = tt
 have_drop (suc k) (w ∷ ws) h = have_drop k ws h.1

@@ -1,5 +1,6 @@
 -- Each round that does something sends a command, and none is sent twice.
-use Rattle.std.proofs.Common.{◌≡◌, ◌≢◌, ℕ, suc, ◌+◌, ◌≤◌, Bool, true, false, cond, List, [], ◌∷◌, ◌++◌, length, refl, sym, ◌∙◌, ap, subst, arith}
+use Rattle.std.proofs.Common.{◌≡◌, ◌≢◌, ℕ, suc, ◌+◌, ◌≤◌, Bool, true, false, cond, List, [], ◌∷◌, ◌++◌, length, refl, sym, ◌∙◌, ap, subst}
+use Rattle.std.proofs.Common.{arith}
 use Rattle.std.proofs.Common.{Option, Some, None, Ok, Err, le_refl, le_trans}
 use Rattle.std.specs.List.{All}
 use Rattle.std.proofs.lemmas.Bool.{false≢true}
@@ -102,7 +103,7 @@ send_less readers are w h may =
         omega (arith, ap length left, long)
 
 -- the parts of a round behind the first
-abbrev Behind : Readers → (Job → ℕ → Outcome) → Bool → World → List Event → Type 0
+abbrev pub Behind : Readers → (Job → ℕ → Outcome) → Bool → World → List Event → Type 0
 Behind readers answer =
     Then readers (λ cut w. IsOne (all_up w) cut) (
     Then readers (AreWhile readers ServerReads) (
@@ -143,7 +144,9 @@ round_less readers are answer es w s round busy = go (can ClientSends w) refl
 
     go : (t : Bool) → can ClientSends w ≡ t → suc (unsent_in (run_of readers es w)) ≤ unsent_in w
     go false never = absurd (busy (round_none readers answer w s never es round))
-    go true may = let cut : Cut readers (AreWhile readers ClientSends) (Behind readers answer) w es = cut_of readers _ _ w es round in begins cut cut.front refl may cut.first
+    go true may =
+        let cut : Cut readers (AreWhile readers ClientSends) (Behind readers answer) w es = cut_of readers _ _ w es round in
+        begins cut cut.front refl may cut.first
 
 -- what rounds keep, and that behind them both ends are still
 pub rounds_leave : (readers : Readers) → AreReaders readers → (answer : Job → ℕ → Outcome) (G : World → Type 0) → Keeps readers answer G

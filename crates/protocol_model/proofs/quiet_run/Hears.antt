@@ -1,5 +1,5 @@
 -- What a client becomes by what it reads: itself, Faulted, or what one reply makes of it.
-use Rattle.std.proofs.Common.{◌≡◌, ℕ, suc, ◌≤◌, Bool, true, false, cond, List, [], ◌∷◌, length, refl, arith, le_refl, le_trans, Option, Some, None}
+use Rattle.std.proofs.Common.{◌≡◌, ℕ, ◌≤◌, Bool, true, false, cond, List, length, refl, arith, Option, Some, None}
 use Rattle.std.proofs.Common.{Result, Ok, Err}
 use Rattle.fixed_um.specs.declared.lengths.Point.{Point}
 use Rattle.dme_line.specs.declared.tags.Tag.{Tag}
@@ -16,8 +16,7 @@ use Rattle.line_framing.specs.Next.{Front}
 use Rattle.line_framing.specs.declared.faults.FramingFault.TheVariants as framing
 use Rattle.protocol_model.specs.Replies.{Mark, tag_is}
 use Rattle.protocol_model.specs.Lines.{Readers}
-use Rattle.protocol_model.specs.Client.{Client, Table, faulted, client_hears, client_read, heard_on, heard, is_homing, passed_over}
-use Rattle.protocol_model.specs.Client.{without_homing}
+use Rattle.protocol_model.specs.Client.{Client, Table, faulted, client_hears, client_read, heard_on, heard}
 use Rattle.protocol_model.specs.Ends.{held_under, given_point, given_homed, given_for, given_under, response_read, line_read}
 use Rattle.protocol_model.specs.Ends.{front_read}
 use Rattle.protocol_model.proofs.table.Basics.{if_false}

@@ -1,6 +1,7 @@
 -- What runs at a server is a job of its machine.
-use Rattle.std.proofs.Common.{◌≡◌, ℕ, Bool, true, false, cond, not, ◌&&◌, ◌||◌, List, [], ◌∷◌, length, refl, nat_le, Option, Some, None, Ok, Err}
-use Rattle.std.proofs.Common.{Result, subst}
+use Rattle.std.proofs.Common.{◌≡◌, ℕ, Bool, true, false, cond, not, ◌&&◌, ◌||◌, List, [], ◌∷◌, length, refl, nat_le, Option, Some, None}
+use Rattle.std.proofs.Common.{Ok, Err}
+use Rattle.std.proofs.Common.{Result}
 use Rattle.fixed_um.specs.declared.lengths.Point.{Point}
 use Rattle.fixed_um.specs.declared.frames.Frame.{Frame}
 use Rattle.dme_line.specs.Tags.{is_event_tag}
@@ -16,7 +17,6 @@ use Rattle.protocol_model.specs.declared.lines.Line.{Line}
 use Rattle.protocol_model.specs.declared.lines.Misread.{Misread}
 use Rattle.protocol_model.specs.declared.lines.Misread.TheVariants as misread
 use Rattle.protocol_model.specs.declared.lines.Waiting.{Waiting}
-use Rattle.protocol_model.specs.declared.machine.Job.{Job}
 use Rattle.protocol_model.specs.declared.machine.Outcome.{Outcome}
 
 -- a command that the machine carries out

@@ -1,7 +1,6 @@
 -- Both ends on one connection, and the events of a round: they stay there.
-use Rattle.std.proofs.Common.{◌≡◌, ℕ, ◌≤◌, Bool, true, false, cond, List, [], ◌∷◌, ◌++◌, length, refl, sym, ◌∙◌, ap, subst, arith, Option}
+use Rattle.std.proofs.Common.{◌≡◌, ℕ, Bool, true, false, cond, refl, sym, ◌∙◌, ap, subst, Option}
 use Rattle.std.proofs.Common.{Some, None, Ok, Err}
-use Rattle.std.proofs.lemmas.Bool.{false≢true}
 use Rattle.contact_ledger.specs.Ledgers.{contact_count}
 use Rattle.line_framing.specs.Next.{Front, next_of}
 use Rattle.dme_line.specs.declared.tags.Tag.TheVariants.{Std}
@@ -9,13 +8,12 @@ use Rattle.protocol_model.specs.Lines.{Readers, AreReaders, reading_of}
 use Rattle.protocol_model.specs.Client.{next_number}
 use Rattle.protocol_model.specs.Server.{Server, running_job}
 use Rattle.protocol_model.specs.Ends.{ServerEnd, front_served}
-use Rattle.protocol_model.specs.World.{World, can, happens, after, run_of, server_writes}
-use Rattle.protocol_model.specs.Rounds.{ended, ending, working, possible}
+use Rattle.protocol_model.specs.World.{World, can, happens, after, server_writes}
+use Rattle.protocol_model.specs.Rounds.{ended, ending, working}
 use Rattle.protocol_model.specs.declared.events.Event.{Event}
 use Rattle.protocol_model.specs.declared.events.Event.TheVariants.{Connect, Accept, ClientSends, Up, ServerReads, ServerTurn, Machine, Down}
 use Rattle.protocol_model.specs.declared.events.Event.TheVariants.{ClientReads, ClientLeaves, ServerLeaves, Abort, Resume, ClientRestart}
 use Rattle.protocol_model.specs.declared.events.Event.TheVariants.{ServerRestart}
-use Rattle.protocol_model.specs.declared.lines.Line.{Line}
 use Rattle.protocol_model.specs.declared.machine.Job.{Job}
 use Rattle.protocol_model.specs.declared.machine.Outcome.{Outcome}
 use Rattle.protocol_model.proofs.table.Basics.{if_true}

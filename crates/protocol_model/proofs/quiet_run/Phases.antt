@@ -1,17 +1,16 @@
 -- A quiet round, part by part: behind it no byte and no command is on its way.
-use Rattle.std.proofs.Common.{◌≡◌, ◌⊎◌, inl, inr, ℕ, suc, ◌≤◌, Bool, true, false, cond, not, ◌&&◌, List, [], ◌∷◌, ◌++◌, length, take, drop}
+use Rattle.std.proofs.Common.{◌≡◌, ◌⊎◌, inl, inr, ℕ, suc, ◌≤◌, Bool, true, false, cond, not, ◌&&◌, List, [], ◌∷◌, ◌++◌, length, drop}
 use Rattle.std.proofs.Common.{refl, sym, ◌∙◌, ap, subst, arith, Option, Some, None, is_none, Ok, Err, nat_le, append-nil}
 use Rattle.std.proofs.lemmas.Bool.{false≢true, le-leb}
 use Rattle.line_framing.specs.Next.{Front, next_of}
 use Rattle.line_framing.proofs.Streams.{none_left}
-use Rattle.protocol_model.specs.Replies.{Reply}
-use Rattle.protocol_model.specs.Lines.{Readers, AreReaders, command_bytes, command_texts, reply_bytes, reply_texts}
+use Rattle.protocol_model.specs.Lines.{Readers, AreReaders, command_bytes, command_texts, reply_bytes, reply_texts, reading_of}
 use Rattle.protocol_model.specs.Plan.{is_empty}
 use Rattle.protocol_model.specs.Server.{Server, running_job}
 use Rattle.protocol_model.specs.Ends.{ServerEnd, front_served, serving_turned, serving_machined}
-use Rattle.protocol_model.specs.World.{World, Link, link_of, with_link, client_link, server_link, can, happens, after, run_of, server_writes}
-use Rattle.protocol_model.specs.World.{moved_up, moved_down, has_some, is_line, is_any, is_faulted}
-use Rattle.protocol_model.specs.Rounds.{MayEnd, IsOne, AreWhile, Then, possible, all_up, all_down, ended, ending, working, AreWork, IsRound}
+use Rattle.protocol_model.specs.World.{World, Link, link_of, client_link, server_link, can, happens, after, run_of, server_writes}
+use Rattle.protocol_model.specs.World.{moved_down, has_some, is_line, is_any, is_faulted}
+use Rattle.protocol_model.specs.Rounds.{IsOne, AreWhile, Then, possible, all_up, all_down, ended, ending, working, AreWork, IsRound}
 use Rattle.protocol_model.specs.declared.events.Event.{Event}
 use Rattle.protocol_model.specs.declared.events.Event.TheVariants.{ClientSends, Up, ServerReads, ServerTurn, Machine, Down, ClientReads}
 use Rattle.protocol_model.specs.declared.lines.Line.{Line}
@@ -19,14 +18,13 @@ use Rattle.protocol_model.specs.declared.lines.Waiting.{Waiting}
 use Rattle.protocol_model.specs.declared.machine.Job.{Job}
 use Rattle.protocol_model.specs.declared.machine.Outcome.{Outcome}
 use Rattle.protocol_model.specs.declared.states.State.{State}
-use Rattle.protocol_model.proofs.table.Basics.{if_true}
 use Rattle.protocol_model.proofs.invariant.Moves.{read_moves, turned_moves, machined_moves}
 use Rattle.protocol_model.proofs.each_event.ClientEvents.{never_faulted}
-use Rattle.protocol_model.proofs.written_lines.Writable.{AreWritable, command_lines, AreReplies, reply_lines}
-use Rattle.protocol_model.proofs.whole_run.Carrying.{lined, IsCarried}
+use Rattle.protocol_model.proofs.written_lines.Writable.{command_lines, reply_lines}
+use Rattle.protocol_model.proofs.whole_run.Carrying.{lined}
 use Rattle.protocol_model.proofs.whole_run.Links.{link_same}
 use Rattle.protocol_model.proofs.quiet_run.Jobs.{nothing_runs}
-use Rattle.protocol_model.proofs.quiet_run.Joining.{IsOfRound, IsEnd, IsJoined, after_is, after_joined, IsWork, work_is, work_of}
+use Rattle.protocol_model.proofs.quiet_run.Joining.{IsOfRound, IsJoined, after_is, after_joined, IsWork, work_is, work_of}
 
 -- ---- lists of events, and what they keep
 
@@ -150,7 +148,7 @@ writes_up w e h last up =
 
 front_last : (readers : Readers) (e : ServerEnd) (f : Front) → (front_served readers e f).server.last ≡ e.server.last
 front_last readers e (Ok None) = refl
-front_last readers e (Ok (Some (line, rest))) = (read_moves e.server (Rattle.protocol_model.specs.Lines.reading_of (readers.command line))).last
+front_last readers e (Ok (Some (line, rest))) = (read_moves e.server (reading_of (readers.command line))).last
 front_last readers e (Err why) = refl
 
 reads_up : (readers : Readers) (w : World) → can ServerReads w ≡ true → IsJoined w → UpEmpty w → UpEmpty (after readers ServerReads w)

@@ -1,34 +1,27 @@
 -- Both ends leave, connect and accept: nothing is on its way, and the client has the plan for what is left.
-use Rattle.std.proofs.Common.{◌≡◌, ◌⊎◌, inl, inr, ℕ, suc, ◌<◌, ◌≤◌, Bool, true, false, cond, not, ◌&&◌, List, [], ◌∷◌, ◌++◌, length}
-use Rattle.std.proofs.Common.{refl, sym, ◌∙◌, ap, subst, arith, Option, Some, None, Ok, Err, nat_lt, nat_le}
-use Rattle.std.proofs.lemmas.Bool.{false≢true, and_parts, le-leb}
+use Rattle.std.proofs.Common.{◌≡◌, ◌⊎◌, inl, inr, ℕ, suc, ◌≤◌, Bool, true, false, cond, not, ◌&&◌, List, [], ◌∷◌, ◌++◌, length}
+use Rattle.std.proofs.Common.{refl, sym, ◌∙◌, ap, subst, arith, nat_lt, nat_le}
+use Rattle.std.proofs.lemmas.Bool.{false≢true, le-leb}
 use Rattle.contact_ledger.specs.Ledgers.{connection_most}
 use Rattle.line_framing.specs.Framing.{Framing}
-use Rattle.line_framing.specs.Next.{Front, next_of}
 use Rattle.contact_ledger.specs.declared.features.Feature.{Feature}
 use Rattle.dmis_program.specs.Meaning.{Meaning}
-use Rattle.protocol_model.specs.Lines.{Readers, AreReaders, reading_of}
+use Rattle.protocol_model.specs.Lines.{Readers, AreReaders}
 use Rattle.protocol_model.specs.Plan.{plan}
 use Rattle.protocol_model.specs.declared.plans.Start.{Start}
-use Rattle.protocol_model.specs.Client.{Client, Table, client_connected, left_state, no_tally, is_apart}
-use Rattle.protocol_model.specs.Server.{Server, may_end}
-use Rattle.protocol_model.specs.Ends.{ServerEnd, end_left, serving_left, serving_accepted, front_served}
-use Rattle.protocol_model.specs.World.{World, Link, no_link, link_of, server_link, client_link, can, happens, after, run_of, connected}
+use Rattle.protocol_model.specs.Client.{Table, client_connected, left_state, no_tally, is_apart}
+use Rattle.protocol_model.specs.Ends.{ServerEnd, end_left, serving_left, serving_accepted}
+use Rattle.protocol_model.specs.World.{World, Link, no_link, link_of, can, after, connected}
 use Rattle.protocol_model.specs.Finishing.{CanFinish, rejoined, plan_left}
-use Rattle.protocol_model.specs.declared.events.Event.{Event}
-use Rattle.protocol_model.specs.declared.events.Event.TheVariants.{Connect, Accept, ClientSends, Up, ServerReads, ServerTurn, Machine, Down}
-use Rattle.protocol_model.specs.declared.events.Event.TheVariants.{ClientReads, ClientLeaves, ServerLeaves, Abort, Resume, ClientRestart}
-use Rattle.protocol_model.specs.declared.events.Event.TheVariants.{ServerRestart}
-use Rattle.protocol_model.specs.declared.lines.Line.{Line}
+use Rattle.protocol_model.specs.declared.events.Event.TheVariants.{Connect, Accept}
+use Rattle.protocol_model.specs.declared.events.Event.TheVariants.{ClientLeaves, ServerLeaves}
 use Rattle.protocol_model.specs.declared.states.State.{State}
 use Rattle.protocol_model.proofs.invariant.Holding.{IsOff, IsLive, IsAtRest, IsIdle}
-use Rattle.protocol_model.proofs.invariant.Moves.{read_moves, turned_moves, machined_moves}
-use Rattle.protocol_model.proofs.each_event.ServerEvents.{not_nothing, on_by}
 use Rattle.protocol_model.proofs.whole_run.Carrying.{lined, IsCarried}
 use Rattle.protocol_model.proofs.whole_run.CarryingClient.{client_left_carried, server_left_carried}
 use Rattle.protocol_model.proofs.whole_run.Links.{link_new}
 use Rattle.protocol_model.proofs.whole_run.WholeRun.{happens_carried}
-use Rattle.protocol_model.proofs.quiet_run.Joining.{IsJoined, after_is}
+use Rattle.protocol_model.proofs.quiet_run.Joining.{after_is}
 use Rattle.protocol_model.proofs.quiet_run.Phases.{IsStill}
 
 -- ---- both ends have left

@@ -51,14 +51,14 @@ abbrev later : World → Framing → Answer → World
 later b input a = server_writes b (with_answer b.server input a)
 
 -- what is answered joins the bytes down
-pub answer_carried : (b : World) (h : IsCarried b) (up : List Line) (rest : List ℕ) (a : Answer) (acts : List Act)
+abbrev pub answer_carried : (b : World) (h : IsCarried b) (up : List Line) (rest : List ℕ) (a : Answer) (acts : List Act)
     → b.server.server.on ≡ true → Moves b.server.server a.server acts → IsPlainAnswer a
     → IsWired b.links b.client.client.last b.client.client.on b.client.input.rest b.server.server.last b.server.server.on rest up h.down
     → Inv (answered (lined b h.up h.down) up a)
     → IsCarried (server_writes b (with_answer b.server (record { rest = rest; fault = b.server.input.fault }) a))
 answer_carried b h up rest a acts on moves plain wired inv = record {
   up = up;
-  down = now;
+  down = cond (eqb b.server.server.last b.client.client.last) (h.down ++ a.said) h.down;
   inv = inv;
   client = h.client;
   server = plain.server;
@@ -196,6 +196,62 @@ reads_carried readers are b h on due = go (next_of b.server.input.rest) refl due
     go (Ok (Some (line, rest))) e is = at_it line rest e (eqb b.server.server.last b.client.client.last) refl
     go (Err why) e is = absurd (false≢true is)
 
+-- on its client's connection the first line up is gone behind that, and the answer to it has joined the replies down
+pub record ReadsFirst (b : World) (h : IsCarried b) (v : World) : Type 0 where
+  pub first : Line
+  pub others : List Line
+  pub up_is : h.up ≡ first ∷ others
+  pub carried : IsCarried v
+  pub down_is : carried.down
+      ≡ cond (eqb b.server.server.last b.client.client.last) (h.down ++ (server_read b.server.server (Ok first)).said) h.down
+  pub client_is : v.client ≡ b.client
+  pub server_is : v.server.server ≡ (server_read b.server.server (Ok first)).server
+
+pub reads_first : (readers : Readers) → AreReaders readers → (b : World) (h : IsCarried b) → b.server.server.on ≡ true
+    → b.server.server.last ≡ b.client.client.last → is_line (next_of b.server.input.rest) ≡ true
+    → ReadsFirst b h (server_writes b (serving_read readers b.server))
+reads_first readers are b h on equal due = go (next_of b.server.input.rest) refl due
+  where
+    s : Server
+    s = b.server.server
+
+    n : ℕ
+    n = b.client.client.last
+
+    apart : b.server.server.last < b.client.client.last → ⊥
+    apart lt = let e : b.server.server.last ≡ b.client.client.last = equal in omega (arith, e)
+
+    line_case : (line rest : List ℕ) → next_of b.server.input.rest ≡ Ok (Some (line, rest))
+        → ReadsFirst b h (server_writes b (serving_read readers b.server))
+    line_case line rest next =
+        let t : NextCommand h.up line rest (link_of b.links n).up =
+        next_command h.up b.server.input.rest (link_of b.links n).up line rest h.wired.lines (h.wired.newest_serves on equal) next in
+        let writable = subst Rattle.protocol_model.proofs.written_lines.Writable.AreWritable t.lines_are h.wired.lines in
+        let inv : Inv (answered (lined b (t.first ∷ t.others) h.down) t.others (server_read s (Ok t.first))) =
+        reads_event (lined b (t.first ∷ t.others) h.down) (subst (λ (ls : List Line). Inv (lined b ls h.down)) t.lines_are h.inv) on
+        (eq-eqb _ _ equal) in
+        subst (λ (e : ServerEnd). ReadsFirst b h (server_writes b e))
+        (sym (serving_is readers are b.server line rest t.first next t.text writable.0))
+        (record {
+          first = t.first;
+          others = t.others;
+          up_is = t.lines_are;
+          carried = answer_carried b h t.others rest (server_read s (Ok t.first)) [] on (read_moves s (Ok t.first))
+              (read_plain s t.first h.server writable.0)
+              (shorter b h line rest on next t.others (λ e. t.behind) (λ lt. absurd (apart lt))
+              (record { lines = t.others; writable = writable.1; is = ap (λ (i : ℕ). rest ++ (link_of b.links i).up) equal ∙ t.behind })
+              writable.1) inv;
+          down_is = refl;
+          client_is = refl;
+          server_is = refl;
+        })
+
+    go : (f : Front) → next_of b.server.input.rest ≡ f → is_line f ≡ true
+        → ReadsFirst b h (server_writes b (serving_read readers b.server))
+    go (Ok None) e is = absurd (false≢true is)
+    go (Ok (Some (line, rest))) e is = line_case line rest e
+    go (Err why) e is = absurd (false≢true is)
+
 -- ---- turns and outcomes
 
 busy_on : (b : World) (h : IsCarried b) (t : Bool) → b.server.server.on ≡ t
@@ -204,7 +260,7 @@ busy_on b h true e busy = e
 busy_on b h false e busy = let idle : IsIdle b.server.server = h.inv.idle e in absurd (busy idle.running idle.waiting)
 
 -- the first command that waits has its turn, where none runs, and what both ends carry is kept
-pub turn_carried : (b : World) (h : IsCarried b) → b.server.server.on ≡ true
+abbrev pub turn_carried : (b : World) (h : IsCarried b) → b.server.server.on ≡ true
     → (is_none b.server.server.running && not (Rattle.protocol_model.specs.Plan.is_empty b.server.server.waiting)) ≡ true
     → IsCarried (server_writes b (serving_turned b.server))
 turn_carried b h on can =
@@ -213,7 +269,7 @@ turn_carried b h on can =
     h.wired (turn_event (lined b h.up h.down) h.inv can)
 
 -- the machine is done with what runs, with an outcome that it can have, and what both ends carry is kept
-pub machine_carried : (b : World) (outcome : Outcome) (h : IsCarried b) → b.server.server.on ≡ true
+abbrev pub machine_carried : (b : World) (outcome : Outcome) (h : IsCarried b) → b.server.server.on ≡ true
     → may_end b.server.server.running outcome ≡ true → IsCarried (server_writes b (serving_machined outcome b.server))
 machine_carried b outcome h on can =
     let moves = machined_moves b.server.server outcome in
@@ -223,7 +279,7 @@ machine_carried b outcome h on can =
 -- ---- bytes that move
 
 -- the first k bytes up move to a server on a connection, and what both ends carry is kept
-pub up_carried : (b : World) (k : ℕ) (h : IsCarried b) → b.server.server.on ≡ true → IsCarried (moved_up k b)
+abbrev pub up_carried : (b : World) (k : ℕ) (h : IsCarried b) → b.server.server.on ≡ true → IsCarried (moved_up k b)
 up_carried b k h on =
     let fed_is : fed b.server.input (take k (server_link b).up)
     ≡ record { rest = b.server.input.rest ++ take k (server_link b).up; fault = None } =
@@ -250,7 +306,7 @@ up_carried b k h on =
     }
 
 -- the first k bytes down move to a client on a connection, and what both ends carry is kept
-pub down_carried : (b : World) (k : ℕ) (h : IsCarried b) → b.client.client.on ≡ true → IsCarried (moved_down k b)
+abbrev pub down_carried : (b : World) (k : ℕ) (h : IsCarried b) → b.client.client.on ≡ true → IsCarried (moved_down k b)
 down_carried b k h on =
     let fed_is : fed b.client.input (take k (client_link b).down)
     ≡ record { rest = b.client.input.rest ++ take k (client_link b).down; fault = None } =

@@ -172,7 +172,9 @@ aborts_stays : (c : Client) (n : Option ℕ) → StaysOn c (sends_abort c n).cli
 aborts_stays c None = record { on = refl; last = refl }
 aborts_stays c (Some n) = record { on = refl; last = refl }
 
-writes_carried : (b : World) (h : IsCarried b) (s : Sends) → b.client.client.on ≡ true → StaysOn b.client.client s.client → IsPlainSends s
+-- what a client writes joins what is on its way up, and what both ends carry is kept
+abbrev pub writes_carried : (b : World) (h : IsCarried b) (s : Sends) → b.client.client.on ≡ true
+    → StaysOn b.client.client s.client → IsPlainSends s
     → Inv (sent (lined b h.up h.down) s) → IsCarried (client_writes b (with_lines b.client s))
 writes_carried b h s on stays plain inv = record {
   up = h.up ++ s.lines;
@@ -231,7 +233,8 @@ abort_on w inv can = go inv.side
     go (inr live) = live.on
 
 -- the bytes of the command that is due join those up on the client's connection, and what both ends carry is kept
-pub sends_carried : (b : World) (h : IsCarried b) → is_some (due b.client.client) ≡ true → IsCarried (client_writes b (end_sent b.client))
+abbrev pub sends_carried : (b : World) (h : IsCarried b) → is_some (due b.client.client) ≡ true
+    → IsCarried (client_writes b (end_sent b.client))
 sends_carried b h can =
     writes_carried b h (client_sent b.client.client) (due_on (lined b h.up h.down) h.inv can)
     (sends_stays b.client.client b.client.client.table.tally.unsent (next_number Std b.client.client.table.standard b.client.client.drawn))
@@ -268,7 +271,8 @@ hears_stays : (c : Client) (t : Tag) (m : Mark) (r : Result Table Cause) → Sta
 hears_stays c t m (Ok b) = record { on = refl; last = refl }
 hears_stays c t m (Err cause) = record { on = refl; last = refl }
 
-read_stays : (c : Client) (t : Tag) (m : Mark) → StaysOn c (client_read c t m)
+-- a client that reads does
+pub read_stays : (c : Client) (t : Tag) (m : Mark) → StaysOn c (client_read c t m)
 read_stays c t m = go (tag_is t (Event 0))
   where
     go : (z : Bool) → StaysOn c (cond z c (client_hears c t m (heard_on c.program.features c.table t m)))
@@ -284,7 +288,7 @@ first_has_place b h r others on down_is faulty =
     (hear_event w (subst (λ (d : List Reply). Inv (lined b h.up d)) down_is h.inv) on) faulty
 
 -- a reply is read off the front
-heard_carried : (b : World) (h : IsCarried b) (r : Reply) (others : List Reply) (rest : List ℕ) → b.client.client.on ≡ true
+abbrev pub heard_carried : (b : World) (h : IsCarried b) (r : Reply) (others : List Reply) (rest : List ℕ) → b.client.client.on ≡ true
     → h.down ≡ r ∷ others → rest ++ (client_link b).down ≡ reply_bytes others
     → IsCarried (record b {
       client = record {
@@ -362,6 +366,62 @@ hears_carried readers are b h on due_now = go (next_of b.client.input.rest) refl
         (heard_carried b h t.first t.others rest on t.replies_are t.behind))
 
     go : (f : Front) → next_of b.client.input.rest ≡ f → is_any f ≡ true → IsCarried (record b { client = end_read readers b.client })
+    go (Ok None) e is = absurd (false≢true is)
+    go (Ok (Some (line, rest))) e is = line_case line rest e
+    go (Err why) e is = absurd (no_reply_fault h.down b.client.input.rest (client_link b).down why h.wired.replies bytes e)
+
+-- the first reply down is gone behind that, and the client has heard it
+pub record HearsFirst (b : World) (h : IsCarried b) (v : World) : Type 0 where
+  pub first : Reply
+  pub others : List Reply
+  pub was : h.down ≡ first ∷ others
+  pub carried : IsCarried v
+  pub down_is : carried.down ≡ others
+  pub server_is : v.server ≡ b.server
+  pub client_is : v.client.client ≡ client_read b.client.client (tag_of first) (mark_of first)
+
+pub hears_first : (readers : Readers) → AreReaders readers → (b : World) (h : IsCarried b) → b.client.client.on ≡ true
+    → is_any (next_of b.client.input.rest) ≡ true → HearsFirst b h (record b { client = end_read readers b.client })
+hears_first readers are b h on due_now = go (next_of b.client.input.rest) refl due_now
+  where
+    bytes : b.client.input.rest ++ (client_link b).down ≡ reply_bytes h.down
+    bytes = h.wired.down_is on
+
+    line_case : (line rest : List ℕ) → next_of b.client.input.rest ≡ Ok (Some (line, rest))
+        → HearsFirst b h (record b { client = end_read readers b.client })
+    line_case line rest next =
+        let t : NextReply h.down line rest (client_link b).down =
+        next_reply h.down b.client.input.rest (client_link b).down line rest h.wired.replies bytes next in
+        let replies = subst Rattle.protocol_model.proofs.written_lines.Writable.AreReplies t.replies_are h.wired.replies in
+        let client_is : front_read readers b.client.client (next_of b.client.input.rest)
+        ≡ client_read b.client.client (tag_of t.first) (mark_of t.first) =
+        ap (front_read readers b.client.client) next ∙ (ap (λ (l : List ℕ). line_read readers b.client.client (readers.response l)) t.text
+        ∙ reply_heard readers are b.client.client t.first replies.0 (first_has_place b h t.first t.others on t.replies_are)) in
+        let input_is : left_by (next_of b.client.input.rest) b.client.input ≡ record { rest = rest; fault = b.client.input.fault } =
+        ap (λ (f : Front). left_by f b.client.input) next in
+        subst (λ (c : Client). HearsFirst b h (record b {
+          client = record {
+            client = c;
+            input = left_by (next_of b.client.input.rest) b.client.input;
+            out = b.client.out;
+          };
+        })) (sym client_is)
+        (subst (λ (f : Framing). HearsFirst b h (record b {
+          client = record
+              { client = client_read b.client.client (tag_of t.first) (mark_of t.first); input = f; out = b.client.out };
+        })) (sym input_is)
+        (record {
+          first = t.first;
+          others = t.others;
+          was = t.replies_are;
+          carried = heard_carried b h t.first t.others rest on t.replies_are t.behind;
+          down_is = refl;
+          server_is = refl;
+          client_is = refl;
+        }))
+
+    go : (f : Front) → next_of b.client.input.rest ≡ f → is_any f ≡ true
+        → HearsFirst b h (record b { client = end_read readers b.client })
     go (Ok None) e is = absurd (false≢true is)
     go (Ok (Some (line, rest))) e is = line_case line rest e
     go (Err why) e is = absurd (no_reply_fault h.down b.client.input.rest (client_link b).down why h.wired.replies bytes e)
