@@ -20,3 +20,4 @@ pub mod Undisturbed
 pub mod Rounds
 pub mod PlainExecution
 pub mod Finishing
+pub mod PlainRows

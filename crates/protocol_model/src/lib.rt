@@ -19,6 +19,7 @@
 //! - `origins`: worked rows of where features come from
 //! - `homing`: worked rows of the question whether the machine is homed
 //! - `ledger_rows`: worked rows of what is claimed, beside ledgers that are written out
+//! - `plain_rows`: worked rows of what a program plainly measures, and of what that asks of the rack and the machine
 //! - `turn_rows`: worked rows of the order of checks, and of when a client is done
 #![tactic(auto)]
 
@@ -29,6 +30,7 @@ pub mod ledger_rows;
 pub mod lines;
 pub mod machine;
 pub mod origins;
+pub mod plain_rows;
 pub mod plan_laws;
 pub mod plans;
 pub mod positions;
