@@ -9,3 +9,4 @@ pub mod Ready
 pub mod Succeeding
 pub mod Going
 pub mod Finished
+pub mod Reaching

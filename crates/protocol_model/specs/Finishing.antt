@@ -3,6 +3,10 @@
 use Rattle.std.specs.Prelude.{◌≡◌, ◌≢◌, ℕ, suc, ◌<◌, true, List, [], ◌∷◌, ◌++◌, length, drop, bytes_eq}
 use Rattle.std.specs.List.{list_any}
 use Rattle.fixed_um.specs.Points.{point_sum}
+use Rattle.fixed_um.specs.declared.frames.Frame.{Frame}
+use Rattle.fixed_um.specs.declared.frames.Frame.TheVariants.{Part}
+use Rattle.dmis_program.specs.declared.steps.Step.{Step}
+use Rattle.dmis_program.specs.declared.steps.Step.TheVariants as step
 use Rattle.contact_ledger.specs.Ledgers.{connection_most, contact_count}
 use Rattle.contact_ledger.specs.declared.features.Feature.{Feature}
 use Rattle.protocol_model.specs.Lines.{Readers}
@@ -54,6 +58,16 @@ IsInReach rack (Does.Frames f) = Unit {0}
 abbrev pub AreInReach : List (List ℕ) → List Planned → Type 0
 AreInReach rack [] = Unit {0}
 AreInReach rack (p ∷ ps) = IsInReach rack p.does × AreInReach rack ps
+
+-- the same of the steps of a program, the first of them in this frame: what an operator can check before anything runs
+abbrev pub StepsInReach : List (List ℕ) → Frame → List Step → Type 0
+StepsInReach rack f [] = Unit {0}
+StepsInReach rack f (step.Goto p ∷ ss) = IsInReach rack (Does.Moves p f) × StepsInReach rack f ss
+StepsInReach rack f (step.Begin l ∷ ss) = StepsInReach rack f ss
+StepsInReach rack f (step.Touch t ∷ ss) = IsInReach rack (Does.Touches t true) × StepsInReach rack f ss
+StepsInReach rack f (step.Tool n ∷ ss) = IsInReach rack (Does.Changes n) × StepsInReach rack f ss
+StepsInReach rack f (step.Recall p ∷ ss) = StepsInReach rack (Part p) ss
+StepsInReach rack f (step.End ∷ ss) = StepsInReach rack f ss
 
 -- a surface was met in the volume
 abbrev pub IsTouched : Outcome → Type 0

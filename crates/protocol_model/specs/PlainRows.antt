@@ -1,6 +1,6 @@
 -- Worked rows of plain execution, and of what it asks of the rack and the machine (this profile).
 -- No theorem cites these definitions: they show what the others give on small programs.
-use Rattle.std.specs.Prelude.{ℕ, ◌==◌, if◌then◌else◌, pos, true, false, List, [], ◌∷◌, codes}
+use Rattle.std.specs.Prelude.{ℕ, ◌==◌, if◌then◌else◌, pos, true, false, List, [], ◌∷◌}
 use Rattle.std.specs.List.{slice_index_or}
 use Rattle.fixed_um.specs.Points.{zero_point, point_sum}
 use Rattle.fixed_um.specs.declared.lengths.Point.{Point}

@@ -53,7 +53,9 @@ pub use machine::{Job, Outcome};
 pub use plan_laws::plans_measure_what_is_left;
 pub use plans::{Does, Planned, Start};
 pub use positions::plans_go_on_behind_the_last_touch;
-pub use quiet::{quiet_rounds_are_few, quiet_rounds_measure_what_is_left};
+pub use quiet::{
+    programs_in_reach_have_plans_in_reach, quiet_rounds_are_few, quiet_rounds_measure_what_is_left,
+};
 pub use readers::readers_exist;
 pub use replies::table_accepts_the_language;
 pub use states::{Cause, State};

@@ -6,7 +6,10 @@ ghost use Rattle.dmis_program.specs.Programs.{IsProgram};
 ghost use Rattle.protocol_model.specs.Lines.{Readers, AreReaders};
 ghost use Rattle.protocol_model.specs.World.{start, run_of};
 ghost use Rattle.protocol_model.specs.Rounds.{all_of, AreBusy, AreAllBusy};
-ghost use Rattle.protocol_model.specs.Finishing.{CanFinish, rejoined, plan_left, CanMeasure, HasMeasured};
+ghost use Rattle.protocol_model.specs.Finishing.{CanFinish, rejoined, plan_left, CanMeasure, HasMeasured, AreInReach, StepsInReach};
+ghost use Rattle.protocol_model.specs.Plan.{plan};
+ghost use Rattle.protocol_model.specs.declared.plans.Start.TheVariants as Start;
+ghost use Rattle.fixed_um.specs.declared.frames.Frame.TheVariants.{Machine};
 ghost use Rattle.protocol_model.specs.declared.events.Event.{Event as OneEvent};
 ghost use Rattle.protocol_model.specs.declared.machine.Job.{Job as OneJob};
 ghost use Rattle.protocol_model.specs.declared.machine.Outcome.{Outcome as OneOutcome};
@@ -55,4 +58,13 @@ pub fn quiet_rounds_measure_what_is_left()
         → HasMeasured answer (run_of readers events (start program rack window))
         (run_of readers (all_of rounds) (rejoined readers
         (run_of readers events (start program rack window)))) }
+{}
+
+/// What the rack and the volume give to the steps of a program they give to each plan for what is left of it: where the rack has each tool
+/// that is selected, and each target of a move or a touch, in the frame that is selected there, lies in the volume, each plan is in reach
+/// (this profile).
+pub fn programs_in_reach_have_plans_in_reach()
+    ensures reach { (program : Meaning) (rack : List (List ℕ)) (completed : ℕ)
+        → StepsInReach rack Machine program.steps
+        → AreInReach rack (plan program completed Start.NewConnection) }
 {}
