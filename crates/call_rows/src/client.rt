@@ -109,7 +109,7 @@ fn abort_often(client: &mut Client, count: u32) -> Result<(), ClientFault> {
 }
 
 /// A call by its word; false where no line was read.
-fn called(client: &mut Client, action: &str) -> Result<bool, ClientFault> {
+pub(crate) fn called(client: &mut Client, action: &str) -> Result<bool, ClientFault> {
     let (word, rest) = action.split_once(" ").unwrap_or((action, ""));
     match word {
         "connected" => client.connected(rest.parse().unwrap_or(0))?,
@@ -141,7 +141,7 @@ fn push_state(alloc: Global, out: &mut Vec<u8>, state: State) -> Result<(), Allo
     push_text(out, format!(in alloc; "{state:?}")?.as_str())
 }
 
-fn push_acts(out: &mut Vec<u8>, acts: &[Act]) -> Result<(), AllocError> {
+pub(crate) fn push_acts(out: &mut Vec<u8>, acts: &[Act]) -> Result<(), AllocError> {
     for act in acts {
         push_act(out, act)?;
     }
@@ -200,7 +200,7 @@ pub(crate) fn answer(
 // ---- behind actions
 
 /// A client of a program on a connection, behind actions that all succeed.
-fn behind(alloc: Global, made: Made<'_>, actions: &str) -> Result<Client, Stop> {
+pub(crate) fn behind(alloc: Global, made: Made<'_>, actions: &str) -> Result<Client, Stop> {
     let mut client = new_client(alloc, made)?;
     if client.connected(1).is_err() {
         return Err(Stop::Row);

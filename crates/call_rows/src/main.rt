@@ -14,13 +14,17 @@
 //! - `client`, `server`: what an action does, and what it shows
 //! - `links`: turns and runs over ports in memory
 //! - `setups`: what setups say
+//! - `hostile`: bytes that may be anything, in pieces
+//! - `audited`: what an audit says of both ends' files
 //! - `texts`: texts of features and of acts that are read and written again
 //! - `worlds`: worlds behind schedules, and both ends that are driven by hand
 //! - `shown`: lines, acts and features as rows show them
 //! - `stop`: why it ends early
 #![tactic(auto)]
 
+mod audited;
 mod client;
+mod hostile;
 mod links;
 mod parts;
 mod server;

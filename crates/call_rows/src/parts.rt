@@ -4,7 +4,7 @@ use crate::client::{self, Made};
 use crate::links::{self, Script};
 use crate::shown::push_text;
 use crate::stop::Stop;
-use crate::{server, setups, texts, worlds};
+use crate::{hostile, server, setups, texts, worlds};
 use std::alloc::{AllocError, Global};
 use tool_rack::Setup;
 
@@ -69,6 +69,9 @@ fn row_answer(
         "setups" => Ok(setups::answer(alloc, row)?),
         "features" => Ok(texts::features_answer(alloc, row)?),
         "contacts" => Ok(texts::contacts_answer(alloc, row)?),
+        "client_cuts" | "server_cuts" | "both_cuts" => {
+            hostile::answer(alloc, (made, setup), (word, row))
+        }
         "serves" => links::served(alloc, setup, row),
         "connections" => links::connection(alloc, setup, row),
         _ => Err(Stop::Row),
@@ -87,7 +90,10 @@ fn push_rows(
         if is_comment(row) {
             push_line(out, row)?;
         } else {
-            let answer = row_answer(alloc, made, setup, (word, row))?;
+            let answer = match row_answer(alloc, made, setup, (word, row)) {
+                Err(Stop::Memory) => row_answer(alloc, made, setup, (word, row))?,
+                answer => answer?,
+            };
             push_row(out, row, answer.as_slice())?;
         }
     }

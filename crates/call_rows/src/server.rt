@@ -72,7 +72,7 @@ fn feed_homes(server: &mut Server, number: u32) -> Result<bool, ServerFault> {
 }
 
 /// A call by its word; false where no line was read.
-fn called(server: &mut Server, action: &str) -> Result<bool, ServerFault> {
+pub(crate) fn called(server: &mut Server, action: &str) -> Result<bool, ServerFault> {
     let (word, rest) = action.split_once(" ").unwrap_or((action, ""));
     match word {
         "accept" => server.accept(rest.parse().unwrap_or(0))?,
@@ -100,7 +100,11 @@ fn push_word(out: &mut Vec<u8>, is: bool, yes: &str, no: &str) -> Result<(), All
     out.extend_from_slice(if is { yes.as_bytes() } else { no.as_bytes() })
 }
 
-fn push_state(alloc: Global, out: &mut Vec<u8>, server: &Server) -> Result<(), AllocError> {
+pub(crate) fn push_state(
+    alloc: Global,
+    out: &mut Vec<u8>,
+    server: &Server,
+) -> Result<(), AllocError> {
     let view = server.view();
     match view.connection {
         Some(number) => out.extend_from_slice(format!(in alloc; "on {number};")?.as_bytes())?,
@@ -120,7 +124,7 @@ fn push_state(alloc: Global, out: &mut Vec<u8>, server: &Server) -> Result<(), A
     push_word(out, view.error, "error;", "no error;")
 }
 
-fn push_job(out: &mut Vec<u8>, server: &Server) -> Result<(), AllocError> {
+pub(crate) fn push_job(out: &mut Vec<u8>, server: &Server) -> Result<(), AllocError> {
     match server.running() {
         None => out.extend_from_slice(b"nothing"),
         Some(Job::Home) => out.extend_from_slice(b"Home"),
@@ -141,7 +145,11 @@ fn push_job(out: &mut Vec<u8>, server: &Server) -> Result<(), AllocError> {
     }
 }
 
-fn push_ledger(alloc: Global, out: &mut Vec<u8>, server: &Server) -> Result<(), AllocError> {
+pub(crate) fn push_ledger(
+    alloc: Global,
+    out: &mut Vec<u8>,
+    server: &Server,
+) -> Result<(), AllocError> {
     for (connection, act) in server.ledger().acts() {
         out.extend_from_slice(format!(in alloc; "{connection} ")?.as_bytes())?;
         push_act(out, act)?;
@@ -181,4 +189,17 @@ pub(crate) fn answer(
         _ => push_called(alloc, &mut text, server, action)?,
     }
     Ok(text)
+}
+
+/// A server behind actions that all succeed; what it has answered is sent.
+pub(crate) fn behind(alloc: Global, setup: &str, actions: &str) -> Result<Server, Stop> {
+    let mut server = new_server(alloc, setup)?;
+    for action in actions.split(" / ") {
+        if called(&mut server, action) != Ok(true) {
+            return Err(Stop::Row);
+        }
+        let count = server.out().len();
+        server.sent(count);
+    }
+    Ok(server)
 }

@@ -65,7 +65,7 @@ pub(crate) fn homings_answer(
 }
 
 /// The command that is due is sent, and the server and its machine do it.
-fn serve_next<M: Machine>(
+pub(crate) fn serve_next<M: Machine>(
     client: &mut Client,
     server: &mut Server,
     machine: &mut M,
@@ -85,7 +85,7 @@ fn serve_next<M: Machine>(
 }
 
 /// The client reads all that was answered, at most ten lines.
-fn hear_all(client: &mut Client, server: &mut Server) -> Result<(), Stop> {
+pub(crate) fn hear_all(client: &mut Client, server: &mut Server) -> Result<(), Stop> {
     client.feed(server.out()).map_err(|_| Stop::Row)?;
     let count = server.out().len();
     server.sent(count);
@@ -123,7 +123,12 @@ fn drive(
 }
 
 /// Both ends behind the commands of a row.
-fn driven(alloc: Global, made: Made<'_>, setup: &str, row: &str) -> Result<(Client, Server), Stop> {
+pub(crate) fn driven(
+    alloc: Global,
+    made: Made<'_>,
+    setup: &str,
+    row: &str,
+) -> Result<(Client, Server), Stop> {
     let (count, rest) = row.split_once(" ").unwrap_or((row, ""));
     let count = count.parse().map_err(|_| Stop::Row)?;
     let (mut client, mut server) = both_ends(alloc, made, setup)?;
