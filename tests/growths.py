@@ -35,6 +35,18 @@ CALL_ROWS = {
     "a_run_of_a_server": ("connections", "least 1 < 00001 StartSession()|;00002 Home()|;", "() off: "),
 }
 
+# Rows of `call_rows` that stand by themselves, which it makes again where memory is wanting: what it prints has to be what it prints with all
+# memory, or, where the refusal of a text has its own words, that memory was wanting.
+RETRIED_ROWS = {
+    "setup": ("setups", "TOOL P1;TOOL P2;FRAME PART 100 0 0;SHIFT 0.002 0 0;SHIFT 0 0 0.004;SHIFT -0.001 0.001 0;"),
+    "schedule": ("schedules", "connect;accept 1;machine touched 1 2 3;up all;down 5;quiet 3;quiet"),
+    "features": ("features", "DME-FEATURES 2;FEATURE A 1 1 M;1.000 2.000 3.000;END;FEATURE B 1 1 P 100.000 0.000 0.000;0.000 0.000 0.000;END;"),
+    "contacts": ("contacts", "DME-CONTACTS 1;1 HOMEDIS 0;1 HOMED;2 MOVED -0.001 0.000 1.000 M;2 CHANGED P1;2 FRAMED P 1.000 0.000 0.000;"
+                             "3 CONTACT 1.000 2.000 3.000 D -1.000000 0.500000 1.000000 P2 P 0.000 0.000 1.000 1.001 2.000 3.000;"),
+    "reports": ("reports TWO 1", "8 more"),
+    "schedule_played": ("homings THREE 3", "connect;accept 1;quiet;clientrestart 0;serverrestart;connect;accept 2;quiet"),
+}
+
 # An order of files, which prints all or nothing.
 FILE_ROWS = {
     "check": "check --setup two_clampings.setup two_clampings.dmis",
@@ -210,6 +222,21 @@ def call_row(refusing, group, row, answer):
     return len(wanting)
 
 
+def retried_row(refusing, head, row):
+    """Each growth is made up for, or the row says that memory was wanting, or the program itself ends for it."""
+    parts = "".join(part for part in parts_of((ROOT / "crates" / "call_rows" / "stdin").read_text()) if part.startswith(("[program ", "[setup]")))
+    text = f"{parts}[{head}]\n{row}\n"
+    whole, runs = refusing.all_of(lambda number, counts: ended(refusing.started([CALLS], number, counts=counts, text=text), text))
+    shown = whole[1].splitlines()[-1].removeprefix(f"{row} => ")
+    must(whole[0] == 0 and shown and "changed" not in shown and "Memory" not in shown, "with all memory", shown)
+    wanting = (0, whole[1].replace(f"{row} => {shown}\n", f"{row} => out of memory\n"), "")
+    for run in runs:
+        must(run in (whole, wanting) or (run[0] in (1, 4) and run[1:] == ("", "")), "another end", run[0], run[1].splitlines()[-1:])
+    of_the_row = sum(run in (whole, wanting) for run in runs)
+    must(of_the_row > 3, "of the row", of_the_row, "of", len(runs))
+    return of_the_row
+
+
 def parts_of(text):
     parts = []
     for line in text.splitlines(keepends=True):
@@ -228,6 +255,8 @@ def growth_rows(refusing):
     rows["serve"] = lambda: serve_row(refusing)
     for name, row in CALL_ROWS.items():
         rows[name] = lambda row=row: call_row(refusing, *row)
+    for name, row in RETRIED_ROWS.items():
+        rows[name] = lambda row=row: retried_row(refusing, *row)
     return rows
 
 

@@ -1,0 +1,167 @@
+"""The most that there may be of a thing, and one more: statements of a program, touches of a feature, bytes of a line.
+
+What is expected is computed here. Other limits stand as rows: 64 waiting commands and one more (`homes` of call_rows), all tags held (`aborts
+9999` there, and the tests of `trials` for standard tags), connection 4,000,000,000 and the number behind it (`connected`, `accept`).
+
+`run` calls this; by itself: tests/limits.py [NAME ..]
+"""
+
+import pathlib
+import resource
+import subprocess
+import sys
+import tempfile
+
+from growths import EXAMPLES, PROGRAM, Wrong, must
+from hostile import answers_of
+
+SECONDS = 60
+FIRST = ["StartSession()", "ClearAllErrors()", "IsHomed()", "Home()", "OnPtMeasReport(X(), Y(), Z())", "SetCoordSystem(MachineCsy)"]
+SHIFTS = [(2, 0, 0), (0, 0, 4), (-1, 1, 0)]  # of examples/machine.setup, in micrometres
+SETUP = "TOOL P1\nSHIFT 0.002 0 0\nSHIFT 0 0 0.004\nSHIFT -0.001 0.001 0\n"
+
+
+def lines_of(commands):
+    """Commands under the tags of a new connection, which come round behind 09999."""
+    return "".join(f"{at % 9999 + 1:05} {it}\n" for at, it in enumerate(commands))
+
+
+def moves(count):
+    return "DMISMN/'E',05.2\n" + "GOTO/0,0,0\n" * count
+
+
+def touches(count, named):
+    """A program of one feature with so many touches, in so many statements and five."""
+    rows = "".join(f"PTMEAS/CART,{at},0,0,0,0,1\n" for at in range(count))
+    return f"DMISMN/'E',05.2\nSNSLCT/S(P1)\nMEAS/POINT,F(A),{named}\n{rows}ENDMES\nENDFIL\n"
+
+
+def ran(words, **files):
+    """Status, output and errors of a `dme` in a folder with these files."""
+    with tempfile.TemporaryDirectory() as room:
+        for name, text in files.items():
+            (pathlib.Path(room) / name).write_text(text)
+        done = subprocess.run([str(PROGRAM), *words.split()], cwd=room, capture_output=True, text=True, timeout=SECONDS)
+    return done.returncode, done.stdout, done.stderr
+
+
+def must_be(found, *wanted):
+    for name, it, other in zip(("status", "output", "errors"), found, wanted):
+        must(it == other, name, str(it)[:200], "not", str(other)[:200])
+
+
+def ten_thousand_statements():
+    commands = FIRST + ["GoTo(X(0.000), Y(0.000), Z(0.000))"] * 9_998 + ["EndSession()"]
+    text = lines_of(commands)
+    must(text.count("\n") == 10_005 and text.endswith("\n00006 EndSession()\n"), "another text")
+    must_be(ran("check p", p=moves(9_998) + "ENDFIL\n"), 0, text, "")
+    # The end may be missing only where the limit is not met before.
+    must_be(ran("check p", p=moves(9_999)), 1, "", "dme: P2 Truncated at line 10000\n")
+
+
+def one_statement_more():
+    must_be(ran("check p", p=moves(10_000)), 1, "", "dme: P16 TooLarge at line 10001\n")
+    must_be(ran("check p", p=moves(9_999) + "ENDFIL\n"), 1, "", "dme: P16 TooLarge at line 10001\n")
+
+
+def most_points_of_a_block():
+    fault = "dme: P6 BadArguments at line 3\n"
+    must_be(ran("check p", p=touches(1, 10_001)), 1, "", fault)
+    must_be(ran("check p", p=touches(1, 0)), 1, "", fault)
+    must_be(ran("check p", p=touches(1, 10_000)), 1, "", "dme: P10 TooFewPoints at line 5\n")
+
+
+def most_touches_of_a_feature():
+    """10,000 touches have no room beside the five statements around them: 9,995 have."""
+    written = [f"PtMeas(X({at}.000), Y(0.000), Z(0.000), IJK(0.000000, 0.000000, 1.000000))" for at in range(9_995)]
+    text = lines_of(FIRST + ['ChangeTool("P1")'] + written + ["EndSession()"])
+    must_be(ran("check p", p=touches(9_995, 9_995)), 0, text, "")
+    must_be(ran("check p", p=touches(9_996, 9_996)), 1, "", "dme: P16 TooLarge at line 10001\n")
+    must_be(ran("check p", p=touches(10_000, 10_000)), 1, "", "dme: P16 TooLarge at line 10001\n")
+
+
+def length(micrometres):
+    return f"{'-' if micrometres < 0 else ''}{abs(micrometres) // 1000}.{abs(micrometres) % 1000:03}"
+
+
+def most_touches_measured():
+    """They are measured in one run, in which the tags come round."""
+    points = []
+    for at in range(9_995):
+        x, y, z = SHIFTS[at % 3]
+        points.append(" ".join(map(length, (1000 * at + x, y, z))))
+    features = "FEATURE A\n" + "".join(it + "\n" for it in points)
+    contacts = "".join(f"CONTACT {at} 1 {it}\n" for at, it in enumerate(points))
+    report = f"STATE Done\nCOUNTED {4 + 9_995}\n{features}{contacts}"
+    files = {"s": SETUP, "q": "connect\naccept 1\nquiet\n", "p": touches(9_995, 9_995)}
+    for window in (1, 16):
+        must_be(ran(f"simulate --setup s --schedule q --window {window} p", **files), 0, report, "")
+
+
+# ---- a line, fed byte by byte, in sevens and in two hundreds
+
+IN_SESSION = "accept 1 / 00001 StartSession() / turn"
+
+
+def cuts(count, end):
+    """What both ends show of so many letters and an end."""
+    given = (b"A" * count + end).hex()
+    return answers_of("client_cuts ONE 1", [f"ended 8 / send | {given}"])[0], answers_of("server_cuts", [f"{IN_SESSION} | {given}"])[0]
+
+
+def longest_line():
+    for count, end, client, server in (
+        (65_536, b"", "0 lines Running 1 open", "0 lines on 1;"),
+        (65_536, b"\r\n", "0 lines Faulted(NotResponse) Faulted", "1 lines on 1;"),
+        (65_536, b"\r", "0 lines Running 1 open", "0 lines on 1;"),
+        (65_536, b"\n", "0 lines Faulted(BadByte) Faulted", "0 lines Framing(BadByte) on 1;"),
+        (65_537, b"", "0 lines Faulted(LineTooLong) Faulted", "0 lines Framing(LineTooLong) on 1;"),
+        (65_537, b"\r\n", "0 lines Faulted(LineTooLong) Faulted", "0 lines Framing(LineTooLong) on 1;"),
+    ):
+        told = cuts(count, end)
+        must(told[0].startswith(client) and told[1].startswith(server), count, end, told)
+        must(("No tag" in told[1]) == (end == b"\r\n" and count == 65_536), count, end, told)
+
+
+def seconds_of(count):
+    """The least processor time, of three runs, of a hundred such lists in the cuts of a server."""
+    rows = [f"{IN_SESSION} | {(b'A' * count).hex()}"] * 100
+    least = None
+    for _ in range(3):
+        before = resource.getrusage(resource.RUSAGE_CHILDREN)
+        answers_of("server_cuts", rows)
+        after = resource.getrusage(resource.RUSAGE_CHILDREN)
+        spent = after.ru_utime - before.ru_utime
+        least = spent if least is None else min(least, spent)
+    return least
+
+
+def linear_work():
+    """Four times the bytes of a line that does not end take less than eight times the work; where each byte led to a search from the front,
+    it would be sixteen times."""
+    quarter, whole = seconds_of(16_384), seconds_of(65_536)
+    must(whole < 8 * quarter, "65,536 bytes took", whole, "and 16,384 bytes", quarter)
+
+
+ROWS = (ten_thousand_statements, one_statement_more, most_points_of_a_block, most_touches_of_a_feature, most_touches_measured, longest_line,
+        linear_work)
+
+
+def check_limits(names=()):
+    """How many rows are as they have to be, and how many are not."""
+    rows = [it for it in ROWS if not names or it.__name__ in names]
+    wrong = 0
+    for row in rows:
+        try:
+            row()
+        except (Wrong, OSError, subprocess.SubprocessError) as why:
+            wrong += 1
+            print(f"limit {row.__name__}: not as it has to be: {why}")
+    print(f"rows of limits: {len(rows) - wrong} of {len(rows)}", flush=True)
+    return len(rows) - wrong, wrong
+
+
+if __name__ == "__main__":
+    PASSED, FAILED = check_limits(sys.argv[1:])
+    print(f"{PASSED} passed, {FAILED} failed")
+    sys.exit(1 if FAILED else 0)
