@@ -30,6 +30,7 @@ pub mod Resting
 pub mod Turning
 pub mod Rejoining
 pub mod Ending
+pub mod Measured
 pub mod Instructions
 pub mod PumpPorts
 pub mod ClientPumps

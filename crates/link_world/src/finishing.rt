@@ -3,11 +3,14 @@
 ghost use Rattle.std.specs.Prelude.{◌≡◌, ◌↔◌, ◌⊎◌, ◌≤◌, ◌<◌, [], length, true, false, None, Some, is_some, IsTrue, IsOk, IsErrAnd, IfOk, IfErr, OnOk, OnErr};
 ghost use Rattle.std.specs.Result.{IsErrOf};
 ghost use Rattle.protocol_model.specs.Client.{due};
-ghost use Rattle.protocol_model.specs.Finishing.{CanFinish, rejoined, plan_left};
+ghost use Rattle.protocol_model.specs.Finishing.{CanFinish, CanMeasure, HasMeasured, rejoined, plan_left};
+ghost use Rattle.protocol_model.specs.PlainExecution.{as_measured, plain_execution};
 ghost use Rattle.protocol_model.specs.Lines.{Readers, AreReaders};
 ghost use Rattle.protocol_model.specs.Plan.{plan};
 ghost use Rattle.protocol_model.specs.Rounds.{IsRound};
+ghost use Rattle.protocol_model.specs.World.{start};
 ghost use Rattle.protocol_model.specs.declared.plans.Start.TheVariants.{NewConnection};
+ghost use Rattle.protocol_model.specs.declared.states.State.TheVariants as state;
 ghost use Rattle.client_core.specs.Always.{FitsState};
 ghost use Rattle.client_core.specs.Clients.{is_window};
 ghost use Rattle.link_world.specs.Links.{with_world};
@@ -122,6 +125,10 @@ impl World {
         ensures finishes { IfOk result (λ turns. (readers : Readers) → AreReaders readers
             → Finishes readers (M.answers machine.old) turns self.old.world self.new.world) }
         ensures few { IfOk result (λ turns. turns ≤ length (plan_left self.old.world)) }
+        ensures done { OnOk result (CanMeasure (M.answers machine.old) self.old.world
+            → self.new.world.client.client.state ≡ state.Done) }
+        ensures measured { OnOk result (CanMeasure (M.answers machine.old) self.old.world
+            → HasMeasured (M.answers machine.old) self.old.world self.new.world) }
         ensures memory { IsErrOf result WorldFault.Memory → (readers : Readers) → AreReaders readers
             → Stops readers (M.answers machine.old) self.old.world self.new.world }
         ensures keeps { M.answers machine.new ≡ M.answers machine.old }
@@ -139,6 +146,11 @@ impl World {
     /// come to the next; then quiet rounds, while they do something. What runs ends as the machine answers. It answers how many rounds did
     /// something: at most as many as the plan for what is left has commands.
     ///
+    /// Where the rack has each tool that is still selected, each target that is left lies in the volume in its frame, and the machine does what
+    /// it is asked (`CanMeasure`), the client is Done then, and holds the features that it held before, unchanged, and behind them the plain
+    /// execution of the others: the machine's answers to their touches, numbered from the server's count of contacts on. Else the state is
+    /// that which is reached, within as many rounds.
+    ///
     /// `NotNow` exactly where the client is Done or has made 4,000,000,000 connections, and then nothing has changed. On `Memory` the first
     /// of these events have happened, and it may be called again.
     pub fn finish<M: Machine>(&mut self, machine: &mut M) -> Result<usize, WorldFault>
@@ -151,6 +163,10 @@ impl World {
         ensures finishes { IfOk result (λ turns. (readers : Readers) → AreReaders readers
             → Finishes readers (M.answers machine.old) turns self.old.world self.new.world) }
         ensures few { IfOk result (λ turns. turns ≤ length (plan_left self.old.world)) }
+        ensures done { OnOk result (CanMeasure (M.answers machine.old) self.old.world
+            → self.new.world.client.client.state ≡ state.Done) }
+        ensures measured { OnOk result (CanMeasure (M.answers machine.old) self.old.world
+            → HasMeasured (M.answers machine.old) self.old.world self.new.world) }
         ensures memory { IsErrOf result WorldFault.Memory → (readers : Readers) → AreReaders readers
             → Stops readers (M.answers machine.old) self.old.world self.new.world }
         ensures keeps { M.answers machine.new ≡ M.answers machine.old }
@@ -188,6 +204,10 @@ impl World {
 /// quiet rounds follow while they do something. What runs ends as the machine answers. The window, from 1 to 16, is how many commands the
 /// client keeps open at most.
 ///
+/// Where the rack has each tool that the program selects, each target lies in the volume in its frame, and the machine does what it is asked
+/// (`CanMeasure`), the client is Done, and the features are the plain execution of the program: the machine's answers to its touches,
+/// numbered through all features from 0 on, less the offsets of their frames.
+///
 /// `BadWindow` hands program and setup back; `Memory`.
 pub fn quiet_run<M: Machine>(
     alloc: Global,
@@ -200,6 +220,13 @@ pub fn quiet_run<M: Machine>(
     ensures ran { IfOk result (λ quiet. (readers : Readers) → AreReaders readers
         → IsQuietRun readers (M.answers machine.old) program setup.tools window quiet) }
     ensures few { IfOk result (λ quiet. quiet.turns ≤ length (plan program 0 NewConnection)) }
+    ensures done { IfOk result (λ quiet.
+        CanMeasure (M.answers machine.old) (start program setup.tools window)
+        → quiet.state ≡ state.Done) }
+    ensures measured { IfOk result (λ quiet.
+        CanMeasure (M.answers machine.old) (start program setup.tools window)
+        → as_measured quiet.features
+        ≡ plain_execution (M.answers machine.old) 0 program.features) }
     ensures window { IsOk result → is_window window ≡ true }
     ensures bad_window { IsErrAnd result (λ fault. HandsBack program setup fault)
         ↔ (is_window window ≡ false) }

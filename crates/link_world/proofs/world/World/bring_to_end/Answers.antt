@@ -4,6 +4,7 @@ use Rattle.link_world.specs.Finishing.{AreFirstOfJoining, AreTurns}
 use Rattle.link_world.specs.Links.{IsReached}
 use Rattle.link_world.proofs.Ending.{due_behind, short_behind, few_behind, finished, stopped_turning, stopped_joining, same_made}
 use Rattle.link_world.proofs.Ending.{same_turned}
+use Rattle.link_world.proofs.Measured.{finish_measures}
 use Rattle.link_world.proofs.Rejoining.{may_by}
 use Rattle.link_world.proofs.world.World.bring_to_end.Goals as goal
 
@@ -45,3 +46,17 @@ returns-clause-few g c = few_behind c.args.self.now c.rejoin.new.self _ c.in_ok-
 pub returns-clause-same : goal.returns-clause-same
 returns-clause-same g c = same_turned (λ readers. AreTurns readers (g.M.Machine.answers c.args.machine.now) _) false None
     c.args.self.now c.rejoin.new.self c.turns.new.self c.in_ok-rejoin.ensures.joined c.in_ok-turns.ensures.made
+
+pub returns-clause-done : goal.returns-clause-done
+returns-clause-done g c = λ can. (finish_measures (g.M.Machine.answers c.args.machine.now) _ c.args.self.now c.turns.new.self
+    (subst IsReached c.self.view_is c.self.invariant)
+    (may_by c.args.self.now.world c.can_finish.result (search rules) c.can_finish.ensures.value) c.can_finish.ensures.window can
+    (λ readers are. finished readers are (g.M.Machine.answers c.args.machine.now) _ c.args.self.now c.rejoin.new.self c.turns.new.self
+    c.in_ok-rejoin.ensures.joined (c.in_ok-turns.ensures.made readers are))).done
+
+pub returns-clause-measured : goal.returns-clause-measured
+returns-clause-measured g c = λ can. (finish_measures (g.M.Machine.answers c.args.machine.now) _ c.args.self.now c.turns.new.self
+    (subst IsReached c.self.view_is c.self.invariant)
+    (may_by c.args.self.now.world c.can_finish.result (search rules) c.can_finish.ensures.value) c.can_finish.ensures.window can
+    (λ readers are. finished readers are (g.M.Machine.answers c.args.machine.now) _ c.args.self.now c.rejoin.new.self c.turns.new.self
+    c.in_ok-rejoin.ensures.joined (c.in_ok-turns.ensures.made readers are))).measured
