@@ -8,11 +8,13 @@
 //! ends behind so many commands, `setups`, `schedules`, `features` and `contacts` for texts, `turns NAME W`, `runs NAME W`, `watches NAME W`,
 //! `loops NAME W`, `serves` and `connections` for turns and runs over ports, into which the texts `replies NAME` and `commands NAME` come. A line that begins
 //! with `-- ` says what the rows below it show. `files NAME W` has a schedule, and the features and contacts files that it leaves stand in its
-//! place.
+//! place. `quiets NAME W` has the deviations of a machine, as shifts, and `finishes NAME W` schedules behind each front of which a world is
+//! brought to its end.
 //!
 //! - `parts`: the parts of the input, and their rows
 //! - `client`, `server`: what an action does, and what it shows
 //! - `links`: turns and runs over ports in memory
+//! - `quiets`: undisturbed runs, and worlds that are brought to their end
 //! - `setups`: what setups say
 //! - `hostile`: bytes that may be anything, in pieces
 //! - `audited`: what an audit says of both ends' files
@@ -27,6 +29,7 @@ mod client;
 mod hostile;
 mod links;
 mod parts;
+mod quiets;
 mod server;
 mod setups;
 mod shown;

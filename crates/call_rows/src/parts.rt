@@ -4,7 +4,7 @@ use crate::client::{self, Made};
 use crate::links::{self, Script};
 use crate::shown::push_text;
 use crate::stop::Stop;
-use crate::{hostile, server, setups, texts, worlds};
+use crate::{hostile, quiets, server, setups, texts, worlds};
 use std::alloc::{AllocError, Global};
 use tool_rack::Setup;
 
@@ -66,6 +66,8 @@ fn row_answer(
         "homings" => worlds::homings_answer(alloc, made, setup, row),
         "reports" => worlds::reports_answer(alloc, made, setup, row),
         "schedules" => worlds::schedule_answer(alloc, row),
+        "quiets" => quiets::quiet_answer(alloc, made, setup, row),
+        "finishes" => quiets::finish_answer(alloc, made, setup, row),
         "setups" => Ok(setups::answer(alloc, row)?),
         "features" => Ok(texts::features_answer(alloc, row)?),
         "contacts" => Ok(texts::contacts_answer(alloc, row)?),
