@@ -43,7 +43,7 @@ pub(crate) fn quiet_answer(
     let mut answer = Vec::new(alloc);
     match quiet_run(alloc, program, setup, made.window, &mut machine) {
         Ok(quiet) => push_quiet(alloc, &mut answer, &quiet)?,
-        Err(NewFault::BadWindow(_, _)) => push_text(&mut answer, "BadWindow")?,
+        Err(NewFault::BadWindow(_program, _setup)) => push_text(&mut answer, "BadWindow")?,
         Err(NewFault::Memory) => return Err(Stop::Memory),
     }
     Ok(answer)
