@@ -24,6 +24,44 @@ fn push_quiet(alloc: Global, answer: &mut Vec<u8>, quiet: &Quiet) -> Result<(), 
     push_features(alloc, answer, quiet.features.list())
 }
 
+/// A machine whose deviations are the shifts of a row.
+fn new_machine(alloc: Global, row: &str) -> Result<Simulated, Stop> {
+    let shifts = lined(alloc, row)?;
+    let setup = Setup::read(alloc, shifts.as_slice()).ok().ok_or(Stop::Row)?;
+    Ok(Simulated::new(alloc, &setup)?)
+}
+
+fn read_program(alloc: Global, text: &str, setup: &Setup) -> Result<Program, Stop> {
+    Program::read(alloc, text.as_bytes(), setup.frames())
+        .ok()
+        .ok_or(Stop::Row)
+}
+
+/// What the undisturbed run leaves; none where there is no such window.
+fn ran(
+    alloc: Global,
+    made: Made<'_>,
+    setup: &str,
+    machine: &mut Simulated,
+) -> Result<Option<Quiet>, Stop> {
+    let setup = read_setup(alloc, setup)?;
+    let program = read_program(alloc, made.program, &setup)?;
+    match quiet_run(alloc, program, setup, made.window, machine) {
+        Ok(quiet) => Ok(Some(quiet)),
+        Err(NewFault::BadWindow(_program, _setup)) => Ok(None),
+        Err(NewFault::Memory) => Err(Stop::Memory),
+    }
+}
+
+fn shown_quiet(alloc: Global, quiet: Option<Quiet>) -> Result<Vec<u8>, Stop> {
+    let mut answer = Vec::new(alloc);
+    match quiet {
+        Some(quiet) => push_quiet(alloc, &mut answer, &quiet)?,
+        None => push_text(&mut answer, "BadWindow")?,
+    }
+    Ok(answer)
+}
+
 /// What the undisturbed run leaves, on a machine whose deviations are the shifts of a row.
 pub(crate) fn quiet_answer(
     alloc: Global,
@@ -31,22 +69,9 @@ pub(crate) fn quiet_answer(
     setup: &str,
     row: &str,
 ) -> Result<Vec<u8>, Stop> {
-    let deviations = lined(alloc, row)?;
-    let shifts = Setup::read(alloc, deviations.as_slice())
-        .ok()
-        .ok_or(Stop::Row)?;
-    let mut machine = Simulated::new(alloc, &shifts)?;
-    let setup = read_setup(alloc, setup)?;
-    let program = Program::read(alloc, made.program.as_bytes(), setup.frames())
-        .ok()
-        .ok_or(Stop::Row)?;
-    let mut answer = Vec::new(alloc);
-    match quiet_run(alloc, program, setup, made.window, &mut machine) {
-        Ok(quiet) => push_quiet(alloc, &mut answer, &quiet)?,
-        Err(NewFault::BadWindow(_program, _setup)) => push_text(&mut answer, "BadWindow")?,
-        Err(NewFault::Memory) => return Err(Stop::Memory),
-    }
-    Ok(answer)
+    let mut machine = new_machine(alloc, row)?;
+    let quiet = ran(alloc, made, setup, &mut machine)?;
+    shown_quiet(alloc, quiet)
 }
 
 /// How many worlds were brought to their end, how many could not be, since all was measured, and how many were not Done behind it.
@@ -71,6 +96,42 @@ impl Ends {
         }
         Ok(())
     }
+
+    /// The world behind the front of a schedule is brought to its end.
+    fn count_front(
+        &mut self,
+        alloc: Global,
+        made: Made<'_>,
+        setup: &str,
+        front: &[u8],
+    ) -> Result<(), Stop> {
+        let mut world = played(alloc, made, setup, front)?;
+        self.count(alloc, &mut world)
+    }
+
+    /// The worlds behind each front of a schedule are brought to their end.
+    fn count_fronts(
+        &mut self,
+        alloc: Global,
+        made: Made<'_>,
+        setup: &str,
+        schedule: &[u8],
+    ) -> Result<(), Stop> {
+        for at in 0..schedule.len() {
+            if schedule[at] == b'\n' {
+                self.count_front(alloc, made, setup, &schedule[..at])?;
+            }
+        }
+        Ok(())
+    }
+
+    fn shown(&self, alloc: Global) -> Result<Vec<u8>, AllocError> {
+        let (finished, done, failed) = (self.finished, self.done, self.failed);
+        let text = format!(in alloc; "{finished} finished, {done} were done, {failed} failed")?;
+        let mut answer = Vec::new(alloc);
+        push_text(&mut answer, text.as_str())?;
+        Ok(answer)
+    }
 }
 
 /// The counts of the worlds behind each front of a schedule.
@@ -81,24 +142,11 @@ pub(crate) fn finish_answer(
     row: &str,
 ) -> Result<Vec<u8>, Stop> {
     let schedule = lined(alloc, row)?;
-    let bytes = schedule.as_slice();
     let mut ends = Ends {
         finished: 0,
         done: 0,
         failed: 0,
     };
-    for at in 0..bytes.len() {
-        if bytes[at] == b'\n' {
-            let (front, _) = bytes.split_at(at);
-            let mut world = played(alloc, made, setup, front)?;
-            ends.count(alloc, &mut world)?;
-        }
-    }
-    let (finished, done, failed) = (ends.finished, ends.done, ends.failed);
-    let mut answer = Vec::new(alloc);
-    push_text(
-        &mut answer,
-        format!(in alloc; "{finished} finished, {done} were done, {failed} failed")?.as_str(),
-    )?;
-    Ok(answer)
+    ends.count_fronts(alloc, made, setup, schedule.as_slice())?;
+    Ok(ends.shown(alloc)?)
 }
