@@ -1,55 +1,28 @@
-//! Prints the command lines that carry a program out.
+//! `check`: the command lines of a program, as they are sent on a new connection.
 
 use crate::line::{Tag, write_command};
-use crate::plan::plan;
+use crate::plan::Plan;
 use crate::program::Program;
-use crate::setup::Setup;
-use std::io::{self, Read, Write};
+use std::io::{self, Write};
 
-const MEMORY_OF_A_LINE: usize = 80;
+/// So many bytes are written at once, or a line more.
+const PIECE: usize = 1 << 16;
 
-fn read_text(name: &str) -> Result<Vec<u8>, String> {
-    let read = if name == "-" {
-        let mut text = Vec::new();
-        io::stdin().lock().read_to_end(&mut text).map(|_| text)
-    } else {
-        std::fs::read(name)
-    };
-    read.map_err(|_| format!("cannot read {name}"))
-}
-
-/// Each line with its tag and an LF.
-fn lines_of(program: &Program) -> Vec<u8> {
-    let plan = plan(program, 0, true);
-    let mut out = Vec::with_capacity(plan.len() * MEMORY_OF_A_LINE);
-    for (at, planned) in plan.iter().enumerate() {
-        write_command(
-            &mut out,
-            Tag::Standard((at % 9_999 + 1) as u32),
-            &planned.command(),
-        );
-        out.push(b'\n');
+/// Writes the lines of all commands of a program.
+pub fn print(program: &Program, out: &mut impl Write) -> io::Result<()> {
+    let mut plan = Plan::new(program, 0, true);
+    let mut lines = Vec::with_capacity(PIECE + PIECE / 8);
+    let first = Tag::standard(1);
+    let mut tag = first;
+    while let Some(planned) = plan.next(program) {
+        write_command(&mut lines, tag, &planned.command());
+        tag = tag.following().unwrap_or(first);
+        lines.push(b'\n');
+        if lines.len() >= PIECE {
+            out.write_all(&lines)?;
+            lines.clear();
+        }
     }
-    out
-}
-
-fn read_setup(name: &str) -> Result<Setup, String> {
-    Setup::read(&read_text(name)?).map_err(|fault| fault.to_string())
-}
-
-/// Prints the lines, or answers what is to be told.
-pub fn check(setup: Option<&str>, name: &str) -> Result<(), String> {
-    let frames = setup.map_or(Ok(Vec::new()), |name| {
-        read_setup(name).map(|setup| setup.frames)
-    })?;
-    let text = if setup == Some("-") && name == "-" {
-        Vec::new()
-    } else {
-        read_text(name)?
-    };
-    let program = Program::read(&text, &frames).map_err(|fault| fault.to_string())?;
-    let mut out = io::stdout().lock();
-    out.write_all(&lines_of(&program))
-        .and_then(|()| out.flush())
-        .map_err(|_| "cannot write -".to_string())
+    out.write_all(&lines)?;
+    out.flush()
 }

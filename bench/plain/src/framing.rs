@@ -1,73 +1,95 @@
-//! Bytes to lines.
+//! Lines out of bytes that come in pieces (docs/PROTOCOL.md).
 
-const LINE_MOST: usize = 65_536;
+/// The most bytes of a line without its end.
+pub const LINE_MOST: usize = 65_536;
 
-#[derive(Clone, Copy, Debug, PartialEq, Eq)]
-pub enum FramingFault {
+/// Why bytes are no lines.
+#[derive(Clone, Copy, PartialEq, Eq, Debug)]
+pub enum Fault {
     LineTooLong,
     BadByte,
 }
 
-/// Bytes that came and were not taken as lines.
-#[derive(Default)]
+/// Bytes that wait to be read line by line.
+#[derive(Debug, Default)]
 pub struct Lines {
     bytes: Vec<u8>,
     /// Where the first line begins.
-    start: usize,
-    /// No byte of a line's end stands before this place.
+    begin: usize,
+    /// Up to here the first line has no CR and no LF.
     searched: usize,
-    fault: Option<FramingFault>,
 }
 
 impl Lines {
-    pub fn feed(&mut self, piece: &[u8]) -> Result<(), FramingFault> {
-        if let Some(fault) = self.fault {
-            return Err(fault);
+    /// Bytes that come behind all others.
+    #[inline]
+    pub fn feed(&mut self, piece: &[u8]) {
+        if self.begin > self.bytes.len() / 2 {
+            self.move_to_front();
         }
-        if self.start > self.bytes.len() / 2 {
-            self.bytes.drain(..self.start);
-            self.searched -= self.start;
-            self.start = 0;
+        match piece {
+            [byte] => self.bytes.push(*byte),
+            _ => self.bytes.extend_from_slice(piece),
         }
-        self.bytes.extend_from_slice(piece);
-        Ok(())
     }
 
-    /// The first whole line, without its end; it stays until it is dropped.
-    pub fn first_line(&mut self) -> Result<Option<&[u8]>, FramingFault> {
-        if let Some(fault) = self.fault {
-            return Err(fault);
-        }
-        let unsearched = &self.bytes[self.searched..];
-        let end = unsearched
-            .iter()
-            .position(|byte| matches!(byte, b'\r' | b'\n'))
-            .unwrap_or(unsearched.len());
-        self.searched += end;
-        let fault = match unsearched[end..] {
-            _ if self.searched - self.start > LINE_MOST => FramingFault::LineTooLong,
-            [] | [b'\r'] => return Ok(None),
-            [b'\r', b'\n', ..] => return Ok(Some(&self.bytes[self.start..self.searched])),
-            _ => FramingFault::BadByte,
+    /// The bytes of the lines that were taken make way.
+    fn move_to_front(&mut self) {
+        self.bytes.copy_within(self.begin.., 0);
+        self.bytes.truncate(self.bytes.len() - self.begin);
+        self.searched -= self.begin;
+        self.begin = 0;
+    }
+
+    /// The first line, where it is whole.
+    #[inline(always)]
+    pub fn first_line(&mut self) -> Result<Option<&[u8]>, Fault> {
+        self.searched += match &self.bytes[self.searched..] {
+            [byte] => usize::from(!is_break(*byte)),
+            unseen => content_length(unseen),
         };
-        self.fault = Some(fault);
-        Err(fault)
-    }
-
-    /// Takes the line that `first_line` found.
-    pub fn drop_line(&mut self) {
-        self.start = self.searched + 2;
-        self.searched = self.start;
-        if self.start == self.bytes.len() {
-            self.clear();
+        if self.searched - self.begin > LINE_MOST {
+            return Err(Fault::LineTooLong);
+        }
+        let (front, rest) = self.bytes.split_at(self.searched);
+        match rest {
+            [] | [b'\r'] => Ok(None),
+            [b'\r', b'\n', ..] => Ok(Some(&front[self.begin..])),
+            _ => Err(Fault::BadByte),
         }
     }
 
-    /// Gives up all bytes and the fault.
-    pub fn clear(&mut self) {
-        self.bytes.clear();
-        self.start = 0;
-        self.searched = 0;
-        self.fault = None;
+    /// Takes the line that `first_line` has shown.
+    #[inline]
+    pub fn drop_line(&mut self) {
+        self.begin = self.searched + 2;
+        self.searched = self.begin;
     }
+}
+
+const LOW_BITS: u64 = 0x0101_0101_0101_0101;
+const HIGH_BITS: u64 = 0x8080_8080_8080_8080;
+
+/// How many bytes stand before the first CR or LF, or before the end.
+#[inline(never)]
+fn content_length(bytes: &[u8]) -> usize {
+    let (blocks, tail) = bytes.as_chunks::<8>();
+    for (number, block) in blocks.iter().enumerate() {
+        let word = u64::from_le_bytes(*block);
+        // Each byte up to CR is marked, and perhaps one behind it that is above CR.
+        let mut marks = word.wrapping_sub(LOW_BITS * 14) & !word & HIGH_BITS;
+        while marks != 0 {
+            let place = marks.trailing_zeros() as usize / 8;
+            if is_break(block[place]) {
+                return 8 * number + place;
+            }
+            marks &= marks - 1;
+        }
+    }
+    bytes.len() - tail.len() + tail.iter().take_while(|byte| !is_break(**byte)).count()
+}
+
+#[inline]
+fn is_break(byte: u8) -> bool {
+    matches!(byte, b'\r' | b'\n')
 }

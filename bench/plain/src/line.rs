@@ -1,42 +1,19 @@
-//! The lines of the wire: commands, responses, points, answers to `IsHomed`, errors.
+//! Lines of commands and of responses (docs/PROTOCOL.md), read and written, and the texts that stand in them. A line is read without its end.
 
 use crate::values::{
-    Dir, Name, Point, VOLUME, WIRE, is_zero, read_dir, read_length, read_name, write_dir,
-    write_length, write_number,
+    DIRECTION_LIMIT, Dir, Name, Point, VOLUME_LIMIT, WIRE_LIMIT, is_zero, read_component, read_length, write_direction, write_length,
+    write_point,
 };
 
-pub const LINE_END: &[u8] = b"\r\n";
+/// The end of a line.
+pub const LINE_END: &[u8; 2] = b"\r\n";
 
-#[derive(Clone, Copy, Debug, PartialEq, Eq)]
-pub enum Tag {
-    Standard(u32),
-    Event(u16),
-}
-
-#[derive(Clone, Copy, Debug, PartialEq, Eq)]
-pub enum Csy {
-    Machine,
-    Part,
-}
-
-#[derive(Clone, Debug, PartialEq, Eq)]
-pub enum Command {
-    StartSession,
-    EndSession,
-    ClearAllErrors,
-    IsHomed,
-    Home,
-    OnPtMeasReport,
-    GoTo(Point),
-    PtMeas(Point, Option<Dir>),
-    ChangeTool(Name),
-    SetCsyTransformation(Point),
-    SetCoordSystem(Csy),
-    AbortE,
-}
+/// The five characters by which a response names its command.
+#[derive(Clone, Copy, PartialEq, Eq, PartialOrd, Ord, Debug)]
+pub struct Tag([u8; 5]);
 
 /// A command without its arguments.
-#[derive(Clone, Copy, Debug, PartialEq, Eq)]
+#[derive(Clone, Copy, PartialEq, Eq, Debug)]
 pub enum Kind {
     StartSession,
     EndSession,
@@ -44,456 +21,65 @@ pub enum Kind {
     IsHomed,
     Home,
     OnPtMeasReport,
+    AbortE,
     GoTo,
     PtMeas,
     ChangeTool,
     SetCsyTransformation,
     SetCoordSystem,
+}
+
+/// The coordinate systems that a command names.
+#[derive(Clone, Copy, PartialEq, Eq, Debug)]
+pub enum Csy {
+    Machine,
+    Part,
+}
+
+/// What a client asks for.
+#[derive(Clone, PartialEq, Eq, Debug)]
+pub enum Command {
+    StartSession,
+    EndSession,
+    ClearAllErrors,
+    IsHomed,
+    Home,
+    OnPtMeasReport,
     AbortE,
+    GoTo(Point),
+    PtMeas(Point, Option<Dir>),
+    ChangeTool(Name),
+    /// The lengths as they stand on the wire: the machine's zero point in part coordinates.
+    SetCsyTransformation(Point),
+    SetCoordSystem(Csy),
 }
 
-impl Kind {
-    const ALL: [Kind; 12] = [
-        Kind::StartSession,
-        Kind::EndSession,
-        Kind::ClearAllErrors,
-        Kind::IsHomed,
-        Kind::Home,
-        Kind::OnPtMeasReport,
-        Kind::GoTo,
-        Kind::PtMeas,
-        Kind::ChangeTool,
-        Kind::SetCsyTransformation,
-        Kind::SetCoordSystem,
-        Kind::AbortE,
-    ];
-
-    pub fn name(self) -> &'static str {
-        match self {
-            Kind::StartSession => "StartSession",
-            Kind::EndSession => "EndSession",
-            Kind::ClearAllErrors => "ClearAllErrors",
-            Kind::IsHomed => "IsHomed",
-            Kind::Home => "Home",
-            Kind::OnPtMeasReport => "OnPtMeasReport",
-            Kind::GoTo => "GoTo",
-            Kind::PtMeas => "PtMeas",
-            Kind::ChangeTool => "ChangeTool",
-            Kind::SetCsyTransformation => "SetCsyTransformation",
-            Kind::SetCoordSystem => "SetCoordSystem",
-            Kind::AbortE => "AbortE",
-        }
-    }
-
-    fn named(name: &[u8]) -> Option<Kind> {
-        Kind::ALL
-            .into_iter()
-            .find(|kind| name.eq_ignore_ascii_case(kind.name().as_bytes()))
-    }
+/// Why a line with a tag is no command.
+#[derive(Clone, Copy, PartialEq, Eq, Debug)]
+pub enum Misread {
+    UnknownCommand,
+    BadArguments(Kind),
 }
 
-impl Command {
-    pub fn kind(&self) -> Kind {
-        match self {
-            Command::StartSession => Kind::StartSession,
-            Command::EndSession => Kind::EndSession,
-            Command::ClearAllErrors => Kind::ClearAllErrors,
-            Command::IsHomed => Kind::IsHomed,
-            Command::Home => Kind::Home,
-            Command::OnPtMeasReport => Kind::OnPtMeasReport,
-            Command::GoTo(_) => Kind::GoTo,
-            Command::PtMeas(..) => Kind::PtMeas,
-            Command::ChangeTool(_) => Kind::ChangeTool,
-            Command::SetCsyTransformation(_) => Kind::SetCsyTransformation,
-            Command::SetCoordSystem(_) => Kind::SetCoordSystem,
-            Command::AbortE => Kind::AbortE,
-        }
-    }
-}
-
-#[derive(Clone, Copy, Debug, PartialEq, Eq)]
-pub enum LineFault {
-    NoTag,
-    UnknownCommand(Tag),
-    BadArguments(Tag, Kind),
-}
-
-#[derive(Clone, Copy, Debug, PartialEq, Eq)]
-pub struct Response<'a> {
+/// A line with a tag: the command, or why it is none.
+#[derive(Debug)]
+pub struct Asked {
     pub tag: Tag,
-    pub mark: Mark<'a>,
+    pub command: Result<Command, Misread>,
 }
 
-#[derive(Clone, Copy, Debug, PartialEq, Eq)]
-pub enum Mark<'a> {
-    Ack,
-    Given(&'a [u8]),
-    Done,
-    Error(&'a [u8]),
+/// What a response says of its command.
+#[derive(Clone, Copy, PartialEq, Eq, Debug)]
+pub enum Mark<'l> {
+    Received,
+    Data(&'l [u8]),
+    Complete,
+    Error,
 }
 
-/// A tag and what stands behind it.
-fn split_tag(line: &[u8]) -> Option<(Tag, &[u8])> {
-    let (tag, rest) = line.split_at_checked(5)?;
-    let (is_event, digits) = match tag {
-        [b'E', digits @ ..] => (true, digits),
-        digits => (false, digits),
-    };
-    let mut number = 0;
-    for digit in digits {
-        if !digit.is_ascii_digit() {
-            return None;
-        }
-        number = number * 10 + u32::from(digit - b'0');
-    }
-    Some((
-        if is_event {
-            Tag::Event(number as u16)
-        } else {
-            Tag::Standard(number)
-        },
-        rest,
-    ))
-}
-
-/// What is left of the arguments of a command, or of a point.
-struct Arguments<'a> {
-    rest: &'a [u8],
-}
-
-impl<'a> Arguments<'a> {
-    fn skip_spaces(&mut self) {
-        while let [b' ', rest @ ..] = self.rest {
-            self.rest = rest;
-        }
-    }
-
-    /// Takes a sign with the spaces around it, where it stands next.
-    fn takes(&mut self, sign: u8) -> bool {
-        self.skip_spaces();
-        match self.rest {
-            [first, rest @ ..] if *first == sign => {
-                self.rest = rest;
-                self.skip_spaces();
-                true
-            }
-            _ => false,
-        }
-    }
-
-    fn take(&mut self, sign: u8) -> Option<()> {
-        self.takes(sign).then_some(())
-    }
-
-    /// What stands before the next sign or the end, without the spaces before the sign.
-    fn text(&mut self) -> &'a [u8] {
-        let end = self
-            .rest
-            .iter()
-            .position(|byte| matches!(byte, b'(' | b')' | b','))
-            .unwrap_or(self.rest.len());
-        let (text, rest) = self.rest.split_at(end);
-        self.rest = rest;
-        trim_end(text)
-    }
-
-    /// A text that this word is, in any case.
-    fn word(&mut self, word: &str) -> Option<()> {
-        self.text()
-            .eq_ignore_ascii_case(word.as_bytes())
-            .then_some(())
-    }
-
-    fn length(&mut self, limit: i64) -> Option<i64> {
-        read_length(self.text(), limit).ok()
-    }
-
-    fn direction(&mut self) -> Option<Dir> {
-        let i = self.text();
-        self.take(b',')?;
-        let j = self.text();
-        self.take(b',')?;
-        read_dir(i, j, self.text()).ok()?
-    }
-
-    /// `X(a)` with its axis, in capitals.
-    fn axis(&mut self, axis: &[u8]) -> Option<i64> {
-        if self.text() != axis {
-            return None;
-        }
-        self.take(b'(')?;
-        let length = self.length(WIRE)?;
-        self.take(b')')?;
-        Some(length)
-    }
-
-    /// The axes, each once, and the direction where there is one, in any order.
-    fn target(&mut self) -> Option<(Point, Option<Dir>)> {
-        let (mut x, mut y, mut z, mut dir) = (None, None, None, None);
-        loop {
-            let name = self.text();
-            self.take(b'(')?;
-            let is_first = match name {
-                b"X" | b"x" => x.replace(self.length(WIRE)?).is_none(),
-                b"Y" | b"y" => y.replace(self.length(WIRE)?).is_none(),
-                b"Z" | b"z" => z.replace(self.length(WIRE)?).is_none(),
-                _ if name.eq_ignore_ascii_case(b"IJK") => dir.replace(self.direction()?).is_none(),
-                _ => false,
-            };
-            self.take(b')')?;
-            if !is_first {
-                return None;
-            }
-            if !self.takes(b',') {
-                return Some((
-                    Point {
-                        x: x?,
-                        y: y?,
-                        z: z?,
-                    },
-                    dir,
-                ));
-            }
-        }
-    }
-
-    fn report(&mut self) -> Option<()> {
-        for (at, axis) in ["X", "Y", "Z"].into_iter().enumerate() {
-            if at > 0 {
-                self.take(b',')?;
-            }
-            self.word(axis)?;
-            self.take(b'(')?;
-            self.take(b')')?;
-        }
-        Some(())
-    }
-
-    fn tool(&mut self) -> Option<Name> {
-        let text = self.text();
-        read_name(
-            text.strip_prefix(b"\"")
-                .and_then(|text| text.strip_suffix(b"\""))
-                .unwrap_or(text),
-        )
-    }
-
-    fn transformation(&mut self) -> Option<Point> {
-        self.word("PartCsy")?;
-        let mut lengths = [0; 3];
-        for length in &mut lengths {
-            self.take(b',')?;
-            *length = self.length(VOLUME)?;
-        }
-        for _ in 0..3 {
-            self.take(b',')?;
-            if !is_zero(self.text()) {
-                return None;
-            }
-        }
-        let [x, y, z] = lengths;
-        Some(Point { x, y, z })
-    }
-
-    fn csy(&mut self) -> Option<Csy> {
-        let text = self.text();
-        if text.eq_ignore_ascii_case(b"MachineCsy") {
-            Some(Csy::Machine)
-        } else if text.eq_ignore_ascii_case(b"PartCsy") {
-            Some(Csy::Part)
-        } else {
-            None
-        }
-    }
-
-    /// The command of this kind, to the end of the line.
-    fn command(&mut self, kind: Kind) -> Option<Command> {
-        self.take(b'(')?;
-        let command = match kind {
-            Kind::StartSession => Command::StartSession,
-            Kind::EndSession => Command::EndSession,
-            Kind::ClearAllErrors => Command::ClearAllErrors,
-            Kind::IsHomed => Command::IsHomed,
-            Kind::Home => Command::Home,
-            Kind::AbortE => Command::AbortE,
-            Kind::OnPtMeasReport => {
-                self.report()?;
-                Command::OnPtMeasReport
-            }
-            Kind::GoTo => match self.target()? {
-                (target, None) => Command::GoTo(target),
-                (_, Some(_)) => return None,
-            },
-            Kind::PtMeas => {
-                let (target, dir) = self.target()?;
-                Command::PtMeas(target, dir)
-            }
-            Kind::ChangeTool => Command::ChangeTool(self.tool()?),
-            Kind::SetCsyTransformation => Command::SetCsyTransformation(self.transformation()?),
-            Kind::SetCoordSystem => Command::SetCoordSystem(self.csy()?),
-        };
-        self.take(b')')?;
-        self.rest.is_empty().then_some(command)
-    }
-}
-
-fn trim_end(text: &[u8]) -> &[u8] {
-    let mut text = text;
-    while let [front @ .., b' '] = text {
-        text = front;
-    }
-    text
-}
-
-pub fn read_command(line: &[u8]) -> Result<(Tag, Command), LineFault> {
-    let (tag, rest) = match split_tag(line) {
-        Some((tag, [b' ', rest @ ..])) if !matches!(tag, Tag::Standard(0) | Tag::Event(0)) => {
-            (tag, rest)
-        }
-        _ => return Err(LineFault::NoTag),
-    };
-    let end = rest
-        .iter()
-        .position(|byte| matches!(byte, b' ' | b'('))
-        .unwrap_or(rest.len());
-    let (name, rest) = rest.split_at(end);
-    let kind = Kind::named(name).ok_or(LineFault::UnknownCommand(tag))?;
-    if (kind == Kind::AbortE) != matches!(tag, Tag::Event(_)) {
-        return Err(LineFault::BadArguments(tag, kind));
-    }
-    let command = Arguments { rest }
-        .command(kind)
-        .ok_or(LineFault::BadArguments(tag, kind))?;
-    Ok((tag, command))
-}
-
-/// None where the line is no response.
-pub fn read_response(line: &[u8]) -> Option<Response<'_>> {
-    let (tag, rest) = split_tag(line)?;
-    let mark = match rest {
-        [b' ', b'&', spaces @ ..] if trim_end(spaces).is_empty() => Mark::Ack,
-        [b' ', b'%', spaces @ ..] if trim_end(spaces).is_empty() => Mark::Done,
-        [b' ', b'#', b' ', text @ ..] => Mark::Given(text),
-        [b' ', b'!', b' ', text @ ..] => Mark::Error(text),
-        [b' ', b'!'] => Mark::Error(b""),
-        _ => return None,
-    };
-    Some(Response { tag, mark })
-}
-
-/// The point of a data text.
-pub fn read_point(text: &[u8]) -> Option<Point> {
-    let mut arguments = Arguments { rest: text };
-    let x = arguments.axis(b"X")?;
-    arguments.take(b',')?;
-    let y = arguments.axis(b"Y")?;
-    arguments.take(b',')?;
-    let z = arguments.axis(b"Z")?;
-    arguments.rest.is_empty().then_some(Point { x, y, z })
-}
-
-/// Whether the machine is homed, by a data text.
-pub fn read_homed(text: &[u8]) -> Option<bool> {
-    match text {
-        b"0" => return Some(false),
-        b"1" => return Some(true),
-        _ => {}
-    }
-    let mut arguments = Arguments { rest: text };
-    arguments.word("IsHomed")?;
-    arguments.take(b'(')?;
-    let is_homed = match arguments.text() {
-        b"0" => false,
-        b"1" => true,
-        _ => return None,
-    };
-    arguments.take(b')')?;
-    arguments.rest.is_empty().then_some(is_homed)
-}
-
-pub fn write_tag(out: &mut Vec<u8>, tag: Tag) {
-    match tag {
-        Tag::Standard(number) => write_number::<5>(out, u64::from(number)),
-        Tag::Event(number) => {
-            out.push(b'E');
-            write_number::<4>(out, u64::from(number));
-        }
-    }
-}
-
-/// Appends `X(a), Y(b), Z(c)`.
-pub fn write_point(out: &mut Vec<u8>, point: Point) {
-    out.extend_from_slice(b"X(");
-    write_length(out, point.x);
-    out.extend_from_slice(b"), Y(");
-    write_length(out, point.y);
-    out.extend_from_slice(b"), Z(");
-    write_length(out, point.z);
-    out.push(b')');
-}
-
-/// Appends a command line without its end.
-pub fn write_command(out: &mut Vec<u8>, tag: Tag, command: &Command) {
-    write_tag(out, tag);
-    out.push(b' ');
-    out.extend_from_slice(command.kind().name().as_bytes());
-    out.push(b'(');
-    match command {
-        Command::StartSession
-        | Command::EndSession
-        | Command::ClearAllErrors
-        | Command::IsHomed
-        | Command::Home
-        | Command::AbortE => {}
-        Command::OnPtMeasReport => out.extend_from_slice(b"X(), Y(), Z()"),
-        Command::GoTo(target) => write_point(out, *target),
-        Command::PtMeas(target, dir) => {
-            write_point(out, *target);
-            if let Some(dir) = dir {
-                out.extend_from_slice(b", IJK(");
-                write_dir(out, *dir);
-                out.push(b')');
-            }
-        }
-        Command::ChangeTool(name) => {
-            out.push(b'"');
-            out.extend_from_slice(name);
-            out.push(b'"');
-        }
-        Command::SetCsyTransformation(lengths) => {
-            out.extend_from_slice(b"PartCsy, ");
-            for length in [lengths.x, lengths.y, lengths.z] {
-                write_length(out, length);
-                out.extend_from_slice(b", ");
-            }
-            out.extend_from_slice(b"0, 0, 0");
-        }
-        Command::SetCoordSystem(Csy::Machine) => out.extend_from_slice(b"MachineCsy"),
-        Command::SetCoordSystem(Csy::Part) => out.extend_from_slice(b"PartCsy"),
-    }
-    out.push(b')');
-}
-
-/// Appends a response line without its end.
-pub fn write_response(out: &mut Vec<u8>, response: &Response) {
-    write_tag(out, response.tag);
-    match response.mark {
-        Mark::Ack => out.extend_from_slice(b" &"),
-        Mark::Done => out.extend_from_slice(b" %"),
-        Mark::Given(text) => {
-            out.extend_from_slice(b" # ");
-            out.extend_from_slice(text);
-        }
-        Mark::Error(text) => {
-            out.extend_from_slice(b" ! ");
-            out.extend_from_slice(text);
-        }
-    }
-}
-
-/// Why a server fails a command.
-#[derive(Clone, Copy, Debug, PartialEq, Eq)]
-pub enum ErrorNumber {
+/// Why a command fails.
+#[derive(Clone, Copy, PartialEq, Eq, Debug)]
+pub enum Failure {
     NoTag = 9001,
     TagInUse,
     UnknownCommand,
@@ -511,36 +97,617 @@ pub enum ErrorNumber {
     MachineFault,
 }
 
-impl ErrorNumber {
-    fn text(self) -> &'static str {
+impl Tag {
+    /// The tag of what a server says unasked.
+    pub const UNASKED: Tag = Tag(*b"E0000");
+
+    /// A standard tag; its number has at most five digits.
+    pub fn standard(number: u32) -> Tag {
+        Tag([digit(number / 10_000), digit(number / 1_000), digit(number / 100), digit(number / 10), digit(number)])
+    }
+
+    /// An event tag; its number has at most four digits.
+    pub fn event(number: u32) -> Tag {
+        Tag([b'E', digit(number / 1_000), digit(number / 100), digit(number / 10), digit(number)])
+    }
+
+    pub fn is_event(self) -> bool {
+        self.0[0] == b'E'
+    }
+
+    /// The tag whose number is one more; none behind 9999.
+    #[inline]
+    pub fn following(self) -> Option<Tag> {
+        let Tag(mut text) = self;
+        for digit in text[1..].iter_mut().rev() {
+            if *digit < b'9' {
+                *digit += 1;
+                return Some(Tag(text));
+            }
+            *digit = b'0';
+        }
+        None
+    }
+
+    fn is_number_zero(self) -> bool {
+        self == Tag::UNASKED || self.0 == *b"00000"
+    }
+
+    /// The tag that a line begins with, and what stands behind it.
+    #[inline]
+    pub fn cut(line: &[u8]) -> Option<(Tag, &[u8])> {
+        let (tag, rest) = line.split_first_chunk::<5>()?;
+        let [first, others @ ..] = tag;
+        let is_tag = (first.is_ascii_digit() | (*first == b'E')) & others.iter().fold(true, |all, byte| all & byte.is_ascii_digit());
+        is_tag.then_some((Tag(*tag), rest))
+    }
+}
+
+/// The last decimal digit of a number.
+fn digit(number: u32) -> u8 {
+    b'0' + (number % 10) as u8
+}
+
+impl Kind {
+    const ALL: [Kind; 12] = [
+        Kind::GoTo,
+        Kind::PtMeas,
+        Kind::Home,
+        Kind::AbortE,
+        Kind::IsHomed,
+        Kind::EndSession,
+        Kind::ChangeTool,
+        Kind::StartSession,
+        Kind::ClearAllErrors,
+        Kind::OnPtMeasReport,
+        Kind::SetCoordSystem,
+        Kind::SetCsyTransformation,
+    ];
+
+    pub fn name(self) -> &'static str {
         match self {
-            ErrorNumber::NoTag => "No tag",
-            ErrorNumber::TagInUse => "Tag in use",
-            ErrorNumber::UnknownCommand => "Unknown command",
-            ErrorNumber::BadArguments => "Bad arguments",
-            ErrorNumber::NoSession => "No session",
-            ErrorNumber::SessionOpen => "Session open",
-            ErrorNumber::Aborted => "Aborted",
-            ErrorNumber::ErrorState => "Error state",
-            ErrorNumber::QueueFull => "Queue full",
-            ErrorNumber::NotHomed => "Not homed",
-            ErrorNumber::NoTool => "No tool",
-            ErrorNumber::UnknownTool => "Unknown tool",
-            ErrorNumber::OutOfVolume => "Out of volume",
-            ErrorNumber::NoSurface => "No surface",
-            ErrorNumber::MachineFault => "Machine fault",
+            Kind::StartSession => "StartSession",
+            Kind::EndSession => "EndSession",
+            Kind::ClearAllErrors => "ClearAllErrors",
+            Kind::IsHomed => "IsHomed",
+            Kind::Home => "Home",
+            Kind::OnPtMeasReport => "OnPtMeasReport",
+            Kind::AbortE => "AbortE",
+            Kind::GoTo => "GoTo",
+            Kind::PtMeas => "PtMeas",
+            Kind::ChangeTool => "ChangeTool",
+            Kind::SetCsyTransformation => "SetCsyTransformation",
+            Kind::SetCoordSystem => "SetCoordSystem",
+        }
+    }
+
+    /// The kind of this name, in letters of any case.
+    #[inline]
+    fn named(name: &[u8]) -> Option<Kind> {
+        match name {
+            b"GoTo" => Some(Kind::GoTo),
+            b"PtMeas" => Some(Kind::PtMeas),
+            _ => Kind::ALL.into_iter().find(|kind| kind.name().as_bytes().eq_ignore_ascii_case(name)),
         }
     }
 }
 
-/// Appends the whole `!` line without its end.
-pub fn write_error(out: &mut Vec<u8>, tag: Tag, number: ErrorNumber, kind: Option<Kind>) {
-    write_tag(out, tag);
+impl Command {
+    pub fn kind(&self) -> Kind {
+        match self {
+            Command::StartSession => Kind::StartSession,
+            Command::EndSession => Kind::EndSession,
+            Command::ClearAllErrors => Kind::ClearAllErrors,
+            Command::IsHomed => Kind::IsHomed,
+            Command::Home => Kind::Home,
+            Command::OnPtMeasReport => Kind::OnPtMeasReport,
+            Command::AbortE => Kind::AbortE,
+            Command::GoTo(_) => Kind::GoTo,
+            Command::PtMeas(..) => Kind::PtMeas,
+            Command::ChangeTool(_) => Kind::ChangeTool,
+            Command::SetCsyTransformation(_) => Kind::SetCsyTransformation,
+            Command::SetCoordSystem(_) => Kind::SetCoordSystem,
+        }
+    }
+}
+
+impl Asked {
+    /// The kind of the command, where its name was recognised.
+    pub fn kind(&self) -> Option<Kind> {
+        match &self.command {
+            Ok(command) => Some(command.kind()),
+            Err(misread) => misread.kind(),
+        }
+    }
+}
+
+impl Misread {
+    /// The kind of the command, where its name was recognised.
+    pub fn kind(self) -> Option<Kind> {
+        match self {
+            Misread::UnknownCommand => None,
+            Misread::BadArguments(kind) => Some(kind),
+        }
+    }
+
+    pub fn failure(self) -> Failure {
+        match self {
+            Misread::UnknownCommand => Failure::UnknownCommand,
+            Misread::BadArguments(_) => Failure::BadArguments,
+        }
+    }
+}
+
+impl Failure {
+    fn text(self) -> &'static str {
+        match self {
+            Failure::NoTag => "No tag",
+            Failure::TagInUse => "Tag in use",
+            Failure::UnknownCommand => "Unknown command",
+            Failure::BadArguments => "Bad arguments",
+            Failure::NoSession => "No session",
+            Failure::SessionOpen => "Session open",
+            Failure::Aborted => "Aborted",
+            Failure::ErrorState => "Error state",
+            Failure::QueueFull => "Queue full",
+            Failure::NotHomed => "Not homed",
+            Failure::NoTool => "No tool",
+            Failure::UnknownTool => "Unknown tool",
+            Failure::OutOfVolume => "Out of volume",
+            Failure::NoSurface => "No surface",
+            Failure::MachineFault => "Machine fault",
+        }
+    }
+}
+
+/// What a line asks; nothing where it has no tag.
+pub fn read_command(line: &[u8]) -> Option<Asked> {
+    let (tag, rest) = Tag::cut(line)?;
+    let [b' ', call @ ..] = rest else { return None };
+    if tag.is_number_zero() {
+        return None;
+    }
+    let written = if tag.is_event() { None } else { read_written(call) };
+    Some(Asked { tag, command: written.map_or_else(|| read_call(tag, call), Ok) })
+}
+
+/// A move or a touch without its tag, where it stands there as it is written.
+#[inline]
+fn read_written(call: &[u8]) -> Option<Command> {
+    let mut written = Written { rest: call };
+    let command = if written.cut(b"GoTo(").is_some() {
+        Command::GoTo(written.point()?)
+    } else {
+        written.cut(b"PtMeas(")?;
+        let target = written.point()?;
+        let direction = if written.cut(b", IJK(").is_some() { Some(written.direction()?) } else { None };
+        Command::PtMeas(target, direction)
+    };
+    (written.rest == b")").then_some(command)
+}
+
+/// A command without its tag, in any form.
+fn read_call(tag: Tag, call: &[u8]) -> Result<Command, Misread> {
+    let end = call.iter().position(|byte| matches!(byte, b' ' | b'(')).unwrap_or(call.len());
+    let (name, arguments) = call.split_at(end);
+    let kind = Kind::named(name).ok_or(Misread::UnknownCommand)?;
+    let command = if tag.is_event() == (kind == Kind::AbortE) { Arguments { rest: arguments }.read(kind) } else { None };
+    command.ok_or(Misread::BadArguments(kind))
+}
+
+/// What is still to be read of a text that stands in the one form in which it is written. What stands there in another form is left to
+/// `Arguments`, and what is refused is refused there.
+struct Written<'l> {
+    rest: &'l [u8],
+}
+
+impl Written<'_> {
+    #[inline(always)]
+    fn cut<const COUNT: usize>(&mut self, text: &[u8; COUNT]) -> Option<()> {
+        let (front, rest) = self.rest.split_first_chunk()?;
+        if front != text {
+            return None;
+        }
+        self.rest = rest;
+        Some(())
+    }
+
+    /// Whether a sign stands here.
+    #[inline(always)]
+    fn sign(&mut self) -> bool {
+        match self.rest {
+            [b'-', rest @ ..] => {
+                self.rest = rest;
+                true
+            }
+            _ => false,
+        }
+    }
+
+    /// The number of at most seven digits.
+    #[inline(always)]
+    fn whole(&mut self) -> i64 {
+        let mut number = 0;
+        for _ in 0..7 {
+            let [digit @ b'0'..=b'9', rest @ ..] = self.rest else { break };
+            number = number * 10 + i64::from(digit - b'0');
+            self.rest = rest;
+        }
+        number
+    }
+
+    /// The number of three digits behind a point, or behind a digit.
+    #[inline(always)]
+    fn three<const IS_POINT: bool>(&mut self) -> Option<i64> {
+        let (block, _) = self.rest.split_first_chunk::<4>()?;
+        let digits = u32::from_le_bytes(*block) ^ u32::from_le_bytes(if IS_POINT { *b".000" } else { *b"0000" });
+        // In no byte is more than the 9 of a digit or the 0 of the point.
+        let most = if IS_POINT { 0x7676_767f } else { 0x7676_7676u32 };
+        if (digits | digits.wrapping_add(most)) & 0x8080_8080 != 0 {
+            return None;
+        }
+        let [_, hundreds, tens, ones] = digits.to_le_bytes().map(i64::from);
+        Some(hundreds * 100 + tens * 10 + ones)
+    }
+
+    /// A numeral with three decimals, and at most seven digits before them.
+    #[inline(always)]
+    fn length(&mut self) -> Option<i64> {
+        let is_negative = self.sign();
+        let length = self.whole() * 1_000 + self.three::<true>()?;
+        self.rest = &self.rest[4..];
+        Some(if is_negative { -length } else { length })
+    }
+
+    /// A numeral with six decimals.
+    #[inline(always)]
+    fn component(&mut self) -> Option<i64> {
+        let is_negative = self.sign();
+        let thousandths = self.whole() * 1_000 + self.three::<true>()?;
+        self.rest = &self.rest[3..];
+        let component = thousandths * 1_000 + self.three::<false>()?;
+        self.rest = &self.rest[4..];
+        Some(if is_negative { -component } else { component })
+    }
+
+    /// `X(a), Y(b), Z(c)`
+    #[inline(always)]
+    fn point(&mut self) -> Option<Point> {
+        self.cut(b"X(")?;
+        let x = self.length()?;
+        self.cut(b"), Y(")?;
+        let y = self.length()?;
+        self.cut(b"), Z(")?;
+        let z = self.length()?;
+        self.cut(b")")?;
+        let point = Point { x, y, z };
+        point.is_within(WIRE_LIMIT).then_some(point)
+    }
+
+    /// `i, j, k)`
+    #[inline]
+    fn direction(&mut self) -> Option<Dir> {
+        let i = self.component()?;
+        self.cut(b", ")?;
+        let j = self.component()?;
+        self.cut(b", ")?;
+        let k = self.component()?;
+        self.cut(b")")?;
+        let is_within = [i, j, k].iter().all(|component| component.abs() <= DIRECTION_LIMIT);
+        if is_within { Dir::new(i, j, k) } else { None }
+    }
+}
+
+/// What is still to be read of a command behind its name, or of a data text.
+struct Arguments<'l> {
+    rest: &'l [u8],
+}
+
+impl<'l> Arguments<'l> {
+    /// The command of this kind, whose arguments these are.
+    fn read(mut self, kind: Kind) -> Option<Command> {
+        self.mark(b'(')?;
+        let command = match kind {
+            Kind::StartSession => Command::StartSession,
+            Kind::EndSession => Command::EndSession,
+            Kind::ClearAllErrors => Command::ClearAllErrors,
+            Kind::IsHomed => Command::IsHomed,
+            Kind::Home => Command::Home,
+            Kind::AbortE => Command::AbortE,
+            Kind::OnPtMeasReport => self.report()?,
+            Kind::GoTo => Command::GoTo(self.target::<false>()?.0),
+            Kind::PtMeas => self.target::<true>().map(|(target, direction)| Command::PtMeas(target, direction))?,
+            Kind::ChangeTool => Command::ChangeTool(self.tool()?),
+            Kind::SetCsyTransformation => Command::SetCsyTransformation(self.transformation()?),
+            Kind::SetCoordSystem => Command::SetCoordSystem(self.csy()?),
+        };
+        self.mark(b')')?;
+        self.ended().then_some(command)
+    }
+
+    fn skip_spaces(&mut self) {
+        while let [b' ', rest @ ..] = self.rest {
+            self.rest = rest;
+        }
+    }
+
+    /// A parenthesis or a comma, with spaces before it.
+    fn mark(&mut self, mark: u8) -> Option<()> {
+        self.skip_spaces();
+        let [first, rest @ ..] = self.rest else { return None };
+        if *first != mark {
+            return None;
+        }
+        self.rest = rest;
+        Some(())
+    }
+
+    /// What stands up to the next space, parenthesis or comma, with spaces before it.
+    fn word(&mut self) -> &'l [u8] {
+        self.skip_spaces();
+        let end = self.rest.iter().position(|byte| is_behind_word(*byte)).unwrap_or(self.rest.len());
+        let (word, rest) = self.rest.split_at(end);
+        self.rest = rest;
+        word
+    }
+
+    /// This word, in letters of any case.
+    fn named(&mut self, name: &str) -> Option<()> {
+        self.word().eq_ignore_ascii_case(name.as_bytes()).then_some(())
+    }
+
+    /// Whether nothing but spaces is left.
+    fn ended(&mut self) -> bool {
+        self.skip_spaces();
+        self.rest.is_empty()
+    }
+
+    /// A coordinate in parentheses.
+    fn coordinate(&mut self) -> Option<i64> {
+        self.mark(b'(')?;
+        let length = read_length(self.word(), WIRE_LIMIT).ok()?;
+        self.mark(b')')?;
+        Some(length)
+    }
+
+    /// A direction in parentheses.
+    fn direction(&mut self) -> Option<Dir> {
+        self.mark(b'(')?;
+        let i = read_component(self.word()).ok()?;
+        self.mark(b',')?;
+        let j = read_component(self.word()).ok()?;
+        self.mark(b',')?;
+        let k = read_component(self.word()).ok()?;
+        self.mark(b')')?;
+        Dir::new(i, j, k)
+    }
+
+    /// The axes of a target, and its direction where one may stand there, each at most once and in any order.
+    fn target<const MAY_DIRECT: bool>(&mut self) -> Option<(Point, Option<Dir>)> {
+        let (mut x, mut y, mut z, mut direction) = (None, None, None, None);
+        loop {
+            match self.word() {
+                b"X" | b"x" if x.is_none() => x = Some(self.coordinate()?),
+                b"Y" | b"y" if y.is_none() => y = Some(self.coordinate()?),
+                b"Z" | b"z" if z.is_none() => z = Some(self.coordinate()?),
+                word if MAY_DIRECT && direction.is_none() && word.eq_ignore_ascii_case(b"IJK") => direction = Some(self.direction()?),
+                _ => return None,
+            }
+            if self.mark(b',').is_none() {
+                return Some((Point { x: x?, y: y?, z: z? }, direction));
+            }
+        }
+    }
+
+    /// `X(), Y(), Z()`
+    fn report(&mut self) -> Option<Command> {
+        for (number, axis) in ["X", "Y", "Z"].into_iter().enumerate() {
+            if number > 0 {
+                self.mark(b',')?;
+            }
+            self.named(axis)?;
+            self.mark(b'(')?;
+            self.mark(b')')?;
+        }
+        Some(Command::OnPtMeasReport)
+    }
+
+    /// The name of a tool, in quotes or without them.
+    fn tool(&mut self) -> Option<Name> {
+        match self.word() {
+            [b'"', name @ .., b'"'] => Name::read(name),
+            name => Name::read(name),
+        }
+    }
+
+    /// The lengths of a transformation that turns nothing.
+    fn transformation(&mut self) -> Option<Point> {
+        self.named("PartCsy")?;
+        let mut lengths = [0; 3];
+        for length in &mut lengths {
+            self.mark(b',')?;
+            *length = read_length(self.word(), VOLUME_LIMIT).ok()?;
+        }
+        for _ in 0..3 {
+            self.mark(b',')?;
+            is_zero(self.word()).then_some(())?;
+        }
+        let [x, y, z] = lengths;
+        Some(Point { x, y, z })
+    }
+
+    fn csy(&mut self) -> Option<Csy> {
+        let name = self.word();
+        if name.eq_ignore_ascii_case(b"MachineCsy") {
+            Some(Csy::Machine)
+        } else {
+            name.eq_ignore_ascii_case(b"PartCsy").then_some(Csy::Part)
+        }
+    }
+
+    /// An axis in capitals, with its coordinate.
+    fn axis(&mut self, axis: u8) -> Option<i64> {
+        self.skip_spaces();
+        let [first, rest @ ..] = self.rest else { return None };
+        if *first != axis {
+            return None;
+        }
+        self.rest = rest;
+        self.coordinate()
+    }
+}
+
+fn is_behind_word(byte: u8) -> bool {
+    matches!(byte, b' ' | b'(' | b')' | b',')
+}
+
+/// Appends a command without the end of its line.
+pub fn write_command(out: &mut Vec<u8>, tag: Tag, command: &Command) {
+    out.extend_from_slice(&tag.0);
+    match command {
+        Command::GoTo(target) => {
+            out.extend_from_slice(b" GoTo(");
+            write_point(out, *target);
+            out.push(b')');
+        }
+        Command::PtMeas(target, direction) => {
+            out.extend_from_slice(b" PtMeas(");
+            write_point(out, *target);
+            if let Some(direction) = direction {
+                write_direction(out, *direction);
+            }
+            out.push(b')');
+        }
+        other => write_other(out, other),
+    }
+}
+
+/// A command that is neither a move nor a touch.
+fn write_other(out: &mut Vec<u8>, command: &Command) {
+    out.push(b' ');
+    out.extend_from_slice(command.kind().name().as_bytes());
+    match command {
+        Command::OnPtMeasReport => out.extend_from_slice(b"(X(), Y(), Z())"),
+        Command::ChangeTool(name) => {
+            out.extend_from_slice(b"(\"");
+            out.extend_from_slice(name.as_str().as_bytes());
+            out.extend_from_slice(b"\")");
+        }
+        Command::SetCsyTransformation(lengths) => {
+            out.extend_from_slice(b"(PartCsy");
+            for length in [lengths.x, lengths.y, lengths.z] {
+                out.extend_from_slice(b", ");
+                write_length(out, length);
+            }
+            out.extend_from_slice(b", 0, 0, 0)");
+        }
+        Command::SetCoordSystem(Csy::Machine) => out.extend_from_slice(b"(MachineCsy)"),
+        Command::SetCoordSystem(Csy::Part) => out.extend_from_slice(b"(PartCsy)"),
+        _ => out.extend_from_slice(b"()"),
+    }
+}
+
+/// The tag and the mark of a response; nothing where it is none.
+#[inline]
+pub fn read_response(line: &[u8]) -> Option<(Tag, Mark<'_>)> {
+    let (tag, rest) = Tag::cut(line)?;
+    let mark = match rest {
+        b" &" => Mark::Received,
+        b" %" => Mark::Complete,
+        [b' ', b'#', b' ', text @ ..] => Mark::Data(text),
+        b" !" | [b' ', b'!', b' ', ..] => Mark::Error,
+        [b' ', b'&', spaces @ ..] if are_spaces(spaces) => Mark::Received,
+        [b' ', b'%', spaces @ ..] if are_spaces(spaces) => Mark::Complete,
+        _ => return None,
+    };
+    Some((tag, mark))
+}
+
+fn are_spaces(text: &[u8]) -> bool {
+    text.iter().all(|byte| *byte == b' ')
+}
+
+/// The point of a data text.
+pub fn read_point(text: &[u8]) -> Option<Point> {
+    let mut written = Written { rest: text };
+    if let Some(point) = written.point()
+        && written.rest.is_empty()
+    {
+        return Some(point);
+    }
+    if text.first() == Some(&b' ') {
+        return None;
+    }
+    let mut arguments = Arguments { rest: text };
+    let x = arguments.axis(b'X')?;
+    arguments.mark(b',')?;
+    let y = arguments.axis(b'Y')?;
+    arguments.mark(b',')?;
+    let z = arguments.axis(b'Z')?;
+    arguments.ended().then_some(Point { x, y, z })
+}
+
+/// What a data text answers to the question whether the machine is homed.
+pub fn read_homed(text: &[u8]) -> Option<bool> {
+    match text {
+        b"0" => return Some(false),
+        b"1" => return Some(true),
+        [b' ', ..] => return None,
+        _ => {}
+    }
+    let mut arguments = Arguments { rest: text };
+    arguments.named("IsHomed")?;
+    arguments.mark(b'(')?;
+    let is_homed = match arguments.word() {
+        b"0" => false,
+        b"1" => true,
+        _ => return None,
+    };
+    arguments.mark(b')')?;
+    arguments.ended().then_some(is_homed)
+}
+
+/// Appends `TAG &` and the end of its line.
+#[inline]
+pub fn write_received(out: &mut Vec<u8>, tag: Tag) {
+    write_bare(out, tag, b'&');
+}
+
+/// Appends `TAG %` and the end of its line.
+#[inline]
+pub fn write_complete(out: &mut Vec<u8>, tag: Tag) {
+    write_bare(out, tag, b'%');
+}
+
+#[inline]
+fn write_bare(out: &mut Vec<u8>, tag: Tag, mark: u8) {
+    let [a, b, c, d, e] = tag.0;
+    out.extend_from_slice(&[a, b, c, d, e, b' ', mark, b'\r', b'\n']);
+}
+
+/// Appends a data line with a point, and its end.
+#[inline]
+pub fn write_point_data(out: &mut Vec<u8>, tag: Tag, point: Point) {
+    out.extend_from_slice(&tag.0);
+    out.extend_from_slice(b" # ");
+    write_point(out, point);
+    out.extend_from_slice(LINE_END);
+}
+
+/// Appends a data line that says whether the machine is homed, and its end.
+pub fn write_homed_data(out: &mut Vec<u8>, tag: Tag, is_homed: bool) {
+    out.extend_from_slice(&tag.0);
+    out.extend_from_slice(if is_homed { b" # IsHomed(1)\r\n" } else { b" # IsHomed(0)\r\n" });
+}
+
+/// Appends an error line with the name of its command, empty where there is none, and its end.
+pub fn write_error(out: &mut Vec<u8>, tag: Tag, failure: Failure, kind: Option<Kind>) {
+    out.extend_from_slice(&tag.0);
     out.extend_from_slice(b" ! Error(3, ");
-    write_number::<4>(out, number as u64);
+    out.extend_from_slice(&Tag::standard(failure as u32).0[1..]);
     out.extend_from_slice(b", \"");
     out.extend_from_slice(kind.map_or("", Kind::name).as_bytes());
     out.extend_from_slice(b"\", \"");
-    out.extend_from_slice(number.text().as_bytes());
-    out.extend_from_slice(b"\")");
+    out.extend_from_slice(failure.text().as_bytes());
+    out.extend_from_slice(b"\")\r\n");
 }

@@ -1,7 +1,4 @@
-//! Plain Rust that does the work of the programs that `bench/` measures, by the rules of docs/: what these rules cost where nothing is proved.
-//!
-//! Its words are `check [--setup FILE] [PROGRAM]`, `wire commands|responses LINES PIECE`, `server ROUNDS`, `client TOUCHES WINDOW`, and `rows`
-//! for calls of server and client as the program `call_rows` reads them.
+//! A program that does the work of the measured ones, written plainly (bench/WORK.md).
 #![forbid(unsafe_code)]
 
 mod blocks;
@@ -23,76 +20,160 @@ mod touches;
 mod values;
 mod wire;
 
+use program::Program;
+use setup::Setup;
+use std::ffi::{OsStr, OsString};
+use std::io::{self, ErrorKind, Read, Write};
+use std::os::unix::ffi::OsStrExt;
 use std::process::ExitCode;
 
-const REFUSED: u8 = 1;
-const WORDS: u8 = 2;
+const USAGE: &str = "usage: plain check [--setup FILE] [PROGRAM]
+       plain wire commands|responses LINES PIECE
+       plain server ROUNDS
+       plain client TOUCHES WINDOW
+       plain rows
+";
 
-fn print_wire(side: &str, lines: &str, piece: &str) -> Option<u8> {
-    let side = wire::Side::named(side)?;
-    let Some(count) = wire::count_lines(side, lines.parse().ok()?, piece.parse().ok()?) else {
-        return Some(REFUSED);
-    };
-    println!("{count} {}", side.name());
-    Some(0)
+/// Why the program ends without having done its work: what it tells on standard error, and its status.
+struct Stop {
+    told: Vec<u8>,
+    status: u8,
 }
 
-fn print_check(setup: Option<&str>, name: &str) -> u8 {
-    match check::check(setup, name) {
-        Ok(()) => 0,
-        Err(told) => {
-            eprintln!("dme: {told}");
-            REFUSED
+impl Stop {
+    fn new(told: String) -> Stop {
+        Stop { told: told.into_bytes(), status: 1 }
+    }
+
+    fn usage() -> Stop {
+        Stop { told: USAGE.into(), status: 2 }
+    }
+
+    /// A file that cannot be read or written.
+    fn of_file(deed: &str, name: &OsStr) -> Stop {
+        let told = [b"dme: cannot ", deed.as_bytes(), b" ", name.as_bytes(), b"\n"].concat();
+        Stop { told, status: 1 }
+    }
+}
+
+/// Standard input, which is read once: where it is asked for again, it is empty.
+#[derive(Default)]
+struct Input {
+    is_read: bool,
+}
+
+impl Input {
+    /// All bytes of a file, or of standard input where the name is `-`.
+    fn read(&mut self, name: &OsStr) -> Result<Vec<u8>, Stop> {
+        let mut text = Vec::new();
+        let result = if name != "-" {
+            std::fs::read(name).map(|bytes| text = bytes)
+        } else if std::mem::replace(&mut self.is_read, true) {
+            Ok(())
+        } else {
+            io::stdin().lock().read_to_end(&mut text).map(drop)
+        };
+        match result {
+            Ok(()) => Ok(text),
+            Err(error) if error.kind() == ErrorKind::OutOfMemory => {
+                Err(Stop { told: b"dme: out of memory\n".into(), status: 4 })
+            }
+            Err(_) => Err(Stop::of_file("read", name)),
         }
     }
 }
 
-fn print_server(rounds: &str) -> Option<u8> {
-    let Ok((count, sum)) = rounds::rounds(rounds.parse().ok()?) else {
-        return Some(REFUSED);
-    };
-    println!("{count} contacts, sum {sum}");
-    Some(0)
+/// The words behind `check`.
+struct CheckWords<'w> {
+    setup: Option<&'w OsStr>,
+    program: &'w OsStr,
 }
 
-fn print_client(touches: &str, window: &str) -> Option<u8> {
-    let Ok((count, sum)) = touches::touches(touches.parse().ok()?, window.parse().ok()?) else {
-        return Some(REFUSED);
-    };
-    println!("{count} points, sum {sum}");
-    Some(0)
+/// Keeps a word that may stand there once.
+fn keep<'w>(place: &mut Option<&'w OsStr>, word: &'w OsStr) -> Option<()> {
+    place.replace(word).is_none().then_some(())
 }
 
-fn print_rows() -> u8 {
-    match std::io::read_to_string(std::io::stdin())
-        .ok()
-        .and_then(|input| rows::answered(&input).ok())
-    {
-        Some(answers) => {
-            print!("{answers}");
-            0
+impl CheckWords<'_> {
+    fn read(words: &[OsString]) -> Option<CheckWords<'_>> {
+        let (mut setup, mut program) = (None, None);
+        let (mut words, mut are_literal) = (words.iter(), false);
+        while let Some(word) = words.next() {
+            let bytes = word.as_bytes();
+            if are_literal || bytes == b"-" || !bytes.starts_with(b"-") {
+                keep(&mut program, word)?;
+            } else if bytes == b"--" {
+                are_literal = true;
+            } else if bytes == b"--setup" {
+                keep(&mut setup, words.next()?)?;
+            } else {
+                keep(&mut setup, OsStr::from_bytes(bytes.strip_prefix(b"--setup=")?))?;
+            }
         }
-        None => REFUSED,
+        Some(CheckWords { setup, program: program.unwrap_or(OsStr::new("-")) })
     }
 }
 
-/// The status; none where the words are none that the program knows.
-fn run(words: &[&str]) -> Option<u8> {
+fn check(words: &[OsString]) -> Result<(), Stop> {
+    let words = CheckWords::read(words).ok_or_else(Stop::usage)?;
+    let mut input = Input::default();
+    let setup = match words.setup {
+        Some(name) => Setup::read(&input.read(name)?)
+            .map_err(|(refusal, line)| Stop::new(format!("dme: {refusal} at line {line} in setup\n")))?,
+        None => Setup::default(),
+    };
+    let program = Program::read(&input.read(words.program)?, &setup)
+        .map_err(|(refusal, line)| Stop::new(format!("dme: {refusal} at line {line}\n")))?;
+    check::print(&program, &mut io::stdout().lock()).map_err(|_| Stop::of_file("write", OsStr::new("-")))
+}
+
+/// What a measured run prints; none where it is refused.
+fn measured(words: &[&str]) -> Option<String> {
     match words {
-        ["check", "--setup", setup] => Some(print_check(Some(setup), "-")),
-        ["check", "--setup", setup, name] => Some(print_check(Some(setup), name)),
-        ["check"] => Some(print_check(None, "-")),
-        ["check", name] => Some(print_check(None, name)),
-        ["wire", side, lines, piece] => print_wire(side, lines, piece),
-        ["server", rounds] => print_server(rounds),
-        ["client", touches, window] => print_client(touches, window),
-        ["rows"] => Some(print_rows()),
+        ["wire", side @ ("commands" | "responses"), lines, piece] => {
+            let count = wire::count_lines(*side == "commands", lines.parse().ok()?, piece.parse().ok()?)?;
+            Some(format!("{count} {side}\n"))
+        }
+        ["server", rounds] => {
+            let (contacts, sum) = rounds::rounds(rounds.parse().ok()?);
+            Some(format!("{contacts} contacts, sum {sum}\n"))
+        }
+        ["client", touches, window] => {
+            let (points, sum) = touches::touches(touches.parse().ok()?, window.parse().ok()?)?;
+            Some(format!("{points} points, sum {sum}\n"))
+        }
         _ => None,
     }
 }
 
+/// Prints a text whole.
+fn print(text: &str) -> Result<(), Stop> {
+    let mut out = io::stdout().lock();
+    out.write_all(text.as_bytes()).and_then(|()| out.flush()).map_err(|_| Stop::of_file("write", OsStr::new("-")))
+}
+
+fn run(words: &[OsString]) -> Result<(), Stop> {
+    match words {
+        [command, words @ ..] if command == "check" => check(words),
+        [command] if command == "rows" => {
+            let text = Input::default().read(OsStr::new("-"))?;
+            print(&rows::answered(&String::from_utf8_lossy(&text)))
+        }
+        [command, ..] if command == "wire" || command == "server" || command == "client" => {
+            let words: Vec<&str> = words.iter().filter_map(|word| word.to_str()).collect();
+            print(&measured(&words).ok_or(Stop { told: Vec::new(), status: 1 })?)
+        }
+        _ => Err(Stop::usage()),
+    }
+}
+
 fn main() -> ExitCode {
-    let given: Vec<String> = std::env::args().skip(1).collect();
-    let words: Vec<&str> = given.iter().map(String::as_str).collect();
-    ExitCode::from(run(&words).unwrap_or(WORDS))
+    let words: Vec<OsString> = std::env::args_os().skip(1).collect();
+    match run(&words) {
+        Ok(()) => ExitCode::SUCCESS,
+        Err(stop) => {
+            let _ = io::stderr().write_all(&stop.told);
+            ExitCode::from(stop.status)
+        }
+    }
 }

@@ -1,26 +1,62 @@
-//! Programs: what the statements of a DMIS text mean, or the first fault of the text.
+//! DMIS programs (docs/DMIS.md): what they make a machine do, and why a text is none.
 
-use crate::text::{Statement, Statements, TextFault};
-use crate::values::{
-    Dir, Frame, Name, NumeralFault, Point, VOLUME, read_dir, read_length, read_name,
-};
+use crate::blocks::{self, find};
+use crate::setup::Setup;
+use crate::text::{Statement, Statements, trimmed};
+use crate::values::{BadNumeral, Dir, Name, Point, VOLUME_LIMIT};
+use crate::values::{DIRECTION_LIMIT, push_name, read_component, read_length, read_plain};
 use std::fmt;
 
+/// The most statements of a program.
 const STATEMENTS: usize = 10_000;
-const TOUCHES: usize = 10_000;
+/// About how many bytes a statement has, for room to be asked for at once.
+const STATEMENT_BYTES: usize = 32;
+/// The most touches that a `MEAS` names.
+const TOUCHES: u32 = 10_000;
 
-/// The most letters of a word that is known.
-const WORD_MOST: usize = 6;
+/// What a statement makes the machine do.
+#[derive(Clone, PartialEq, Eq, Debug)]
+pub enum Step {
+    /// `GOTO`
+    Move(Point),
+    /// `PTMEAS`
+    Touch(Point, Option<Dir>),
+    /// `SNSLCT`
+    Tool(Name),
+    /// `RECALL/D`, with the frame's zero point in machine axes.
+    Frame(Point),
+}
 
-#[derive(Clone, Copy, Debug, PartialEq, Eq)]
-pub enum Fault {
+/// What stands between `MEAS` and `ENDMES`.
+#[derive(Clone, Copy, PartialEq, Eq, Debug)]
+pub struct Feature {
+    /// Where its label begins and ends among the labels.
+    label: (u32, u32),
+    /// The count of its touches, at least 1.
+    pub touches: u32,
+    /// The index of the step of its last touch.
+    pub last: u32,
+}
+
+/// A program that can be carried out.
+#[derive(Debug, Default)]
+pub struct Program {
+    pub steps: Vec<Step>,
+    pub features: Vec<Feature>,
+    /// All labels, one behind the other.
+    labels: Vec<u8>,
+}
+
+/// Why a text is no program.
+#[derive(Clone, Copy, PartialEq, Eq, Debug)]
+pub enum Refusal {
     NotDmis,
     Truncated,
     LineTooLong,
     BadByte,
     Unsupported,
     BadArguments,
-    BadNumeral(NumeralFault),
+    BadNumeral(BadNumeral),
     OutsideBlock,
     InsideBlock,
     TooFewPoints,
@@ -32,373 +68,513 @@ pub enum Fault {
     TooLarge,
 }
 
-/// Why a text is no program, and the line.
-#[derive(Clone, Copy, Debug, PartialEq, Eq)]
-pub struct ProgramFault {
-    pub fault: Fault,
-    pub line: u64,
-}
-
-impl fmt::Display for Fault {
-    fn fmt(&self, formatter: &mut fmt::Formatter) -> fmt::Result {
-        formatter.write_str(match self {
-            Fault::NotDmis => "P1 NotDmis",
-            Fault::Truncated => "P2 Truncated",
-            Fault::LineTooLong => "P3 LineTooLong",
-            Fault::BadByte => "P4 BadByte",
-            Fault::Unsupported => "P5 Unsupported",
-            Fault::BadArguments => "P6 BadArguments",
-            Fault::BadNumeral(NumeralFault::NotNumeral) => "P7 BadNumeral (N1 NotNumeral)",
-            Fault::BadNumeral(NumeralFault::TooManyDigits) => "P7 BadNumeral (N2 TooManyDigits)",
-            Fault::BadNumeral(NumeralFault::TooLarge) => "P7 BadNumeral (N3 TooLarge)",
-            Fault::OutsideBlock => "P8 OutsideBlock",
-            Fault::InsideBlock => "P9 InsideBlock",
-            Fault::TooFewPoints => "P10 TooFewPoints",
-            Fault::UnknownFrame => "P11 UnknownFrame",
-            Fault::NotMillimetres => "P12 NotMillimetres",
-            Fault::NoProgMode => "P13 NoProgMode",
-            Fault::ZeroVector => "P14 ZeroVector",
-            Fault::NoTool => "P15 NoTool",
-            Fault::TooLarge => "P16 TooLarge",
+impl fmt::Display for Refusal {
+    fn fmt(&self, out: &mut fmt::Formatter) -> fmt::Result {
+        out.write_str(match self {
+            Refusal::NotDmis => "P1 NotDmis",
+            Refusal::Truncated => "P2 Truncated",
+            Refusal::LineTooLong => "P3 LineTooLong",
+            Refusal::BadByte => "P4 BadByte",
+            Refusal::Unsupported => "P5 Unsupported",
+            Refusal::BadArguments => "P6 BadArguments",
+            Refusal::BadNumeral(BadNumeral::NotNumeral) => "P7 BadNumeral (N1 NotNumeral)",
+            Refusal::BadNumeral(BadNumeral::TooManyDigits) => "P7 BadNumeral (N2 TooManyDigits)",
+            Refusal::BadNumeral(BadNumeral::TooLarge) => "P7 BadNumeral (N3 TooLarge)",
+            Refusal::OutsideBlock => "P8 OutsideBlock",
+            Refusal::InsideBlock => "P9 InsideBlock",
+            Refusal::TooFewPoints => "P10 TooFewPoints",
+            Refusal::UnknownFrame => "P11 UnknownFrame",
+            Refusal::NotMillimetres => "P12 NotMillimetres",
+            Refusal::NoProgMode => "P13 NoProgMode",
+            Refusal::ZeroVector => "P14 ZeroVector",
+            Refusal::NoTool => "P15 NoTool",
+            Refusal::TooLarge => "P16 TooLarge",
         })
     }
 }
 
-impl fmt::Display for ProgramFault {
-    fn fmt(&self, formatter: &mut fmt::Formatter) -> fmt::Result {
-        write!(formatter, "{} at line {}", self.fault, self.line)
-    }
+/// The words of statements, by what they mean.
+#[derive(Clone, Copy, PartialEq, Eq, Debug)]
+enum Word {
+    Begin,
+    Move,
+    Block,
+    Touch,
+    EndBlock,
+    Tool,
+    Recall,
+    End,
+    Units,
+    Mode,
+    PassedOver,
+    /// Passed over, with a label or without.
+    Definition,
+    Unknown,
 }
 
-impl From<NumeralFault> for Fault {
-    fn from(fault: NumeralFault) -> Fault {
-        Fault::BadNumeral(fault)
+/// Clears the bit by which small letters differ from capitals. No byte but a letter becomes one by it; a space becomes a zero, as if the
+/// word ended before it.
+const CAPITALS: u64 = 0xDFDF_DFDF_DFDF_DFDF;
+
+/// A word of at most eight letters as a number, its first letter lowest.
+const fn key(word: &[u8]) -> u64 {
+    let (mut key, mut at) = (0, 0);
+    while at < word.len() {
+        key |= (word[at] as u64) << (8 * at);
+        at += 1;
     }
+    key
 }
 
-impl From<TextFault> for Fault {
-    fn from(fault: TextFault) -> Fault {
-        match fault {
-            TextFault::LineTooLong => Fault::LineTooLong,
-            TextFault::BadByte => Fault::BadByte,
+/// Names the keys of words.
+macro_rules! keys {
+    ($($word:ident)*) => { $(const $word: u64 = key(stringify!($word).as_bytes());)* };
+}
+
+keys! {
+    DMISMN GOTO MEAS PTMEAS ENDMES SNSLCT RECALL ENDFIL UNITS MODE FILNAM FEDRAT ACLRAT SNSET FINPOS PRCOMP WKPLAN TEXT DISPLY OUTPUT
+    FEAT TOL SNSDEF
+}
+
+impl Word {
+    #[inline(always)]
+    fn of_key(key: u64) -> Word {
+        match key {
+            DMISMN => Word::Begin,
+            GOTO => Word::Move,
+            MEAS => Word::Block,
+            PTMEAS => Word::Touch,
+            ENDMES => Word::EndBlock,
+            SNSLCT => Word::Tool,
+            RECALL => Word::Recall,
+            ENDFIL => Word::End,
+            UNITS => Word::Units,
+            MODE => Word::Mode,
+            FILNAM | FEDRAT | ACLRAT | SNSET | FINPOS | PRCOMP | WKPLAN | TEXT | DISPLY | OUTPUT => Word::PassedOver,
+            FEAT | TOL | SNSDEF => Word::Definition,
+            _ => Word::Unknown,
+        }
+    }
+
+    fn of(text: &[u8]) -> Word {
+        match text.len() {
+            0..=8 => Word::of_key(blocks::front_word(text) & CAPITALS),
+            _ => Word::Unknown,
         }
     }
 }
 
-/// The stored frames of a machine, by name.
-pub type Frames = [(Name, Point)];
-
-/// One probing of one point, with what is selected where it stands.
-#[derive(Clone, Debug)]
-pub struct Touch {
-    pub target: Point,
-    pub dir: Option<Dir>,
-    pub tool: Name,
-    pub frame: Frame,
-    /// Whether it is the last of its feature.
-    pub is_last: bool,
+/// A statement whose word was found.
+#[derive(Clone, Copy)]
+struct Head<'t> {
+    word: Word,
+    /// What stands behind the first `/` outside texts, where there is one.
+    parameters: Option<&'t [u8]>,
+    has_texts: bool,
+    /// Whether there is a label.
+    is_labelled: bool,
+    /// Whether a text is left open.
+    is_open: bool,
 }
 
-/// What a statement does; those that do nothing have no step.
-#[derive(Clone, Debug)]
-pub enum Step {
-    GoTo(Point),
-    Touch(Touch),
-    Tool(Name),
-    Recall(Point),
-}
-
-/// A feature as the program wants it.
-#[derive(Clone, Debug)]
-pub struct Wanted {
-    pub label: Name,
-    pub touches: usize,
-    /// The step behind its last touch.
-    pub end: usize,
-}
-
-#[derive(Debug, Default)]
-pub struct Program {
-    pub steps: Vec<Step>,
-    pub features: Vec<Wanted>,
-}
-
-/// A block that has begun.
-struct Block {
-    label: Name,
-    wanted: usize,
-    touches: usize,
-    end: usize,
-}
-
-struct Reader<'a> {
-    frames: &'a Frames,
-    program: Program,
-    tool: Option<Name>,
-    frame: Frame,
-    block: Option<Block>,
-}
-
-/// A word in capitals; nothing where it is longer than each known one.
-fn capitals<'a>(word: &[u8], memory: &'a mut [u8; WORD_MOST]) -> &'a [u8] {
-    let Some(held) = memory.get_mut(..word.len()) else {
-        return b"";
-    };
-    held.copy_from_slice(word);
-    memory.make_ascii_uppercase();
-    &memory[..word.len()]
-}
-
-/// Refuses for this fault where it is so.
-fn refuse_if(is_so: bool, fault: Fault) -> Result<(), Fault> {
-    if is_so { Err(fault) } else { Ok(()) }
-}
-
-/// In which bit a letter differs from its capital.
-const CASE: u8 = b'a' ^ b'A';
-
-/// Whether a parameter is this word of capitals, in any case.
-fn is_word<const LENGTH: usize>(param: &[u8], word: &[u8; LENGTH]) -> bool {
-    <[u8; LENGTH]>::try_from(param).is_ok_and(|param| param.map(|byte| byte & !CASE) == *word)
-}
-
-/// What stands behind a prefix in any case and a bracket.
-fn without_prefix<'a>(param: &'a [u8], prefix: &[u8]) -> Option<&'a [u8]> {
-    let (begin, rest) = param.split_at_checked(prefix.len())?;
-    let rest = rest.strip_prefix(b"(")?;
-    begin.eq_ignore_ascii_case(prefix).then_some(rest)
-}
-
-/// The name between `prefix(` and `)`.
-fn name_within(param: &[u8], prefix: &[u8]) -> Option<Name> {
-    read_name(without_prefix(param, prefix)?.strip_suffix(b")")?)
-}
-
-/// The first three parameters from this one on, as a point.
-fn point_at(statement: &Statement, first: usize) -> Result<Point, Fault> {
-    Ok(Point {
-        x: read_length(statement.param(first), VOLUME)?,
-        y: read_length(statement.param(first + 1), VOLUME)?,
-        z: read_length(statement.param(first + 2), VOLUME)?,
+/// The place of the first such byte outside texts; the first byte stands outside of any.
+fn find_outside_texts(text: &[u8], byte: u8) -> Option<usize> {
+    let mut is_open = false;
+    text.iter().position(|it| {
+        is_open ^= *it == b'\'';
+        !is_open && *it == byte
     })
 }
 
-/// Whether the first parameter begins with a letter and is not `CART`.
-fn is_of_another_kind(statement: &Statement) -> bool {
-    let first = statement.param(0);
-    !is_word(first, b"CART") && first.first().is_some_and(u8::is_ascii_alphabetic)
+impl<'t> Head<'t> {
+    #[inline(always)]
+    fn of(statement: &Statement<'t>) -> Head<'t> {
+        let Statement { text, has_texts, is_open } = *statement;
+        let front = blocks::front_word(text);
+        let length = blocks::length_to(front, b'/').min(text.len());
+        let word = Word::of_key(blocks::first_bytes(front, length) & CAPITALS);
+        if word == Word::Unknown || length == 8 {
+            return Head::of_any(statement);
+        }
+        Head { word, parameters: text.get(length + 1..), has_texts, is_labelled: false, is_open }
+    }
+
+    /// The same where there is a label, or something beside the word.
+    #[cold]
+    fn of_any(statement: &Statement<'t>) -> Head<'t> {
+        let Statement { text, has_texts, is_open } = *statement;
+        let Some(slash) = find_outside_texts(text, b'/') else {
+            return Head { word: Word::of(text), parameters: None, has_texts, is_labelled: false, is_open };
+        };
+        let head = &text[..slash];
+        let label = find_outside_texts(head, b'=');
+        let word = Word::of(trimmed(&head[label.map_or(0, |end| end + 1)..]));
+        Head { word, parameters: Some(&text[slash + 1..]), has_texts, is_labelled: label.is_some(), is_open }
+    }
+
+    fn parameters(&self) -> Parameters<'t> {
+        Parameters { rest: self.parameters, has_texts: self.has_texts }
+    }
+
+    /// The parameters, where there are not more than so many, and their count; else a count above it.
+    fn all<const MOST: usize>(&self) -> ([&'t [u8]; MOST], usize) {
+        let mut all: [&[u8]; MOST] = [b""; MOST];
+        let mut count = 0;
+        for parameter in self.parameters() {
+            count += 1;
+            match all.get_mut(count - 1) {
+                Some(place) => *place = parameter,
+                None => break,
+            }
+        }
+        (all, count)
+    }
+
+    /// No label and no open text.
+    fn check_form(&self) -> Result<(), Refusal> {
+        check(!self.is_labelled && !self.is_open, Refusal::BadArguments)
+    }
 }
 
-/// A count of touches: digits, with a value from 1 to 10,000.
-fn read_count(text: &[u8]) -> Option<usize> {
-    let mut value = 0;
-    for digit in text {
-        if !digit.is_ascii_digit() {
+/// Parameters, split at the commas outside texts, without the blanks around them.
+struct Parameters<'t> {
+    rest: Option<&'t [u8]>,
+    has_texts: bool,
+}
+
+impl<'t> Iterator for Parameters<'t> {
+    type Item = &'t [u8];
+
+    #[inline(always)]
+    fn next(&mut self) -> Option<&'t [u8]> {
+        let rest = self.rest.take()?;
+        let comma = if self.has_texts { find_outside_texts(rest, b',') } else { find(rest, b',') };
+        let parameter = match comma {
+            Some(comma) => {
+                self.rest = Some(&rest[comma + 1..]);
+                &rest[..comma]
+            }
+            None => rest,
+        };
+        Some(trimmed(parameter))
+    }
+}
+
+fn check(is_right: bool, refusal: Refusal) -> Result<(), Refusal> {
+    if is_right { Ok(()) } else { Err(refusal) }
+}
+
+/// What stands in parentheses behind a word, and nothing behind them.
+fn in_parentheses<'t>(text: &'t [u8], word: &[u8]) -> Option<&'t [u8]> {
+    let (front, rest) = text.split_at_checked(word.len())?;
+    if !front.eq_ignore_ascii_case(word) {
+        return None;
+    }
+    rest.strip_prefix(b"(")?.strip_suffix(b")")
+}
+
+fn begins_with(text: &[u8], word: &[u8]) -> bool {
+    text.get(..word.len()).is_some_and(|front| front.eq_ignore_ascii_case(word))
+}
+
+/// Numbers of as many decimals at the front of a text, each the plain numeral that it mostly is, and what stands behind them: nothing, or
+/// a comma first.
+#[inline(always)]
+fn plain_numbers<const DECIMALS: usize>(mut text: &[u8], limit: i64) -> Option<([i64; 3], &[u8])> {
+    let mut numbers = [0; 3];
+    for (index, number) in numbers.iter_mut().enumerate() {
+        if index > 0 {
+            text = text.strip_prefix(b",")?;
+        }
+        while let [b' ', rest @ ..] = text {
+            text = rest;
+        }
+        let length;
+        (*number, length) = read_plain::<DECIMALS>(text, limit)?;
+        text = &text[length..];
+    }
+    Some((numbers, text))
+}
+
+const CART: &[u8] = b"CART";
+
+/// What stands behind `CART,`, with blanks or without.
+fn behind_cart(text: &[u8]) -> Option<&[u8]> {
+    let (word, rest) = text.split_first_chunk::<5>()?;
+    word.eq_ignore_ascii_case(b"CART,").then_some(rest)
+}
+
+fn point([x, y, z]: [i64; 3]) -> Point {
+    Point { x, y, z }
+}
+
+/// A point of three parameters.
+fn read_point(texts: &[&[u8]]) -> Result<Point, Refusal> {
+    let mut numbers = [0; 3];
+    for (number, text) in numbers.iter_mut().zip(texts) {
+        *number = read_length(text, VOLUME_LIMIT).map_err(Refusal::BadNumeral)?;
+    }
+    Ok(point(numbers))
+}
+
+/// The components of a direction of three parameters.
+fn read_components(texts: &[&[u8]]) -> Result<[i64; 3], Refusal> {
+    let mut numbers = [0; 3];
+    for (number, text) in numbers.iter_mut().zip(texts) {
+        *number = read_component(text).map_err(Refusal::BadNumeral)?;
+    }
+    Ok(numbers)
+}
+
+/// Whether a first parameter names other coordinates than `CART`.
+fn names_others(first: &[u8]) -> bool {
+    first.first().is_some_and(u8::is_ascii_alphabetic) && !first.eq_ignore_ascii_case(CART)
+}
+
+/// The count of touches that a `MEAS` names.
+fn read_count(text: &[u8]) -> Option<u32> {
+    let mut count = 0u32;
+    for byte in text {
+        count = count.saturating_mul(10).saturating_add(u32::from(byte.wrapping_sub(b'0')));
+        if !byte.is_ascii_digit() {
             return None;
         }
-        value = (value * 10 + usize::from(digit - b'0')).min(TOUCHES + 1);
     }
-    (1..=TOUCHES).contains(&value).then_some(value)
+    (1..=TOUCHES).contains(&count).then_some(count)
+}
+
+/// A block that is not ended yet.
+struct Block {
+    label: (u32, u32),
+    /// How many touches it must have.
+    wanted: u32,
+    touches: u32,
+    last: u32,
+}
+
+/// A program, as far as it was read.
+struct Reader<'s> {
+    setup: &'s Setup,
+    program: Program,
+    block: Option<Block>,
+    has_tool: bool,
+    /// How many statements were read.
+    count: usize,
 }
 
 impl Reader<'_> {
-    /// Refuses a label, and a text that was left open.
-    fn is_whole(statement: &Statement) -> Result<(), Fault> {
-        refuse_if(
-            statement.has_label() || statement.is_open,
-            Fault::BadArguments,
-        )
-    }
-
-    fn go_to(&mut self, statement: &Statement) -> Result<(), Fault> {
-        refuse_if(is_of_another_kind(statement), Fault::Unsupported)?;
-        Self::is_whole(statement)?;
-        let first = usize::from(is_word(statement.param(0), b"CART"));
-        refuse_if(statement.count() != first + 3, Fault::BadArguments)?;
-        self.program
-            .steps
-            .push(Step::GoTo(point_at(statement, first)?));
-        Ok(())
-    }
-
-    fn measure(&mut self, statement: &Statement) -> Result<(), Fault> {
-        refuse_if(self.block.is_some(), Fault::InsideBlock)?;
-        Self::is_whole(statement)?;
-        let kind = statement.param(0);
-        let is_kind = !kind.is_empty() && kind.iter().all(u8::is_ascii_alphabetic);
-        refuse_if(statement.count() != 3 || !is_kind, Fault::BadArguments)?;
-        let label = name_within(statement.param(1), b"F").ok_or(Fault::BadArguments)?;
-        let wanted = read_count(statement.param(2)).ok_or(Fault::BadArguments)?;
-        self.block = Some(Block {
-            label,
-            wanted,
-            touches: 0,
-            end: 0,
-        });
-        Ok(())
-    }
-
-    fn touch(&mut self, statement: &Statement) -> Result<(), Fault> {
-        refuse_if(is_of_another_kind(statement), Fault::Unsupported)?;
-        let block = self.block.as_mut().ok_or(Fault::OutsideBlock)?;
-        Self::is_whole(statement)?;
-        let is_form = is_word(statement.param(0), b"CART") && matches!(statement.count(), 4 | 7);
-        refuse_if(!is_form, Fault::BadArguments)?;
-        let target = point_at(statement, 1)?;
-        let dir = if statement.count() == 7 {
-            let dir = read_dir(statement.param(4), statement.param(5), statement.param(6))?;
-            Some(dir.ok_or(Fault::ZeroVector)?)
-        } else {
-            None
-        };
-        let tool = self.tool.clone().ok_or(Fault::NoTool)?;
-        self.program.steps.push(Step::Touch(Touch {
-            target,
-            dir,
-            tool,
-            frame: self.frame,
-            is_last: false,
-        }));
-        block.touches += 1;
-        block.end = self.program.steps.len();
-        Ok(())
-    }
-
-    fn end_measure(&mut self, statement: &Statement) -> Result<(), Fault> {
-        let block = self.block.as_ref().ok_or(Fault::OutsideBlock)?;
-        Self::is_whole(statement)?;
-        refuse_if(statement.count() != 0, Fault::BadArguments)?;
-        refuse_if(block.touches < block.wanted, Fault::TooFewPoints)?;
-        if let Some(Block {
-            label,
-            touches,
-            end,
-            ..
-        }) = self.block.take()
-        {
-            if let Some(Step::Touch(touch)) = self.program.steps.get_mut(end - 1) {
-                touch.is_last = true;
+    /// Reads all statements up to `ENDFIL`.
+    fn read_all(&mut self, statements: &mut Statements) -> Result<(), Refusal> {
+        let first = statements.next()?.ok_or(Refusal::NotDmis)?;
+        self.count = 1;
+        read_first(&Head::of(&first))?;
+        while let Some(statement) = statements.next()? {
+            self.count += 1;
+            check(self.count <= STATEMENTS, Refusal::TooLarge)?;
+            let head = Head::of(&statement);
+            self.read(&head)?;
+            if head.word == Word::End {
+                return Ok(());
             }
-            self.program.features.push(Wanted {
-                label,
-                touches,
-                end,
-            });
         }
+        Err(Refusal::Truncated)
+    }
+
+    #[inline]
+    fn read(&mut self, head: &Head) -> Result<(), Refusal> {
+        match head.word {
+            Word::Move => self.read_move(head),
+            Word::Touch => self.read_touch(head),
+            Word::Block => self.read_block(head),
+            Word::EndBlock => self.read_end_of_block(head),
+            Word::Tool => self.read_tool(head),
+            Word::Recall => self.read_recall(head),
+            Word::End => {
+                check(self.block.is_none(), Refusal::InsideBlock)?;
+                head.check_form()?;
+                check(head.parameters.is_none(), Refusal::BadArguments)
+            }
+            Word::Units => read_units(head),
+            Word::Mode => read_mode(head),
+            Word::PassedOver => head.check_form(),
+            Word::Definition => check(!head.is_open, Refusal::BadArguments),
+            Word::Begin | Word::Unknown => Err(Refusal::Unsupported),
+        }
+    }
+
+    #[inline]
+    fn read_move(&mut self, head: &Head) -> Result<(), Refusal> {
+        let target = match plain_move(head) {
+            Some(target) => target,
+            None => any_move(head)?,
+        };
+        self.program.steps.push(Step::Move(target));
         Ok(())
     }
 
-    fn select_tool(&mut self, statement: &Statement) -> Result<(), Fault> {
-        Self::is_whole(statement)?;
-        refuse_if(statement.count() != 1, Fault::BadArguments)?;
-        let param = statement.param(0);
-        let name = name_within(param, b"S")
-            .or_else(|| name_within(param, b"SA"))
-            .ok_or(Fault::BadArguments)?;
-        self.tool = Some(name.clone());
+    #[inline]
+    fn read_touch(&mut self, head: &Head) -> Result<(), Refusal> {
+        let (target, components) = match plain_touch(head) {
+            Some(touch) => touch,
+            None => return self.read_any_touch(head),
+        };
+        check(self.block.is_some(), Refusal::OutsideBlock)?;
+        self.push_touch(target, components)
+    }
+
+    fn read_any_touch(&mut self, head: &Head) -> Result<(), Refusal> {
+        let (all, count) = head.all::<7>();
+        check(!names_others(all[0]), Refusal::Unsupported)?;
+        check(self.block.is_some(), Refusal::OutsideBlock)?;
+        head.check_form()?;
+        check(matches!(count, 4 | 7) && all[0].eq_ignore_ascii_case(CART), Refusal::BadArguments)?;
+        let target = read_point(&all[1..4])?;
+        let components = if count == 7 { Some(read_components(&all[4..])?) } else { None };
+        self.push_touch(target, components)
+    }
+
+    fn push_touch(&mut self, target: Point, components: Option<[i64; 3]>) -> Result<(), Refusal> {
+        let direction = match components {
+            Some([i, j, k]) => Some(Dir::new(i, j, k).ok_or(Refusal::ZeroVector)?),
+            None => None,
+        };
+        check(self.has_tool, Refusal::NoTool)?;
+        if let Some(block) = &mut self.block {
+            block.touches += 1;
+            block.last = self.program.steps.len() as u32;
+        }
+        self.program.steps.push(Step::Touch(target, direction));
+        Ok(())
+    }
+
+    fn read_block(&mut self, head: &Head) -> Result<(), Refusal> {
+        check(self.block.is_none(), Refusal::InsideBlock)?;
+        head.check_form()?;
+        let ([kind, feature, wanted], 3) = head.all::<3>() else {
+            return Err(Refusal::BadArguments);
+        };
+        check(!kind.is_empty() && kind.iter().all(u8::is_ascii_alphabetic), Refusal::BadArguments)?;
+        let name = in_parentheses(feature, b"F").ok_or(Refusal::BadArguments)?;
+        let wanted = read_count(wanted).ok_or(Refusal::BadArguments)?;
+        let begin = self.program.labels.len() as u32;
+        check(push_name(name, &mut self.program.labels), Refusal::BadArguments)?;
+        let label = (begin, self.program.labels.len() as u32);
+        self.block = Some(Block { label, wanted, touches: 0, last: 0 });
+        Ok(())
+    }
+
+    fn read_end_of_block(&mut self, head: &Head) -> Result<(), Refusal> {
+        let block = self.block.as_ref().ok_or(Refusal::OutsideBlock)?;
+        head.check_form()?;
+        check(head.parameters.is_none(), Refusal::BadArguments)?;
+        check(block.touches >= block.wanted, Refusal::TooFewPoints)?;
+        self.program.features.push(Feature { label: block.label, touches: block.touches, last: block.last });
+        self.block = None;
+        Ok(())
+    }
+
+    fn read_tool(&mut self, head: &Head) -> Result<(), Refusal> {
+        head.check_form()?;
+        let ([tool], 1) = head.all::<1>() else {
+            return Err(Refusal::BadArguments);
+        };
+        let name = in_parentheses(tool, b"S").or_else(|| in_parentheses(tool, b"SA"));
+        let name = name.and_then(Name::read).ok_or(Refusal::BadArguments)?;
         self.program.steps.push(Step::Tool(name));
+        self.has_tool = true;
         Ok(())
     }
 
-    fn recall(&mut self, statement: &Statement) -> Result<(), Fault> {
-        let param = statement.param(0);
-        let names = |prefix| without_prefix(param, prefix).is_some();
-        let is_frame = names(b"D");
-        let is_known = is_frame || names(b"S") || names(b"SA");
-        refuse_if(statement.count() > 0 && !is_known, Fault::Unsupported)?;
-        Self::is_whole(statement)?;
-        refuse_if(statement.count() == 0, Fault::BadArguments)?;
+    fn read_recall(&mut self, head: &Head) -> Result<(), Refusal> {
+        let ([first], count) = head.all::<1>();
+        let is_frame = begins_with(first, b"D(");
+        let is_known = is_frame || begins_with(first, b"S(") || begins_with(first, b"SA(");
+        check(is_known || count == 0, Refusal::Unsupported)?;
+        head.check_form()?;
+        check(count > 0, Refusal::BadArguments)?;
         if !is_frame {
             return Ok(());
         }
-        refuse_if(statement.count() != 1, Fault::BadArguments)?;
-        let name = name_within(param, b"D").ok_or(Fault::BadArguments)?;
-        let (_, offset) = self
-            .frames
-            .iter()
-            .find(|(known, _)| *known == name)
-            .ok_or(Fault::UnknownFrame)?;
-        self.frame = Frame::Part(*offset);
-        self.program.steps.push(Step::Recall(*offset));
+        check(count == 1, Refusal::BadArguments)?;
+        let name = in_parentheses(first, b"D").and_then(Name::read).ok_or(Refusal::BadArguments)?;
+        let zero = self.setup.frames.get(&name).ok_or(Refusal::UnknownFrame)?;
+        self.program.steps.push(Step::Frame(*zero));
         Ok(())
-    }
-
-    /// What a statement behind the first does, its word in capitals; whether it ends the program.
-    fn take(&mut self, word: &[u8], statement: &Statement) -> Result<bool, Fault> {
-        match word {
-            b"GOTO" => self.go_to(statement)?,
-            b"PTMEAS" => self.touch(statement)?,
-            b"MEAS" => self.measure(statement)?,
-            b"ENDMES" => self.end_measure(statement)?,
-            b"SNSLCT" => self.select_tool(statement)?,
-            b"RECALL" => self.recall(statement)?,
-            b"ENDFIL" => {
-                refuse_if(self.block.is_some(), Fault::InsideBlock)?;
-                Self::is_whole(statement)?;
-                refuse_if(statement.count() != 0, Fault::BadArguments)?;
-                return Ok(true);
-            }
-            b"UNITS" => {
-                Self::is_whole(statement)?;
-                refuse_if(statement.count() == 0, Fault::BadArguments)?;
-                refuse_if(!is_word(statement.param(0), b"MM"), Fault::NotMillimetres)?;
-            }
-            b"MODE" => {
-                Self::is_whole(statement)?;
-                refuse_if(statement.count() == 0, Fault::BadArguments)?;
-                refuse_if(
-                    !statement.params().any(|param| is_word(param, b"PROG")),
-                    Fault::NoProgMode,
-                )?;
-            }
-            b"FILNAM" | b"FEDRAT" | b"ACLRAT" | b"SNSET" | b"FINPOS" | b"PRCOMP" | b"WKPLAN"
-            | b"TEXT" | b"DISPLY" | b"OUTPUT" => Self::is_whole(statement)?,
-            b"FEAT" | b"TOL" | b"SNSDEF" => refuse_if(statement.is_open, Fault::BadArguments)?,
-            _ => return Err(Fault::Unsupported),
-        }
-        Ok(false)
     }
 }
 
-impl Program {
-    /// What a text says, or its first fault.
-    pub fn read(text: &[u8], frames: &Frames) -> Result<Program, ProgramFault> {
-        let mut statements = Statements::new(text);
-        let mut reader = Reader {
-            frames,
-            program: Program::default(),
-            tool: None,
-            frame: Frame::Machine,
-            block: None,
-        };
-        let mut count = 0;
-        while let Some(statement) = statements.next().map_err(|(line, fault)| ProgramFault {
-            fault: fault.into(),
-            line,
-        })? {
-            count += 1;
-            let mut memory = [0; WORD_MOST];
-            let is_end = match (count, capitals(statement.word(), &mut memory)) {
-                (1, b"DMISMN") => Reader::is_whole(&statement).map(|()| false),
-                (1, _) => Err(Fault::NotDmis),
-                (..=STATEMENTS, word) => reader.take(word, &statement),
-                _ => Err(Fault::TooLarge),
-            };
-            let line = statement.line;
-            if is_end.map_err(|fault| ProgramFault { fault, line })? {
-                return Ok(reader.program);
-            }
-        }
-        Err(if count == 0 {
-            ProgramFault {
-                fault: Fault::NotDmis,
-                line: 1,
-            }
-        } else {
-            ProgramFault {
-                fault: Fault::Truncated,
-                line: statements.lines(),
-            }
-        })
+/// A `GOTO` in its plain form.
+fn plain_move(head: &Head) -> Option<Point> {
+    let text = head.parameters.filter(|_| head.check_form().is_ok())?;
+    let numerals = behind_cart(text).unwrap_or(text);
+    match plain_numbers::<3>(numerals, VOLUME_LIMIT)? {
+        (numbers, []) => Some(point(numbers)),
+        _ => None,
     }
+}
+
+fn any_move(head: &Head) -> Result<Point, Refusal> {
+    let (all, count) = head.all::<4>();
+    check(!names_others(all[0]), Refusal::Unsupported)?;
+    head.check_form()?;
+    let is_named = all[0].eq_ignore_ascii_case(CART);
+    match count {
+        3 if !is_named => read_point(&all[..3]),
+        4 if is_named => read_point(&all[1..]),
+        _ => Err(Refusal::BadArguments),
+    }
+}
+
+/// A `PTMEAS` in its plain form: the target, and the components of a direction.
+fn plain_touch(head: &Head) -> Option<(Point, Option<[i64; 3]>)> {
+    let text = head.parameters.filter(|_| head.check_form().is_ok())?;
+    let (target, rest) = plain_numbers::<3>(behind_cart(text)?, VOLUME_LIMIT)?;
+    let Some(rest) = rest.strip_prefix(b",") else {
+        return Some((point(target), None));
+    };
+    match plain_numbers::<6>(rest, DIRECTION_LIMIT)? {
+        (components, []) => Some((point(target), Some(components))),
+        _ => None,
+    }
+}
+
+fn read_units(head: &Head) -> Result<(), Refusal> {
+    head.check_form()?;
+    let unit = head.parameters().next().ok_or(Refusal::BadArguments)?;
+    check(unit.eq_ignore_ascii_case(b"MM"), Refusal::NotMillimetres)
+}
+
+fn read_mode(head: &Head) -> Result<(), Refusal> {
+    head.check_form()?;
+    check(head.parameters.is_some(), Refusal::BadArguments)?;
+    let is_prog = head.parameters().any(|word| word.eq_ignore_ascii_case(b"PROG"));
+    check(is_prog, Refusal::NoProgMode)
+}
+
+impl Program {
+    /// The program of a text, whose stored frames are those of the setup, or why it is none and on which line, counted from 1.
+    pub fn read(text: &[u8], setup: &Setup) -> Result<Program, (Refusal, usize)> {
+        let mut program = Program::default();
+        program.steps.reserve(STATEMENTS.min(text.len() / STATEMENT_BYTES));
+        let mut reader = Reader { setup, program, block: None, has_tool: false, count: 0 };
+        let mut statements = Statements::of(text);
+        match reader.read_all(&mut statements) {
+            Ok(()) => Ok(reader.program),
+            Err(Refusal::NotDmis) if reader.count == 0 => Err((Refusal::NotDmis, 1)),
+            Err(Refusal::Truncated) => Err((Refusal::Truncated, statements.lines())),
+            Err(refusal) => Err((refusal, statements.line())),
+        }
+    }
+
+    /// The label of a feature, by its number from 0.
+    pub fn label(&self, feature: usize) -> &str {
+        let (begin, end) = self.features[feature].label;
+        str::from_utf8(&self.labels[begin as usize..end as usize]).expect("names are ASCII")
+    }
+}
+
+/// The first statement, which begins the program.
+fn read_first(head: &Head) -> Result<(), Refusal> {
+    check(head.word == Word::Begin, Refusal::NotDmis)?;
+    head.check_form()
 }

@@ -1,73 +1,72 @@
-//! Makes many rounds of a move and a touch on a server by hand.
+//! A server that is driven by hand, round by round (bench/WORK.md).
 
+use crate::ledger::Act;
 use crate::line::{Command, LINE_END, Tag, write_command};
-use crate::server::{Outcome, Server, ServerFault};
-use crate::sums::{place, summed_bytes};
-use crate::values::read_name;
+use crate::server::{Outcome, Refusal, Server};
+use crate::setup::Setup;
+use crate::sums::{place, summed_bytes, tag};
+use crate::values::Name;
 
-/// Takes what the server answered, and adds it to the sum.
-fn take_answers(server: &mut Server, sum: u64) -> u64 {
-    let sum = summed_bytes(sum, server.out());
-    server.sent(server.out().len());
-    sum
+/// A server, the line that is fed next, and the sum over what it has answered.
+struct Driven<'s> {
+    server: Server<'s>,
+    line: Vec<u8>,
+    sum: u64,
 }
 
-/// Feeds a line, reads it, and lets its command have its turn.
-fn begin(server: &mut Server, line: &[u8]) -> Result<(), ServerFault> {
-    server.feed(line)?;
-    server.feed(LINE_END)?;
-    server.read_one()?;
-    server.turn()
-}
-
-fn make_ready(server: &mut Server) -> Result<(), ServerFault> {
-    server.accept(1)?;
-    begin(server, b"00001 StartSession()")?;
-    begin(server, b"00002 IsHomed()")?;
-    begin(server, b"00003 Home()")?;
-    server.machine(Outcome::Done)?;
-    begin(server, b"00004 ChangeTool(\"P1\")")?;
-    server.machine(Outcome::Done)
-}
-
-/// Lets a command be carried out, which ends so. The line is written over what stands in `line`.
-fn carry_out(
-    server: &mut Server,
-    line: &mut Vec<u8>,
-    number: u64,
-    command: &Command,
-    outcome: Outcome,
-) -> Result<(), ServerFault> {
-    line.clear();
-    write_command(line, Tag::Standard((number % 9999 + 1) as u32), command);
-    begin(server, line)?;
-    server.machine(outcome)
-}
-
-/// Makes so many rounds, and answers the count of contacts and the sum over all bytes that were answered.
-pub fn rounds(wanted: u64) -> Result<(usize, u64), ServerFault> {
-    let mut server = Server::new(read_name(b"P1").into_iter().collect());
-    make_ready(&mut server)?;
-    let mut sum = take_answers(&mut server, 0);
-    let mut line = Vec::new();
-    for number in 0..wanted {
-        let place = place(number);
-        carry_out(
-            &mut server,
-            &mut line,
-            number,
-            &Command::GoTo(place),
-            Outcome::Done,
-        )?;
-        sum = take_answers(&mut server, sum);
-        carry_out(
-            &mut server,
-            &mut line,
-            number,
-            &Command::PtMeas(place, None),
-            Outcome::Touched(place),
-        )?;
-        sum = take_answers(&mut server, sum);
+/// How many contacts a server has after so many rounds, and the sum over what it answered.
+pub fn rounds(rounds: u64) -> (u64, u64) {
+    let mut setup = Setup::default();
+    let tool = Name::read(b"P1");
+    setup.tools.extend(tool.clone());
+    let mut driven = Driven { server: Server::new(&setup), line: Vec::new(), sum: 0 };
+    if let Some(tool) = tool {
+        let played = driven.begin(tool).and_then(|()| (0..rounds).try_for_each(|number| driven.round(number)));
+        debug_assert_eq!(played, Ok(()));
     }
-    Ok((server.contacts(), sum))
+    let is_contact = |deed: &&(u32, Act)| matches!(deed.1, Act::Contact(_));
+    (driven.server.ledger().iter().filter(is_contact).count() as u64, driven.sum)
+}
+
+impl Driven<'_> {
+    /// The machine is homed, and has a tool.
+    fn begin(&mut self, tool: Name) -> Result<(), Refusal> {
+        self.server.accept(1)?;
+        self.ask(Tag::standard(1), &Command::StartSession)?;
+        self.ask(Tag::standard(2), &Command::IsHomed)?;
+        self.ask(Tag::standard(3), &Command::Home)?;
+        self.server.machine(Outcome::Done)?;
+        self.ask(Tag::standard(4), &Command::ChangeTool(tool))?;
+        self.server.machine(Outcome::Done)?;
+        self.take_out();
+        Ok(())
+    }
+
+    /// One move and one touch.
+    fn round(&mut self, number: u64) -> Result<(), Refusal> {
+        let (tag, place) = (tag(number), place(number));
+        self.ask(tag, &Command::GoTo(place))?;
+        self.server.machine(Outcome::Done)?;
+        self.take_out();
+        self.ask(tag, &Command::PtMeas(place, None))?;
+        self.server.machine(Outcome::Touched(place))?;
+        self.take_out();
+        Ok(())
+    }
+
+    /// A command is written, fed, read, and has its turn.
+    fn ask(&mut self, tag: Tag, command: &Command) -> Result<(), Refusal> {
+        self.line.clear();
+        write_command(&mut self.line, tag, command);
+        self.line.extend_from_slice(LINE_END);
+        self.server.feed(&self.line)?;
+        self.server.read_one()?;
+        self.server.turn()
+    }
+
+    /// What was answered is taken and summed.
+    fn take_out(&mut self) {
+        self.sum = summed_bytes(self.sum, &self.server.out);
+        self.server.out.clear();
+    }
 }

@@ -1,441 +1,388 @@
-//! Plays calls of a client and of a server, row by row, as the program `call_rows` does: each action with what it answers behind ` => `.
-//!
-//! It reads the parts `program NAME`, `setup`, `client NAME W`, `marks NAME W`, `texts NAME W` and `server` of such an input.
+//! Calls of a client and of a server, row by row, each shown with what it answers (call_rows/FORM.txt).
 
-use crate::client::{Cause, Client, ClientFault, State};
-use crate::ledger::{Act, Feature};
-use crate::line::LINE_END;
+use crate::client::{Client, Refusal, State};
+use crate::ledger::{write_act, write_direction, write_frame, write_measured, write_place};
+use crate::line::Command;
 use crate::program::Program;
-use crate::server::{Job, Outcome, Server, ServerFault};
+use crate::server::{self, Outcome, Server};
 use crate::setup::Setup;
-use crate::values::{Dir, Frame, Point, WIRE, read_length, write_dir, write_length};
+use crate::values::{Point, WIRE_LIMIT, read_length, write_whole};
 
-/// A row that cannot be played.
-#[derive(Debug)]
-pub struct BadRow;
+/// The commands of `homes`: one more than a server lets wait.
+const HOMES: u32 = 65;
 
-fn text(write: impl FnOnce(&mut Vec<u8>)) -> String {
+/// A part of the input: its head without brackets, and its rows.
+struct Part<'t> {
+    head: &'t str,
+    rows: Vec<&'t str>,
+}
+
+/// The input with each row shown with what it answers.
+pub fn answered(text: &str) -> String {
+    let parts = parts(text);
+    let setup_text = parts.iter().find(|part| part.head == "setup").map(Part::text).unwrap_or_default();
+    let setup = Setup::read(setup_text.as_bytes()).unwrap_or_default();
     let mut out = Vec::new();
-    write(&mut out);
+    for part in &parts {
+        push_line(&mut out, &["[", part.head, "]"].concat());
+        let fields: Vec<&str> = part.head.split(' ').collect();
+        match fields[..] {
+            ["client", name, window] => with_program(&parts, &setup, name, |program| show_client(program, window, part, &mut out)),
+            ["marks", name, window] => with_program(&parts, &setup, name, |program| show_marks(program, window, part, &mut out)),
+            ["texts", name, window] => with_program(&parts, &setup, name, |program| show_texts(program, window, part, &mut out)),
+            ["server"] => show_server(&setup, part, &mut out),
+            _ => part.rows.iter().for_each(|row| push_line(&mut out, row)),
+        }
+    }
     String::from_utf8_lossy(&out).into_owned()
 }
 
-fn shown_lines(lines: &[u8]) -> String {
-    String::from_utf8_lossy(lines)
-        .replace('\r', "")
-        .replace('\n', ";")
-}
-
-fn shown_point(point: Point) -> String {
-    let shown = |length| text(|out| write_length(out, length));
-    format!("{} {} {}", shown(point.x), shown(point.y), shown(point.z))
-}
-
-fn shown_frame(frame: Frame) -> String {
-    match frame {
-        Frame::Machine => "M".to_string(),
-        Frame::Part(offset) => format!("P {}", shown_point(offset)),
-    }
-}
-
-fn shown_dir(dir: Option<Dir>) -> String {
-    match dir {
-        None => "N".to_string(),
-        Some(dir) => format!("D {}", text(|out| write_dir(out, dir)).replace(',', "")),
-    }
-}
-
-fn shown_name(name: &[u8]) -> String {
-    String::from_utf8_lossy(name).into_owned()
-}
-
-fn shown_act(act: &Act) -> String {
-    match act {
-        Act::HomedIs(is_homed) => format!("HOMEDIS {};", u8::from(*is_homed)),
-        Act::Homed => "HOMED;".to_string(),
-        Act::Moved(target, frame) => {
-            format!("MOVED {} {};", shown_point(*target), shown_frame(*frame))
+fn parts(text: &str) -> Vec<Part<'_>> {
+    let mut parts: Vec<Part> = Vec::new();
+    for line in text.split_terminator('\n') {
+        if let Some(head) = line.strip_prefix('[').and_then(|line| line.strip_suffix(']')) {
+            parts.push(Part { head, rows: Vec::new() });
+        } else if let Some(part) = parts.last_mut() {
+            part.rows.push(line);
         }
-        Act::Changed(name) => format!("CHANGED {};", shown_name(name)),
-        Act::Framed(frame) => format!("FRAMED {};", shown_frame(*frame)),
-        Act::Contact {
-            target,
-            dir,
-            tool,
-            frame,
-            point,
-        } => format!(
-            "CONTACT {} {} {} {} {};",
-            shown_point(*target),
-            shown_dir(*dir),
-            shown_name(tool),
-            shown_frame(*frame),
-            shown_point(*point)
-        ),
+    }
+    parts
+}
+
+impl Part<'_> {
+    fn text(&self) -> String {
+        self.rows.iter().flat_map(|row| [row, "\n"]).collect()
     }
 }
 
-fn shown_feature(feature: &Feature) -> String {
-    let origin = match feature.origin {
-        Some((connection, frame)) => format!("{connection} {}", shown_frame(frame)),
-        None => "-".to_string(),
-    };
-    let points: String = feature
-        .points
-        .iter()
-        .map(|point| format!(" {}", shown_point(*point)))
-        .collect();
-    format!("{} {origin}{points};", shown_name(&feature.label))
-}
-
-fn shown_cause(cause: Cause) -> String {
-    match cause {
-        Cause::NotResponse => "NotResponse".to_string(),
-        Cause::Framing(fault) => format!("{fault:?}"),
-        Cause::Tag(fault) => format!("{fault:?}"),
-    }
-}
-
-fn shown_fault(fault: ClientFault) -> String {
-    match fault {
-        ClientFault::Faulted(cause) => format!("Faulted({})", shown_cause(cause)),
-        fault => format!("{fault:?}"),
-    }
-}
-
-fn shown_state(state: State) -> String {
-    match state {
-        State::Aborting(_) => "Aborting".to_string(),
-        State::Faulted(_) => "Faulted".to_string(),
-        state => format!("{state:?}"),
-    }
-}
-
-// ---- a client
-
-fn take_out(client: &mut Client) -> Vec<u8> {
-    let lines = client.out().to_vec();
-    client.drop_sent(lines.len());
-    lines
-}
-
-fn feed_parts(client: &mut Client, parts: &[&[u8]]) -> Result<bool, ClientFault> {
-    for part in parts {
-        client.feed(part)?;
-    }
-    client.read_one()
-}
-
-/// The command that is due is sent, received, given its data where it asks for some, and done.
-fn end_one(client: &mut Client, data: &str) -> Result<bool, ClientFault> {
-    client.send()?;
-    let is_asking = client.out().ends_with(b" IsHomed()\r\n");
-    let tag = client.out()[..5].to_vec();
-    let data = if data.is_empty() && is_asking {
-        "IsHomed(0)"
-    } else {
-        data
-    };
-    feed_parts(client, &[&tag, b" &\r\n"])?;
-    if !data.is_empty() {
-        feed_parts(client, &[&tag, b" # ", data.as_bytes(), LINE_END])?;
-    }
-    feed_parts(client, &[&tag, b" %\r\n"])
-}
-
-/// An abort that fails.
-fn abort_one(client: &mut Client) -> Result<(), ClientFault> {
-    client.abort()?;
-    let tag = client.out()[..5].to_vec();
-    feed_parts(client, &[&tag, b" !\r\n"])?;
-    Ok(())
-}
-
-/// A call, so many times; what it writes is sent.
-fn often(
-    client: &mut Client,
-    count: &str,
-    call: impl Fn(&mut Client) -> Result<(), ClientFault>,
-) -> Result<(), ClientFault> {
-    for _ in 0..count.parse().unwrap_or(0) {
-        call(client)?;
-        take_out(client);
-    }
-    Ok(())
-}
-
-/// A call by its word; whether a line was read where one was to be.
-fn call_client(client: &mut Client, action: &str) -> Result<bool, ClientFault> {
-    let (word, rest) = action.split_once(' ').unwrap_or((action, ""));
-    match word {
-        "connected" => client.connected(rest.parse().unwrap_or(0))?,
-        "send" => client.send()?,
-        "sends" => often(client, rest, Client::send)?,
-        "abort" => {
-            client.abort()?;
-        }
-        "aborts" => often(client, rest, abort_one)?,
-        "resume" => client.resume()?,
-        "leave" => client.leave(),
-        "restart" => client.restart(rest.parse().unwrap_or(0))?,
-        "letters" => often(client, rest, |client| client.feed(b"A"))?,
-        "ended" if rest.is_empty() => return end_one(client, ""),
-        "ended" => often(client, rest, |client| end_one(client, "").map(|_| ()))?,
-        "touched" | "told" => return end_one(client, rest),
-        "read" => return client.read_one(),
-        "bare" => return feed_parts(client, &[rest.as_bytes(), b"\n"]),
-        _ => return feed_parts(client, &[action.as_bytes(), LINE_END]),
-    }
-    Ok(true)
-}
-
-fn client_answer(client: &mut Client, action: &str) -> String {
-    let shown = match action {
-        "state" => shown_state(client.state()),
-        "due" => client.due().map_or(String::new(), |planned| {
-            format!("{:?}", planned.command().kind())
-        }),
-        "open" => client.open().to_string(),
-        "completed" => client.completed().to_string(),
-        "counted" => client.counted().iter().map(shown_act).collect(),
-        "features" => client.features().iter().map(shown_feature).collect(),
-        _ => {
-            let done = call_client(client, action);
-            let lines = shown_lines(&take_out(client));
-            let told = match done {
-                Ok(true) => shown_state(client.state()),
-                Ok(false) => "no line".to_string(),
-                Err(fault) => shown_fault(fault),
-            };
-            lines + &told
-        }
-    };
-    if shown.is_empty() {
-        "nothing".to_string()
-    } else {
-        shown
-    }
-}
-
-// ---- a client behind actions
-
-fn new_client(program: &str, setup: &Setup, window: &str) -> Result<Client, BadRow> {
-    let program = Program::read(program.as_bytes(), &setup.frames).map_err(|_| BadRow)?;
-    Client::new(program, Vec::new(), window.parse().map_err(|_| BadRow)?).map_err(|_| BadRow)
-}
-
-/// What a line does behind actions that all succeed: the state and what is completed, or why the client is Faulted.
-fn answer_behind(client: &mut Client, actions: &str, line: &str) -> Result<String, BadRow> {
-    client.connected(1).map_err(|_| BadRow)?;
-    for action in actions.split(" / ") {
-        if call_client(client, action) != Ok(true) {
-            return Err(BadRow);
-        }
-        take_out(client);
-    }
-    Ok(match feed_parts(client, &[line.as_bytes(), LINE_END]) {
-        Ok(_) => format!("{} {}", shown_state(client.state()), client.completed()),
-        Err(ClientFault::Faulted(cause)) => shown_cause(cause),
-        Err(fault) => shown_fault(fault),
-    })
-}
-
-/// What the four marks do to the command of a tag, each for a client of its own.
-fn marks_answer(make: &dyn Fn() -> Result<Client, BadRow>, row: &str) -> Result<String, BadRow> {
-    let (to, actions) = row.split_once(" | ").ok_or(BadRow)?;
-    let (tag, data) = to.split_once(" # ").unwrap_or((to, "X(1), Y(2), Z(3)"));
-    let lines = [
-        format!("{tag} &"),
-        format!("{tag} # {data}"),
-        format!("{tag} !"),
-        format!("{tag} %"),
-    ];
-    let answers: Result<Vec<String>, BadRow> = lines
-        .iter()
-        .map(|line| answer_behind(&mut make()?, actions, line))
-        .collect();
-    Ok(answers?.join(", "))
-}
-
-// ---- a server
-
-fn feed_line(server: &mut Server, line: &[u8], end: &[u8]) -> Result<bool, ServerFault> {
-    server.feed(line)?;
-    server.feed(end)?;
-    server.read_one()
-}
-
-fn point(text: &str) -> Point {
-    let mut lengths = text
-        .splitn(3, ' ')
-        .map(|field| read_length(field.as_bytes(), WIRE).unwrap_or(0));
-    let mut next = || lengths.next().unwrap_or(0);
-    Point {
-        x: next(),
-        y: next(),
-        z: next(),
-    }
-}
-
-fn call_server(server: &mut Server, action: &str) -> Result<bool, ServerFault> {
-    let (word, rest) = action.split_once(' ').unwrap_or((action, ""));
-    match word {
-        "accept" => server.accept(rest.parse().unwrap_or(0))?,
-        "turn" => server.turn()?,
-        "done" => server.machine(Outcome::Done)?,
-        "missed" => server.machine(Outcome::Missed)?,
-        "fault" => server.machine(Outcome::Fault)?,
-        "touched" => server.machine(Outcome::Touched(point(rest)))?,
-        "leave" => server.leave(),
-        "restart" => server.restart(),
-        "clear" => {
-            feed_line(server, b"09999 ClearAllErrors()", LINE_END)?;
-            server.turn()?;
-        }
-        "read" => return server.read_one(),
-        "homes" => {
-            let number: u32 = rest.parse().unwrap_or(0);
-            for nth in 1..=65 {
-                feed_line(
-                    server,
-                    format!("{:05} Home()", number + nth).as_bytes(),
-                    LINE_END,
-                )?;
-            }
-        }
-        "bad" => return feed_line(server, rest.as_bytes(), b"\n"),
-        "long" => {
-            for _ in 0..65_537 {
-                server.feed(b"A")?;
-            }
-            return server.read_one();
-        }
-        _ => return feed_line(server, action.as_bytes(), LINE_END),
-    }
-    Ok(true)
-}
-
-fn server_state(server: &Server) -> String {
-    let view = server.view();
-    let is = |is: bool, word: &str| {
-        if is {
-            format!("{word};")
-        } else {
-            format!("no {word};")
-        }
-    };
-    format!(
-        "{}{}{}{};{};{};{}",
-        view.connection
-            .map_or("off;".to_string(), |number| format!("on {number};")),
-        is(view.is_open, "session"),
-        if view.is_homed {
-            "homed;"
-        } else {
-            "not homed;"
-        },
-        view.tool
-            .map_or("no tool".to_string(), |name| shown_name(name)),
-        shown_frame(view.frame),
-        shown_point(view.stored),
-        is(view.is_error, "error"),
-    )
-}
-
-fn server_answer(server: &mut Server, action: &str) -> String {
-    match action {
-        "state" => server_state(server),
-        "running" => match server.running() {
-            None => "nothing".to_string(),
-            Some(Job::Home) => "Home".to_string(),
-            Some(Job::Move(target)) => format!("Move {}", shown_point(server.in_machine(*target))),
-            Some(Job::Touch(target, dir, _)) => {
-                format!(
-                    "Touch {} {}",
-                    shown_point(server.in_machine(*target)),
-                    shown_dir(*dir)
-                )
-            }
-            Some(Job::Change(name)) => format!("Change {}", shown_name(name)),
-        },
-        "ledger" => server
-            .ledger()
-            .iter()
-            .map(|(connection, act)| format!("{connection} {}", shown_act(act)))
-            .collect(),
-        _ => {
-            let done = call_server(server, action);
-            let lines = shown_lines(server.out());
-            server.sent(server.out().len());
-            match done {
-                Ok(true) => lines,
-                Ok(false) => lines + "no line;",
-                Err(fault) => lines + &format!("{fault:?}"),
-            }
+/// Does something with the program of this name.
+fn with_program(parts: &[Part], setup: &Setup, name: &str, show: impl FnOnce(&Program)) {
+    let is_named = |part: &&Part| part.head.strip_prefix("program ") == Some(name);
+    if let Some(part) = parts.iter().find(is_named) {
+        if let Ok(program) = Program::read(part.text().as_bytes(), setup) {
+            show(&program);
         }
     }
 }
 
-// ---- parts
-
-/// The text of the part with this head.
-fn part<'a>(input: &'a str, head: &str) -> Option<&'a str> {
-    input
-        .split('[')
-        .filter_map(|piece| piece.split_once("]\n"))
-        .find(|(title, _)| *title == head)
-        .map(|(_, text)| text)
+fn push_line(out: &mut Vec<u8>, line: &str) {
+    out.extend_from_slice(line.as_bytes());
+    out.push(b'\n');
 }
 
-fn answer_rows(
-    out: &mut String,
-    rows: &str,
-    mut answer: impl FnMut(&str) -> Result<String, BadRow>,
-) -> Result<(), BadRow> {
-    for row in rows.lines() {
-        out.push_str(row);
+/// Shows each row with its answer; what the rows below it show is shown alone.
+fn show_rows(part: &Part, out: &mut Vec<u8>, mut answer: impl FnMut(&str, &mut Vec<u8>)) {
+    for row in &part.rows {
+        out.extend_from_slice(row.as_bytes());
         if !row.starts_with("-- ") {
-            out.push_str(" => ");
-            out.push_str(&answer(row)?);
+            out.extend_from_slice(b" => ");
+            answer(row, out);
         }
-        out.push('\n');
+        out.push(b'\n');
     }
-    Ok(())
 }
 
-/// The input with the answer of each row behind it.
-pub fn answered(input: &str) -> Result<String, BadRow> {
-    let setup = Setup::read(part(input, "setup").ok_or(BadRow)?.as_bytes()).map_err(|_| BadRow)?;
-    let mut out = String::new();
-    for (head, text) in input.split('[').filter_map(|piece| piece.split_once("]\n")) {
-        out.push_str(&format!("[{head}]\n"));
-        let mut words = head.split(' ');
-        let mut word = || words.next().unwrap_or("");
-        let (kind, name, window) = (word(), word(), word());
-        let make = || {
-            new_client(
-                part(input, &format!("program {name}")).ok_or(BadRow)?,
-                &setup,
-                window,
-            )
-        };
-        match kind {
-            "program" | "setup" => out.push_str(text),
-            "server" => {
-                let mut server = Server::new(setup.tools.clone());
-                answer_rows(&mut out, text, |row| Ok(server_answer(&mut server, row)))?;
-            }
-            "client" => {
-                let mut client = make()?;
-                answer_rows(&mut out, text, |row| Ok(client_answer(&mut client, row)))?;
-            }
-            "marks" => answer_rows(&mut out, text, |row| marks_answer(&make, row))?,
-            "texts" => answer_rows(&mut out, text, |row| {
-                let (actions, line) = row.rsplit_once(" / ").ok_or(BadRow)?;
-                answer_behind(&mut make()?, actions, line)
-            })?,
-            _ => return Err(BadRow),
+/// Lines as rows show them.
+fn push_lines(out: &mut Vec<u8>, lines: &[u8]) {
+    for byte in lines {
+        match byte {
+            b'\r' => {}
+            b'\n' => out.push(b';'),
+            other => out.push(*other),
         }
     }
-    Ok(out)
+}
+
+fn show_client(program: &Program, window: &str, part: &Part, out: &mut Vec<u8>) {
+    if let Some(mut rows) = ClientRows::new(program, window) {
+        show_rows(part, out, |row, out| rows.answer(row, out));
+    }
+}
+
+/// What each mark does behind the actions of a row.
+fn show_marks(program: &Program, window: &str, part: &Part, out: &mut Vec<u8>) {
+    show_rows(part, out, |row, out| {
+        let Some((line, script)) = row.split_once(" | ") else { return };
+        let (tag, data) = line.split_once(" # ").unwrap_or((line, "X(1), Y(2), Z(3)"));
+        for (number, mark) in ["&", &["# ", data].concat(), "!", "%"].into_iter().enumerate() {
+            if number > 0 {
+                out.extend_from_slice(b", ");
+            }
+            show_last(program, window, script.split(" / ").chain([[tag, " ", mark].concat().as_str()]), out);
+        }
+    });
+}
+
+/// What a line does behind the actions before it.
+fn show_texts(program: &Program, window: &str, part: &Part, out: &mut Vec<u8>) {
+    show_rows(part, out, |row, out| show_last(program, window, row.split(" / "), out));
+}
+
+/// What the last of a list of actions comes to, on a first connection.
+fn show_last<'r>(program: &Program, window: &str, actions: impl Iterator<Item = &'r str>, out: &mut Vec<u8>) {
+    let Some(mut rows) = ClientRows::new(program, window) else { return };
+    let mut last = rows.client.connected(1);
+    for action in actions {
+        last = rows.act(action).map(drop);
+    }
+    match last {
+        Ok(()) => {
+            rows.push_state(out);
+            out.push(b' ');
+            write_whole(out, rows.client.completed() as u64);
+        }
+        Err(Refusal::NotNow) => out.extend_from_slice(b"NotNow"),
+        Err(Refusal::Faulted(cause)) => out.extend_from_slice(format!("{cause:?}").as_bytes()),
+    }
+}
+
+/// A client whose calls are rows.
+struct ClientRows<'p> {
+    client: Client<'p>,
+}
+
+/// What a row shows behind a call of a client that was carried out.
+enum Shown {
+    /// What it has sent, and its state.
+    Sent,
+    State,
+    NoLine,
+}
+
+impl<'p> ClientRows<'p> {
+    fn new(program: &'p Program, window: &str) -> Option<ClientRows<'p>> {
+        Client::new(program, window.parse().ok()?).map(|client| ClientRows { client })
+    }
+
+    /// Carries out a row, and shows its answer.
+    fn answer(&mut self, row: &str, out: &mut Vec<u8>) {
+        match row {
+            "state" => return self.push_state(out),
+            "due" => {
+                let due = self.client.due().map(|due| due.command().kind().name());
+                return out.extend_from_slice(due.unwrap_or("nothing").as_bytes());
+            }
+            "open" => return write_whole(out, self.client.open() as u64),
+            "completed" => return write_whole(out, self.client.completed() as u64),
+            "counted" => return self.push_counted(out),
+            "features" => return self.push_features(out),
+            _ => {}
+        }
+        self.client.out.clear();
+        match self.act(row) {
+            Ok(Shown::Sent) => {
+                push_lines(out, &self.client.out);
+                self.push_state(out);
+            }
+            Ok(Shown::State) => self.push_state(out),
+            Ok(Shown::NoLine) => out.extend_from_slice(b"no line"),
+            Err(refusal) => {
+                push_lines(out, &self.client.out);
+                out.extend_from_slice(format!("{refusal:?}").as_bytes());
+            }
+        }
+    }
+
+    fn push_state(&self, out: &mut Vec<u8>) {
+        match self.client.state() {
+            State::Faulted(_) => out.extend_from_slice(b"Faulted"),
+            state => out.extend_from_slice(format!("{state:?}").as_bytes()),
+        }
+    }
+
+    fn push_counted(&self, out: &mut Vec<u8>) {
+        for act in self.client.counted() {
+            write_act(out, act);
+            out.push(b';');
+        }
+        if self.client.counted().is_empty() {
+            out.extend_from_slice(b"nothing");
+        }
+    }
+
+    fn push_features(&self, out: &mut Vec<u8>) {
+        for (number, feature) in self.client.features().iter().enumerate() {
+            write_measured(out, self.client.label(number), feature);
+            out.push(b';');
+        }
+        if self.client.features().is_empty() {
+            out.extend_from_slice(b"nothing");
+        }
+    }
+
+    /// Carries out a row that is no question.
+    fn act(&mut self, row: &str) -> Result<Shown, Refusal> {
+        let client = &mut self.client;
+        let (word, rest) = row.split_once(' ').unwrap_or((row, ""));
+        let number = rest.parse::<u32>().ok();
+        match (word, number) {
+            ("send", None) => client.send().map(|()| Shown::Sent),
+            ("abort", None) => client.abort().map(|()| Shown::Sent),
+            ("resume", None) => client.resume().map(|()| Shown::State),
+            ("leave", None) => {
+                client.leave();
+                Ok(Shown::State)
+            }
+            ("read", None) => Ok(if client.read_one()? { Shown::State } else { Shown::NoLine }),
+            ("connected", Some(number)) => client.connected(number).map(|()| Shown::State),
+            ("restart", Some(kept)) => client.restart(kept as usize).map(|()| Shown::State),
+            ("letters", Some(count)) => client.feed(&vec![b'A'; count as usize]).map(|()| Shown::State),
+            ("sends", Some(count)) => (0..count).try_for_each(|_| client.send()).map(|()| Shown::State),
+            ("aborts", Some(count)) => (0..count).try_for_each(|_| self.fail_abort()).map(|()| Shown::State),
+            ("ended", Some(count)) => (0..count).try_for_each(|_| self.end(None)).map(|()| Shown::State),
+            ("ended", None) => self.end(None).map(|()| Shown::Sent),
+            ("touched" | "told", _) => self.end(Some(rest)).map(|()| Shown::Sent),
+            ("bare", _) => self.hear(&[rest, "\n"].concat()).map(|()| Shown::State),
+            _ => self.hear(&[row, "\r\n"].concat()).map(|()| Shown::State),
+        }
+    }
+
+    /// Bytes come, and a line is read.
+    fn hear(&mut self, bytes: &str) -> Result<(), Refusal> {
+        self.client.feed(bytes.as_bytes())?;
+        self.client.read_one().map(drop)
+    }
+
+    /// The tag of what was sent last.
+    fn last_tag(&self) -> String {
+        let line = self.client.out.split_inclusive(|byte| *byte == b'\n').next_back().unwrap_or_default();
+        String::from_utf8_lossy(line.get(..5).unwrap_or_default()).into_owned()
+    }
+
+    /// What is due is sent and ended, with this data text.
+    fn end(&mut self, data: Option<&str>) -> Result<(), Refusal> {
+        let is_question = self.client.due().is_some_and(|due| due.command() == Command::IsHomed);
+        self.client.send()?;
+        let tag = self.last_tag();
+        self.hear(&[&tag, " &\r\n"].concat())?;
+        if let Some(data) = data.or(is_question.then_some("IsHomed(0)")) {
+            self.hear(&[&tag, " # ", data, "\r\n"].concat())?;
+        }
+        self.hear(&[&tag, " %\r\n"].concat())
+    }
+
+    /// An abort is sent and fails.
+    fn fail_abort(&mut self) -> Result<(), Refusal> {
+        self.client.abort()?;
+        let tag = self.last_tag();
+        self.client.out.clear();
+        self.hear(&[&tag, " !\r\n"].concat())
+    }
+}
+
+fn show_server(setup: &Setup, part: &Part, out: &mut Vec<u8>) {
+    let mut rows = ServerRows { server: Server::new(setup) };
+    show_rows(part, out, |row, out| rows.answer(row, out));
+}
+
+/// A server whose calls are rows.
+struct ServerRows<'s> {
+    server: Server<'s>,
+}
+
+impl ServerRows<'_> {
+    /// Carries out a row, and shows its answer.
+    fn answer(&mut self, row: &str, out: &mut Vec<u8>) {
+        match row {
+            "state" => return self.push_state(out),
+            "running" => return self.push_running(out),
+            "ledger" => return self.push_ledger(out),
+            _ => {}
+        }
+        self.server.out.clear();
+        let answer = self.act(row);
+        push_lines(out, &self.server.out);
+        match answer {
+            Ok(true) => {}
+            Ok(false) => out.extend_from_slice(b"no line;"),
+            Err(refusal) => out.extend_from_slice(format!("{refusal:?}").as_bytes()),
+        }
+    }
+
+    fn push_state(&self, out: &mut Vec<u8>) {
+        let server = &self.server;
+        match server.connection() {
+            Some(number) => out.extend_from_slice(format!("on {number};").as_bytes()),
+            None => out.extend_from_slice(b"off;"),
+        }
+        out.extend_from_slice(if server.has_session() { b"session;" } else { b"no session;" });
+        out.extend_from_slice(if server.is_homed() { b"homed;" } else { b"not homed;" });
+        out.extend_from_slice(server.tool().map_or("no tool", |tool| tool.as_str()).as_bytes());
+        out.push(b';');
+        write_frame(out, server.frame());
+        out.push(b';');
+        write_place(out, server.stored());
+        out.extend_from_slice(if server.is_error() { b";error;" } else { b";no error;" });
+    }
+
+    /// What runs, in machine axes.
+    fn push_running(&self, out: &mut Vec<u8>) {
+        let offset = self.server.frame().offset();
+        match self.server.running().map(|running| &running.command) {
+            None => out.extend_from_slice(b"nothing"),
+            Some(Command::GoTo(target)) => {
+                out.extend_from_slice(b"Move ");
+                write_place(out, target.plus(offset));
+            }
+            Some(Command::PtMeas(target, direction)) => {
+                out.extend_from_slice(b"Touch ");
+                write_place(out, target.plus(offset));
+                out.push(b' ');
+                write_direction(out, *direction);
+            }
+            Some(Command::ChangeTool(tool)) => out.extend_from_slice(format!("Change {}", tool.as_str()).as_bytes()),
+            Some(_) => out.extend_from_slice(b"Home"),
+        }
+    }
+
+    fn push_ledger(&self, out: &mut Vec<u8>) {
+        for (connection, act) in self.server.ledger() {
+            write_whole(out, u64::from(*connection));
+            out.push(b' ');
+            write_act(out, act);
+            out.push(b';');
+        }
+    }
+
+    /// Carries out a row that is no question; false where a line was to be read and none is whole.
+    fn act(&mut self, row: &str) -> Result<bool, server::Refusal> {
+        let server = &mut self.server;
+        let (word, rest) = row.split_once(' ').unwrap_or((row, ""));
+        match (word, rest) {
+            ("leave", "") => server.leave(),
+            ("restart", "") => server.restart(),
+            ("turn", "") => server.turn()?,
+            ("done", "") => server.machine(Outcome::Done)?,
+            ("missed", "") => server.machine(Outcome::Missed)?,
+            ("fault", "") => server.machine(Outcome::Fault)?,
+            ("touched", place) => server.machine(Outcome::Touched(read_place(place)))?,
+            ("read", "") => return server.read_one(),
+            ("accept", number) => server.accept(number.parse().unwrap_or(0))?,
+            ("clear", "") => {
+                self.hear("09999 ClearAllErrors()\r\n")?;
+                self.server.turn()?;
+            }
+            ("homes", first) => {
+                let first = first.parse().unwrap_or(0);
+                (first + 1..=first + HOMES).try_for_each(|number| self.hear(&format!("{number:05} Home()\r\n")))?;
+            }
+            ("long", "") => self.hear(&"A".repeat(crate::framing::LINE_MOST + 1))?,
+            ("bad", line) => self.hear(&[line, "\n"].concat())?,
+            _ => self.hear(&[row, "\r\n"].concat())?,
+        }
+        Ok(true)
+    }
+
+    /// Bytes come, and a line is read.
+    fn hear(&mut self, bytes: &str) -> Result<(), server::Refusal> {
+        self.server.feed(bytes.as_bytes())?;
+        self.server.read_one().map(drop)
+    }
+}
+
+/// A place of three lengths.
+fn read_place(text: &str) -> Point {
+    let mut lengths = text.split(' ').map(|length| read_length(length.as_bytes(), WIRE_LIMIT).unwrap_or_default());
+    let mut next = || lengths.next().unwrap_or_default();
+    Point { x: next(), y: next(), z: next() }
 }

@@ -1,186 +1,106 @@
-//! The commands that a client has sent and whose end it has not read.
+//! Commands that a client has sent, with their tags, from their draw to the `%` that is read of them (docs/PROTOCOL.md).
 
-use crate::line::{Kind, Tag};
+use crate::line::Tag;
 use crate::values::Point;
+use std::collections::{BTreeMap, VecDeque};
 
-const LAST_NUMBER: u16 = 9_999;
+/// How many tags of either sort are drawn: those of numbers 1 to 9999.
+const TAGS: usize = 9_999;
 
-/// Why replies cannot be followed.
-#[derive(Clone, Copy, Debug, PartialEq, Eq)]
-pub enum TagFault {
-    UnknownTag,
-    OutOfOrder,
-    NoData,
-    SecondData,
-    TagsSpent,
+/// What the data of a command say.
+#[derive(Clone, Copy, PartialEq, Eq, Debug)]
+pub enum Asks {
+    Nothing,
+    Point,
+    Homed,
 }
 
-/// What a command asks for.
-#[derive(Clone, Copy, Debug, PartialEq, Eq)]
+/// What a data text said.
+#[derive(Clone, Copy, PartialEq, Eq, Debug)]
 pub enum Datum {
     Point(Point),
     Homed(bool),
 }
 
-#[derive(Clone, Copy, Debug, PartialEq, Eq)]
-enum Stage {
+/// How far a command has come that has not failed.
+#[derive(Clone, Copy, PartialEq, Eq, Debug)]
+pub enum Stage {
     Sent,
     Received,
     Given(Datum),
-    Failed,
 }
 
-#[derive(Clone, Copy, Debug)]
-struct Sent {
-    tag: Tag,
-    kind: Kind,
-    stage: Stage,
+/// A command that has neither ended nor failed, and what it stands for.
+#[derive(Debug)]
+pub struct Open<C> {
+    pub tag: Tag,
+    pub stage: Stage,
+    pub what: C,
 }
 
-impl Sent {
-    fn is_event(&self) -> bool {
-        self.kind == Kind::AbortE
-    }
-
-    fn asks(&self) -> bool {
-        matches!(self.kind, Kind::PtMeas | Kind::IsHomed)
-    }
+/// The tags of one sort that are held, and the next one.
+#[derive(Debug)]
+pub struct Held<C> {
+    first: Tag,
+    /// The tag that is drawn next, unless it is held.
+    next: Tag,
+    /// In the order in which they were sent.
+    pub open: VecDeque<Open<C>>,
+    /// Those that failed and have not ended.
+    failed: BTreeMap<Tag, Asks>,
 }
 
-/// How a command ended.
-#[derive(Clone, Copy, Debug, PartialEq, Eq)]
-pub enum Ended {
-    Counted(Option<Datum>),
-    Closed,
-}
-
-#[derive(Default)]
-pub struct Open {
-    held: Vec<Sent>,
-    /// The standard commands with neither `!` nor `%`.
-    count: usize,
-    /// Whether a standard command has failed since the plan began.
-    has_failed: bool,
-    last_standard: u16,
-    last_event: u16,
-}
-
-impl Open {
-    pub fn count(&self) -> usize {
-        self.count
+impl<C> Held<C> {
+    /// No command; the first tag of the sort is drawn first.
+    pub fn new(first: Tag) -> Held<C> {
+        Held { first, next: first, open: VecDeque::new(), failed: BTreeMap::new() }
     }
 
-    pub fn begin_plan(&mut self) {
-        self.has_failed = false;
-    }
-
-    fn position(&self, tag: Tag) -> Result<usize, TagFault> {
-        self.held
-            .iter()
-            .position(|sent| sent.tag == tag)
-            .ok_or(TagFault::UnknownTag)
-    }
-
-    pub fn kind_of(&self, tag: Tag) -> Result<Kind, TagFault> {
-        self.position(tag).map(|at| self.held[at].kind)
-    }
-
-    /// Draws the next free tag for a command of this kind.
-    pub fn draw(&mut self, kind: Kind) -> Result<Tag, TagFault> {
-        let is_event = kind == Kind::AbortE;
-        let last = if is_event {
-            self.last_event
-        } else {
-            self.last_standard
-        };
-        let tag_of = |number| {
-            if is_event {
-                Tag::Event(number)
-            } else {
-                Tag::Standard(u32::from(number))
+    /// The next tag that is not held; none where all are.
+    #[inline]
+    pub fn draw(&mut self) -> Option<Tag> {
+        if self.open.len() + self.failed.len() >= TAGS {
+            return None;
+        }
+        loop {
+            let tag = self.next;
+            self.next = tag.following().unwrap_or(self.first);
+            if self.place(tag).is_none() && self.failed_asks(tag).is_none() {
+                return Some(tag);
             }
-        };
-        let number = (last + 1..=LAST_NUMBER)
-            .chain(1..=last)
-            .find(|number| self.position(tag_of(*number)).is_err())
-            .ok_or(TagFault::TagsSpent)?;
-        if is_event {
-            self.last_event = number;
-        } else {
-            self.last_standard = number;
-            self.count += 1;
-        }
-        let tag = tag_of(number);
-        self.held.push(Sent {
-            tag,
-            kind,
-            stage: Stage::Sent,
-        });
-        Ok(tag)
-    }
-
-    fn is_front(&self, at: usize) -> bool {
-        let is_event = self.held[at].is_event();
-        (is_event || !self.has_failed)
-            && self.held[..at]
-                .iter()
-                .all(|sent| sent.is_event() != is_event || sent.stage == Stage::Failed)
-    }
-
-    /// `&` under a tag.
-    pub fn received(&mut self, tag: Tag) -> Result<(), TagFault> {
-        let at = self.position(tag)?;
-        if self.held[at].stage != Stage::Sent {
-            return Err(TagFault::OutOfOrder);
-        }
-        self.held[at].stage = Stage::Received;
-        Ok(())
-    }
-
-    /// `#` under a tag, with what its command asks for; none where it asks for nothing.
-    pub fn data(&mut self, tag: Tag, datum: Option<Datum>) -> Result<(), TagFault> {
-        let at = self.position(tag)?;
-        match (datum, self.held[at].stage) {
-            (Some(datum), Stage::Received) if self.is_front(at) => {
-                self.held[at].stage = Stage::Given(datum);
-                Ok(())
-            }
-            (Some(_), Stage::Given(_)) if self.is_front(at) => Err(TagFault::SecondData),
-            _ => Err(TagFault::OutOfOrder),
         }
     }
 
-    /// `!` under a tag; whether it is the first.
-    pub fn failed(&mut self, tag: Tag) -> Result<bool, TagFault> {
-        let at = self.position(tag)?;
-        let sent = &mut self.held[at];
-        if sent.stage == Stage::Failed {
-            return Ok(false);
-        }
-        sent.stage = Stage::Failed;
-        if !sent.is_event() {
-            self.count -= 1;
-            self.has_failed = true;
-        }
-        Ok(true)
+    /// A command is sent under a tag that was drawn.
+    #[inline]
+    pub fn push(&mut self, tag: Tag, what: C) {
+        self.open.push_back(Open { tag, stage: Stage::Sent, what });
     }
 
-    /// `%` under a tag.
-    pub fn complete(&mut self, tag: Tag) -> Result<Ended, TagFault> {
-        let at = self.position(tag)?;
-        let sent = self.held[at];
-        let ended = match sent.stage {
-            Stage::Failed => Ended::Closed,
-            Stage::Sent => return Err(TagFault::OutOfOrder),
-            _ if !self.is_front(at) => return Err(TagFault::OutOfOrder),
-            Stage::Received if sent.asks() => return Err(TagFault::NoData),
-            Stage::Received => Ended::Counted(None),
-            Stage::Given(datum) => Ended::Counted(Some(datum)),
-        };
-        self.held.remove(at);
-        if ended != Ended::Closed && !sent.is_event() {
-            self.count -= 1;
+    /// Where a command stands among those that are open.
+    #[inline]
+    pub fn place(&self, tag: Tag) -> Option<usize> {
+        match self.open.front() {
+            Some(first) if first.tag == tag => Some(0),
+            _ => self.open.iter().position(|open| open.tag == tag),
         }
-        Ok(ended)
+    }
+
+    /// What a failed command asked for.
+    #[inline]
+    pub fn failed_asks(&self, tag: Tag) -> Option<Asks> {
+        if self.failed.is_empty() { None } else { self.failed.get(&tag).copied() }
+    }
+
+    /// The command at this place fails.
+    pub fn fail(&mut self, place: usize, asks: Asks) {
+        if let Some(open) = self.open.remove(place) {
+            self.failed.insert(open.tag, asks);
+        }
+    }
+
+    /// The tag of a failed command is given back.
+    pub fn close(&mut self, tag: Tag) {
+        self.failed.remove(&tag);
     }
 }

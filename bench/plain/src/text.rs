@@ -1,270 +1,219 @@
-//! The statements of a DMIS text.
+//! From the bytes of a program to its statements (docs/DMIS.md): lines, comments, texts and joints.
 
-use crate::blocks::{Places, run_end};
+use crate::blocks::{behind_comment, behind_solid, behind_text, find};
+use crate::program::Refusal;
 
-const LINE_MOST: usize = 4_096;
+/// The most bytes of a line without its end.
+const LINE_BYTES: usize = 4_096;
 
-#[derive(Clone, Copy, Debug, PartialEq, Eq)]
-pub enum TextFault {
-    LineTooLong,
-    BadByte,
+pub fn is_blank(byte: u8) -> bool {
+    byte == b' ' || byte == b'\t'
 }
 
-/// Where the parts of a statement are divided.
-#[derive(Default)]
-struct Signs {
-    /// The first `=` outside texts, where no `/` stands before it.
-    equals: Option<usize>,
-    /// The first `/` outside texts.
-    slash: Option<usize>,
-    /// Each `,` outside texts behind that.
-    commas: Vec<usize>,
-}
-
-impl Signs {
-    fn clear(&mut self) {
-        self.equals = None;
-        self.slash = None;
-        self.commas.clear();
+/// A text without the blanks at both ends.
+pub fn trimmed(mut text: &[u8]) -> &[u8] {
+    while let [first, rest @ ..] = text
+        && is_blank(*first)
+    {
+        text = rest;
     }
-
-    fn take(&mut self, sign: u8, at: usize) {
-        match (sign, self.slash) {
-            (b',', Some(_)) => self.commas.push(at),
-            (b'/', None) => self.slash = Some(at),
-            (b'=', None) if self.equals.is_none() => self.equals = Some(at),
-            _ => {}
-        }
-    }
+    trimmed_end(text)
 }
 
-/// One statement. Blanks are dropped at both ends of each part; letters are as they were written.
-pub struct Statement<'a> {
-    /// On which it begins.
-    pub line: u64,
-    /// Whether a text was left open.
+fn trimmed_end(mut text: &[u8]) -> &[u8] {
+    while let [rest @ .., last] = text
+        && is_blank(*last)
+    {
+        text = rest;
+    }
+    text
+}
+
+/// A statement, free of comments and joints.
+#[derive(Clone, Copy, Debug)]
+pub struct Statement<'t> {
+    /// All of it, without blanks at both ends; not empty.
+    pub text: &'t [u8],
+    /// Whether there is an apostrophe in it.
+    pub has_texts: bool,
+    /// Whether a text is left open at its end.
     pub is_open: bool,
-    bytes: &'a [u8],
-    signs: &'a Signs,
 }
 
-impl<'a> Statement<'a> {
-    pub fn has_label(&self) -> bool {
-        self.signs.slash.is_some() && self.signs.equals.is_some()
-    }
-
-    pub fn word(&self) -> &'a [u8] {
-        let (begin, end) = match (self.signs.equals, self.signs.slash) {
-            (Some(equals), Some(slash)) => (equals + 1, slash),
-            (None, Some(slash)) => (0, slash),
-            (_, None) => (0, self.bytes.len()),
-        };
-        self.bytes[begin..end].trim_ascii()
-    }
-
-    pub fn count(&self) -> usize {
-        self.signs.slash.map_or(0, |_| self.signs.commas.len() + 1)
-    }
-
-    /// The parameter at this place; nothing where there is none.
-    pub fn param(&self, at: usize) -> &'a [u8] {
-        let commas = &self.signs.commas;
-        let before = match at.checked_sub(1) {
-            None => self.signs.slash,
-            Some(last) => commas.get(last).copied(),
-        };
-        let end = commas.get(at).copied().unwrap_or(self.bytes.len());
-        before.map_or(b"", |before| self.bytes[before + 1..end].trim_ascii())
-    }
-
-    pub fn params(&self) -> impl Iterator<Item = &'a [u8]> {
-        (0..self.count()).map(|at| self.param(at))
-    }
+/// What a line has before its comment.
+struct Part<'t> {
+    text: &'t [u8],
+    has_texts: bool,
+    /// Whether a text is open at its end.
+    is_open: bool,
 }
 
-/// Takes the first line of a text, and answers it without its end.
-pub fn cut_line<'a>(text: &mut &'a [u8]) -> Option<&'a [u8]> {
-    if text.is_empty() {
-        return None;
-    }
-    match text.iter().position(|byte| *byte == b'\n') {
-        Some(end) => {
-            let line = &text[..end];
-            *text = &text[end + 1..];
-            Some(line.strip_suffix(b"\r").unwrap_or(line))
-        }
-        None => Some(std::mem::take(text)),
-    }
-}
-
-/// Whether a byte stands for something outside texts and comments, or may not stand there.
-fn is_sign(byte: u8) -> bool {
-    is_control(byte)
-        | (byte >= 128)
-        | (byte == b'\'')
-        | (byte == b'$')
-        | (byte == b'/')
-        | (byte == b',')
-        | (byte == b'=')
-}
-
-/// Whether a byte stands on no line: the ends of lines are among these.
-fn is_control(byte: u8) -> bool {
-    ((byte < 32) & (byte != b'\t')) | (byte == 127)
-}
-
-/// What stands on a line before its comment.
-struct Part<'a> {
-    bytes: &'a [u8],
-    /// Whether a text is open behind it.
-    in_text: bool,
-}
-
-impl<'a> Part<'a> {
-    /// What stands before the `$` that is its last byte but for blanks.
-    fn continued(&self) -> Option<&'a [u8]> {
-        self.bytes.trim_ascii_end().strip_suffix(b"$")
-    }
-}
-
-/// The statements of a text, one after another.
-pub struct Statements<'a> {
-    text: &'a [u8],
-    /// Where the next line begins.
-    next: usize,
-    /// The lines that were read.
-    lines: u64,
-    /// What the lines of a continued statement before its last say.
+/// The statements of a text, one after the other.
+pub struct Statements<'t> {
+    /// What is not read yet.
+    rest: &'t [u8],
+    /// How many lines were read.
+    lines: usize,
+    /// The line on which the last statement began, or the one that was refused.
+    begun: usize,
+    /// The parts of a continued statement.
     joined: Vec<u8>,
-    signs: Signs,
 }
 
-impl<'a> Statements<'a> {
-    pub fn new(text: &'a [u8]) -> Statements<'a> {
-        Statements {
-            text,
-            next: 0,
-            lines: 0,
-            joined: Vec::new(),
-            signs: Signs::default(),
-        }
+impl<'t> Statements<'t> {
+    pub fn of(text: &'t [u8]) -> Statements<'t> {
+        Statements { rest: text, lines: 0, begun: 0, joined: Vec::new() }
     }
 
-    /// The lines that were read: all, once there is no further statement.
-    pub fn lines(&self) -> u64 {
+    /// The line on which the last statement begins, or the one that was refused.
+    pub fn line(&self) -> usize {
+        self.begun
+    }
+
+    /// How many lines were read.
+    pub fn lines(&self) -> usize {
         self.lines
     }
 
-    /// Takes the signs of a line, and answers where what is before its comment ends, where the line ends, and whether a text is open behind
-    /// it. A byte that may not stand there ends the line.
-    fn read_signs(&mut self, in_text: bool) -> (usize, usize, bool) {
-        let text = self.text;
-        let begin = self.next;
-        let mut at = begin;
-        if in_text {
-            at = text_end(text, begin);
-            if text.get(at) != Some(&b'\'') {
-                return (at, at, true);
-            }
-            at += 1;
-        }
-        let mut signs = Places::new(text, at, is_sign);
-        while let Some(at) = signs.next() {
-            match text[at] {
-                sign @ (b'/' | b',' | b'=') => {
-                    self.signs.take(sign, self.joined.len() + at - begin);
-                }
-                b'\'' => {
-                    let end = text_end(text, at + 1);
-                    if text.get(end) != Some(&b'\'') {
-                        return (end, end, true);
-                    }
-                    signs = Places::new(text, end + 1, is_sign);
-                }
-                b'$' if text.get(at + 1) == Some(&b'$') => {
-                    return (at, run_end(text, at, is_control), false);
-                }
-                b'$' => {}
-                _ => return (at, at, false),
+    /// The next statement; none at the end of the text.
+    #[inline(always)]
+    pub fn next(&mut self) -> Result<Option<Statement<'_>>, Refusal> {
+        while !self.rest.is_empty() {
+            let solid = behind_solid(self.rest, 0);
+            let end = behind_blanks_and_comment(self.rest, solid);
+            let Some(rest) = behind_line_end(self.rest, end).filter(|_| end <= LINE_BYTES) else {
+                return self.next_of_any(solid);
+            };
+            let text = &self.rest[..solid];
+            self.rest = rest;
+            self.lines += 1;
+            if solid > 0 {
+                self.begun = self.lines;
+                return Ok(Some(Statement { text, has_texts: false, is_open: false }));
             }
         }
-        (text.len(), text.len(), false)
+        Ok(None)
     }
 
-    /// The next line, in a text that is open or not.
-    fn next_part(&mut self, in_text: bool) -> Result<Option<Part<'a>>, TextFault> {
-        let begin = self.next;
-        if begin == self.text.len() {
-            return Ok(None);
+    /// The same where the line at the front has more than solid bytes, blanks and a comment: how many solid ones it begins with is known.
+    fn next_of_any(&mut self, solid: usize) -> Result<Option<Statement<'_>>, Refusal> {
+        let part = self.take_line(false, solid)?;
+        self.begun = self.lines;
+        let text = trimmed(part.text);
+        if let [front @ .., b'$'] = text {
+            self.joined.clear();
+            self.joined.extend_from_slice(front);
+            return self.join(part);
         }
+        Ok(Some(Statement { text, has_texts: part.has_texts, is_open: part.is_open }))
+    }
+
+    /// The statement of the parts that are joined to a first one.
+    fn join(&mut self, first: Part) -> Result<Option<Statement<'_>>, Refusal> {
+        let Part { text, mut has_texts, mut is_open } = first;
+        self.push_blanks(text);
+        while !self.rest.is_empty() {
+            let part = self.take_line(is_open, 0)?;
+            let text = trimmed_end(part.text);
+            if text.is_empty() {
+                continue;
+            }
+            has_texts |= part.has_texts;
+            is_open = part.is_open;
+            let [front @ .., b'$'] = text else {
+                self.joined.extend_from_slice(text);
+                break;
+            };
+            self.joined.extend_from_slice(front);
+            self.push_blanks(part.text);
+        }
+        let text = trimmed(&self.joined);
+        Ok((!text.is_empty()).then_some(Statement { text, has_texts, is_open }))
+    }
+
+    /// Puts the blanks that end a part behind its front.
+    fn push_blanks(&mut self, part: &[u8]) {
+        self.joined.extend_from_slice(&part[trimmed_end(part).len()..]);
+    }
+
+    /// Takes a line, and says what stands before its comment; in its first bytes, so many, there is nothing to be found. Where it is
+    /// refused, its number is kept.
+    #[inline(always)]
+    fn take_line(&mut self, is_open: bool, at: usize) -> Result<Part<'t>, Refusal> {
         self.lines += 1;
-        let (end, line_end, in_text) = self.read_signs(in_text);
-        self.next = match self.text[line_end..] {
-            [] => line_end,
-            [b'\n', ..] => line_end + 1,
-            [b'\r', b'\n', ..] => line_end + 2,
-            _ => return Err(bad_line(&self.text[begin..])),
+        let (part, end) = read_part(self.rest, is_open, at);
+        let refusal = match behind_line_end(self.rest, end) {
+            Some(rest) if end <= LINE_BYTES => {
+                self.rest = rest;
+                return Ok(part);
+            }
+            Some(_) => Refusal::LineTooLong,
+            None => refusal_of_bad(self.rest),
         };
-        if line_end - begin > LINE_MOST {
-            return Err(TextFault::LineTooLong);
-        }
-        Ok(Some(Part {
-            bytes: &self.text[begin..end],
-            in_text,
-        }))
+        self.begun = self.lines;
+        Err(refusal)
     }
+}
 
-    /// The next statement; of a line that is refused, its number.
-    pub fn next(&mut self) -> Result<Option<Statement<'_>>, (u64, TextFault)> {
-        let mut begun = None;
-        let mut in_text = false;
-        self.joined.clear();
-        self.signs.clear();
-        while let Some(part) = self
-            .next_part(in_text)
-            .map_err(|fault| (self.lines, fault))?
-        {
-            if part.bytes.trim_ascii().is_empty() {
-                continue;
-            }
-            let line = *begun.get_or_insert(self.lines);
-            in_text = part.in_text;
-            if let Some(bytes) = part.continued() {
-                self.joined.extend_from_slice(bytes);
-                continue;
-            }
-            if self.joined.is_empty() {
-                return Ok(Some(self.ended(line, in_text, part.bytes)));
-            }
-            self.joined.extend_from_slice(part.bytes);
-            return Ok(Some(self.ended(line, in_text, &self.joined)));
-        }
-        let is_there = !self.joined.trim_ascii().is_empty();
-        Ok(begun
-            .filter(|_| is_there)
-            .map(|line| self.ended(line, in_text, &self.joined)))
+/// What stands behind the line that ends at this place, where it does.
+#[inline]
+fn behind_line_end(text: &[u8], end: usize) -> Option<&[u8]> {
+    match text.get(end..)? {
+        [b'\r', b'\n', rest @ ..] | [b'\n', rest @ ..] => Some(rest),
+        [] => Some(&[]),
+        _ => None,
     }
+}
 
-    fn ended<'b>(&'b self, line: u64, is_open: bool, bytes: &'b [u8]) -> Statement<'b> {
-        Statement {
-            line,
-            is_open,
-            bytes,
-            signs: &self.signs,
+/// The part of the line at the front of a text, and the place behind the line: its end, a bad byte or the end of the text.
+#[inline]
+fn read_part(text: &[u8], mut is_open: bool, mut at: usize) -> (Part<'_>, usize) {
+    let mut has_texts = is_open;
+    loop {
+        if is_open {
+            at = behind_text(text, at);
+        }
+        match text.get(at) {
+            Some(b'\'') => {
+                is_open = !is_open;
+                has_texts = true;
+                at += 1;
+            }
+            Some(b'$') if text.get(at + 1) == Some(&b'$') => {
+                return (Part { text: &text[..at], has_texts, is_open }, comment_end(text, at));
+            }
+            Some(b' '..=b'&' | b'\t') => at += 1,
+            Some(b'('..=b'~') => at = behind_solid(text, at),
+            _ => return (Part { text: &text[..at], has_texts, is_open }, at),
         }
     }
 }
 
-/// Where a text ends that is open from here on: its `'`, or a byte that may not stand on a line.
-fn text_end(text: &[u8], from: usize) -> usize {
-    run_end(text, from, |byte| is_control(byte) | (byte == b'\''))
+/// The place behind the blanks at a place outside texts, and behind the comment that then begins, if one does.
+#[inline]
+fn behind_blanks_and_comment(text: &[u8], mut at: usize) -> usize {
+    while text.get(at).is_some_and(|byte| is_blank(*byte)) {
+        at += 1;
+    }
+    match text.get(at..) {
+        Some([b'$', b'$', ..]) => comment_end(text, at),
+        _ => at,
+    }
 }
 
-/// Why the first line of a text is refused in which a byte may not stand.
-fn bad_line(text: &[u8]) -> TextFault {
-    let mut rest = text;
-    match cut_line(&mut rest) {
-        Some(line) if line.len() > LINE_MOST => TextFault::LineTooLong,
-        _ => TextFault::BadByte,
+fn comment_end(text: &[u8], at: usize) -> usize {
+    let mut end = behind_comment(text, at);
+    while text.get(end) == Some(&b'\t') {
+        end = behind_comment(text, end + 1);
     }
+    end
+}
+
+/// Why the line at the front of a text is refused, where there is a bad byte in it.
+fn refusal_of_bad(text: &[u8]) -> Refusal {
+    let line = match find(text, b'\n') {
+        Some(end) => text[..end].strip_suffix(b"\r").unwrap_or(&text[..end]),
+        None => text,
+    };
+    if line.len() > LINE_BYTES { Refusal::LineTooLong } else { Refusal::BadByte }
 }

@@ -1,99 +1,77 @@
-//! Drives a client through a program of many touches, answered by a peer in memory.
+//! A client of a program of touches, answered by a peer in memory (bench/WORK.md).
 
-use crate::client::{Client, ClientFault, State};
-use crate::line::write_point;
+use crate::client::{Client, Refusal, State};
+use crate::line::{Tag, write_complete, write_homed_data, write_point_data, write_received};
 use crate::program::Program;
+use crate::setup::Setup;
 use crate::sums::{place, summed, summed_bytes};
+use std::fmt::Write;
 
-/// How many touches a feature has at most.
-const TOUCHES: u64 = 330;
+/// The touches of a feature, but for the last.
+const FEATURE: u64 = 330;
 
-#[derive(Debug)]
-pub struct Refused;
-
-impl From<ClientFault> for Refused {
-    fn from(_: ClientFault) -> Refused {
-        Refused
-    }
+/// How many points a client measures, and the sum over what it sent and measured; none where it is refused.
+pub fn touches(touches: u64, window: u64) -> Option<(u64, u64)> {
+    let program = Program::read(text(touches).as_bytes(), &Setup::default()).ok()?;
+    let mut client = Client::new(&program, window)?;
+    let sum = drive(&mut client).ok()?;
+    let points = client.features().iter().flat_map(|feature| &feature.points);
+    Some(points.fold((0, sum), |(count, sum), point| {
+        (count + 1, [point.x, point.y, point.z].into_iter().fold(sum, |sum, length| summed(sum, length as u64)))
+    }))
 }
 
-/// A program of so many touches.
-fn new_program(touches: u64) -> Result<Program, Refused> {
+/// The program.
+fn text(touches: u64) -> String {
     let mut text = String::from("DMISMN/'TOUCHES',05.2\nSNSLCT/S(P1)\n");
-    for number in 0..touches {
-        if number % TOUCHES == 0 {
-            let count = (touches - number).min(TOUCHES);
-            text.push_str(&format!("MEAS/POINT,F(F{number}),{count}\n"));
+    for begin in (0..touches).step_by(FEATURE as usize) {
+        let end = touches.min(begin + FEATURE);
+        let _ = writeln!(text, "MEAS/POINT,F(F{}),{}", begin / FEATURE, end - begin);
+        for number in begin..end {
+            let _ = writeln!(text, "PTMEAS/CART,{number},1,2,0,0,1");
         }
-        text.push_str(&format!("PTMEAS/CART,{number},1,2,0,0,1\n"));
-        if (number + 1) % TOUCHES == 0 || number + 1 == touches {
-            text.push_str("ENDMES\n");
-        }
+        text.push_str("ENDMES\n");
     }
     text.push_str("ENDFIL\n");
-    Program::read(text.as_bytes(), &[]).map_err(|_| Refused)
+    text
 }
 
-/// What stands at the other end: the lines that it answers next, how many touches it has answered, and a sum over the bytes that came.
-#[derive(Default)]
-struct Peer {
-    answers: Vec<u8>,
-    touches: u64,
-    sum: u64,
-}
-
-impl Peer {
-    fn push(&mut self, tag: &[u8], text: &[u8]) {
-        self.answers.extend_from_slice(tag);
-        self.answers.extend_from_slice(text);
-    }
-
-    /// A command is received and done; a touch has a point, and the machine is not homed where it is asked.
-    fn hear(&mut self, line: &[u8]) {
-        self.sum = summed_bytes(self.sum, line);
-        let (tag, command) = line.split_at(line.len().min(5));
-        self.push(tag, b" &\r\n");
-        if command.starts_with(b" IsHomed") {
-            self.push(tag, b" # IsHomed(0)\r\n");
-        }
-        if command.starts_with(b" PtMeas") {
-            self.push(tag, b" # ");
-            write_point(&mut self.answers, place(self.touches));
-            self.answers.extend_from_slice(b"\r\n");
-            self.touches += 1;
-        }
-        self.push(tag, b" %\r\n");
-    }
-}
-
-/// Runs the program to its end.
-fn run_all(client: &mut Client, peer: &mut Peer) -> Result<(), Refused> {
+/// Drives a client to its end; the sum over all that it sent.
+fn drive(client: &mut Client) -> Result<u64, Refusal> {
+    let mut peer = Peer::default();
+    let mut sum = 0;
     client.connected(1)?;
     while client.state() != State::Done {
         while client.due().is_some() {
             client.send()?;
-            peer.hear(client.out());
-            client.drop_sent(client.out().len());
+            peer.hear(&client.out);
+            sum = summed_bytes(sum, &client.out);
+            client.out.clear();
         }
         client.feed(&peer.answers)?;
         peer.answers.clear();
         while client.read_one()? {}
     }
-    Ok(())
+    Ok(sum)
 }
 
-/// Drives a client through so many touches, and answers the count of its points and the sum over all bytes that it sent and all its points.
-pub fn touches(wanted: u64, window: u8) -> Result<(usize, u64), Refused> {
-    let mut client = Client::new(new_program(wanted)?, Vec::new(), window)?;
-    let mut peer = Peer::default();
-    run_all(&mut client, &mut peer)?;
-    let mut count = 0;
-    let mut sum = peer.sum;
-    for point in client.features().iter().flat_map(|feature| &feature.points) {
-        count += 1;
-        for length in [point.x, point.y, point.z] {
-            sum = summed(sum, length.unsigned_abs());
+/// Who answers all commands at once, and is not homed.
+#[derive(Default)]
+struct Peer {
+    touched: u64,
+    answers: Vec<u8>,
+}
+
+impl Peer {
+    fn hear(&mut self, line: &[u8]) {
+        let Some((tag, call)) = Tag::cut(line) else { return };
+        write_received(&mut self.answers, tag);
+        if call.starts_with(b" PtMeas") {
+            write_point_data(&mut self.answers, tag, place(self.touched));
+            self.touched += 1;
+        } else if call.starts_with(b" IsHomed") {
+            write_homed_data(&mut self.answers, tag, false);
         }
+        write_complete(&mut self.answers, tag);
     }
-    Ok((count, sum))
 }
