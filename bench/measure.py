@@ -97,6 +97,21 @@ def client_prints(touches):
     return f"{touches} points, sum {summed(numbers)}\n".encode()
 
 
+def quiet_turns(touches, window):
+    """Turns of a plan with so many touches: ClearAllErrors stands alone behind StartSession, and nothing is sent behind IsHomed in its turn."""
+    begun = 3 if window == 1 else 2
+    behind = 4 + touches + 1
+    return begun + -(-behind // window)
+
+
+def quiet_prints(touches, window):
+    """The count of points, the turns, and the sum over points that are off by 0.002 in x and by 0.004 in z in turn."""
+    numbers = []
+    for number in range(touches):
+        numbers += [number * 1_000 + 2 * (number % 2 == 0), 1_000, 2_000 + 4 * (number % 2)]
+    return f"{touches} points, {quiet_turns(touches, window)} turns, sum {summed(numbers)}\n".encode()
+
+
 class Row:
     """What is measured: so much work of a unit, the words of a run of a part of it, what these print (None where that is not known
     beforehand), and the words of the runs whose cost is no part of the work."""
@@ -158,6 +173,17 @@ def rows(folder):
     return given
 
 
+def quiet_rows():
+    """The undisturbed run, on ours alone: what each touch costs at the beginning and at the end."""
+    def prints(window):
+        return lambda touches: quiet_prints(touches, window)
+    # A run with window 0 is refused, once its program was read.
+    return [Row(f"undisturbed run: touches, window {window}", "dme_bench", TOUCHES, "touch",
+                lambda touches, window=window: ["quiet", str(touches), str(window)], prints(window),
+                lambda touches: [["quiet", str(touches), "0"]])
+            for window in (1, 16)]
+
+
 def revision(folder):
     """The last commit of a folder, and whether it has changes since."""
     root = os.path.join(os.path.dirname(os.path.abspath(__file__)), "..")
@@ -171,6 +197,20 @@ def table_row(row, ours, theirs):
     ((count_plain, growth_plain), _), memory_plain = theirs
     return (f"| {row.name} | {count:,} | {count / row.work:,.1f} a {row.unit} | {count_plain:,} | {count_plain / row.work:,.1f} | "
             f"{count / count_plain:.2f} | {growth:.3f} | {growth_plain:.3f} | {memory:,} KiB | {memory_plain:,} KiB |")
+
+
+def quiet_row(row, ours):
+    ((count, growth), _), memory = ours
+    return f"| {row.name} | {count:,} | {count / row.work:,.1f} a {row.unit} | {growth:.3f} | {memory:,} KiB |"
+
+
+def print_quiet(wanted, pool):
+    chosen = [row for row in quiet_rows() if all(word in row.name for word in wanted)]
+    runs = [(row, pool.submit(row.measure, built(row.crate))) for row in chosen]
+    if chosen:
+        print("\n| Measured | Ours | Each | Growth | Peak |\n|---|---|---|---|---|")
+    for row, run in runs:
+        print(quiet_row(row, run.result()), flush=True)
 
 
 def main():
@@ -188,6 +228,7 @@ def main():
             if row.name.startswith("client"):
                 (_, (own, growth)), _ = first.result()
                 apart.append(f"{row.name}: {own / row.work:,.1f} a touch, growth {growth:.3f}")
+        print_quiet(wanted, pool)
     if apart:
         print(f"\nOurs without the instructions of the C library: {'; '.join(apart)}.")
 

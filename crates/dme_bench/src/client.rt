@@ -4,7 +4,7 @@ ghost use Rattle.std.specs.Prelude.{◌<◌};
 
 use crate::values::{Stop, place, summed, summed_bytes};
 use client_core::{Client, ClientFault, State};
-use contact_ledger::FeatureLedger;
+use contact_ledger::{Feature, FeatureLedger};
 use dme_line::write_point;
 use dmis_program::{Frames, Program};
 use fixed_um::Um;
@@ -51,7 +51,7 @@ fn push_touch(
 }
 
 /// A program of so many touches.
-fn new_program(alloc: Global, touches: u64) -> Result<Program, Stop> {
+pub(crate) fn new_program(alloc: Global, touches: u64) -> Result<Program, Stop> {
     let mut text = Vec::new(alloc);
     text.extend_from_slice(b"DMISMN/'TOUCHES',05.2\nSNSLCT/S(P1)\n")?;
     for number in 0..touches {
@@ -148,10 +148,10 @@ fn micrometres(length: Um) -> u64 {
 }
 
 /// The count of all points of the features, and the sum with them.
-fn points(client: &Client, sum: u64) -> (u64, u64) {
+pub(crate) fn points(features: &[Feature], sum: u64) -> (u64, u64) {
     let mut count = 0u64;
     let mut sum = sum;
-    for feature in client.features() {
+    for feature in features {
         for point in feature.points.as_slice() {
             count = count.wrapping_add(1);
             sum = summed(sum, micrometres(point.x));
@@ -171,5 +171,5 @@ pub(crate) fn touches(alloc: Global, wanted: u64, window: u8) -> Result<(u64, u6
         sum: 0,
     };
     run_all(&mut client, &mut peer)?;
-    Ok(points(&client, peer.sum))
+    Ok(points(client.features(), peer.sum))
 }

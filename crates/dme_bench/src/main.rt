@@ -1,15 +1,16 @@
 //! Programs that are measured: many lines read through a framing buffer, many rounds of a move and a touch on a server, and a client that is
-//! driven through a program of many touches. Each prints what it has counted, and both ends a sum over what they have seen; the scripts of
-//! `bench/` count its instructions.
+//! driven through a program of many touches, and the undisturbed run of such a program. Each prints what it has counted, and both ends a sum
+//! over what they have seen; the scripts of `bench/` count its instructions.
 //!
 //! Its words are `wire commands` or `wire responses` with the count of lines and the bytes of a piece, `server` with the count of rounds, or
-//! `client` with the count of touches, at most 9,900, and the window. `samples` runs a few of each: a test from bytes to bytes.
+//! `client` or `quiet` with the count of touches, at most 9,900, and the window. `samples` runs a few of each: a test from bytes to bytes.
 //!
-//! - `wire`, `server`, `client`: what is measured
-//! - `values`: what all three speak of, and why nothing is printed
+//! - `wire`, `server`, `client`, `quiet`: what is measured
+//! - `values`: what all of them speak of, and why nothing is printed
 #![tactic(auto)]
 
 mod client;
+mod quiet;
 mod server;
 mod values;
 mod wire;
@@ -48,13 +49,21 @@ fn print_client<R: Print>(rt: &R, alloc: Global, touches: u64, window: u64) -> R
     println!(rt; "{count} points, sum {sum}").map_err(|_| Stop::Refused)
 }
 
+fn print_quiet<R: Print>(rt: &R, alloc: Global, touches: u64, window: u64) -> Result<(), Stop> {
+    let window = u8::try_from(window).map_err(|_| Stop::Words)?;
+    let (count, turns, sum) = quiet::counts(alloc, touches, window)?;
+    println!(rt; "{count} points, {turns} turns, sum {sum}").map_err(|_| Stop::Refused)
+}
+
 /// A few of each, and both windows' ends.
 fn samples<R: Print>(rt: &R, alloc: Global) -> Result<(), Stop> {
     print_wire(rt, alloc, Side::Commands, 1_000, 7)?;
     print_wire(rt, alloc, Side::Responses, 1_000, 7)?;
     print_server(rt, alloc, 500)?;
     print_client(rt, alloc, 700, 1)?;
-    print_client(rt, alloc, 700, 16)
+    print_client(rt, alloc, 700, 16)?;
+    print_quiet(rt, alloc, 700, 1)?;
+    print_quiet(rt, alloc, 700, 16)
 }
 
 fn run<R: Env + Print + AllocGlobal>(rt: &R) -> Result<(), Stop> {
@@ -73,6 +82,7 @@ fn run<R: Env + Print + AllocGlobal>(rt: &R) -> Result<(), Stop> {
         }
         ("server", [rounds]) => print_server(rt, alloc, number(rounds)?),
         ("client", [touches, window]) => print_client(rt, alloc, number(touches)?, number(window)?),
+        ("quiet", [touches, window]) => print_quiet(rt, alloc, number(touches)?, number(window)?),
         ("samples", []) => samples(rt, alloc),
         _ => Err(Stop::Words),
     }
