@@ -1,9 +1,10 @@
 """Refuses each growth of a run in turn: the first, then the second, up to the last that it makes (refuse.c).
 
-Of an order, each run has to end with status 4 and `dme: out of memory`. `check`, `simulate` and `audit` have then printed nothing; an order
-over a connection has printed nothing, or the report of what was done until then, and left its file as it was or put such a front in it. Of
-the calls behind it (`call_rows`), each growth of a pump or of a whole connection has to be answered as want of memory, the side has left, and
-a front of its lines has gone out. A run that asks for room beforehand and can do without it may be as if nothing was refused: one of a run.
+Of an order, each run has to end with status 4 and `dme: out of memory`. `check`, `simulate`, `audit`, `export` and `explain` have then printed
+nothing; an order over a connection has printed nothing, or the report of what was done until then, and left its file as it was or put such a
+front in it. Of the calls behind it (`call_rows`), each growth of a pump or of a whole connection has to be answered as want of memory, the side
+has left, and a front of its lines has gone out. A run that asks for room beforehand and can do without it may be as if nothing was refused: one
+of a run.
 
 `run` calls this; by itself: tests/growths.py [NAME ..]
 """
@@ -53,6 +54,8 @@ FILE_ROWS = {
     "simulate": "simulate --setup machine.setup --schedule break_inside_a_feature.schedule circle.dmis",
     "audit": "audit --setup machine.setup --features break_inside_a_feature.features"
     " --contacts break_inside_a_feature.contacts circle.dmis",
+    "export": "export --as csv --setup machine.setup --features break_inside_a_feature.features circle.dmis",
+    "explain": "explain P5",
 }
 
 

@@ -124,23 +124,19 @@ def longest_line():
 
 
 def seconds_of(count):
-    """The least processor time, of three runs, of a hundred such lists in the cuts of a server."""
-    rows = [f"{IN_SESSION} | {(b'A' * count).hex()}"] * 100
-    least = None
-    for _ in range(3):
-        before = resource.getrusage(resource.RUSAGE_CHILDREN)
-        answers_of("server_cuts", rows)
-        after = resource.getrusage(resource.RUSAGE_CHILDREN)
-        spent = after.ru_utime - before.ru_utime
-        least = spent if least is None else min(least, spent)
-    return least
+    """The processor time that 6,553,600 bytes take in the cuts of a server, as lines without an end of so many bytes each."""
+    rows = [f"{IN_SESSION} | {(b'A' * count).hex()}"] * (6_553_600 // count)
+    before = resource.getrusage(resource.RUSAGE_CHILDREN)
+    answers_of("server_cuts", rows)
+    after = resource.getrusage(resource.RUSAGE_CHILDREN)
+    return after.ru_utime - before.ru_utime
 
 
 def linear_work():
-    """Four times the bytes of a line that does not end take less than eight times the work; where each byte led to a search from the front,
-    it would be sixteen times."""
-    quarter, whole = seconds_of(16_384), seconds_of(65_536)
-    must(whole < 8 * quarter, "65,536 bytes took", whole, "and 16,384 bytes", quarter)
+    """The same bytes cost no more in lines sixteen times as long; where each byte led to a search from the front, they would cost sixteen times
+    as much. Of five runs of each, taken in turns, the cheapest counts, and six times is still taken for the same."""
+    short, long = map(min, zip(*((seconds_of(4_096), seconds_of(65_536)) for _ in range(5))))
+    must(long < 6 * short, "lines of 65,536 bytes took", long, "and the same bytes in lines of 4,096", short)
 
 
 ROWS = (ten_thousand_statements, one_statement_more, most_points_of_a_block, most_touches_of_a_feature, most_touches_measured, longest_line,

@@ -1,3 +1,4 @@
 pub mod Roots
 pub mod Tables
 pub mod Digits
+pub mod Numbers

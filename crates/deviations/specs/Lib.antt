@@ -1,3 +1,4 @@
 pub mod Along
 pub mod Rows
 pub mod Records
+pub mod Json

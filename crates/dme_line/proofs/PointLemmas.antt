@@ -1,13 +1,44 @@
 -- Point texts.
-use Rattle.std.proofs.Common.{◌≡◌, ℕ, List, [], ◌∷◌, ◌++◌, Result, Ok, Err, ap, sym, subst, ◌∙◌, codes}
+use Rattle.std.proofs.Common.{◌≡◌, ℕ, ◌-◌, ◌≤◌, true, List, [], ◌∷◌, ◌++◌, length, get_or, take, drop, Result, Ok, Err, refl, ap, sym, subst, ◌∙◌, arith, codes, ℤ}
+use Rattle.std.proofs.lemmas.Bool.{and_from}
+use Rattle.fixed_um.proofs.PlainLemmas.{rest_of}
+use Rattle.fixed_um.specs.Fronts.{is_length_byte, BeginsWithLength}
 use Rattle.fixed_um.specs.Limits.{wire_limit}
 use Rattle.fixed_um.specs.Numerals.{Reads}
 use Rattle.fixed_um.specs.declared.lengths.Point.{Point}
-use Rattle.dme_line.specs.Tokens.{Token, Comma}
+use Rattle.dme_line.specs.Tokens.{Token, Open, Close, Comma, Word, tokens, is_word_byte}
 use Rattle.dme_line.specs.Arguments.{Single, argument_tokens}
-use Rattle.dme_line.specs.Points.{point_tokens, IsPointText, ReadsPoint}
+use Rattle.dme_line.specs.Points.{point_tokens, BeginsWithAxis, IsPointText, ReadsPoint}
 use Rattle.dme_line.specs.declared.points.NotPoint.{NotPoint}
 use Rattle.dme_line.proofs.PlaceLemmas.{one_length, same_point}
+use Rattle.dme_line.proofs.TokenLemmas.{tokens-word, tokens-mark}
+use Rattle.dme_line.proofs.WireTexts.{all_weaker, plain_word}
+
+-- the bytes at the front of a slice and the rest of it
+pub one_in_front : (xs : List ℕ) (a : ℕ) → 1 ≤ length xs → get_or xs 0 0 ≡ a → xs ≡ a ∷ take (length xs - 1) (drop 1 xs)
+one_in_front [] a some h = absurd (omega arith)
+one_in_front (x ∷ xs) a some h = rw (rest_of (x ∷ xs) 1) (ap (λ (y : ℕ). y ∷ xs) h)
+
+pub two_in_front : (xs : List ℕ) (a b : ℕ) → 2 ≤ length xs → get_or xs 0 0 ≡ a → get_or xs 1 0 ≡ b
+    → xs ≡ a ∷ b ∷ take (length xs - 2) (drop 2 xs)
+two_in_front [] a b some h g = absurd (omega arith)
+two_in_front (x ∷ []) a b some h g = absurd (omega arith)
+two_in_front (x ∷ y ∷ xs) a b some h g = rw (rest_of (x ∷ y ∷ xs) 2)
+    (ap (λ (u : ℕ). u ∷ y ∷ xs) h ∙ ap (λ (u : ℕ). a ∷ u ∷ xs) g)
+
+-- an axis in its written form
+pub axis_in_front : (letter limit : ℕ) (bytes text behind rest : List ℕ) (value : ℤ) → is_word_byte letter ≡ true → limit ≡ wire_limit
+    → bytes ≡ letter ∷ 40 ∷ text → BeginsWithLength limit text behind value → behind ≡ 41 ∷ rest → BeginsWithAxis letter bytes rest value
+axis_in_front letter limit bytes text behind rest value is most e f g =
+    let words = all_weaker is_length_byte is_word_byte f.numeral plain_word f.bytes in
+    let inner : tokens text ≡ Word f.numeral ∷ Close ∷ tokens rest = ap tokens (f.parts ∙ ap (λ (t : List ℕ). f.numeral ++ t) g)
+    ∙ tokens-word f.numeral (41 ∷ rest) words f.some refl ∙ ap (λ (ts : List Token). Word f.numeral ∷ ts) (tokens-mark 41 rest refl) in
+    record {
+      numeral = f.numeral;
+      spelled = ap tokens e ∙ tokens-word (letter ∷ []) (40 ∷ text) (and_from _ _ is refl) (omega arith) refl
+          ∙ ap (λ (ts : List Token). Word (letter ∷ []) ∷ ts) (tokens-mark 40 text refl ∙ ap (λ (ts : List Token). Open ∷ ts) inner);
+      reads = subst (λ (n : ℕ). Reads 3 n f.numeral (Ok value)) most f.reads;
+    }
 
 -- no third axis
 third : (ts t u v w : List Token) (x y a b z : List ℕ) → ts ≡ argument_tokens (Single (codes "X") x) ++ t → t ≡ Comma ∷ u

@@ -32,7 +32,7 @@ wire_append m n k a b f g le = record {
 }
 
 -- a text of a word's bytes is one of a line
-all_weaker : (p q : ℕ → Bool) (xs : List ℕ) → ((c : ℕ) → p c ≡ true → q c ≡ true) → list_all p xs ≡ true → list_all q xs ≡ true
+pub all_weaker : (p q : ℕ → Bool) (xs : List ℕ) → ((c : ℕ) → p c ≡ true → q c ≡ true) → list_all p xs ≡ true → list_all q xs ≡ true
 all_weaker p q [] h all = refl
 all_weaker p q (x ∷ xs) h all = let s = and_parts (p x) (list_all p xs) all in and_from _ _ (h x s.0) (all_weaker p q xs h s.1)
 
@@ -42,7 +42,7 @@ all_weaker p q (x ∷ xs) h all = let s = and_parts (p x) (list_all p xs) all in
 abbrev pub is_plain : ℕ → Bool
 is_plain c = nat_le 45 c && nat_le c 57
 
-plain_word : (c : ℕ) → is_plain c ≡ true → is_word_byte c ≡ true
+pub plain_word : (c : ℕ) → is_plain c ≡ true → is_word_byte c ≡ true
 plain_word c h = grind (arith, nat_tests)
 
 plain_content : (c : ℕ) → is_plain c ≡ true → is_content c ≡ true

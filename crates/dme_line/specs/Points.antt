@@ -1,11 +1,11 @@
 -- Points as they are written in commands and data lines (I++ DME Interface version 1).
-use Rattle.std.specs.Prelude.{◌≡◌, ℕ, ◌≤◌, List, [], ◌∷◌, ◌++◌, unsigned_abs, codes, Result, Ok, Err}
+use Rattle.std.specs.Prelude.{◌≡◌, ℕ, ◌≤◌, List, [], ◌∷◌, ◌++◌, unsigned_abs, codes, ℤ, Result, Ok, Err}
 use Rattle.fixed_um.specs.Limits.{wire_limit}
 use Rattle.fixed_um.specs.Numerals.{Reads}
 use Rattle.fixed_um.specs.Written.{written}
 use Rattle.fixed_um.specs.declared.lengths.Point.{Point}
 use Rattle.dme_line.specs.Tokens.{Token, tokens}
-use Rattle.dme_line.specs.Arguments.{Single, list_tokens}
+use Rattle.dme_line.specs.Arguments.{Single, argument_tokens, list_tokens}
 use Rattle.dme_line.specs.declared.points.NotPoint.{NotPoint}
 
 -- a point in millimetres: X(a), Y(b), Z(c)
@@ -27,6 +27,12 @@ pub record HasCoordinates (x y z : List ℕ) (p : Point) : Type 0 where
   pub x_reads : Reads 3 wire_limit x (Ok p.x)
   pub y_reads : Reads 3 wire_limit y (Ok p.y)
   pub z_reads : Reads 3 wire_limit z (Ok p.z)
+
+-- an axis of this name stands in front of the rest of a text
+pub record BeginsWithAxis (letter : ℕ) (text rest : List ℕ) (value : ℤ) : Type 0 where
+  pub numeral : List ℕ
+  pub spelled : tokens text ≡ argument_tokens (Single (letter ∷ []) numeral) ++ tokens rest
+  pub reads : Reads 3 wire_limit numeral (Ok value)
 
 -- the three axes stand in front of the rest of a text
 pub record BeginsWithPoint (text rest : List ℕ) (p : Point) : Type 0 where

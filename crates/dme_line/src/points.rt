@@ -5,13 +5,13 @@ ghost use Rattle.fixed_um.specs.Calls.{Finds, Grows, HasRoom, Writes};
 ghost use Rattle.dme_line.specs.Limits.{point_most};
 ghost use Rattle.dme_line.specs.Tokens.{Token, Comma, tokens, is_word_byte};
 ghost use Rattle.dme_line.specs.Arguments.{Single, argument_tokens};
-ghost use Rattle.dme_line.specs.Points.{written_point, IsOnWire, HasCoordinates, IsPointText, ReadsPoint, BeginsWithPoint, point_tokens};
+ghost use Rattle.dme_line.specs.Points.{written_point, IsOnWire, HasCoordinates, IsPointText, ReadsPoint, BeginsWithAxis, BeginsWithPoint, point_tokens};
 
 use crate::appending::append_reserved;
 use crate::arguments::{Argument, take_argument};
 use crate::lengths::{wire_length, write_length_reserved};
 use crate::tokens::{is_end, take_mark, take_word};
-use fixed_um::Point;
+use fixed_um::{Point, Um, cut_um};
 use std::alloc::AllocError;
 
 /// The most bytes that the text of a point has.
@@ -49,12 +49,12 @@ pub fn write_point(out: &mut Vec<u8>, point: Point) -> Result<(), AllocError>
     Ok(())
 }
 
-/// The word of an axis that stands in front in its written form, with no spaces, and what stands behind it.
+/// The micrometres of an axis that stands in front in its written form, with no spaces, and what stands behind it.
 /// `None` says nothing: the axis may stand there in another form.
-fn cut_written_axis(bytes: &[u8], letter: u8) -> Option<(&[u8], &[u8])>
+#[inline(always)]
+fn cut_written_axis(bytes: &[u8], letter: u8) -> Option<(i64, &[u8])>
     requires { is_word_byte letter ≡ true }
-    ensures { IfSome result
-        (λ p. tokens bytes.now ≡ argument_tokens (Single (letter ∷ []) p.0.now) ++ tokens p.1.now) }
+    ensures { IfSome result (λ p. BeginsWithAxis letter bytes.now p.1.now p.0) }
 {
     let [own, b'(', rest @ ..] = bytes else {
         return None;
@@ -62,11 +62,11 @@ fn cut_written_axis(bytes: &[u8], letter: u8) -> Option<(&[u8], &[u8])>
     if *own != letter {
         return None;
     }
-    let (word, rest) = take_word(rest)?;
+    let (micrometres, rest) = cut_um(rest, Um::wire_limit())?;
     let [b')', rest @ ..] = rest else {
         return None;
     };
-    Some((word, rest))
+    Some((micrometres, rest))
 }
 
 /// What stands behind a comma and a space.
@@ -122,6 +122,17 @@ fn point_within(x: &[u8], y: &[u8], z: &[u8]) -> Option<Point>
     Some(Point { x, y, z })
 }
 
+/// The point of three coordinates in micrometres, within the wire limit.
+#[inline(always)]
+fn point_of(x: i64, y: i64, z: i64) -> Option<Point>
+    ensures { IfSome result (λ p. p ≡ record { x = x; y = y; z = z }) }
+{
+    let x = Um::new(x)?;
+    let y = Um::new(y)?;
+    let z = Um::new(z)?;
+    Some(Point { x, y, z })
+}
+
 /// A point that stands in front in its written form, and what stands behind it, read at once. `None` says nothing: the point may stand
 /// there in another form, or be none.
 pub(crate) fn cut_written_point(text: &[u8]) -> Option<(Point, &[u8])>
@@ -130,7 +141,7 @@ pub(crate) fn cut_written_point(text: &[u8]) -> Option<(Point, &[u8])>
     let (x, rest) = cut_written_axis(text, b'X')?;
     let (y, rest) = cut_written_axis(cut_written_comma(rest)?, b'Y')?;
     let (z, rest) = cut_written_axis(cut_written_comma(rest)?, b'Z')?;
-    let point = point_within(x, y, z)?;
+    let point = point_of(x, y, z)?;
     Some((point, rest))
 }
 

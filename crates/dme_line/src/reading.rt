@@ -1,6 +1,6 @@
 // Reading command lines.
 
-ghost use Rattle.std.specs.Prelude.{◌≡◌, ◌≤◌, ℕ, List, length, find, true, MatchOption, IfOk, OnErr};
+ghost use Rattle.std.specs.Prelude.{◌≡◌, ◌≤◌, ℕ, List, length, find, true, MatchOption, IfSome, IfOk, OnErr};
 ghost use Rattle.fixed_um.specs.Calls.{Finds};
 ghost use Rattle.std.specs.List.{prefix_len};
 ghost use Rattle.dme_line.specs.Words.{is_word};
@@ -81,6 +81,17 @@ fn find_kind(name: &[u8]) -> Option<Kind>
         .find(|kind| is_word(kind.name(), name))
 }
 
+/// The kind whose name is written just so, of those that nearly all commands have. `None` says nothing.
+fn written_kind(name: &[u8]) -> Option<Kind>
+    ensures { IfSome result (λ kind. is_word (kind_name kind) name.now ≡ true) }
+{
+    match name {
+        [b'G', b'o', b'T', b'o'] => Some(Kind::GoTo),
+        [b'P', b't', b'M', b'e', b'a', b's'] => Some(Kind::PtMeas),
+        _ => None,
+    }
+}
+
 /// The kind that a name most likely is of, by its first letter and its length. It is looked at first: a wrong one costs time alone.
 fn likely_kind(name: &[u8]) -> Kind {
     match name.first() {
@@ -108,6 +119,9 @@ fn likely_kind(name: &[u8]) -> Kind {
 fn kind_named(name: &[u8]) -> Option<Kind>
     ensures { Finds result (λ kind. is_word (kind_name kind) name.now ≡ true) }
 {
+    if let Some(kind) = written_kind(name) {
+        return Some(kind);
+    }
     let likely = likely_kind(name);
     if is_word(likely.name(), name) {
         return Some(likely);

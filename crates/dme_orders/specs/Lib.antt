@@ -12,3 +12,5 @@ pub mod Ends
 pub mod Looping
 pub mod Driving
 pub mod Serving
+pub mod Explaining
+pub mod Exporting

@@ -5,6 +5,8 @@ use Rattle.dmis_program.specs.declared.faults.ProgramFault.TheVariants as progra
 use Rattle.link_world.specs.declared.schedule_faults.ScheduleFault.TheVariants as schedule
 use Rattle.dme_orders.specs.declared.reading.FilesFault.{FilesFault}
 use Rattle.dme_orders.specs.declared.reading.FilesFault.TheVariants as files
+use Rattle.dme_orders.specs.declared.exporting.ExportFault.{ExportFault}
+use Rattle.dme_orders.specs.declared.exporting.ExportFault.TheVariants as export
 use Rattle.dme_orders.specs.declared.reading.Role.{Role}
 use Rattle.dme_orders.specs.declared.reading.Role.TheVariants as role
 use Rattle.contact_ledger.specs.declared.faults.TextFault.TheVariants as ledger
@@ -54,3 +56,8 @@ AreFilesShown (files.Program cause) names shown = shown ≡ fault.Program cause
 AreFilesShown (files.Unread role) names shown = ShowsFile (Some (names role)) shown
 AreFilesShown files.Write names shown = shown ≡ fault.CannotWriteOutput
 AreFilesShown files.Memory names shown = shown ≡ fault.Memory
+
+-- what is shown for the fault of an export
+abbrev pub IsExportShown : ExportFault → (Role → List ℕ) → OrderFault → Type 0
+IsExportShown (export.Files cause) names shown = AreFilesShown cause names shown
+IsExportShown export.NotOurs names shown = shown ≡ fault.NotOurs

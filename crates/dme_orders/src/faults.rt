@@ -1,8 +1,9 @@
 // What is shown for an order that was not carried out, and the exit status that goes with it.
 
 ghost use Rattle.std.specs.Prelude.{◌≡◌, string_bytes};
-ghost use Rattle.dme_orders.specs.Printed.{status_of, name_in, AreFilesShown};
+ghost use Rattle.dme_orders.specs.Printed.{status_of, name_in, AreFilesShown, IsExportShown};
 
+use crate::exporting::ExportFault;
 use crate::reading::{FilesFault, Role};
 use contact_ledger::TextFault;
 use dmis_program::ProgramFault;
@@ -131,5 +132,15 @@ pub fn shown_files(fault: FilesFault, names: FileNames) -> OrderFault
         FilesFault::Program(cause) => OrderFault::Program(cause),
         FilesFault::Unread(role) => OrderFault::CannotRead(names.of(role)),
         FilesFault::Write => OrderFault::CannotWriteOutput,
+    }
+}
+
+/// What is shown for the fault of an export, with the names of its files.
+pub fn shown_export(fault: ExportFault, names: FileNames) -> OrderFault
+    ensures { IsExportShown fault (name_in names) result }
+{
+    match fault {
+        ExportFault::Files(cause) => shown_files(cause, names),
+        ExportFault::NotOurs => OrderFault::NotOurs,
     }
 }

@@ -5,6 +5,7 @@
 //! - `reading`: the files of an order are read and understood
 //! - `simulating`: a program is run by a schedule on a simulated machine
 //! - `auditing`: a client's features are judged by a server's contacts
+//! - `exporting`: what was measured is put beside what a program asks for; `explaining`: what a refusal means
 //! - `preparing`: the files of an order over a connection are read before there is one
 //! - `looping`: a program is run over one connection between both ends
 //! - `driving`: a program is run on a server over a connection, and its features are kept
@@ -22,6 +23,8 @@ mod check;
 mod driving;
 mod ended;
 mod ends;
+mod explaining;
+mod exporting;
 mod faults;
 mod looping;
 mod orders;
@@ -38,7 +41,9 @@ pub use check::{CheckFault, check_plan};
 pub use driving::{Driven, drive};
 pub use ended::{Ended, shown_break};
 pub use ends::kept_client;
-pub use faults::{FileNames, OrderFault, shown_files};
+pub use explaining::explain;
+pub use exporting::{ExportFault, Form, export_files};
+pub use faults::{FileNames, OrderFault, shown_export, shown_files};
 pub use looping::loop_over;
 pub use orders::check_under_setup;
 pub use plan::plan_text;

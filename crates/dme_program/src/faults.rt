@@ -14,6 +14,12 @@ pub enum Fault {
     /// A bad command line or a call for help: `clap`'s own text.
     #[error("{0}")]
     Words(WordsError),
+    /// A code that is that of no refusal.
+    #[error("error: invalid value '{0}' for '<CODE>': no refusal has this code\n\nFor more information, try '--help'.\n")]
+    NoCode(String),
+    /// A form that is none.
+    #[error("error: invalid value '{0}' for '--as <FORM>'\n  [possible values: csv]\n\nFor more information, try '--help'.\n")]
+    NoForm(String),
     /// An order that was not carried out.
     #[error("{0}")]
     Order(OrderFault),
@@ -28,6 +34,8 @@ impl From<WordsFault> for Fault {
     fn from(fault: WordsFault) -> Fault {
         match fault {
             WordsFault::Line(error) => Fault::Words(error),
+            WordsFault::NoCode(code) => Fault::NoCode(code),
+            WordsFault::NoForm(word) => Fault::NoForm(word),
             WordsFault::Memory => Fault::Order(OrderFault::Memory),
         }
     }
@@ -50,7 +58,7 @@ impl Fault {
         ensures { result ≡ exit_status self.now }
     {
         match self {
-            Fault::Words(_) => 2,
+            Fault::Words(_) | Fault::NoCode(_) | Fault::NoForm(_) => 2,
             Fault::Order(cause) => cause.status(),
         }
     }

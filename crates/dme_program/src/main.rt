@@ -4,7 +4,7 @@
 //! What an order does stands in `dme_orders`, over ports. This is the edge, where files, sockets and the standard streams are those ports.
 //!
 //! - `running`: an order is carried out on files and the standard streams; `connecting`, `driving_connection`, `serving_connections`: one
-//!   that needs a connection, on sockets too
+//!   that needs a connection, on sockets too; `exporting`: what was measured is printed, and what a refusal means
 //! - `files`: the files of an order as ports; `text_files`: files that are replaced as a whole
 //! - `progress`: lines that tell how far an order is
 //! - `faults`: what is printed on standard error, and the exit status
@@ -12,6 +12,7 @@
 
 mod connecting;
 mod driving_connection;
+mod exporting;
 mod faults;
 mod files;
 mod progress;

@@ -7,6 +7,7 @@ ghost use Rattle.dme_orders.specs.Reading.{On};
 
 use crate::connecting::loop_named;
 use crate::driving_connection::run_named;
+use crate::exporting::{explain_topic, export_named};
 use crate::faults::Fault;
 use crate::files::NamedSource;
 use crate::serving_connections::serve_named;
@@ -247,6 +248,19 @@ fn carry_out<
             progress,
             program,
         } => run_named(rt, setup, host, port, window, features, progress, program),
+        Order::Explain { topic } => {
+            explain_topic(rt, topic)?;
+            Ok(0)
+        }
+        Order::Export {
+            form,
+            setup,
+            features,
+            program,
+        } => {
+            export_named(rt, form, setup, features, program)?;
+            Ok(0)
+        }
     }
 }
 

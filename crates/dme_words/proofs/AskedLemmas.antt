@@ -10,8 +10,8 @@ use Rattle.clap.specs.Walk.{Text, answers_to, nothing_held, rows_after, walk, wa
 use Rattle.clap.specs.Simple.{App, Shape, argument_words, built, built_leaf, entered, inherited, label_of, marked_built, names_of}
 use Rattle.clap.specs.Simple.{on_top, rows_at, subcommand_of, with_leaf_noted}
 use Rattle.clap.specs.Faults.{entered_fault, fault_of, level_fault, walk_fault}
-use Rattle.dme_words.specs.CommandLine.{audit_line, loop_line, run_line, serve_line, simulate_line, whole_line}
-use Rattle.dme_words.specs.Ordered.{HasAudit, HasLoop, HasRun, HasService, HasSimulation, IsAskable}
+use Rattle.dme_words.specs.CommandLine.{audit_line, explain_line, export_line, loop_line, run_line, serve_line, simulate_line, whole_line}
+use Rattle.dme_words.specs.Ordered.{HasAudit, HasExport, HasLoop, HasRun, HasService, HasSimulation, HasValue, IsAskable}
 use Rattle.dme_words.proofs.HelpLemmas.{NotAtHelp, entered_there, first_none, second_none, walk_stops}
 use Rattle.dme_words.proofs.FoundLemmas.{has_number, has_progress, has_value, level_found}
 
@@ -171,6 +171,34 @@ driven words none =
       progress = has_progress c _ _ refl refl found.fit (found.defaulted.1.1.1.1.1.0 (omega arith));
     }
 
+explained : (words : List Text) → level_fault (leaf explain_line) [] nothing_held words false [] ≡ []
+    → HasValue (codes "CODE") (rows_after (leaf explain_line).rules [] words)
+explained words none =
+    let found = level_found (leaf explain_line) words refl ((refl, inl (refl, refl)), ((refl, inr (inr refl)), tt)) none in
+    has_value (leaf explain_line).rules (codes "CODE") _ refl found.fit (found.needed.0 refl)
+
+export : (words : List Text) → level_fault (leaf export_line) [] nothing_held words false [] ≡ []
+    → HasExport (rows_after (leaf export_line).rules [] words)
+export words none =
+    let c = (leaf export_line).rules in
+    let found = level_found (leaf export_line) words refl (
+      (refl, inl (refl, refl)),
+      (
+        (refl, inl (refl, refl)),
+        (
+          (refl, inl (refl, refl)),
+          (
+            (refl, inl (refl, refl)),
+            ((refl, inr (inr refl)), tt),
+          ),
+        ),
+      ),
+    ) none in
+    record {
+      form = has_value c (codes "as") _ refl found.fit (found.needed.0 refl);
+      features = has_value c (codes "features") _ refl found.fit (found.needed.1.1.0 refl);
+    }
+
 -- each subcommand of `dme` may be asked for, and `help` was not met
 serves : (p : Text × List Text) → NotAtHelp (Some p) → Serve p.0 p.1 (built whole_line).subs
 serves p free = (
@@ -184,8 +212,14 @@ serves p free = (
         (
           λ answers none. inr (inr (inr (inr (inl (refl, service p.1 none))))),
           (
-            λ answers none. inr (inr (inr (inr (inr (refl, driven p.1 none))))),
-            (λ answers none. absurd (no_help p.0 p.1 free answers), tt),
+            λ answers none. inr (inr (inr (inr (inr (inl (refl, driven p.1 none)))))),
+            (
+              λ answers none. inr (inr (inr (inr (inr (inr (inl (refl, explained p.1 none))))))),
+              (
+                λ answers none. inr (inr (inr (inr (inr (inr (inr (refl, export p.1 none))))))),
+                (λ answers none. absurd (no_help p.0 p.1 free answers), tt),
+              ),
+            ),
           ),
         ),
       ),

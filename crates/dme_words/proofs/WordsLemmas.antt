@@ -1,5 +1,5 @@
 -- The order of a subcommand, from its name and its values.
-use Rattle.std.proofs.Common.{◌≡◌, Result, Ok, Err, IfOk, IfErr, OnOk, inl, inr, List, [], subst, Option}
+use Rattle.std.proofs.Common.{◌≡◌, Result, Ok, Err, IfOk, IfErr, inl, inr, List, [], subst, Option}
 use Rattle.std.proofs.Common.{refl, ap, sym, ◌∙◌}
 use Rattle.std.specs.Prelude.{IsErrAnd, IsSomeAnd, ◌≢◌}
 use Rattle.clap.specs.Words.{App, FailsBy, IsAmong, is_simple, subcommand_of, HasKind, kind_of, HasMatchesOf, Row, Text, fault_of}
@@ -7,9 +7,9 @@ use Rattle.clap.specs.Words.{subcommand_rows_of}
 use Rattle.clap.specs.declared.parser.matches.ArgMatches.{ArgMatches}
 use Rattle.dme_words.specs.declared.words.Order.{Order}
 use Rattle.dme_words.specs.CommandLine.{whole_line}
-use Rattle.dme_words.specs.Ordered.{Asks, HasFault, IsAskable, IsCalled, IsOrderOf, IsRefusal}
+use Rattle.dme_words.specs.Ordered.{Asks, AsksForNothing, HasFault, HasNoValue, IsAskable, IsCalled, IsOrderOf, IsRefusal}
 use Rattle.dme_words.specs.declared.words.WordsFault.{WordsFault}
-use Rattle.dme_words.specs.declared.words.WordsFault.TheVariants.{Line, Memory}
+use Rattle.dme_words.specs.declared.words.WordsFault.TheVariants.{Line, Memory, NoCode, NoForm}
 use Rattle.clap.specs.declared.error.Error.{Error}
 use Rattle.clap.specs.declared.error.kind.ErrorKind.TheVariants.{OutOfMemory}
 use Rattle.dme_words.proofs.AskedLemmas.{asked}
@@ -34,11 +34,27 @@ of_this a words error told is (inl memory) other same = absurd (other memory)
 of_this a words error told is (inr among) other same = rw same
     (record { fault = subst (λ (x : App). IsAmong (kind_of error) (fault_of x words)) is among; told = other })
 
+-- a subcommand that a parse has found asks for nothing
+has_no_value : (a : App) (words : List Text) (m : ArgMatches) (fault : WordsFault) → a ≡ whole_line → fault_of a words ≡ []
+    → HasMatchesOf a words m → AsksForNothing (subcommand_rows_of m) fault → HasNoValue words fault
+has_no_value a words m fault is none has asks = record {
+  faultless = subst (λ (x : App). fault_of x words ≡ []) is none;
+  named = subst (λ (found : Option (Text × List Row)). AsksForNothing found fault) ((has (ap is_simple is ∙ refl)).1
+      ∙ ap (λ (x : App). subcommand_of x words) is) asks;
+}
+
+refused_value : (a : App) (words : List Text) (m : ArgMatches) (fault : WordsFault) → a ≡ whole_line → fault_of a words ≡ []
+    → HasMatchesOf a words m → AsksForNothing (subcommand_rows_of m) fault → IsRefusal words fault
+refused_value a words m (Line told) is none has asks = absurd asks
+refused_value a words m Memory is none has asks = tt
+refused_value a words m (NoCode code) is none has asks = has_no_value a words m (NoCode code) is none has asks
+refused_value a words m (NoForm word) is none has asks = has_no_value a words m (NoForm word) is none has asks
+
 -- what is asked or refused, by the answer of a parse
 pub asked_or_refused : (a : App) (words : List Text) (answer : Result ArgMatches Error) (result : Result Order WordsFault) → a ≡ whole_line
     → FailsBy (fault_of a words) answer → IfOk answer (HasMatchesOf a words)
     → IfOk answer (λ m. IfOk result (IsOrderOf (subcommand_rows_of m)))
-    → OnOk answer (IfErr result (λ fault. fault ≡ Memory))
+    → IfOk answer (λ m. IfErr result (AsksForNothing (subcommand_rows_of m)))
     → IfErr answer (λ error. IsErrAnd result (IsCalled error))
     → IfOk result (Asks words) × IfErr result (IsRefusal words)
 asked_or_refused a words (Ok m) (Ok order) is none has order_is taken called = (
@@ -49,8 +65,10 @@ asked_or_refused a words (Ok m) (Ok order) is none has order_is taken called = (
   },
   tt,
 )
-asked_or_refused a words (Ok m) (Err fault) is none has order_is taken called = (tt, rw taken tt)
+asked_or_refused a words (Ok m) (Err fault) is none has order_is taken called = (tt, refused_value a words m fault is none has taken)
 asked_or_refused a words (Err error) (Ok order) is kinds has order_is taken called = absurd called
 asked_or_refused a words (Err error) (Err (Line told)) is kinds has order_is taken called =
     (tt, of_this a words error told is kinds called.0 called.1)
 asked_or_refused a words (Err error) (Err Memory) is kinds has order_is taken called = (tt, tt)
+asked_or_refused a words (Err error) (Err (NoCode code)) is kinds has order_is taken called = absurd called
+asked_or_refused a words (Err error) (Err (NoForm word)) is kinds has order_is taken called = absurd called

@@ -66,11 +66,25 @@ run_line = with_rule (with_rule (with_rule (with_rule (with_rule (with_rule (wit
     (needed_rule (codes "setup"))) (needed_rule (codes "host"))) port_rule) window_rule) (text_rule (codes "features"))) progress_rule)
     program_rule
 
+-- the positional `CODE`, which must be named
+abbrev pub code_rule : Rule
+code_rule = record (new_rule (codes "CODE")) { required = true }
+
+-- `explain CODE`
+abbrev pub explain_line : App
+explain_line = with_rule (new_app (codes "explain")) code_rule
+
+-- `export --as FORM [--setup FILE] --features FILE [PROGRAM]`
+abbrev pub export_line : App
+export_line = with_rule (with_rule (with_rule (with_rule (new_app (codes "export")) (needed_rule (codes "as")))
+    (text_rule (codes "setup"))) (needed_rule (codes "features"))) program_rule
+
 -- the command without its subcommands, of which one is required
 abbrev pub bare_line : App
 bare_line = record (new_app (codes "dme")) { top = record (new_app (codes "dme")).top { subcommand_required = true } }
 
 -- `dme COMMAND ..`
 abbrev pub whole_line : App
-whole_line = with_subcommand (with_subcommand (with_subcommand (with_subcommand (with_subcommand (with_subcommand bare_line
-    check_line.top) simulate_line.top) audit_line.top) loop_line.top) serve_line.top) run_line.top
+whole_line = with_subcommand (with_subcommand (with_subcommand (with_subcommand (with_subcommand (with_subcommand (with_subcommand
+    (with_subcommand bare_line check_line.top) simulate_line.top) audit_line.top) loop_line.top) serve_line.top) run_line.top)
+    explain_line.top) export_line.top

@@ -8,11 +8,15 @@ use Rattle.clap.specs.declared.error.kind.ErrorKind.TheVariants.{OutOfMemory}
 use Rattle.clap.specs.Values.{bool_text}
 use Rattle.clap.specs.Words.{IsAmong, IsSignedIn, Row, Text, fault_of, first_of, kind_of, one_of, subcommand_of, without_minus}
 use Rattle.client_core.specs.Clients.{is_window}
+use Rattle.refusal_guide.specs.Titles.{is_called, title_of}
+use Rattle.refusal_guide.specs.declared.topics.Topic.{Topic}
 use Rattle.dme_words.specs.CommandLine.{whole_line}
+use Rattle.dme_words.specs.declared.words.Form.{Form}
+use Rattle.dme_words.specs.declared.words.Form.TheVariants.{Csv}
 use Rattle.dme_words.specs.declared.words.Order.{Order}
-use Rattle.dme_words.specs.declared.words.Order.TheVariants.{Audit, Check, Loop, Run, Serve, Simulate}
+use Rattle.dme_words.specs.declared.words.Order.TheVariants.{Audit, Check, Explain, Export, Loop, Run, Serve, Simulate}
 use Rattle.dme_words.specs.declared.words.WordsFault.{WordsFault}
-use Rattle.dme_words.specs.declared.words.WordsFault.TheVariants.{Line, Memory}
+use Rattle.dme_words.specs.declared.words.WordsFault.TheVariants.{Line, Memory, NoCode, NoForm}
 
 -- the name is the value of the option with this id
 abbrev pub IsValueOf : Text → List Row → Text → Type 0
@@ -93,12 +97,33 @@ IsRunOf rows (Run setup host port window features progress program) =
     × IsProgramOf rows (string_bytes program)
 IsRunOf rows _ = ⊥
 
+-- a code that a refusal is called by, its letters in any case
+abbrev pub IsCodeOf : Topic → Text → Type 0
+IsCodeOf topic code = is_called (title_of topic) code ≡ true
+
+-- the page of the refusal that is called by the named code
+abbrev pub IsExplainOf : List Row → Order → Type 0
+IsExplainOf rows (Explain topic) = IsSomeAnd (first_of (codes "CODE") rows) (IsCodeOf topic)
+IsExplainOf rows _ = ⊥
+
+-- the word for a form
+abbrev pub form_word : Form → Text
+form_word Csv = codes "csv"
+
+-- what was measured of the program, in the named form, with the named features, and with the named setup or with none where none is named
+abbrev pub IsExportOf : List Row → Order → Type 0
+IsExportOf rows (Export form setup features program) =
+    IsValueOf (codes "as") rows (form_word form) × IsMaybeOf (codes "setup") rows (option_map string_bytes setup)
+    × IsValueOf (codes "features") rows (string_bytes features) × IsProgramOf rows (string_bytes program)
+IsExportOf rows _ = ⊥
+
 -- the order of a subcommand with its values, by its name
 abbrev pub IsOrderOf : Option (Text × List Row) → Order → Type 0
 IsOrderOf None order = ⊥
 IsOrderOf (Some p) order = ((p.0 ≡ codes "check") × IsCheckOf p.1 order) ⊎ ((p.0 ≡ codes "simulate") × IsSimulateOf p.1 order)
     ⊎ ((p.0 ≡ codes "audit") × IsAuditOf p.1 order) ⊎ ((p.0 ≡ codes "loop") × IsLoopOf p.1 order)
     ⊎ ((p.0 ≡ codes "serve") × IsServeOf p.1 order) ⊎ ((p.0 ≡ codes "run") × IsRunOf p.1 order)
+    ⊎ ((p.0 ≡ codes "explain") × IsExplainOf p.1 order) ⊎ ((p.0 ≡ codes "export") × IsExportOf p.1 order)
 
 -- the option with this id has a value
 abbrev pub HasValue : Text → List Row → Type 0
@@ -162,10 +187,16 @@ pub record HasRun (rows : List Row) : Type 0 where
   pub window : HasWindow rows
   pub progress : HasProgress rows
 
+-- the values that an export cannot do without are there
+pub record HasExport (rows : List Row) : Type 0 where
+  pub form : HasValue (codes "as") rows
+  pub features : HasValue (codes "features") rows
+
 -- the name of a subcommand of `dme`, with the values that it cannot do without
 abbrev pub IsAskable : Text × List Row → Type 0
 IsAskable p = (p.0 ≡ codes "check") ⊎ ((p.0 ≡ codes "simulate") × HasSimulation p.1) ⊎ ((p.0 ≡ codes "audit") × HasAudit p.1)
     ⊎ ((p.0 ≡ codes "loop") × HasLoop p.1) ⊎ ((p.0 ≡ codes "serve") × HasService p.1) ⊎ ((p.0 ≡ codes "run") × HasRun p.1)
+    ⊎ ((p.0 ≡ codes "explain") × HasValue (codes "CODE") p.1) ⊎ ((p.0 ≡ codes "export") × HasExport p.1)
 
 -- the window is one that a client takes, the port is one that can be listened on, and the count is one of a server's connections
 abbrev pub IsReady : Order → Type 0
@@ -175,6 +206,8 @@ IsReady (Audit setup features contacts program) = Unit {0}
 IsReady (Loop setup window progress program) = is_window window ≡ true
 IsReady (Serve setup port connections contacts progress) = (1 ≤ port) × (1 ≤ connections) × (connections ≤ 4000000000)
 IsReady (Run setup host port window features progress program) = (1 ≤ port) × (is_window window ≡ true)
+IsReady (Explain topic) = Unit {0}
+IsReady (Export form setup features program) = Unit {0}
 
 -- the words are a command line without a fault, and this is the order of the subcommand that they name, with its values
 pub record Asks (words : List Text) (order : Order) : Type 0 where
@@ -186,12 +219,49 @@ pub record HasFault (words : List Text) (error : Error) : Type 0 where
   pub fault : IsAmong (kind_of error) (fault_of whole_line words)
   pub told : kind_of error ≢ OutOfMemory
 
--- only a fault of the words is called a bad line
+-- no refusal is called by the code
+abbrev pub IsNoCode : Text → Type 0
+IsNoCode code = (topic : Topic) → IsCodeOf topic code → ⊥
+
+-- the word stands for no form
+abbrev pub IsNoForm : Text → Type 0
+IsNoForm word = (form : Form) → word ≡ form_word form → ⊥
+
+-- the named code is that of no refusal; or want of memory
+abbrev pub HasNoTopic : List Row → WordsFault → Type 0
+HasNoTopic rows (NoCode code) = IsValueOf (codes "CODE") rows (string_bytes code) × IsNoCode (string_bytes code)
+HasNoTopic rows Memory = Unit {0}
+HasNoTopic rows _ = ⊥
+
+-- the named form is none; or want of memory
+abbrev pub HasNoForm : List Row → WordsFault → Type 0
+HasNoForm rows (NoForm word) = IsValueOf (codes "as") rows (string_bytes word) × IsNoForm (string_bytes word)
+HasNoForm rows Memory = Unit {0}
+HasNoForm rows _ = ⊥
+
+-- why a subcommand asks for nothing: its code is that of no refusal, or its form is none; or want of memory
+abbrev pub AsksForNothing : Option (Text × List Row) → WordsFault → Type 0
+AsksForNothing found (Line error) = ⊥
+AsksForNothing found Memory = Unit {0}
+AsksForNothing found (NoCode code) =
+    IsSomeAnd found (λ p. (p.0 ≡ codes "explain") × HasNoTopic p.1 (NoCode code))
+AsksForNothing found (NoForm word) =
+    IsSomeAnd found (λ p. (p.0 ≡ codes "export") × HasNoForm p.1 (NoForm word))
+
+-- the words are a command line without a fault, and this is why the subcommand that they name asks for nothing
+pub record HasNoValue (words : List Text) (fault : WordsFault) : Type 0 where
+  pub faultless : fault_of whole_line words ≡ []
+  pub named : AsksForNothing (subcommand_of whole_line words) fault
+
+-- only a fault of the words is called a bad line, and only a value that is none a bad value
 abbrev pub IsRefusal : List Text → WordsFault → Type 0
 IsRefusal words (Line error) = HasFault words error
 IsRefusal words Memory = Unit {0}
+IsRefusal words (NoCode code) = HasNoValue words (NoCode code)
+IsRefusal words (NoForm word) = HasNoValue words (NoForm word)
 
 -- what an error of `clap` is called: want of memory just where it is that, and a bad line, with its text, where it is any other
 abbrev pub IsCalled : Error → WordsFault → Type 0
 IsCalled error (Line told) = (kind_of error ≢ OutOfMemory) × (told ≡ error)
 IsCalled error Memory = kind_of error ≡ OutOfMemory
+IsCalled error _ = ⊥

@@ -7,4 +7,4 @@
 mod line;
 pub mod words;
 
-pub use words::{Order, WordsFault, read_words};
+pub use words::{Form, Order, WordsFault, read_words};

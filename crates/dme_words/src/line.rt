@@ -5,7 +5,7 @@ ghost use Rattle.clap.specs.declared.builder.command.Command.TheViews.{out-Comma
 ghost use Rattle.clap.specs.Words.{app_of, rule_of};
 ghost use Rattle.dme_words.specs.CommandLine.{text_rule, needed_rule, window_rule, port_rule, connections_rule, progress_rule};
 ghost use Rattle.dme_words.specs.CommandLine.{program_rule, check_line, simulate_line, audit_line, loop_line, serve_line, run_line};
-ghost use Rattle.dme_words.specs.CommandLine.{bare_line, whole_line};
+ghost use Rattle.dme_words.specs.CommandLine.{code_rule, explain_line, export_line, bare_line, whole_line};
 
 use clap::{Arg, ArgAction, Command};
 use std::alloc::{AllocError, Global};
@@ -201,6 +201,54 @@ fn run_command<'a>(alloc: Global) -> Result<Command<'a>, AllocError>
         .arg(program_argument(alloc))
 }
 
+/// `CODE`.
+fn code_argument<'a>(alloc: Global) -> Arg<'a>
+    ensures rule { rule_of result ≡ code_rule }
+    ensures local { result.global ≡ false }
+{
+    Arg::new(alloc, "CODE")
+        .help(
+            "The code of a refusal, as P5, or the number of a server's error, as 9012; in any letter case",
+        )
+        .required(true)
+}
+
+/// `explain CODE`.
+fn explain_command<'a>(alloc: Global) -> Result<Command<'a>, AllocError>
+    ensures shape { IfOk result (λ command. app_of command ≡ explain_line) }
+    ensures local { IfOk result (λ command. (out-Command command).has_globals ≡ false) }
+{
+    Command::new(alloc, "explain")
+        .about("Says what a refusal means and what to do about it")
+        .arg(code_argument(alloc))
+}
+
+/// `--as FORM`.
+fn form_option<'a>(alloc: Global) -> Arg<'a>
+    ensures rule { rule_of result ≡ needed_rule (codes "as") }
+    ensures local { result.global ≡ false }
+{
+    Arg::new(alloc, "as")
+        .long("as")
+        .value_name("FORM")
+        .help("The form that is printed: csv, comma-separated values")
+        .required(true)
+}
+
+/// `export --as FORM [--setup FILE] --features FILE [PROGRAM]`.
+fn export_command<'a>(alloc: Global) -> Result<Command<'a>, AllocError>
+    ensures shape { IfOk result (λ command. app_of command ≡ export_line) }
+    ensures local { IfOk result (λ command. (out-Command command).has_globals ≡ false) }
+{
+    let measured = "The features that were measured; - is standard input";
+    Command::new(alloc, "export")
+        .about("Prints how far the measured points of features lie from their nominal points")
+        .arg(form_option(alloc))?
+        .arg(setup_option(alloc))?
+        .arg(needed_option(alloc, "features", measured))?
+        .arg(program_argument(alloc))
+}
+
 /// `dme`, without its subcommands.
 fn bare_command<'a>(alloc: Global) -> Command<'a>
     ensures shape { app_of result ≡ bare_line }
@@ -222,5 +270,7 @@ pub(crate) fn whole_command<'a>(alloc: Global) -> Result<Command<'a>, AllocError
         .subcommand(audit_command(alloc)?)?
         .subcommand(loop_command(alloc)?)?
         .subcommand(serve_command(alloc)?)?
-        .subcommand(run_command(alloc)?)
+        .subcommand(run_command(alloc)?)?
+        .subcommand(explain_command(alloc)?)?
+        .subcommand(export_command(alloc)?)
 }

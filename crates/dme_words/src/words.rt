@@ -1,11 +1,12 @@
 // The command line.
 
-ghost use Rattle.std.specs.Prelude.{◌≡◌, ◌≤◌, IfOk, IfErr, OnOk, IsErrAnd, IsSomeAnd, map, true, string_bytes};
+ghost use Rattle.std.specs.Prelude.{◌≡◌, ◌≤◌, IfOk, IfErr, IsErrAnd, IsSomeAnd, MatchOption, map, true, codes, string_bytes};
 ghost use Rattle.std.specs.Option.{option_map};
 ghost use Rattle.clap.specs.Words.{first_of, found_of, rows_of, subcommand_rows_of};
 ghost use Rattle.client_core.specs.Clients.{is_window};
 ghost use Rattle.dme_words.specs.Ordered.{IsValueOf, IsMaybeOf, IsProgramOf, IsWindowOf, IsPortOf, IsConnectionsOf, IsProgressOf};
 ghost use Rattle.dme_words.specs.Ordered.{IsCheckOf, IsSimulateOf, IsAuditOf, IsLoopOf, IsServeOf, IsRunOf, IsOrderOf};
+ghost use Rattle.dme_words.specs.Ordered.{IsExplainOf, IsExportOf, HasExport, AsksForNothing, IsNoCode, IsNoForm, IsCodeOf, form_word, HasNoTopic, HasNoForm};
 ghost use Rattle.dme_words.specs.Ordered.{HasValue, HasWindow, HasPort, HasConnections, HasProgress};
 ghost use Rattle.dme_words.specs.Ordered.{HasSimulation, HasAudit, HasLoop, HasService, HasRun};
 ghost use Rattle.dme_words.specs.Ordered.{IsAskable, IsReady, Asks, IsRefusal, IsCalled};
@@ -13,7 +14,15 @@ ghost use Rattle.dme_words.specs.Ordered.{IsAskable, IsReady, Asks, IsRefusal, I
 use crate::line::whole_command;
 use clap::error::ErrorKind;
 use clap::{ArgMatches, Error};
+use refusal_guide::Topic;
 use std::alloc::{AllocError, Global};
+
+/// A form in which what was measured is printed.
+#[derive(Clone, Copy, Debug, PartialEq, Eq)]
+pub enum Form {
+    /// Comma-separated values (RFC 4180).
+    Csv,
+}
 
 /// What the words of a command line ask for, with its values.
 #[derive(Debug, Drop)]
@@ -88,6 +97,22 @@ pub enum Order {
         /// The file of the program; `-` is standard input.
         program: String,
     },
+    /// Say what a refusal means and what to do about it.
+    Explain {
+        /// The refusal.
+        topic: Topic,
+    },
+    /// Print how far the measured points of features lie from their nominal points.
+    Export {
+        /// The form that is printed.
+        form: Form,
+        /// The file of the machine's setup, whose frames the program may recall; `-` is standard input.
+        setup: Option<String>,
+        /// The file of the features that were measured; `-` is standard input.
+        features: String,
+        /// The file of the program; `-` is standard input.
+        program: String,
+    },
 }
 
 /// Why words ask for nothing.
@@ -95,6 +120,10 @@ pub enum Order {
 pub enum WordsFault {
     /// A bad command line, or a call for help, with `clap`'s text.
     Line(Error),
+    /// A code that is that of no refusal.
+    NoCode(String),
+    /// A word that stands for no form.
+    NoForm(String),
     /// Want of memory.
     Memory,
 }
@@ -309,19 +338,75 @@ fn run_order(alloc: Global, values: &ArgMatches) -> Result<Order, AllocError>
     })
 }
 
+/// The refusal that is called by this code, its letters in any case.
+fn topic_of(code: String) -> Result<Topic, WordsFault>
+    ensures ok { IfOk result (λ topic. IsCodeOf topic (string_bytes code)) }
+    ensures err { IfErr result (λ fault. (fault ≡ WordsFault.NoCode code)
+        × IsNoCode (string_bytes code)) }
+{
+    match Topic::of_code(code.as_bytes()) {
+        Some(topic) => Ok(topic),
+        None => Err(WordsFault::NoCode(code)),
+    }
+}
+
+/// The order of `explain` with these values.
+fn explain_order(alloc: Global, values: &ArgMatches) -> Result<Order, WordsFault>
+    requires { HasValue (codes "CODE") (rows_of (found_of values.now)) }
+    ensures named { IfOk result (IsExplainOf (rows_of (found_of values.now))) }
+    ensures ready { IfOk result IsReady }
+    ensures none { IfErr result (HasNoTopic (rows_of (found_of values.now))) }
+{
+    let code = copied_value(alloc, values, "CODE")?;
+    let topic = topic_of(code)?;
+    Ok(Order::Explain { topic })
+}
+
+/// The form that a word stands for.
+fn form_of(word: String) -> Result<Form, WordsFault>
+    ensures ok { IfOk result (λ form. string_bytes word ≡ form_word form) }
+    ensures err { IfErr result (λ fault. (fault ≡ WordsFault.NoForm word)
+        × IsNoForm (string_bytes word)) }
+{
+    match word.as_str() {
+        "csv" => Ok(Form::Csv),
+        _ => Err(WordsFault::NoForm(word)),
+    }
+}
+
+/// The order of `export` with these values.
+fn export_order(alloc: Global, values: &ArgMatches) -> Result<Order, WordsFault>
+    requires { HasExport (rows_of (found_of values.now)) }
+    ensures named { IfOk result (IsExportOf (rows_of (found_of values.now))) }
+    ensures ready { IfOk result IsReady }
+    ensures none { IfErr result (HasNoForm (rows_of (found_of values.now))) }
+{
+    let word = copied_value(alloc, values, "as")?;
+    let form = form_of(word)?;
+    Ok(Order::Export {
+        form,
+        setup: copied_maybe(alloc, values, "setup")?,
+        features: copied_value(alloc, values, "features")?,
+        program: copied_program(alloc, values)?,
+    })
+}
+
 /// The order of the subcommand that `clap` found, with its values.
-fn order_of(alloc: Global, matches: &ArgMatches) -> Result<Order, AllocError>
+fn order_of(alloc: Global, matches: &ArgMatches) -> Result<Order, WordsFault>
     requires { IsSomeAnd (subcommand_rows_of matches.now) IsAskable }
     ensures named { IfOk result (IsOrderOf (subcommand_rows_of matches.now)) }
     ensures ready { IfOk result IsReady }
+    ensures none { IfErr result (AsksForNothing (subcommand_rows_of matches.now)) }
 {
     match matches.subcommand() {
-        Some(("check", values)) => check_order(alloc, values),
-        Some(("simulate", values)) => simulate_order(alloc, values),
-        Some(("audit", values)) => audit_order(alloc, values),
-        Some(("loop", values)) => loop_order(alloc, values),
-        Some(("serve", values)) => serve_order(alloc, values),
-        Some(("run", values)) => run_order(alloc, values),
+        Some(("check", values)) => Ok(check_order(alloc, values)?),
+        Some(("simulate", values)) => Ok(simulate_order(alloc, values)?),
+        Some(("audit", values)) => Ok(audit_order(alloc, values)?),
+        Some(("loop", values)) => Ok(loop_order(alloc, values)?),
+        Some(("serve", values)) => Ok(serve_order(alloc, values)?),
+        Some(("run", values)) => Ok(run_order(alloc, values)?),
+        Some(("explain", values)) => explain_order(alloc, values),
+        Some(("export", values)) => export_order(alloc, values),
         _ => unreachable!(),
     }
 }
@@ -336,24 +421,27 @@ fn refusal_of(error: Error) -> WordsFault
     WordsFault::Line(error)
 }
 
-/// What `clap`'s answer asks for. Words that it takes are refused only for want of memory, in copying a value.
+/// What `clap`'s answer asks for. Words that it takes are refused only for a code that is that of no refusal, for a form that is none, and
+/// for want of memory, in copying a value.
 fn answered(alloc: Global, answer: Result<ArgMatches, Error>) -> Result<Order, WordsFault>
     requires { IfOk answer (λ matches. IsSomeAnd (subcommand_rows_of matches) IsAskable) }
     ensures order { IfOk answer.entry (λ matches. IfOk result
         (IsOrderOf (subcommand_rows_of matches))) }
     ensures ready { IfOk result IsReady }
-    ensures taken { OnOk answer.entry (IfErr result (λ fault. fault ≡ WordsFault.Memory)) }
+    ensures taken { IfOk answer.entry (λ matches. IfErr result
+        (AsksForNothing (subcommand_rows_of matches))) }
     ensures refused { IfErr answer.entry (λ error. IsErrAnd result (IsCalled error)) }
 {
     match answer {
-        Ok(matches) => Ok(order_of(alloc, &matches)?),
+        Ok(matches) => order_of(alloc, &matches),
         Err(error) => Err(refusal_of(error)),
     }
 }
 
 /// What the words of a command line ask for. The first word names the program in `clap`'s texts.
 ///
-/// Words are a bad line only for a fault that they have. Want of memory is told as that alone, in building the command, in `clap`,
+/// Words are a bad line only for a fault that they have; a code is refused only where it is that of no refusal, and a form where it is none.
+/// Want of memory is told as that alone, in building the command, in `clap`,
 /// or in copying a value.
 pub fn read_words<'a>(alloc: Global, words: &'a [&'a str]) -> Result<Order, WordsFault>
     ensures order { IfOk result (Asks (map (λ word. word.now) words.now)) }

@@ -7,3 +7,4 @@ pub mod ReadLemmas
 pub mod WrittenLemmas
 pub mod ComputedLemmas
 pub mod Displayed
+pub mod FrontLemmas

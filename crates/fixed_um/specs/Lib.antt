@@ -9,3 +9,4 @@ pub mod Written
 pub mod Taken
 pub mod Points
 pub mod Computed
+pub mod Fronts

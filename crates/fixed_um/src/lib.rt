@@ -7,6 +7,7 @@
 //! - `frames`: `Frame`
 //! - `numerals`: `read_um`, `read_dir`, and why a text is refused
 //! - `scanning`: the steps by which a numeral is taken apart
+//! - `front`: `cut_um`, a written length at the front of a text
 //! - `plain`: the numerals that one machine word takes, which nearly all are
 //! - `points`: sums and differences of points
 //! - `rounding`: the whole number nearest to a fraction
@@ -17,6 +18,7 @@
 pub mod directions;
 mod display;
 pub mod frames;
+mod front;
 pub mod lengths;
 pub mod naming;
 pub mod numerals;
@@ -28,6 +30,7 @@ pub mod writing;
 
 pub use directions::Dir;
 pub use frames::Frame;
+pub use front::cut_um;
 pub use lengths::{Point, Um};
 pub use naming::Name;
 pub use numerals::{NumeralFault, computed_reading, is_zero, one_reading, read_dir, read_um};

@@ -52,7 +52,8 @@ fn magnitude(digits: u128, up: u32, down: u32, limit: u64) -> Option<u64>
     Some(magnitude as u64)
 }
 
-fn with_sign(negative: bool, magnitude: u64) -> i64
+#[inline]
+pub(crate) fn with_sign(negative: bool, magnitude: u64) -> i64
     requires { magnitude ≤ wire_limit }
     ensures { result ≡ signed negative magnitude }
 {

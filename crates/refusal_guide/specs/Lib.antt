@@ -1,1 +1,2 @@
 pub mod Titles
+pub mod Pages

@@ -24,9 +24,15 @@ returns c =
     let fifth = joins_locally c.in_ok-subcommand-4.field-0 c.in_ok-serve_command.field-0 c.in_ok-subcommand-5.field-0
     c.in_ok-subcommand-5.ensures fourth.1 c.in_ok-serve_command.ensures.local in
     let fifth-line = fifth.0 ∙ ap₂ with_subcommand fourth-line (ap top c.in_ok-serve_command.ensures.shape) in
+    let sixth = joins_locally c.in_ok-subcommand-5.field-0 c.in_ok-run_command.field-0 c.in_ok-subcommand-6.field-0
+    c.in_ok-subcommand-6.ensures fifth.1 c.in_ok-run_command.ensures.local in
+    let sixth-line = sixth.0 ∙ ap₂ with_subcommand fifth-line (ap top c.in_ok-run_command.ensures.shape) in
+    let seventh = joins_locally c.in_ok-subcommand-6.field-0 c.in_ok-explain_command.field-0 c.in_ok-subcommand-7.field-0
+    c.in_ok-subcommand-7.ensures sixth.1 c.in_ok-explain_command.ensures.local in
+    let seventh-line = seventh.0 ∙ ap₂ with_subcommand sixth-line (ap top c.in_ok-explain_command.ensures.shape) in
     record {
-      shape = IfOk-weaker c.subcommand-6.result _ _ (λ command added. added.shape c.in_ok-run_command.ensures.local
-          ∙ ap₂ with_subcommand fifth-line (ap top c.in_ok-run_command.ensures.shape)) c.subcommand-6.ensures;
-      local = IfOk-weaker c.subcommand-6.result _ _
-          (λ command added. (joins_locally _ _ command added fifth.1 c.in_ok-run_command.ensures.local).1) c.subcommand-6.ensures;
+      shape = IfOk-weaker c.subcommand-8.result _ _ (λ command added. added.shape c.in_ok-export_command.ensures.local
+          ∙ ap₂ with_subcommand seventh-line (ap top c.in_ok-export_command.ensures.shape)) c.subcommand-8.ensures;
+      local = IfOk-weaker c.subcommand-8.result _ _
+          (λ command added. (joins_locally _ _ command added seventh.1 c.in_ok-export_command.ensures.local).1) c.subcommand-8.ensures;
     }

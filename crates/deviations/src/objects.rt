@@ -1,0 +1,362 @@
+// The table as JSON.
+
+ghost use Rattle.std.specs.Prelude.{◌≡◌, ◌++◌, ◌∷◌, [], IfOk, OnOk, decimal};
+ghost use Rattle.json.specs.Token.{key, number, string, null};
+ghost use Rattle.json.specs.Lex.{tokens};
+ghost use Rattle.fixed_um.specs.Calls.{Writes};
+ghost use Rattle.deviations.specs.Json.{
+  Puts,
+  length_member,
+  length_members,
+  component_member,
+  components_of,
+  length_or_null,
+  kind_of,
+  place_of,
+  feature_member,
+  count_member,
+  nominal_members,
+  normal_members,
+  measured_members,
+  deviation_members,
+  along_member,
+  tool_member,
+  kind_member,
+  place_members,
+  connection_member,
+  asked_members,
+  found_members,
+  means_members,
+  row_tokens,
+  json_tokens,
+  array_text,
+  json_of,
+};
+
+use crate::along::Deviation;
+use crate::printed::{Micrometres, Millionths};
+use crate::rows::Row;
+use fixed_um::{Dir, Frame, Name, Point};
+use json::Writer;
+use std::alloc::{AllocError, Global};
+
+#[tactic(auto, using(crate::proofs::Numbers::written_is_number))]
+fn put_length(alloc: Global, json: &mut Writer, name: &str, length: i128) -> Result<(), AllocError>
+    ensures { Puts result json.old json.new (length_member name.now length) }
+{
+    let length = Micrometres(length);
+    let text = format!(in alloc; "{length}")?;
+    json.key(name)?;
+    json.number(text.as_str())
+}
+
+#[tactic(auto, using(crate::proofs::Numbers::component_is_number))]
+fn put_component(
+    alloc: Global,
+    json: &mut Writer,
+    name: &str,
+    component: i64,
+) -> Result<(), AllocError>
+    ensures { Puts result json.old json.new (component_member name.now component) }
+{
+    let component = Millionths(component);
+    let text = format!(in alloc; "{component}")?;
+    json.key(name)?;
+    json.number(text.as_str())
+}
+
+fn put_number(json: &mut Writer, name: &str, value: u64) -> Result<(), AllocError>
+    ensures { Puts result json.old json.new (key name.now ∷ number (decimal value) ∷ []) }
+{
+    json.key(name)?;
+    json.u64(value)
+}
+
+fn put_null(json: &mut Writer, name: &str) -> Result<(), AllocError>
+    ensures { Puts result json.old json.new (key name.now ∷ null ∷ []) }
+{
+    json.key(name)?;
+    json.null()
+}
+
+fn put_text(json: &mut Writer, name: &str, text: &str) -> Result<(), AllocError>
+    ensures { Puts result json.old json.new (key name.now ∷ string text.now ∷ []) }
+{
+    json.key(name)?;
+    json.string(text)
+}
+
+fn put_name(alloc: Global, json: &mut Writer, name: &str, value: &Name) -> Result<(), AllocError>
+    ensures { Puts result json.old json.new (key name.now ∷ string value.now ∷ []) }
+{
+    let text = format!(in alloc; "{value}")?;
+    put_text(json, name, text.as_str())
+}
+
+fn put_lengths(
+    alloc: Global,
+    json: &mut Writer,
+    first: &str,
+    second: &str,
+    third: &str,
+    x: i128,
+    y: i128,
+    z: i128,
+) -> Result<(), AllocError>
+    ensures { Puts result json.old json.new (length_members first.now second.now third.now x y z) }
+{
+    put_length(alloc, json, first, x)?;
+    put_length(alloc, json, second, y)?;
+    put_length(alloc, json, third, z)?;
+    Ok(())
+}
+
+fn put_point(
+    alloc: Global,
+    json: &mut Writer,
+    first: &str,
+    second: &str,
+    third: &str,
+    point: Point,
+) -> Result<(), AllocError>
+    ensures { Puts result json.old json.new
+        (length_members first.now second.now third.now point.x point.y point.z) }
+{
+    let x = i128::from(point.x.get());
+    let y = i128::from(point.y.get());
+    let z = i128::from(point.z.get());
+    put_lengths(alloc, json, first, second, third, x, y, z)?;
+    Ok(())
+}
+
+fn put_direction(
+    alloc: Global,
+    json: &mut Writer,
+    first: &str,
+    second: &str,
+    third: &str,
+    normal: Option<Dir>,
+) -> Result<(), AllocError>
+    ensures { Puts result json.old json.new (components_of first.now second.now third.now normal) }
+{
+    match normal {
+        Some(direction) => {
+            put_component(alloc, json, first, direction.i)?;
+            put_component(alloc, json, second, direction.j)?;
+            put_component(alloc, json, third, direction.k)?;
+            Ok(())
+        }
+        None => {
+            put_null(json, first)?;
+            put_null(json, second)?;
+            put_null(json, third)?;
+            Ok(())
+        }
+    }
+}
+
+fn put_length_or_null(
+    alloc: Global,
+    json: &mut Writer,
+    name: &str,
+    length: Option<i128>,
+) -> Result<(), AllocError>
+    ensures { Puts result json.old json.new (length_or_null name.now length) }
+{
+    match length {
+        Some(length) => put_length(alloc, json, name, length)?,
+        None => put_null(json, name)?,
+    }
+    Ok(())
+}
+
+fn kind_of(frame: Frame) -> &'static str
+    ensures { result.now ≡ kind_of frame }
+{
+    match frame {
+        Frame::Machine => "MACHINE",
+        Frame::Part(_) => "PART",
+    }
+}
+
+fn place_of(frame: Frame) -> Point
+    ensures { result ≡ place_of frame }
+{
+    match frame {
+        Frame::Machine => Point::zero(),
+        Frame::Part(offset) => offset,
+    }
+}
+
+#[tactic(auto, unfolding(crate::specs::Json::feature_member))]
+fn put_feature(alloc: Global, json: &mut Writer, feature: &Name) -> Result<(), AllocError>
+    ensures { Puts result json.old json.new (feature_member feature.now) }
+{
+    put_name(alloc, json, "feature", feature)?;
+    Ok(())
+}
+
+#[tactic(auto, unfolding(crate::specs::Json::count_member))]
+fn put_count(json: &mut Writer, number: u64) -> Result<(), AllocError>
+    ensures { Puts result json.old json.new (count_member number) }
+{
+    put_number(json, "point", number)?;
+    Ok(())
+}
+
+#[tactic(auto, unfolding(crate::specs::Json::nominal_members))]
+fn put_nominal(alloc: Global, json: &mut Writer, point: Point) -> Result<(), AllocError>
+    ensures { Puts result json.old json.new (nominal_members point) }
+{
+    put_point(alloc, json, "nominal_x", "nominal_y", "nominal_z", point)?;
+    Ok(())
+}
+
+#[tactic(auto, unfolding(crate::specs::Json::normal_members))]
+fn put_normal(alloc: Global, json: &mut Writer, normal: Option<Dir>) -> Result<(), AllocError>
+    ensures { Puts result json.old json.new (normal_members normal) }
+{
+    put_direction(alloc, json, "normal_i", "normal_j", "normal_k", normal)?;
+    Ok(())
+}
+
+#[tactic(auto, unfolding(crate::specs::Json::measured_members))]
+fn put_measured(alloc: Global, json: &mut Writer, point: Point) -> Result<(), AllocError>
+    ensures { Puts result json.old json.new (measured_members point) }
+{
+    put_point(alloc, json, "measured_x", "measured_y", "measured_z", point)?;
+    Ok(())
+}
+
+#[tactic(auto, unfolding(crate::specs::Json::deviation_members))]
+fn put_deviation(alloc: Global, json: &mut Writer, deviation: Deviation) -> Result<(), AllocError>
+    ensures { Puts result json.old json.new (deviation_members deviation) }
+{
+    let x = i128::from(deviation.x);
+    let y = i128::from(deviation.y);
+    let z = i128::from(deviation.z);
+    put_lengths(
+        alloc,
+        json,
+        "deviation_x",
+        "deviation_y",
+        "deviation_z",
+        x,
+        y,
+        z,
+    )?;
+    Ok(())
+}
+
+#[tactic(auto, unfolding(crate::specs::Json::along_member))]
+fn put_along(alloc: Global, json: &mut Writer, along: Option<i128>) -> Result<(), AllocError>
+    ensures { Puts result json.old json.new (along_member along) }
+{
+    put_length_or_null(alloc, json, "deviation_along_normal", along)?;
+    Ok(())
+}
+
+#[tactic(auto, unfolding(crate::specs::Json::tool_member))]
+fn put_tool(alloc: Global, json: &mut Writer, tool: &Name) -> Result<(), AllocError>
+    ensures { Puts result json.old json.new (tool_member tool.now) }
+{
+    put_name(alloc, json, "tool", tool)?;
+    Ok(())
+}
+
+#[tactic(auto, unfolding(crate::specs::Json::kind_member))]
+fn put_kind(json: &mut Writer, frame: Frame) -> Result<(), AllocError>
+    ensures { Puts result json.old json.new (kind_member frame) }
+{
+    put_text(json, "frame", kind_of(frame))?;
+    Ok(())
+}
+
+#[tactic(auto, unfolding(crate::specs::Json::place_members))]
+fn put_place(alloc: Global, json: &mut Writer, place: Point) -> Result<(), AllocError>
+    ensures { Puts result json.old json.new (place_members place) }
+{
+    put_point(alloc, json, "frame_x", "frame_y", "frame_z", place)?;
+    Ok(())
+}
+
+#[tactic(auto, unfolding(crate::specs::Json::connection_member))]
+fn put_connection(json: &mut Writer, connection: Option<u64>) -> Result<(), AllocError>
+    ensures { Puts result json.old json.new (connection_member connection) }
+{
+    match connection {
+        Some(number) => put_number(json, "connection", number)?,
+        None => put_null(json, "connection")?,
+    }
+    Ok(())
+}
+
+/// What was asked for.
+#[tactic(auto, unfolding(crate::specs::Json::asked_members))]
+fn put_asked(alloc: Global, json: &mut Writer, row: &Row<'_>) -> Result<(), AllocError>
+    ensures { Puts result json.old json.new (asked_members row.now) }
+{
+    put_feature(alloc, json, row.feature())?;
+    put_count(json, row.number())?;
+    put_nominal(alloc, json, row.nominal())?;
+    put_normal(alloc, json, row.normal())?;
+    Ok(())
+}
+
+/// What was found.
+#[tactic(auto, unfolding(crate::specs::Json::found_members))]
+fn put_found(alloc: Global, json: &mut Writer, row: &Row<'_>) -> Result<(), AllocError>
+    ensures { Puts result json.old json.new (found_members row.now) }
+{
+    put_measured(alloc, json, row.measured())?;
+    put_deviation(alloc, json, row.deviation())?;
+    put_along(alloc, json, row.along())?;
+    Ok(())
+}
+
+/// With what, and where.
+#[tactic(auto, unfolding(crate::specs::Json::means_members))]
+fn put_means(alloc: Global, json: &mut Writer, row: &Row<'_>) -> Result<(), AllocError>
+    ensures { Puts result json.old json.new (means_members row.now) }
+{
+    put_tool(alloc, json, row.tool())?;
+    put_kind(json, row.frame())?;
+    put_place(alloc, json, place_of(row.frame()))?;
+    put_connection(json, row.connection())?;
+    Ok(())
+}
+
+/// The object of a row.
+#[tactic(auto, unfolding(crate::specs::Json::row_tokens))]
+fn put_row(alloc: Global, json: &mut Writer, row: &Row<'_>) -> Result<(), AllocError>
+    ensures { Puts result json.old json.new (row_tokens row.now) }
+{
+    json.begin_object()?;
+    put_asked(alloc, json, row)?;
+    put_found(alloc, json, row)?;
+    put_means(alloc, json, row)?;
+    json.end_object()?;
+    Ok(())
+}
+
+/// Appends a table as JSON (RFC 8259), in one line that ends with LF: an array with an object for each row, its members named as the columns of
+/// `write_csv` are. A length is a number in millimetres with three decimals, a component of a normal one with six, each written exactly and
+/// by no floating point; `null` stands where there is no normal, or where it is not known which connection a feature comes from.
+/// Only want of memory is an `Err`, and then nothing is appended.
+pub fn write_json(out: &mut Vec<u8>, rows: &[Row<'_>]) -> Result<(), AllocError>
+    ensures text { Writes result out.old out.new (json_of rows.now) }
+    ensures reads_back { OnOk result (tokens (array_text rows.now) ≡ json_tokens rows.now) }
+{
+    let alloc = *out.allocator();
+    let mut json = Writer::new(Vec::new(alloc));
+    json.begin_array()?;
+    let mut left = rows;
+    while let [row, others @ ..] = left {
+        put_row(alloc, &mut json, row)?;
+        left = others;
+    }
+    json.end_array()?;
+    let mut text = json.into_inner();
+    text.extend_from_slice(b"\n")?;
+    out.extend_from_slice(text.as_slice())
+}

@@ -1,0 +1,47 @@
+# Completion of dme in bash. Source it:  . docs/dme.bash
+_dme()
+{
+    local word=${COMP_WORDS[COMP_CWORD]} before=${COMP_WORDS[COMP_CWORD - 1]} options
+    COMPREPLY=()
+    if (( COMP_CWORD == 1 )); then
+        mapfile -t COMPREPLY < <(compgen -W "check simulate audit loop serve run explain export help --help" -- "$word")
+        return
+    fi
+    case $before in
+        --setup | --schedule | --features | --contacts)
+            mapfile -t COMPREPLY < <(compgen -f -- "$word")
+            return ;;
+        --as)
+            mapfile -t COMPREPLY < <(compgen -W "csv" -- "$word")
+            return ;;
+        --host)
+            mapfile -t COMPREPLY < <(compgen -A hostname -- "$word")
+            return ;;
+        --port | --window | --connections)
+            return ;;
+    esac
+    case ${COMP_WORDS[1]} in
+        check) options="--setup" ;;
+        simulate) options="--setup --schedule --window" ;;
+        audit) options="--setup --features --contacts" ;;
+        loop) options="--setup --window --progress" ;;
+        serve) options="--setup --port --connections --contacts --progress" ;;
+        run) options="--setup --host --port --window --features --progress" ;;
+        export) options="--as --setup --features" ;;
+        explain)
+            options="P1 P2 P3 P4 P5 P6 P7 P8 P9 P10 P11 P12 P13 P14 P15 P16 N1 N2 N3 S1 S2 S3 H1 K1 C4"
+            options+=" 9001 9002 9003 9004 9005 9006 9007 9008 9009 9010 9011 9012 9013 9014 9015"
+            [[ $word == [a-z]* ]] && options=${options,,}
+            [[ $word == -* ]] && options=--help
+            mapfile -t COMPREPLY < <(compgen -W "$options" -- "$word")
+            return ;;
+        help) options="check simulate audit loop serve run explain export" ;;
+        *) return ;;
+    esac
+    if [[ ${COMP_WORDS[1]} == help || $word == -* ]]; then
+        mapfile -t COMPREPLY < <(compgen -W "$options --help" -- "$word")
+    elif [[ ${COMP_WORDS[1]} != serve ]]; then
+        mapfile -t COMPREPLY < <(compgen -f -- "$word")
+    fi
+}
+complete -o filenames -F _dme dme

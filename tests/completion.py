@@ -1,0 +1,62 @@
+"""Sources docs/dme.bash in bash, and holds what it completes against what the program itself says: its commands, the options of each, the
+forms, and the codes that `dme explain` knows.
+
+`run` calls this; by itself: tests/completion.py
+"""
+
+import pathlib
+import re
+import subprocess
+import sys
+
+ROOT = pathlib.Path(__file__).resolve().parent.parent
+PROGRAM = ROOT / "crates" / "dme_program" / "out" / "dme_program"
+SECONDS = 20
+COMPLETE = 'source docs/dme.bash && COMP_WORDS=("$@") && COMP_CWORD=$(($# - 1)) && _dme && printf "%s\\n" "${COMPREPLY[@]}"'
+
+
+def completed(*words):
+    """What bash offers for the last of these words behind `dme`."""
+    run = subprocess.run(["bash", "-c", COMPLETE, "bash", "dme", *words], cwd=ROOT, capture_output=True, text=True, timeout=SECONDS, check=True)
+    return set(run.stdout.split())
+
+
+def told(*words):
+    run = subprocess.run([PROGRAM, *words], cwd=ROOT, capture_output=True, text=True, timeout=SECONDS)
+    return run.returncode, run.stdout + run.stderr
+
+
+def commands():
+    return set(re.findall(r"^  (\w+) ", told("--help")[1].partition("Commands:")[2].partition("Options:")[0], re.MULTILINE))
+
+
+def options(command):
+    return set(re.findall(r"--[a-z]+", told(command, "--help")[1].partition("Options:")[2]))
+
+
+def is_whole(name):
+    """Whether this is completed as the program says."""
+    if name == "commands":
+        return completed("") == commands() | {"--help"}
+    if name == "codes":
+        codes = completed("explain", "")
+        small = completed("explain", "p")
+        known = all(told("explain", it)[0] == 0 for it in codes | small)
+        return len(codes) == 40 and small == {it.lower() for it in codes if it[0] == "P"} and known
+    if name == "forms":
+        return completed("export", "--as", "") == set(re.findall(r"FORM> +The form that is printed: (\w+)", told("export", "--help")[1]))
+    return completed(name, "--") == options(name)
+
+
+def check_completion():
+    """How many lists are as the program says, and how many are not."""
+    names = ["commands", "codes", "forms", "check", "simulate", "audit", "loop", "serve", "run", "explain", "export"]
+    wrong = [it for it in names if not (PROGRAM.exists() and is_whole(it))]
+    for name in wrong:
+        print(f"completion of {name}: not as the program says")
+    print(f"completions: {len(names) - len(wrong)} of {len(names)}", flush=True)
+    return len(names) - len(wrong), len(wrong)
+
+
+if __name__ == "__main__":
+    sys.exit(1 if check_completion()[1] else 0)

@@ -1,0 +1,163 @@
+#!/usr/bin/env python3
+"""What is too long for the gate, before a release. The last line is `N passed, M failed` over all parts.
+
+  edits    the edits that stand beside the gate (tools/edits): the prover has to refuse each
+  events   a world of nine million events, of which a million can happen when they are asked for (tests/stopped.py)
+  growths  every row of calls and every row of tests/program whose words stand alone, with each growth of its program refused in turn: the
+           program ends with its own words for want of memory, or gives what it gives with all memory, and never a third thing. It refuses
+           the first N growths of each, where N is given as growths=N.
+
+usage: tests/releases.py [PART ..]     all parts where none is named; a part may have its portion: edits=CRATE, events=COUNT, growths=N
+
+It needs the executables that `tests/run` has built.
+"""
+
+import concurrent.futures
+import functools
+import pathlib
+import re
+import shutil
+import subprocess
+import sys
+import tempfile
+import time
+
+from growths import CALLS, PROGRAM, ROOT, WANT, Refusing, Wrong, ended, must, parts_of
+
+TESTS = ROOT / "tests"
+ROWS = TESTS / "program"
+ALONE = ("check", "simulate", "audit", "loop")  # the orders that need no other end
+ANY = 1_000_000
+EVENTS = 9_100_000
+
+
+def counts_of(words):
+    """The counts in the last line of a command, whose output is shown as it comes."""
+    last = ""
+    with subprocess.Popen(words, cwd=ROOT, stdout=subprocess.PIPE, text=True, errors="replace") as process:
+        for line in process.stdout:
+            print(line, end="", flush=True)
+            last = line.strip() or last
+    counts = re.fullmatch(r"(\d+) passed, (\d+) failed", last)
+    return (int(counts[1]), int(counts[2])) if counts else (0, 1)
+
+
+def edits(portion):
+    return counts_of([str(ROOT / "tools" / "edits"), *([portion] if portion else [])])
+
+
+def events(portion):
+    done = subprocess.run([sys.executable, str(TESTS / "stopped.py"), portion or str(EVENTS)])
+    return (1, 0) if done.returncode == 0 else (0, 1)
+
+
+# ---- each growth of each row
+
+def is_alone(row):
+    """A row of one `dme` without another end, whose standard streams are files."""
+    words = (row / "args").read_text().split()
+    kinds = ("from", "to", "memory", "peer", "serve", "again", "stdin_again")
+    return words[:1] and words[0] in ALONE and not any((row / it).exists() for it in kinds)
+
+
+def program_run(refusing, row, number, counts):
+    """What a row of tests/program gives where this growth is refused."""
+    text = (row / "stdin").read_text(errors="surrogateescape") if (row / "stdin").exists() else None
+    with tempfile.TemporaryDirectory() as folder:
+        if (row / "files").exists():
+            shutil.copytree(row / "files", folder, dirs_exist_ok=True)
+        words = (row / "args").read_text().splitlines()
+        return ended(refusing.started([PROGRAM, *words], number, folder, counts, text), text)
+
+
+def part_runs():
+    """Each part of the rows of calls, with the texts that it is made of."""
+    parts = parts_of((ROOT / "crates" / "call_rows" / "stdin").read_text())
+    texts = "".join(it for it in parts if it.startswith(("[program ", "[setup]", "[replies ", "[commands ")))
+    for at, it in enumerate(parts):
+        head = it.split("]")[0].removeprefix("[")
+        if not head.startswith(("program ", "setup", "replies ", "commands ")):
+            yield f"{head}, part {at}", texts + it
+
+
+def calls_run(refusing, text, number, counts):
+    return ended(refusing.started([CALLS], number, counts=counts, text=text), text)
+
+
+def growths_of(run, most):
+    """With all memory, and with each of the first growths refused."""
+    with tempfile.TemporaryFile("w+") as counts:
+        whole = run(0, counts)
+        counts.seek(0)
+        growths = int(counts.read().split()[0])
+    return whole, [run(number, None) for number in range(1, min(growths, most) + 1)]
+
+
+def must_want(whole, runs):
+    """Each run ends as with all memory, or for want of memory with nothing else said, or prints a front."""
+    for number, run in enumerate(runs, 1):
+        if run != whole:
+            must((run[0], run[2]) == WANT, "growth", number, "another end", run)
+            must(run[1] == "" or "FEATURE" in run[1] or run[1].startswith("STATE "), "growth", number, "something is printed", run)
+    return len(runs)
+
+
+def must_want_rows(whole, runs):
+    """The program of rows: as with all memory, or an end for want of memory, or rows that say so."""
+    must(whole[0] == 0, "with all memory", whole)
+    rows = whole[1].splitlines()
+    for number, (status, output, errors) in enumerate(runs, 1):
+        if status in (1, 4):
+            must(output == "" and errors == "", "growth", number, "something is printed", output[:200])
+            continue
+        lines = output.splitlines()
+        must(status == 0 and len(lines) == len(rows), "growth", number, "another end", status)
+        for line, row in zip(lines, rows):
+            wants = "emory" in line or "WriteFailed" in line
+            must(line == row or wants and line.split(" => ")[0] == row.split(" => ")[0], "growth", number, line, "not", row)
+    return len(runs)
+
+
+def growth_part(name, judge, run, most):
+    begin = time.monotonic()
+    try:
+        whole, runs = growths_of(run, most)
+        told, is_right = f"{judge(whole, runs)} growths refused", True
+    except (Wrong, OSError, subprocess.SubprocessError, IndexError, ValueError) as why:
+        told, is_right = f"not as it has to be: {str(why)[:500]}", False
+    print(f"growths of {name}: {told} ({time.monotonic() - begin:.1f} s)", flush=True)
+    return is_right
+
+
+def growths(portion):
+    most = int(portion or ANY)
+    with tempfile.TemporaryDirectory() as room:
+        refusing = Refusing(room)
+        jobs = [(row.name, must_want, functools.partial(program_run, refusing, row))
+                for row in sorted(it.parent for it in ROWS.glob("*/args")) if is_alone(row)]
+        jobs += [(name, must_want_rows, functools.partial(calls_run, refusing, text)) for name, text in part_runs()]
+        with concurrent.futures.ThreadPoolExecutor(2) as pool:
+            right = sum(pool.map(lambda job: growth_part(*job, most), jobs))
+    return right, len(jobs) - right
+
+
+PARTS = {"edits": edits, "events": events, "growths": growths}
+
+
+def main(names):
+    unknown = [it for it in names if it.split("=")[0] not in PARTS]
+    if unknown:
+        print(f"no part: {' '.join(unknown)}, but {' '.join(PARTS)}")
+        return 2
+    passed = failed = 0
+    for name in names or PARTS:
+        part, _, portion = name.partition("=")
+        begin = time.monotonic()
+        right, wrong = PARTS[part](portion)
+        print(f"{part}: {right} of {right + wrong} ({time.monotonic() - begin:.0f} s)", flush=True)
+        passed, failed = passed + right, failed + wrong
+    print(f"{passed} passed, {failed} failed")
+    return 1 if failed else 0
+
+
+sys.exit(main(sys.argv[1:]))

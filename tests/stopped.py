@@ -1,0 +1,452 @@
+"""Worlds that are stopped anywhere, and worlds of many events, over the proved code of both ends (the program `world_rows`).
+
+Three schedules of single events, for windows of 1, 4 and 16, bring a program of five features to Done, through breaks, aborts and
+restarts. Behind each front of each, a world is stopped in every way: either side leaves, or is restarted, with each count of the
+features that are held; an abort is sent, and another connection is made or the plan begun again; and for each byte that lies on the way, only
+the bytes up to it move, are read and done or are not, and either side leaves. Then both leave, the client makes a connection, the server takes
+it, and nothing disturbs any more. Each such world has to end Done, the features that were held before have to be the first of those at the end,
+and the audit of both ends' files has to answer RUNS. Where nothing is done between the stop and the new connection, the whole end is computed
+here: labels, origins, points by the number of each contact, counted acts, contacts. Elsewhere each point is that of its touch and the shift of
+its contact's number. For each front one of these worlds is also played by `dme simulate`.
+
+A world of 100,000 events of a fixed linear congruence, of which about one of nine can happen when it is asked for, is audited behind each
+thousandth in the program, and at ten places by `dme audit`.
+
+Wrong things that were tried on what `world_rows` wrote of a short schedule and of 3,000 events, and are refused: shifts in another order and a
+point of another shift (`other points`), an end that is not Done (`not Done`), a verdict with a run less (`another verdict`), and a restart of
+the client that is expected to keep all features (`are not kept`).
+
+`run` calls this; by itself: tests/stopped.py [EVENTS], which then plays a world of so many events alone, audited behind each thousandth in the
+program and at ten places by `dme audit`, and prints how many of each event happened.
+"""
+
+import collections
+import concurrent.futures
+import functools
+import pathlib
+import subprocess
+import sys
+import tempfile
+import time
+
+from growths import PROGRAM, ROOT, Wrong, must
+from hostile import Fixed
+
+WORLDS = ROOT / "crates" / "world_rows" / "out" / "world_rows"
+SECONDS = 600
+ALSO_PLAYED = 1  # of so many fronts one is also played by `dme`
+EVENTS = 100_000
+DISTURBED, RESTARTED = 300, 400  # in a world of many events, one row of so many disturbs, and one restarts the client
+
+TEXT = """\
+DMISMN/'STOPPED',05.2
+SNSLCT/S(P1)
+MEAS/POINT,F(A),1
+GOTO/10,20,30
+PTMEAS/CART,10,20,25,0,0,1
+ENDMES
+MEAS/LINE,F(B),2
+PTMEAS/CART,1,0,0,-1,0,0
+PTMEAS/CART,0,1,0,0,-1,0
+ENDMES
+SNSLCT/S(P2)
+RECALL/D(PART)
+MEAS/CIRCLE,F(C),3
+PTMEAS/CART,-1,0,0,1,0,0
+GOTO/-2,0,5
+PTMEAS/CART,-2,0,0,1,0,0
+PTMEAS/CART,-3,0,0,1,0,0
+ENDMES
+MEAS/POINT,F(D),1
+PTMEAS/CART,7,8,9,0,1,0
+ENDMES
+MEAS/LINE,F(E),2
+PTMEAS/CART,4,5,6,0,0,1
+PTMEAS/CART,4,5,6,0,0,1
+ENDMES
+ENDFIL
+"""
+SETUP = """\
+TOOL P1
+TOOL P2
+FRAME PART 100 0 0
+SHIFT 0.002 0 0
+SHIFT 0 0 0.004
+SHIFT -0.001 0.001 0
+"""
+# The same, as it has to be understood: shifts and targets in micrometres, the frame of each feature's last touch, and how many acts its block
+# adds to what is counted: contacts, moves, and the tool and the frame that are selected before it, unless a plan begins there.
+SHIFTS = [(2, 0, 0), (0, 0, 4), (-1, 1, 0)]
+MACHINE, PART = "M", "P 100.000 0.000 0.000"
+Block = collections.namedtuple("Block", "label frame targets moves changes")
+BLOCKS = [
+    Block("A", MACHINE, [(10, 20, 25)], 1, 1),
+    Block("B", MACHINE, [(1, 0, 0), (0, 1, 0)], 0, 0),
+    Block("C", PART, [(-1, 0, 0), (-2, 0, 0), (-3, 0, 0)], 1, 2),
+    Block("D", PART, [(7, 8, 9)], 0, 0),
+    Block("E", PART, [(4, 5, 6), (4, 5, 6)], 0, 0),
+]
+FILE_HEAD = "DME-FEATURES 2"
+
+
+# ---- what features have to be
+
+def length(micrometres):
+    return f"{'-' if micrometres < 0 else ''}{abs(micrometres) // 1000}.{abs(micrometres) % 1000:03}"
+
+
+@functools.cache
+def points_of(block, phase):
+    """The points of a feature whose first contact has a number of this rest by three."""
+    return tuple(" ".join(length(1000 * at + by) for at, by in zip(target, SHIFTS[(phase + touch) % 3]))
+                 for touch, target in enumerate(BLOCKS[block].targets))
+
+
+Feature = collections.namedtuple("Feature", "label count connection frame points")
+
+
+@functools.cache
+def features_of(text):
+    """The features of a features file, whose lines end with `;`."""
+    lines = text.split(";")
+    must(lines[0] == FILE_HEAD and lines[-1] == "", "no features file", text)
+    features, at = [], 1
+    while at < len(lines) - 1:
+        head, label, count, connection, frame = lines[at].split(" ", 4)
+        end = at + 1 + int(count)
+        must(head == "FEATURE" and lines[end] == "END", "no features file", text)
+        features.append(Feature(label, int(count), int(connection), frame, tuple(lines[at + 1:end])))
+        at = end + 1
+    return tuple(features)
+
+
+@functools.cache
+def measured(kept, number, connection):
+    """What is held where these were kept, and the others are measured in a run from this contact on, on this connection."""
+    features = list(kept)
+    for at in range(len(kept), len(BLOCKS)):
+        block = BLOCKS[at]
+        features.append(Feature(block.label, len(block.targets), connection, block.frame, points_of(at, number % 3)))
+        number += len(block.targets)
+    return tuple(features), number
+
+
+def counted_acts(kept):
+    """How many acts a plan behind so many features counts, where the machine is homed already: what it is told, the tool and the frame with
+    which it begins, and what its statements do."""
+    left = BLOCKS[kept:]
+    acts = 1 + 1 + (kept > 0) + sum(len(it.targets) + it.moves + it.changes for it in left)
+    return acts
+
+
+Row = collections.namedtuple("Row", "state counted contacts verdict features")
+
+
+def row_of(text):
+    state, counted, contacts, verdict, features = text.split("|")
+    return Row(state, int(counted), int(contacts), verdict, features_of(features))
+
+
+@functools.cache
+def must_be_sound(row):
+    """The features are the first of the program, from ascending runs of contacts that do not meet, and each point is that of its touch."""
+    word, *starts = row.verdict.split()
+    must(word == "RUNS" and len(starts) == len(row.features) <= len(BLOCKS), "another verdict", row)
+    free = 0
+    for at, (feature, start) in enumerate(zip(row.features, map(int, starts))):
+        block = BLOCKS[at]
+        must(start >= free, "runs meet", row)
+        free = start + feature.count
+        must((feature.label, feature.count, feature.frame) == (block.label, len(block.targets), block.frame), "another feature", row)
+        must(feature.points == points_of(at, start % 3), "other points", row)
+    must(free <= row.contacts, "more than was done", row)
+
+
+# ---- events by a linear congruence
+
+COMMON = (["clientsends"] * 3 + ["serverreads"] * 3 + ["serverturn"] * 2 + ["machine auto"] * 2 + ["clientreads"] * 4 + ["connect", "accept", "resume"]
+          + ["up all"] * 3 + ["up 5", "up 30", "up 70"] + ["down all"] * 3 + ["down 1", "down 11", "down 25"])
+ENDS_BADLY = ["machine missed", "machine fault"]  # of what runs, if something does: mostly nothing
+LEAVES = ["clientleaves", "serverleaves", "clientrestart", "serverrestart"]
+
+
+class Events:
+    """Rows of events. Behind a break, either side is likely to leave as well, so that they meet again."""
+
+    def __init__(self, seed, one_of, restarts=0):
+        self.fixed = Fixed(seed)
+        self.one_of = one_of  # one row of so many disturbs
+        self.restarts = restarts  # and one of so many is a restart of the client, which begins anew what is Done
+        self.unsettled = 0
+
+    def restart(self):
+        self.unsettled = 20
+        return f"clientrestart {self.fixed.below(len(BLOCKS) + 1)}"
+
+    def next(self):
+        if self.restarts and self.fixed.below(self.restarts) == 0:
+            return self.restart()
+        self.unsettled -= 1
+        if self.unsettled > 0 and self.fixed.below(8) == 0:
+            return self.fixed.one_of(["clientleaves", "serverleaves"])
+        if self.fixed.below(self.one_of) > 0:
+            return self.fixed.one_of(COMMON)
+        row = self.fixed.one_of(ENDS_BADLY * 4 + ["abort"] + LEAVES)
+        if row == "clientrestart":
+            return self.restart()
+        if row in LEAVES:
+            self.unsettled = 20
+        return row
+
+    def rows(self, count):
+        return [self.next() for _ in range(count)]
+
+
+def told_by_world_rows(parts):
+    text = "".join(f"[{head}]\n{part}" for head, part in {"program": TEXT, "setup": SETUP, **parts}.items())
+    done = subprocess.run([str(WORLDS)], input=text, capture_output=True, text=True, timeout=SECONDS)
+    must(done.returncode == 0 and done.stderr == "", "world_rows", done.returncode, done.stderr)
+    return done.stdout
+
+
+# ---- schedules
+
+SEEDS = {1: (1, 300), 4: (2, 250), 16: (3, 150)}
+ROWS = 20_000
+LEAST = 200
+
+
+def schedule_of(window):
+    """Those of the generator's events that happen, up to Done."""
+    rows = Events(*SEEDS[window]).rows(ROWS)
+    told = told_by_world_rows({f"events {window}": "".join(f"{it}\nshow\n" for it in rows)}).splitlines()
+    events, connections = [], 0
+    for row, line in zip(rows, told):
+        happened, state, _ = line.split("|", 2)
+        if happened == "1":
+            connections += row == "connect"
+            events.append(f"accept {connections}" if row == "accept" else row)
+        if state == "Done":
+            return events
+    raise Wrong(f"not Done with window {window}")
+
+
+ON = "serverreads all;" + "serverturn;machine auto;" * 17 + "clientreads all;"
+# A way, whether the whole end is known, and how the way is named where worlds are counted.
+WAYS = [
+    ("once serverrestart;", True, "restart of the server"),
+    ("features clientrestart *;", True, "restart of the client"),
+    ("once clientleaves;", True, "leave"),
+    ("once serverleaves;", True, "leave"),
+    ("once abort;", True, "abort"),
+    ("once abort;quiet;resume;quiet;", False, "abort"),
+    ("once clientleaves;quiet;", False, "leave"),
+    ("once serverleaves;quiet;", False, "leave"),
+    ("up up *;clientleaves;", True, "byte"),
+    ("up up *;serverleaves;", True, "byte"),
+    ("down down *;clientleaves;", True, "byte"),
+    ("down down *;serverleaves;", True, "byte"),
+    (f"up up *;clientleaves;{ON}", False, "byte"),
+    (f"up up *;{ON}serverleaves;", False, "byte"),
+    (f"down down *;serverleaves;{ON}", False, "byte"),
+]
+
+
+def ending(connections):
+    """Both leave and meet again. The last connection is the first of these that can be taken."""
+    return "clientleaves;serverleaves;connect;" + "".join(f"accept {it};" for it in range(connections + 1, 0, -1)) + "quiet;"
+
+
+def must_end(front, way, number, row, connection):
+    """A world that was stopped behind a front, and brought to its end on this connection, where the client was not Done."""
+    kept = front.features[:number] if WAYS[way][0].startswith("features") else front.features
+    must(row.state == "Done" and len(row.features) == len(BLOCKS), "not Done", row)
+    must(row.features[:len(kept)] == kept, "features are not kept", front, row)
+    must_be_sound(row)
+    if not WAYS[way][1]:
+        return
+    if front.state == "Done" and kept == front.features and not WAYS[way][0].startswith("features"):
+        must(row == front, "changed", front, row)
+        return
+    features, contacts = measured(kept, front.contacts, connection)
+    must(row.features == features and row.contacts == contacts, "another end", front, row)
+    homing = row.counted - counted_acts(len(kept))
+    must(homing == 1 if way == 0 else homing in (0, 1), "counted", row)
+
+
+def dme(words, **files):
+    """A `dme` in a folder with these files."""
+    with tempfile.TemporaryDirectory() as room:
+        for name, text in files.items():
+            (pathlib.Path(room) / name).write_text(text)
+        return subprocess.run([str(PROGRAM), *words.split()], cwd=room, capture_output=True, text=True, timeout=SECONDS)
+
+
+def must_be_audited(row, files):
+    """The features of these files are those of the row, and `dme audit` says of them what was said in the program."""
+    features, head, contacts = files.partition("DME-CONTACTS 1\n")
+    must(features_of(features.replace("\n", ";")) == row.features, "other files", features)
+    verdict = dme("audit --setup s --features f --contacts c p", s=SETUP, f=features, c=head + contacts, p=TEXT)
+    must((verdict.returncode, verdict.stdout, verdict.stderr) == (0, row.verdict + "\n", ""), "another verdict", verdict, row)
+
+
+def must_be_played(window, events, way, number, row, ending):
+    """The same by `dme simulate`."""
+    stop = WAYS[way][0].split(" ", 1)[1].replace("*", str(number))
+    text = "".join(it + "\n" for it in events) + (stop + ending).replace(";", "\n")
+    report = dme(f"simulate --setup s --schedule q --window {window} p", s=SETUP, q=text, p=TEXT)
+    lines = report.stdout.splitlines()
+    shown = [f"STATE {row.state}", f"COUNTED {row.counted}"]
+    for feature in row.features:
+        shown += [f"FEATURE {feature.label}", *feature.points]
+    must(report.returncode == 0 and lines[:len(shown)] == shown, "another report", report.stdout, row)
+    must_be_runs(row, [it.split() for it in lines[len(shown):]])
+
+
+def must_be_runs(row, made):
+    """The contacts of a report, each with its number and its connection: from each start on they are those of the feature, on one connection."""
+    must(len(made) == row.contacts and all(it[:2] == ["CONTACT", str(at)] for at, it in enumerate(made)), "other contacts", made)
+    for feature, start in zip(row.features, map(int, row.verdict.split()[1:])):
+        run = made[start:start + feature.count]
+        must(tuple(" ".join(it[3:]) for it in run) == feature.points and len({it[2] for it in run}) == 1, "no run", feature, run)
+
+
+def events_of(events, word):
+    return sum(it.split()[0] == word for it in events)
+
+
+def stopped_worlds(window):
+    """The length of a schedule, its fronts, and how many worlds of each kind were stopped behind them; none of which is wrong."""
+    events = schedule_of(window)
+    must(len(events) >= LEAST, "few events", len(events))
+    told = told_by_world_rows({"ways": "".join(it + "\n" for it, _, _ in WAYS), "ending": ending(events_of(events, "connect")),
+                               f"fronts {window}": "".join(it + "\n" for it in events)})
+    counts, fronts = collections.Counter(), []
+    for line in told.splitlines():
+        name, _, shown = line.partition("|")
+        row = row_of(shown)
+        if name == "front":
+            must_be_sound(row)
+            connection = events_of(events[:len(fronts)], "connect") + 1
+            fronts.append((row, []))
+            continue
+        way, number = map(int, name.split())
+        front, ends = fronts[-1]
+        must_end(front, way, number, row, connection)
+        counts[WAYS[way][2]] += 1
+        ends.append((way, number, row))
+    must(len(fronts) == len(events) + 1 and fronts[-1][0].state == "Done", "fronts", len(fronts))
+    for at in range(0, len(fronts), ALSO_PLAYED):
+        ends = fronts[at][1]
+        must_be_played(window, events[:at], *ends[at * 7 % len(ends)], ending(events_of(events, "connect")))
+    return len(events), counts
+
+
+# ---- a world of many events
+
+def must_be_kept(before, restarts, row):
+    """Features are given up only by a restart of the client."""
+    kept = before[:min([len(before), *restarts])]
+    must(row.features[:len(kept)] == kept, "features are not kept", before, restarts, row)
+
+
+class Many:
+    """What came of a world of many events."""
+
+    def __init__(self, count, window, seed):
+        self.count, self.happened, self.wanted = count, collections.Counter(), collections.Counter()
+        self.done, self.features, self.audits, self.row = 0, 0, 0, None
+        self.rows = Events(seed, DISTURBED, RESTARTED).rows(count)
+        self.files_at = max(count // 10, 1000)
+        self.judge(told_by_world_rows({f"events {window}": "".join(map(self.asked, range(count)))}))
+
+    def asked(self, at):
+        ends = at + 1
+        return self.rows[at] + "\n" + "show\n" * (ends % 1000 == 0) + "files\n" * (ends % self.files_at == 0)
+
+    def judge(self, told):
+        held, files = (), []
+        lines = told.splitlines()
+        at = line_at = 0
+        while at < self.count:
+            flags, _, shown = lines[line_at].partition("|")
+            line_at += 1
+            must(len(flags) == 1000 and set(flags) <= {"0", "1"}, "flags", flags)
+            restarts = self.count_events(self.rows[at:at + 1000], flags)
+            at += 1000
+            self.row = row_of(shown)
+            must_be_sound(self.row)
+            must_be_kept(held, restarts, self.row)
+            held = self.row.features
+            self.done += self.row.state == "Done"
+            self.features += len(held)
+            self.audits += 1
+            if at % self.files_at == 0:
+                end = line_at + 1
+                while end < len(lines) and "|" not in lines[end]:
+                    end += 1
+                must_be_audited(self.row, "\n".join(lines[line_at + 1:end]) + "\n")
+                line_at = end
+        must(line_at == len(lines), "more lines", lines[line_at:][:3])
+
+    def count_events(self, rows, flags):
+        """Counts those that happened; with how many features the client was restarted."""
+        restarts = []
+        for row, flag in zip(rows, flags):
+            name = row.rstrip("0123456789 ")
+            self.wanted[name] += 1
+            self.happened[name] += flag == "1"
+            if flag == "1" and name == "clientrestart":
+                restarts.append(int(row.split()[1]))
+            must(flag == "1" or row not in ("serverrestart", "clientrestart 0"), "a restart could not happen")
+        return restarts
+
+    def told(self):
+        return (f"{sum(self.happened.values())} of {self.count} events happened, {self.row.contacts} contacts, {self.audits} audits, "
+                f"{self.features} features in them, {self.done} of them Done")
+
+
+# ---- all of it
+
+def tried(name, call):
+    """Whether it is as it has to be; what it told is printed."""
+    begin = time.monotonic()
+    try:
+        told, is_right = call(), True
+    except (Wrong, OSError, subprocess.SubprocessError, IndexError, ValueError) as why:
+        told, is_right = f"not as it has to be: {str(why)[:2000]}", False
+    print(f"{name}: {told} ({time.monotonic() - begin:.1f} s)", flush=True)
+    return is_right
+
+
+def of_schedule(window):
+    events, counts = stopped_worlds(window)
+    worlds = ", ".join(f"{count} by {name}" for name, count in counts.items())
+    return f"{events} events, {sum(counts.values())} worlds: {worlds}"
+
+
+def many(count):
+    world = Many(count, 4, 7)
+    if count > EVENTS:
+        for name in sorted(world.wanted):
+            print(f"  {name}: {world.happened[name]} of {world.wanted[name]}")
+    return world.told()
+
+
+def check_stopped():
+    """How many parts are as they have to be, and how many are not."""
+    if not WORLDS.exists():
+        print(f"no executable: {WORLDS.relative_to(ROOT)}")
+        return 0, 4
+    calls = [(f"worlds stopped with a window of {window}", functools.partial(of_schedule, window)) for window in SEEDS]
+    calls.append(("a world of many events", functools.partial(many, EVENTS)))
+    with concurrent.futures.ProcessPoolExecutor(2) as pool:
+        right = sum(pool.map(tried, *zip(*calls)))
+    print(f"stopped worlds: {right} of {len(calls)}", flush=True)
+    return right, len(calls) - right
+
+
+if __name__ == "__main__":
+    if sys.argv[1:]:
+        sys.exit(0 if tried("a world of many events", functools.partial(many, int(sys.argv[1]))) else 1)
+    sys.exit(1 if check_stopped()[1] else 0)

@@ -1,0 +1,106 @@
+"""Reads the tables of `dme export` back by Python's csv reader, and holds each field against the program and the features that it was made of.
+
+What is expected is computed here from the numerals of both files, in exact decimals. `run` calls this; by itself: tests/tables.py
+"""
+
+import csv
+import io
+import pathlib
+import subprocess
+import sys
+from decimal import ROUND_HALF_UP, Decimal
+
+ROOT = pathlib.Path(__file__).resolve().parent.parent
+EXAMPLES = ROOT / "examples"
+PROGRAM = ROOT / "crates" / "dme_program" / "out" / "dme_program"
+SECONDS = 20
+
+# The schedule of a features file, and the program that its features are of. Each touch of these programs has its direction.
+TABLES = {
+    "break_inside_a_feature": "circle.dmis",
+    "abort_between_two_frames": "two_frames.dmis",
+    "both_ends_restart": "two_points.dmis",
+}
+
+AXES = "xyz"
+THREE = Decimal("0.001")
+SIX = Decimal("0.000001")
+
+
+def touches_of(text):
+    """The touches of a program, in order: the tool, whether a frame is recalled, the target, the direction."""
+    tool, is_recalled, touches = None, False, []
+    for line in text.splitlines():
+        word, _, rest = line.partition("/")
+        if word == "SNSLCT":
+            tool = rest[2:-1]
+        elif word == "RECALL":
+            is_recalled = True
+        elif word == "PTMEAS":
+            numbers = [Decimal(it) for it in rest.split(",")[1:]]
+            touches.append((tool, is_recalled, numbers[:3], numbers[3:]))
+    return touches
+
+
+def origins_of(text):
+    """The places of a setup's frames, in order."""
+    return [[Decimal(it) for it in line.split()[2:]] for line in text.splitlines() if line.startswith("FRAME ")]
+
+
+def points_of(text):
+    """The points of a features file, in order: the label, the number in the feature, the connection, the point."""
+    points = []
+    for line in text.splitlines()[1:]:
+        words = line.split()
+        if words[0] == "FEATURE":
+            label, connection, number = words[1], words[3], 0
+        elif words[0] != "END":
+            number += 1
+            points.append((label, number, connection, [Decimal(it) for it in words]))
+    return points
+
+
+def along(deviation, direction):
+    """The part of a deviation along a direction, to the nearest micrometre, halves away from zero."""
+    length = sum(it * it for it in direction).sqrt()
+    return (sum(a * b for a, b in zip(deviation, direction)) / length).quantize(THREE, ROUND_HALF_UP)
+
+
+def expected_row(touch, point, origin):
+    tool, is_recalled, target, direction = touch
+    label, number, connection, measured = point
+    deviation = [a - b for a, b in zip(measured, target)]
+    row = {"feature": label, "point": str(number), "tool": tool, "connection": connection}
+    row["frame"] = "PART" if is_recalled else "MACHINE"
+    row["deviation_along_normal"] = str(along(deviation, direction))
+    row |= {f"normal_{axis}": str(it.quantize(SIX)) for axis, it in zip("ijk", direction)}
+    lists = (("nominal", target), ("measured", measured), ("deviation", deviation), ("frame", origin if is_recalled else [Decimal(0)] * 3))
+    for name, numbers in lists:
+        row |= {f"{name}_{axis}": str(it.quantize(THREE)) for axis, it in zip(AXES, numbers)}
+    return row
+
+
+def is_table(schedule, program):
+    """Whether the table of a schedule's features is what its files say."""
+    features = f"{schedule}.features"
+    words = ["export", "--as", "csv", "--setup", "machine.setup", "--features", features, program]
+    run = subprocess.run([PROGRAM, *words], cwd=EXAMPLES, capture_output=True, text=True, timeout=SECONDS)
+    touches = touches_of((EXAMPLES / program).read_text())
+    points = points_of((EXAMPLES / features).read_text())
+    origin = origins_of((EXAMPLES / "machine.setup").read_text())[0]
+    expected = [expected_row(touch, point, origin) for touch, point in zip(touches, points)]
+    found = list(csv.DictReader(io.StringIO(run.stdout), strict=True))
+    return run.returncode == 0 and len(expected) == len(points) > 0 and found == expected
+
+
+def check_tables():
+    """How many tables are as they have to be, and how many are not."""
+    wrong = [it for it, program in TABLES.items() if not (PROGRAM.exists() and is_table(it, program))]
+    for name in wrong:
+        print(f"table of {name}: not as expected")
+    print(f"tables: {len(TABLES) - len(wrong)} of {len(TABLES)}", flush=True)
+    return len(TABLES) - len(wrong), len(wrong)
+
+
+if __name__ == "__main__":
+    sys.exit(1 if check_tables()[1] else 0)
