@@ -26,6 +26,3 @@ pub use reading::Reading;
 pub use takes::Takes;
 pub use transfers::{PIECE, PullFault, pull_all, push_all};
 pub use writing::Writing;
-
-#[cfg(test)]
-mod tests;

@@ -43,6 +43,3 @@ pub use text::Text;
 pub use writing::{
     COMMAND_MAX, LINE_END_LENGTH, write_command, write_command_reserved, write_line_end_reserved,
 };
-
-#[cfg(test)]
-mod tests;

@@ -30,6 +30,3 @@ pub use features::{Touch, Touches, Wanted};
 pub use offsets::Frames;
 pub use programs::Program;
 pub use steps::Step;
-
-#[cfg(test)]
-mod tests;

@@ -21,6 +21,3 @@ mod runs;
 pub use elements::{Params, Statement, Text};
 pub use line_ends::cut_line;
 pub use reading::{Statements, TextFault};
-
-#[cfg(test)]
-mod tests;

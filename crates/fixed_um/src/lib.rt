@@ -35,6 +35,3 @@ pub use lengths::{Point, Um};
 pub use naming::Name;
 pub use numerals::{NumeralFault, computed_reading, is_zero, one_reading, read_dir, read_um};
 pub use writing::{write_dir, write_dir_reserved, write_um, write_um_reserved};
-
-#[cfg(test)]
-mod tests;

@@ -23,6 +23,3 @@ pub use faults::{FramingFault, LinesFault};
 pub use framing::Lines;
 pub use owned::Line;
 pub use queue::ByteQueue;
-
-#[cfg(test)]
-mod tests;

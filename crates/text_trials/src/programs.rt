@@ -4,11 +4,7 @@
 mod examples;
 mod refusals;
 
-use crate::faults::{ProgramFault, Refusal};
-use crate::features::Touch;
-use crate::offsets::Frames;
-use crate::programs::Program;
-use crate::steps::Step;
+use dmis_program::{Frames, Program, ProgramFault, Refusal, Step, Touch};
 use fixed_um::{Frame, Name, Point, Um, write_dir, write_um};
 use std::alloc::{AllocError, Global};
 use std::test::Fail;

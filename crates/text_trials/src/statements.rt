@@ -1,4 +1,4 @@
-use crate::{Statement, Statements, TextFault};
+use dmis_text::{Statement, Statements, TextFault};
 use std::alloc::Global;
 use std::io::Write;
 use std::process::Abort;

@@ -1,6 +1,8 @@
 // What no clause says: that calls succeed, and when a port over a reader or
 // a writer of std fails.
-use super::*;
+use byte_ports::{
+    Failed, PIECE, Pieces, PullFault, Reading, Sink, Source, Takes, Writing, pull_all, push_all,
+};
 use std::alloc::{AllocError, Global};
 use std::io;
 use std::io::{ErrorKind, Read, Write};

@@ -2,9 +2,7 @@
 // In the texts of tables `;` stands for the end of a line.
 
 use super::{is_read, lined, stored};
-use crate::faults::{ProgramFault, Refusal};
-use crate::offsets::Frames;
-use crate::programs::Program;
+use dmis_program::{Frames, Program, ProgramFault, Refusal};
 use fixed_um::NumeralFault;
 use std::alloc::{AllocError, Global};
 use std::test::Fail;

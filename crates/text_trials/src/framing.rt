@@ -1,4 +1,4 @@
-use super::*;
+use line_framing::{FramingFault, Line, Lines, LinesFault};
 use std::test::Fail;
 
 /// Two replies, of 41 and of 9 bytes with their ends.

@@ -4,7 +4,7 @@ ghost use Rattle.std.specs.Prelude.{IfSome};
 ghost use Rattle.dme_line.specs.Kinds.{kind_of, IsTagOf};
 ghost use Rattle.dme_line.specs.Written.{HasVolumeLengths};
 
-use crate::{
+use dme_line::{
     Command, Csy, Kind, LineFault, Mark, NotHomedText, NotPoint, NotResponse, Response, Tag, Text,
     read_command, read_homed, read_point, read_response, write_command, write_data, write_error,
     write_homed, write_homed_data, write_point, write_response,

@@ -1,6 +1,6 @@
 // What no clause says: that the clauses mean the numerals that a programmer of a measuring machine writes.
 
-use crate::{Dir, Name, NumeralFault, Um, is_zero, read_dir, read_um, write_dir, write_um};
+use fixed_um::{Dir, Name, NumeralFault, Um, is_zero, read_dir, read_um, write_dir, write_um};
 use std::test::Fail;
 
 #[test]
