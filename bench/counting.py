@@ -2,6 +2,7 @@
 
 The programs are made by `tests/run`, or by `rt run` in their crates.
 """
+import collections
 import functools
 import os
 import re
@@ -31,9 +32,18 @@ def profiled(words, with_callees=False):
         options = ["--threshold=100", f"--inclusive={'yes' if with_callees else 'no'}"]
         table = subprocess.run(["callgrind_annotate"] + options + [f"{folder}/out"],
                                stdout=subprocess.PIPE, stderr=subprocess.DEVNULL, text=True).stdout
-    rows = re.findall(r"^ *([\d,]+) \([ \d.]+%\)  (\S+:.* \[.*\])$", table, re.MULTILINE)
+    rows = re.findall(r"^ *([\d,]+) \([ \d.]+%\)  (\S+:.*)$", table, re.MULTILINE)
     bodies = [(int(count.replace(",", "")), place) for count, place in rows]
     return int(re.search(rb"Collected : (\d+)", run.stderr).group(1)), bodies, run.stdout
+
+
+def by_function(words):
+    """The instructions of a run in the body of each function, whatever file they come from that was joined to it."""
+    _, bodies, _ = profiled(words)
+    counts = collections.Counter()
+    for count, place in bodies:
+        counts[place.partition(":")[2].partition(" [")[0].partition("'")[0]] += count
+    return counts
 
 
 def counted(words, own):

@@ -233,4 +233,5 @@ def main():
         print(f"\nOurs without the instructions of the C library: {'; '.join(apart)}.")
 
 
-main()
+if __name__ == "__main__":
+    main()
