@@ -12,7 +12,7 @@ _dme()
             mapfile -t COMPREPLY < <(compgen -f -- "$word")
             return ;;
         --as)
-            mapfile -t COMPREPLY < <(compgen -W "csv" -- "$word")
+            mapfile -t COMPREPLY < <(compgen -W "csv json" -- "$word")
             return ;;
         --host)
             mapfile -t COMPREPLY < <(compgen -A hostname -- "$word")

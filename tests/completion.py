@@ -44,7 +44,8 @@ def is_whole(name):
         known = all(told("explain", it)[0] == 0 for it in codes | small)
         return len(codes) == 40 and small == {it.lower() for it in codes if it[0] == "P"} and known
     if name == "forms":
-        return completed("export", "--as", "") == set(re.findall(r"FORM> +The form that is printed: (\w+)", told("export", "--help")[1]))
+        forms = re.search(r"possible values: (.*)\]", told("export", "--as", "", "--features", "none")[1])
+        return completed("export", "--as", "") == set(forms[1].split(", "))
     return completed(name, "--") == options(name)
 
 

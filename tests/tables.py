@@ -1,10 +1,11 @@
-"""Reads the tables of `dme export` back by Python's csv reader, and holds each field against the program and the features that it was made of.
+"""Reads the tables of `dme export` back by Python's readers of CSV and of JSON, and holds each field against the program and the features that it was made of.
 
 What is expected is computed here from the numerals of both files, in exact decimals. `run` calls this; by itself: tests/tables.py
 """
 
 import csv
 import io
+import json
 import pathlib
 import subprocess
 import sys
@@ -80,17 +81,33 @@ def expected_row(touch, point, origin):
     return row
 
 
+def csv_rows(text):
+    return list(csv.DictReader(io.StringIO(text), strict=True))
+
+
+def json_rows(text):
+    """The objects with each number as it stands there, and nothing for null."""
+    rows = json.loads(text, parse_float=str, parse_int=str)
+    return [{name: "" if it is None else it for name, it in row.items()} for row in rows]
+
+
+def printed(form, features, program):
+    words = ["export", "--as", form, "--setup", "machine.setup", "--features", features, program]
+    run = subprocess.run([PROGRAM, *words], cwd=EXAMPLES, capture_output=True, text=True, timeout=SECONDS, check=True)
+    return run.stdout
+
+
 def is_table(schedule, program):
-    """Whether the table of a schedule's features is what its files say."""
+    """Whether the table of a schedule's features is what its files say, in each form and with the columns in the same order."""
     features = f"{schedule}.features"
-    words = ["export", "--as", "csv", "--setup", "machine.setup", "--features", features, program]
-    run = subprocess.run([PROGRAM, *words], cwd=EXAMPLES, capture_output=True, text=True, timeout=SECONDS)
     touches = touches_of((EXAMPLES / program).read_text())
     points = points_of((EXAMPLES / features).read_text())
     origin = origins_of((EXAMPLES / "machine.setup").read_text())[0]
     expected = [expected_row(touch, point, origin) for touch, point in zip(touches, points)]
-    found = list(csv.DictReader(io.StringIO(run.stdout), strict=True))
-    return run.returncode == 0 and len(expected) == len(points) > 0 and found == expected
+    found = csv_rows(printed("csv", features, program))
+    objects = json_rows(printed("json", features, program))
+    is_right = found == objects == expected and [list(it) for it in found] == [list(it) for it in objects]
+    return is_right and len(expected) == len(points) > 0
 
 
 def check_tables():

@@ -5,6 +5,7 @@ use Rattle.std.specs.List.{AllZip}
 use Rattle.byte_ports.specs.Transfers.{AppendsFront}
 use Rattle.client_core.specs.Clients.{are_ours}
 use Rattle.contact_ledger.specs.declared.features.Feature.{Feature}
+use Rattle.deviations.specs.Json.{json_of}
 use Rattle.deviations.specs.Records.{csv_text}
 use Rattle.deviations.specs.Rows.{IsRow, Row, places_of}
 use Rattle.deviations.specs.declared.faults.RowsFault.{RowsFault}
@@ -16,7 +17,7 @@ use Rattle.dme_orders.specs.Reading.{IsOfRead, ReadsSetup, UnlessUnwritten}
 use Rattle.dme_orders.specs.declared.exporting.ExportFault.{ExportFault}
 use Rattle.dme_orders.specs.declared.exporting.ExportFault.TheVariants.{Files, NotOurs}
 use Rattle.dme_orders.specs.declared.exporting.Form.{Form}
-use Rattle.dme_orders.specs.declared.exporting.Form.TheVariants.{Csv}
+use Rattle.dme_orders.specs.declared.exporting.Form.TheVariants.{Csv, Json}
 use Rattle.dme_orders.specs.declared.reading.FilesFault.{FilesFault}
 use Rattle.dme_orders.specs.declared.reading.FilesFault.TheVariants as files
 
@@ -39,6 +40,7 @@ frames_under (Some setup) = setup.frames
 -- the text of a table in a form
 abbrev pub form_text : Form → List Row → List ℕ
 form_text Csv rows = csv_text rows
+form_text Json rows = json_of rows
 
 -- the features are the first ones of the program, and the text is their table in a form: a row for each measured point, in order
 pub record LeavesTable (form : Form) (program : Meaning) (features : List Feature) (text : List ℕ) : Type 0 where

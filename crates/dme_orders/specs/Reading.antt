@@ -137,3 +137,9 @@ IsOfRead with_features (fault.Unread role.Program) = Unit {0}
 IsOfRead with_features (fault.Features cause) = with_features ≡ true
 IsOfRead with_features (fault.Unread role.Features) = with_features ≡ true
 IsOfRead with_features _ = ⊥
+
+-- a fault of a setup, a schedule or a program that is read, or want of memory
+abbrev pub IsOfSimulation : FilesFault → Type 0
+IsOfSimulation (fault.Schedule cause) = Unit {0}
+IsOfSimulation (fault.Unread role.Schedule) = Unit {0}
+IsOfSimulation given = IsOfRead false given

@@ -15,7 +15,7 @@ use crate::reading::{FilesFault, Role, features_from, read_program, read_setup};
 use crate::simulating::write_text;
 use byte_ports::{Sink, Source};
 use contact_ledger::{Feature, FeatureLedger};
-use deviations::{Row, RowsFault, rows_of, write_csv};
+use deviations::{Row, RowsFault, rows_of, write_csv, write_json};
 use dmis_program::{Frames, Program};
 use std::alloc::{AllocError, Global};
 use tool_rack::Setup;
@@ -25,6 +25,8 @@ use tool_rack::Setup;
 pub enum Form {
     /// Comma-separated values (RFC 4180).
     Csv,
+    /// JSON (RFC 8259).
+    Json,
 }
 
 /// Why an export was not carried out.
@@ -152,6 +154,7 @@ fn form_text(alloc: Global, form: Form, rows: &[Row<'_>]) -> Result<Vec<u8>, All
     let mut text = Vec::new(alloc);
     match form {
         Form::Csv => write_csv(&mut text, rows)?,
+        Form::Json => write_json(&mut text, rows)?,
     }
     Ok(text)
 }

@@ -8,8 +8,8 @@ ghost use Rattle.link_world.specs.declared.schedules.Instruction.{Instruction};
 ghost use Rattle.link_world.specs.Reports.{report_text};
 ghost use Rattle.client_core.specs.Clients.{is_window};
 ghost use Rattle.protocol_model.specs.World.{start};
-ghost use Rattle.dme_orders.specs.Reading.{ReadsSetup, WhyNoSetup, ReadsSchedule, WhyNoSchedule, WhyNoProgram};
-ghost use Rattle.dme_orders.specs.Reading.{On, IsNotOf, UnlessUnwritten};
+ghost use Rattle.dme_orders.specs.Reading.{ReadsSetup, WhyNoSetup, ReadsSchedule, WhyNoSchedule, ReadsProgram, WhyNoProgram};
+ghost use Rattle.dme_orders.specs.Reading.{On, IsNotOf, UnlessUnwritten, IsOfSimulation};
 ghost use Rattle.dme_orders.specs.Simulating.{IsPlayed, shown_of, LeavesReport, OfThree, PrintsReport, PrintsReportFront};
 
 use crate::reading::{FilesFault, Role, read_program, read_schedule, read_setup};
@@ -76,6 +76,46 @@ fn simulated_report(
 {
     let world = played(alloc, setup, schedule, program, window)?;
     reported(alloc, &world)
+}
+
+/// Reads a setup, then a schedule, then a program under the setup's frames, each to the end of its text and understood before the next is
+/// read. No file is blamed but for its own first refusal, or where it was not read.
+fn simulation_input<S: Source, C: Source, R: Source>(
+    alloc: Global,
+    setup: &mut S,
+    schedule: &mut C,
+    program: &mut R,
+) -> Result<(Setup, Schedule, Program), FilesFault>
+    ensures setup { IfOk result (λ read. ReadsSetup S.left S.has_failed setup.old setup.new read.0) }
+    ensures schedule { IfOk result (λ read. ReadsSchedule C.left C.has_failed
+        schedule.old schedule.new read.1) }
+    ensures program { IfOk result (λ read. ReadsProgram R.left R.has_failed
+        program.old program.new read.0.frames read.2) }
+    ensures no_setup { IfErr result (On Role.Setup (WhyNoSetup S.left S.has_failed
+        setup.old setup.new)) }
+    ensures setup_first { IfErr result (On Role.Setup (λ _. (schedule.new ≡ schedule.old)
+        × (program.new ≡ program.old))) }
+    ensures no_schedule { IfErr result (On Role.Schedule (WhyNoSchedule C.left C.has_failed
+        schedule.old schedule.new)) }
+    ensures schedule_second { IfErr result (On Role.Schedule (λ _. (program.new ≡ program.old)
+        × ((said : SetupValue) × ReadsSetup S.left S.has_failed setup.old setup.new said))) }
+    ensures no_program { IfErr result (On Role.Program (λ fault. (said : SetupValue)
+        × ReadsSetup S.left S.has_failed setup.old setup.new said
+        × WhyNoProgram R.left R.has_failed program.old program.new said.frames fault)) }
+    ensures program_last { IfErr result (On Role.Program (λ _. (asked : List Instruction)
+        × ReadsSchedule C.left C.has_failed schedule.old schedule.new asked)) }
+    ensures others { IfErr result IsOfSimulation }
+    ensures setup_unread { S.has_failed setup.old ≡ false → S.has_failed setup.new ≡ true
+        → IsErrOf result (FilesFault.Unread Role.Setup) }
+    ensures schedule_unread { C.has_failed schedule.old ≡ false → C.has_failed schedule.new ≡ true
+        → IsErrOf result (FilesFault.Unread Role.Schedule) }
+    ensures program_unread { R.has_failed program.old ≡ false → R.has_failed program.new ≡ true
+        → IsErrOf result (FilesFault.Unread Role.Program) }
+{
+    let setup = read_setup(alloc, setup)?;
+    let schedule = read_schedule(alloc, schedule)?;
+    let program = read_program(alloc, setup.frames(), program)?;
+    Ok((setup, schedule, program))
 }
 
 /// Writes a text that is not empty.
@@ -155,9 +195,7 @@ pub fn simulate<S: Source, C: Source, R: Source, W: Sink>(
         (PrintsReportFront window (W.taken sink.old) (W.taken sink.new)) }
     ensures silent { IfErr result (UnlessUnwritten (sink.new ≡ sink.old)) }
 {
-    let setup = read_setup(alloc, setup)?;
-    let schedule = read_schedule(alloc, schedule)?;
-    let program = read_program(alloc, setup.frames(), program)?;
+    let (setup, schedule, program) = simulation_input(alloc, setup, schedule, program)?;
     let (state, text) = simulated_report(alloc, setup, &schedule, program, window)?;
     write_text(sink, text.as_slice())?;
     Ok(state)

@@ -13,6 +13,7 @@ use std::rt::Files;
 fn form_of(word: Word) -> Form {
     match word {
         Word::Csv => Form::Csv,
+        Word::Json => Form::Json,
     }
 }
 

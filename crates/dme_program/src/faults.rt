@@ -18,7 +18,7 @@ pub enum Fault {
     #[error("error: invalid value '{0}' for '<CODE>': no refusal has this code\n\nFor more information, try '--help'.\n")]
     NoCode(String),
     /// A form that is none.
-    #[error("error: invalid value '{0}' for '--as <FORM>'\n  [possible values: csv]\n\nFor more information, try '--help'.\n")]
+    #[error("error: invalid value '{0}' for '--as <FORM>'\n  [possible values: csv, json]\n\nFor more information, try '--help'.\n")]
     NoForm(String),
     /// An order that was not carried out.
     #[error("{0}")]

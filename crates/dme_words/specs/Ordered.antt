@@ -12,7 +12,7 @@ use Rattle.refusal_guide.specs.Titles.{is_called, title_of}
 use Rattle.refusal_guide.specs.declared.topics.Topic.{Topic}
 use Rattle.dme_words.specs.CommandLine.{whole_line}
 use Rattle.dme_words.specs.declared.words.Form.{Form}
-use Rattle.dme_words.specs.declared.words.Form.TheVariants.{Csv}
+use Rattle.dme_words.specs.declared.words.Form.TheVariants.{Csv, Json}
 use Rattle.dme_words.specs.declared.words.Order.{Order}
 use Rattle.dme_words.specs.declared.words.Order.TheVariants.{Audit, Check, Explain, Export, Loop, Run, Serve, Simulate}
 use Rattle.dme_words.specs.declared.words.WordsFault.{WordsFault}
@@ -109,6 +109,7 @@ IsExplainOf rows _ = ⊥
 -- the word for a form
 abbrev pub form_word : Form → Text
 form_word Csv = codes "csv"
+form_word Json = codes "json"
 
 -- what was measured of the program, in the named form, with the named features, and with the named setup or with none where none is named
 abbrev pub IsExportOf : List Row → Order → Type 0

@@ -231,7 +231,7 @@ fn form_option<'a>(alloc: Global) -> Arg<'a>
     Arg::new(alloc, "as")
         .long("as")
         .value_name("FORM")
-        .help("The form that is printed: csv, comma-separated values")
+        .help("The form that is printed: csv, comma-separated values, or json")
         .required(true)
 }
 

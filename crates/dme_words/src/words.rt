@@ -22,6 +22,8 @@ use std::alloc::{AllocError, Global};
 pub enum Form {
     /// Comma-separated values (RFC 4180).
     Csv,
+    /// JSON (RFC 8259).
+    Json,
 }
 
 /// What the words of a command line ask for, with its values.
@@ -370,6 +372,7 @@ fn form_of(word: String) -> Result<Form, WordsFault>
 {
     match word.as_str() {
         "csv" => Ok(Form::Csv),
+        "json" => Ok(Form::Json),
         _ => Err(WordsFault::NoForm(word)),
     }
 }
