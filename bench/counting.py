@@ -37,12 +37,17 @@ def profiled(words, with_callees=False):
     return int(re.search(rb"Collected : (\d+)", run.stderr).group(1)), bodies, run.stdout
 
 
+def function_of(place):
+    """The function of a place, without its file, its program and how deep it calls itself."""
+    return place.partition(":")[2].partition(" [")[0].partition("'")[0]
+
+
 def by_function(words):
     """The instructions of a run in the body of each function, whatever file they come from that was joined to it."""
     _, bodies, _ = profiled(words)
     counts = collections.Counter()
     for count, place in bodies:
-        counts[place.partition(":")[2].partition(" [")[0].partition("'")[0]] += count
+        counts[function_of(place)] += count
     return counts
 
 

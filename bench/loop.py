@@ -21,7 +21,7 @@ import sys
 import tempfile
 import time
 
-from counting import built, peak, plain, profiled
+from counting import built, function_of, peak, plain, profiled
 
 SIZES = (1_000, 9_800)  # a program of 10,000 statements has no room for more touches in features of 100
 WINDOWS = (1, 16)
@@ -29,7 +29,7 @@ RUNS = 5
 FEATURE = 100
 SHIFTS = ((2, 0, 0), (0, 0, 4), (-1, 1, 0))  # in micrometres
 FUNCTIONS = 16
-PARTS = ("dme_program::reading::read_program", "link_world::links::watched_turn", "link_world::server_pump::serve_turns",
+PARTS = ("dme_orders::reading::read_program", "link_world::links::watched_turn", "link_world::server_pump::serve_turns",
          "link_world::report_text::write_report", "client_core::client::Client::send", "client_core::client::Client::read_one",
          "server_core::server::Server::read_one", "server_core::server::Server::turn", "server_core::server::Server::machine",
          "__memset_avx2_unaligned_erms")
@@ -217,7 +217,7 @@ def print_counts(make):
 
 def named(place):
     """The name of a function that callgrind_annotate shows, without what it is made for."""
-    return re.sub(r"::<.*", "", re.fullmatch(r"\S+?:(.*) \[.*\]", place).group(1))
+    return re.sub(r"::<.*", "", function_of(place))
 
 
 def told(bodies, touches, is_wanted):
