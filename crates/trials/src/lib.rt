@@ -19,7 +19,6 @@ mod ledgers;
 #[cfg(test)]
 mod plans;
 #[cfg(test)]
-#[cfg(test)]
 mod queue;
 #[cfg(test)]
 mod tags;
