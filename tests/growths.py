@@ -55,6 +55,7 @@ FILE_ROWS = {
     "audit": "audit --setup machine.setup --features break_inside_a_feature.features"
     " --contacts break_inside_a_feature.contacts circle.dmis",
     "export": "export --as csv --setup machine.setup --features break_inside_a_feature.features circle.dmis",
+    "export_svg": "export --as svg --setup machine.setup --features break_inside_a_feature.features circle.dmis",
     "explain": "explain P5",
 }
 
@@ -129,6 +130,28 @@ def file_row(refusing, words):
     whole, runs = refusing.all_of(lambda number, counts: ended(refusing.started([PROGRAM, *words.split()], number, counts=counts)))
     must(whole[0] == 0 and whole[2] == "", "with all memory", whole)
     return must_want_memory(whole, runs, lambda run: must(run[1] == "", "something is printed", run))
+
+
+def traced_row(refusing, words):
+    """An order that shows its lines on standard error: all of them or none, and behind them that memory was wanting."""
+    whole, runs = refusing.all_of(lambda number, counts: ended(refusing.started([PROGRAM, *words.split()], number, counts=counts)))
+    must(whole[0] == 0 and whole[2].count(" > ") > 5, "with all memory", whole)
+    others = [it for it in runs if it != whole]
+    must(len(others) >= len(runs) - 1, "done without", len(runs) - len(others), "of", len(runs))
+    for run in others:
+        must(run[:2] == (4, "") and run[2] in (WANT[1], whole[2] + WANT[1]), "another end", run)
+    return len(others)
+
+
+def explained_row(refusing, words):
+    """An order that refuses a file and shows where: want of memory, or the refusal with where it is, or without it."""
+    whole, runs = refusing.all_of(lambda number, counts: ended(refusing.started([PROGRAM, *words.split()], number, counts=counts)))
+    refusal = whole[2].splitlines(keepends=True)
+    must(whole[:2] == (1, "") and len(refusal) == 3, "with all memory", whole)
+    for run in runs:
+        must(run in (whole, (1, "", refusal[0]), (WANT[0], "", WANT[1])), "another end", run)
+    must((1, "", refusal[0]) in runs and (WANT[0], "", WANT[1]) in runs, "no growth of both kinds")
+    return len([it for it in runs if it != whole])
 
 
 def loop_row(refusing, words):
@@ -252,6 +275,9 @@ def parts_of(text):
 def growth_rows(refusing):
     """Each row by its name."""
     rows = {name: lambda words=words: file_row(refusing, words) for name, words in FILE_ROWS.items()}
+    rows["traced"] = lambda: traced_row(
+        refusing, "simulate --trace --setup machine.setup --schedule break_inside_a_feature.schedule circle.dmis")
+    rows["explained"] = lambda: explained_row(refusing, "check --explain two_clampings.dmis")
     rows["loop"] = lambda: loop_row(refusing, "loop --setup machine.setup circle.dmis")
     rows["loop_of_two_features"] = lambda: loop_row(refusing, "loop --setup machine.setup --window 16 two_frames.dmis")
     rows["run"] = lambda: run_row(refusing)

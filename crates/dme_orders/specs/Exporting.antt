@@ -17,7 +17,7 @@ use Rattle.dme_orders.specs.Reading.{IsOfRead, ReadsSetup, UnlessUnwritten}
 use Rattle.dme_orders.specs.declared.exporting.ExportFault.{ExportFault}
 use Rattle.dme_orders.specs.declared.exporting.ExportFault.TheVariants.{Files, NotOurs}
 use Rattle.dme_orders.specs.declared.exporting.Form.{Form}
-use Rattle.dme_orders.specs.declared.exporting.Form.TheVariants.{Csv, Json}
+use Rattle.dme_orders.specs.declared.exporting.Form.TheVariants.{Csv, Json, Svg}
 use Rattle.dme_orders.specs.declared.reading.FilesFault.{FilesFault}
 use Rattle.dme_orders.specs.declared.reading.FilesFault.TheVariants as files
 
@@ -37,17 +37,18 @@ abbrev pub frames_under : Option SetupValue → List (List ℕ × Point)
 frames_under None = []
 frames_under (Some setup) = setup.frames
 
--- the text of a table in a form
-abbrev pub form_text : Form → List Row → List ℕ
-form_text Csv rows = csv_text rows
-form_text Json rows = json_of rows
+-- the text is that of a table in a form; of a drawing it is not said what it shows
+abbrev pub IsInForm : Form → List Row → List ℕ → Type 0
+IsInForm Csv rows text = text ≡ csv_text rows
+IsInForm Json rows text = text ≡ json_of rows
+IsInForm Svg rows text = Unit {0}
 
 -- the features are the first ones of the program, and the text is their table in a form: a row for each measured point, in order
 pub record LeavesTable (form : Form) (program : Meaning) (features : List Feature) (text : List ℕ) : Type 0 where
   pub rows : List Row
   pub ours : are_ours program.features features ≡ true
   pub are : AllZip IsRow (places_of program.features features) rows
-  pub told : text ≡ form_text form rows
+  pub told : IsInForm form rows text
 
 -- the features are not the first ones of the program; or memory is wanting
 abbrev pub RefusesFeatures : Meaning → List Feature → ExportFault → Type 0

@@ -8,7 +8,7 @@ ghost use Rattle.client_core.specs.Clients.{are_ours};
 ghost use Rattle.dme_orders.specs.Reading.{WhyNoSetup, ReadsFeatures, WhyNoFeatures, ReadsProgram, WhyNoProgram};
 ghost use Rattle.dme_orders.specs.Reading.{On, IsOfRead};
 ghost use Rattle.dme_orders.specs.UnderSetup.{OfNamed};
-ghost use Rattle.dme_orders.specs.Exporting.{ReadsNamed, frames_under, form_text, LeavesTable, RefusesFeatures, OfFiles, IsOfExport};
+ghost use Rattle.dme_orders.specs.Exporting.{ReadsNamed, frames_under, IsInForm, LeavesTable, RefusesFeatures, OfFiles, IsOfExport};
 ghost use Rattle.dme_orders.specs.Exporting.{PrintsTable, PrintsTableFront, UnlessOutput};
 
 use crate::reading::{FilesFault, Role, features_from, read_program, read_setup};
@@ -17,6 +17,7 @@ use byte_ports::{Sink, Source};
 use contact_ledger::{Feature, FeatureLedger};
 use deviations::{Row, RowsFault, rows_of, write_csv, write_json};
 use dmis_program::{Frames, Program};
+use drawings::write_drawing;
 use std::alloc::{AllocError, Global};
 use tool_rack::Setup;
 
@@ -27,6 +28,8 @@ pub enum Form {
     Csv,
     /// JSON (RFC 8259).
     Json,
+    /// A drawing (SVG 1.1).
+    Svg,
 }
 
 /// Why an export was not carried out.
@@ -146,15 +149,35 @@ fn export_input<S: Source, F: Source, R: Source>(
     Ok((features, program))
 }
 
-/// Rows in a form. Only want of memory is an `Err`.
-fn form_text(alloc: Global, form: Form, rows: &[Row<'_>]) -> Result<Vec<u8>, AllocError>
-    ensures text { IfOk result (λ text. text.items ≡ form_text form rows.now) }
+/// The declaration of a text in XML, with its line's end.
+const XML: &[u8] = b"<?xml version=\"1.0\" encoding=\"UTF-8\"?>\n";
+
+/// A drawing of features. Only want of memory is an `Err`.
+fn drawn(alloc: Global, program: &Program, features: &[Feature]) -> Result<Vec<u8>, AllocError>
+    ensures { IfOk result (λ text. 0 < length text.items) }
+{
+    let mut text = Vec::new(alloc);
+    text.extend_from_slice(XML)?;
+    write_drawing(alloc, &mut text, program, features)?;
+    Ok(text)
+}
+
+/// Rows in a form; in a drawing the features whose rows they are. Only want of memory is an `Err`.
+fn form_text(
+    alloc: Global,
+    form: Form,
+    rows: &[Row<'_>],
+    program: &Program,
+    features: &[Feature],
+) -> Result<Vec<u8>, AllocError>
+    ensures text { IfOk result (λ text. IsInForm form rows.now text.items) }
     ensures some { IfOk result (λ text. 0 < length text.items) }
 {
     let mut text = Vec::new(alloc);
     match form {
         Form::Csv => write_csv(&mut text, rows)?,
         Form::Json => write_json(&mut text, rows)?,
+        Form::Svg => return drawn(alloc, program, features),
     }
     Ok(text)
 }
@@ -171,7 +194,7 @@ fn table_text(
     ensures refused { IfErr result (RefusesFeatures program.now features.now) }
 {
     let rows = rows_of(alloc, program, features)?;
-    Ok(form_text(alloc, form, rows.as_slice())?)
+    Ok(form_text(alloc, form, rows.as_slice(), program, features)?)
 }
 
 /// Reads a setup where one is named, then features, then a program under the setup's frames, each to the end of its text and understood

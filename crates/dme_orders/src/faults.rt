@@ -8,7 +8,8 @@ use crate::reading::{FilesFault, Role};
 use contact_ledger::TextFault;
 use dmis_program::ProgramFault;
 use link_world::ScheduleFault;
-use std::alloc::{AllocError, AllocFailed};
+use refusal_guide::{Refused, write_place};
+use std::alloc::{AllocError, AllocFailed, Global};
 use thiserror::Error;
 use tool_rack::SetupFault;
 
@@ -112,6 +113,89 @@ impl FileNames {
             Role::Program => self.program,
         }
     }
+}
+
+/// The texts of an order's files, as far as they were read and kept. That of a file that the order does not have is empty.
+#[derive(Debug, Drop)]
+pub struct FileTexts {
+    pub setup: Vec<u8>,
+    pub schedule: Vec<u8>,
+    pub features: Vec<u8>,
+    pub contacts: Vec<u8>,
+    pub program: Vec<u8>,
+}
+
+impl FileTexts {
+    /// Texts of which nothing was read.
+    pub fn new(alloc: Global) -> FileTexts {
+        FileTexts {
+            setup: Vec::new(alloc),
+            schedule: Vec::new(alloc),
+            features: Vec::new(alloc),
+            contacts: Vec::new(alloc),
+            program: Vec::new(alloc),
+        }
+    }
+}
+
+/// Where a file is refused and what is wrong there, as `write_place` shows it; nothing where no file is refused. Only want of memory is an
+/// `Err`.
+pub fn place_of(
+    alloc: Global,
+    fault: FilesFault,
+    names: &FileNames,
+    texts: &FileTexts,
+) -> Result<Vec<u8>, AllocError> {
+    let mut out = Vec::new(alloc);
+    match fault {
+        FilesFault::Setup(cause) => {
+            let refused = Refused::Setup(cause);
+            write_place(
+                &mut out,
+                refused,
+                names.setup.as_str(),
+                texts.setup.as_slice(),
+            )?
+        }
+        FilesFault::Schedule(cause) => {
+            let refused = Refused::Schedule(cause);
+            write_place(
+                &mut out,
+                refused,
+                names.schedule.as_str(),
+                texts.schedule.as_slice(),
+            )?
+        }
+        FilesFault::Features(cause) => {
+            let refused = Refused::Features(cause);
+            write_place(
+                &mut out,
+                refused,
+                names.features.as_str(),
+                texts.features.as_slice(),
+            )?
+        }
+        FilesFault::Contacts(cause) => {
+            let refused = Refused::Contacts(cause);
+            write_place(
+                &mut out,
+                refused,
+                names.contacts.as_str(),
+                texts.contacts.as_slice(),
+            )?
+        }
+        FilesFault::Program(cause) => {
+            let refused = Refused::Program(cause);
+            write_place(
+                &mut out,
+                refused,
+                names.program.as_str(),
+                texts.program.as_slice(),
+            )?
+        }
+        FilesFault::Unread(_) | FilesFault::Write | FilesFault::Memory => {}
+    }
+    Ok(out)
 }
 
 /// What is shown for the fault of an order, with the names of its files.

@@ -43,7 +43,7 @@ pub use ended::{Ended, shown_break};
 pub use ends::kept_client;
 pub use explaining::explain;
 pub use exporting::{ExportFault, Form, export_files};
-pub use faults::{FileNames, OrderFault, shown_export, shown_files};
+pub use faults::{FileNames, FileTexts, OrderFault, place_of, shown_export, shown_files};
 pub use looping::loop_over;
 pub use orders::check_under_setup;
 pub use plan::plan_text;

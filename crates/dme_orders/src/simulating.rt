@@ -8,6 +8,9 @@ ghost use Rattle.link_world.specs.declared.schedules.Instruction.{Instruction};
 ghost use Rattle.link_world.specs.Reports.{report_text};
 ghost use Rattle.client_core.specs.Clients.{is_window};
 ghost use Rattle.protocol_model.specs.World.{start};
+ghost use Rattle.protocol_model.specs.Lines.{Readers, AreReaders};
+ghost use Rattle.link_world.specs.Machines.{simulated};
+ghost use Rattle.link_world.specs.Schedules.{Plays};
 ghost use Rattle.dme_orders.specs.Reading.{ReadsSetup, WhyNoSetup, ReadsSchedule, WhyNoSchedule, ReadsProgram, WhyNoProgram};
 ghost use Rattle.dme_orders.specs.Reading.{On, IsNotOf, UnlessUnwritten, IsOfSimulation};
 ghost use Rattle.dme_orders.specs.Simulating.{IsPlayed, shown_of, LeavesReport, OfThree, PrintsReport, PrintsReportFront};
@@ -33,19 +36,41 @@ fn new_world(alloc: Global, program: Program, setup: Setup, window: u8) -> Resul
     }
 }
 
+/// Plays a schedule in a world; where there is a sink for them, the lines that both sides write are written to it. A sink that takes none
+/// changes nothing. Only want of memory is an `Err`.
+fn play<L: Sink>(
+    schedule: &Schedule,
+    world: &mut World,
+    lines: &mut Option<L>,
+) -> Result<(), AllocError>
+    ensures ok { OnOk result ((readers : Readers) → AreReaders readers
+        → Plays readers (simulated world.old.setup.shifts) schedule.now false
+        world.old.world world.new.world) }
+{
+    let Some(sink) = lines else {
+        return schedule.play(world);
+    };
+    world.trace();
+    schedule.play(world)?;
+    world.end_trace();
+    let _ = push_all(sink, world.traced()?);
+    Ok(())
+}
+
 /// Plays a schedule in a new world. Only want of memory is an `Err`.
-fn played(
+fn played<L: Sink>(
     alloc: Global,
     setup: Setup,
     schedule: &Schedule,
     program: Program,
     window: u8,
+    lines: &mut Option<L>,
 ) -> Result<World, AllocError>
     requires { is_window window ≡ true }
     ensures { IfOk result (λ end. IsPlayed window setup schedule.now program end.world) }
 {
     let mut world = new_world(alloc, program, setup, window)?;
-    schedule.play(&mut world)?;
+    play(schedule, &mut world, lines)?;
     Ok(world)
 }
 
@@ -62,19 +87,20 @@ fn reported(alloc: Global, world: &World) -> Result<(State, Vec<u8>), AllocError
 }
 
 /// Plays a schedule in a new world: the client's last state, and the world's report. Only want of memory is an `Err`.
-fn simulated_report(
+fn simulated_report<L: Sink>(
     alloc: Global,
     setup: Setup,
     schedule: &Schedule,
     program: Program,
     window: u8,
+    lines: &mut Option<L>,
 ) -> Result<(State, Vec<u8>), AllocError>
     requires { is_window window ≡ true }
     ensures leaves { IfOk result (λ end. LeavesReport window setup schedule.now program
         end.0 end.1.items) }
     ensures some { IfOk result (λ end. 0 < length end.1.items) }
 {
-    let world = played(alloc, setup, schedule, program, window)?;
+    let world = played(alloc, setup, schedule, program, window, lines)?;
     reported(alloc, &world)
 }
 
@@ -135,15 +161,17 @@ pub(crate) fn write_text<W: Sink>(sink: &mut W, text: &[u8]) -> Result<(), Files
 
 /// Reads a setup, then a schedule, then a program under the setup's frames, each to the end of its text and understood before the next is
 /// read; plays the schedule in a new world of the program and the setup, with this window; and writes the world's report. It answers the
-/// state in which the client stands at last.
+/// state in which the client stands at last. Where there is a sink for them, the lines that both sides write are written to it before the
+/// report, as `World::traced` has them; a sink that takes none changes nothing.
 ///
 /// It writes only once the whole report stands. No file is blamed but for its own first refusal, or where it was not read.
-pub fn simulate<S: Source, C: Source, R: Source, W: Sink>(
+pub fn simulate<S: Source, C: Source, R: Source, L: Sink, W: Sink>(
     alloc: Global,
     setup: &mut S,
     schedule: &mut C,
     window: u8,
     program: &mut R,
+    lines: &mut Option<L>,
     sink: &mut W,
 ) -> Result<State, FilesFault>
     requires { is_window window ≡ true }
@@ -196,7 +224,7 @@ pub fn simulate<S: Source, C: Source, R: Source, W: Sink>(
     ensures silent { IfErr result (UnlessUnwritten (sink.new ≡ sink.old)) }
 {
     let (setup, schedule, program) = simulation_input(alloc, setup, schedule, program)?;
-    let (state, text) = simulated_report(alloc, setup, &schedule, program, window)?;
+    let (state, text) = simulated_report(alloc, setup, &schedule, program, window, lines)?;
     write_text(sink, text.as_slice())?;
     Ok(state)
 }

@@ -20,3 +20,4 @@ exit_status (fault.Words error) = 2
 exit_status (fault.NoCode code) = 2
 exit_status (fault.NoForm word) = 2
 exit_status (fault.Order cause) = status_of cause
+exit_status (fault.Explained cause place) = status_of cause

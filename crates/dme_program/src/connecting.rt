@@ -3,10 +3,15 @@
 ghost use Rattle.std.specs.Prelude.{◌≡◌, true};
 ghost use Rattle.client_core.specs.Clients.{is_window};
 
+use crate::explaining::refused;
+use crate::faults::Fault;
 use crate::files::NamedSource;
 use crate::progress::Progress;
+use crate::tracing::Traced;
 use byte_ports::{Reading, Writing};
-use dme_orders::{FileNames, FilesFault, OrderFault, loop_over, setup_and_program, shown_files};
+use dme_orders::{
+    FileNames, FileTexts, FilesFault, OrderFault, loop_over, setup_and_program, shown_files,
+};
 use dmis_program::Program;
 use std::io::{self, ErrorKind};
 use std::net::{Net, TcpListener, TcpStream};
@@ -49,6 +54,7 @@ fn loop_program<R: Print + Eprint + Net<Listener = TcpListener, Stream = TcpStre
     program: Program,
     window: u8,
     is_told: bool,
+    is_traced: bool,
 ) -> Result<u8, OrderFault>
     requires { is_window window ≡ true }
 {
@@ -63,9 +69,9 @@ fn loop_program<R: Print + Eprint + Net<Listener = TcpListener, Stream = TcpStre
         program,
         window,
         &mut Reading::new(&near),
-        &mut Writing::new(&near),
+        &mut Traced::new(rt, Writing::new(&near), ">", is_traced),
         &mut Reading::new(&far),
-        &mut Writing::new(&far),
+        &mut Traced::new(rt, Writing::new(&far), "<", is_traced),
         &mut watcher,
         &mut Writing::new(io::writer(rt)),
     );
@@ -93,10 +99,15 @@ fn loop_files<'a, R: Files + Input + AllocGlobal>(
     rt: &'a R,
     setup: &'a str,
     program: &'a str,
+    texts: &mut FileTexts,
+    is_explained: bool,
 ) -> Result<(Setup, Program), FilesFault> {
-    let mut setup_source = NamedSource::new(rt, setup, false);
-    let mut source = NamedSource::new(rt, program, setup == "-");
-    setup_and_program(rt.alloc(), &mut setup_source, &mut source)
+    let mut setup_source = NamedSource::new(rt, setup, false).keeping(is_explained);
+    let mut source = NamedSource::new(rt, program, setup == "-").keeping(is_explained);
+    let result = setup_and_program(rt.alloc(), &mut setup_source, &mut source);
+    texts.setup = setup_source.into_text();
+    texts.program = source.into_text();
+    result
 }
 
 /// The order `loop`, on files of these names: its exit status.
@@ -107,13 +118,28 @@ pub fn loop_named<
         + Eprint
         + Net<Listener = TcpListener, Stream = TcpStream>
         + AllocGlobal,
->(rt: &R, setup: String, window: u8, is_told: bool, program: String) -> Result<u8, OrderFault>
+>(
+    rt: &R,
+    setup: String,
+    window: u8,
+    is_told: bool,
+    is_traced: bool,
+    is_explained: bool,
+    program: String,
+) -> Result<u8, Fault>
     requires { is_window window ≡ true }
 {
-    match loop_files(rt, setup.as_str(), program.as_str()) {
-        Ok((setup, program)) => loop_program(rt, setup, program, window, is_told),
+    let alloc = rt.alloc();
+    let mut texts = FileTexts::new(alloc);
+    match loop_files(
+        rt,
+        setup.as_str(),
+        program.as_str(),
+        &mut texts,
+        is_explained,
+    ) {
+        Ok((setup, program)) => Ok(loop_program(rt, setup, program, window, is_told, is_traced)?),
         Err(fault) => {
-            let alloc = rt.alloc();
             let names = FileNames {
                 setup,
                 schedule: String::new(alloc),
@@ -121,7 +147,7 @@ pub fn loop_named<
                 contacts: String::new(alloc),
                 program,
             };
-            Err(shown_files(fault, names))
+            Err(refused(alloc, fault, names, &texts, is_explained))
         }
     }
 }

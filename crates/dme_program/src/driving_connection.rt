@@ -4,14 +4,15 @@ ghost use Rattle.std.specs.Prelude.{◌≡◌, true};
 ghost use Rattle.client_core.specs.Clients.{is_window};
 
 use crate::connecting::{no_connection, of_output};
+use crate::explaining::refused;
+use crate::faults::Fault;
 use crate::files::NamedSource;
 use crate::progress::Progress;
 use crate::text_files::NamedFile;
 use byte_ports::{Reading, Writing};
 use contact_ledger::FeatureLedger;
 use dme_orders::{
-    Driven, FileNames, FilesFault, OrderFault, drive, features_and_program, kept_client,
-    shown_files,
+    Driven, FileNames, FileTexts, FilesFault, OrderFault, drive, features_and_program, kept_client,
 };
 use dmis_program::Program;
 use std::io;
@@ -25,16 +26,22 @@ fn run_files<'a, R: Files + Input + AllocGlobal>(
     setup: &'a str,
     features: Option<&'a str>,
     program: &'a str,
+    texts: &mut FileTexts,
+    is_explained: bool,
 ) -> Result<(FeatureLedger, Program), FilesFault> {
-    let mut setup_source = NamedSource::new(rt, setup, false);
-    let mut features_source = NamedSource::kept(rt, features);
-    let mut source = NamedSource::new(rt, program, setup == "-");
-    features_and_program(
+    let mut setup_source = NamedSource::new(rt, setup, false).keeping(is_explained);
+    let mut features_source = NamedSource::kept(rt, features).keeping(is_explained);
+    let mut source = NamedSource::new(rt, program, setup == "-").keeping(is_explained);
+    let result = features_and_program(
         rt.alloc(),
         &mut setup_source,
         &mut features_source,
         &mut source,
-    )
+    );
+    texts.setup = setup_source.into_text();
+    texts.features = features_source.into_text();
+    texts.program = source.into_text();
+    result
 }
 
 /// What is shown of a run: where its file could not be written, that too, and behind it what broke its connection off.
@@ -112,12 +119,22 @@ pub fn run_named<
     window: u8,
     features: Option<String>,
     is_told: bool,
+    is_explained: bool,
     program: String,
-) -> Result<u8, OrderFault>
+) -> Result<u8, Fault>
     requires { is_window window ≡ true }
 {
-    match run_files(rt, setup.as_str(), features.as_deref(), program.as_str()) {
-        Ok((kept, read)) => run_program(
+    let alloc = rt.alloc();
+    let mut texts = FileTexts::new(alloc);
+    match run_files(
+        rt,
+        setup.as_str(),
+        features.as_deref(),
+        program.as_str(),
+        &mut texts,
+        is_explained,
+    ) {
+        Ok((kept, read)) => Ok(run_program(
             rt,
             kept,
             read,
@@ -126,9 +143,8 @@ pub fn run_named<
             window,
             features,
             is_told,
-        ),
+        )?),
         Err(fault) => {
-            let alloc = rt.alloc();
             let names = FileNames {
                 setup,
                 schedule: String::new(alloc),
@@ -136,7 +152,7 @@ pub fn run_named<
                 contacts: String::new(alloc),
                 program,
             };
-            Err(shown_files(fault, names))
+            Err(refused(alloc, fault, names, &texts, is_explained))
         }
     }
 }

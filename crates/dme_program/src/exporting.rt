@@ -1,9 +1,11 @@
 // The orders `export` and `explain`, on files and the standard streams.
 
 use crate::connecting::of_output;
+use crate::explaining::refused_export;
+use crate::faults::Fault;
 use crate::files::NamedSource;
 use byte_ports::Writing;
-use dme_orders::{ExportFault, FileNames, Form, OrderFault, explain, export_files, shown_export};
+use dme_orders::{ExportFault, FileNames, FileTexts, Form, OrderFault, explain, export_files};
 use dme_words::Form as Word;
 use refusal_guide::Topic;
 use std::io;
@@ -14,6 +16,7 @@ fn form_of(word: Word) -> Form {
     match word {
         Word::Csv => Form::Csv,
         Word::Json => Form::Json,
+        Word::Svg => Form::Svg,
     }
 }
 
@@ -25,26 +28,35 @@ fn export_named_files<'a, R: Files + Input + Print + AllocGlobal>(
     setup: Option<&'a str>,
     features: &'a str,
     program: &'a str,
+    texts: &mut FileTexts,
+    is_explained: bool,
 ) -> Result<(), ExportFault> {
     let input_is_taken = match setup {
         Some(name) => name == "-",
         None => false,
     };
     let mut setup_source = match setup {
-        Some(name) => Some(NamedSource::new(rt, name, false)),
+        Some(name) => Some(NamedSource::new(rt, name, false).keeping(is_explained)),
         None => None,
     };
-    let mut features_source = NamedSource::new(rt, features, input_is_taken);
-    let mut source = NamedSource::new(rt, program, input_is_taken || features == "-");
+    let mut features_source = NamedSource::new(rt, features, input_is_taken).keeping(is_explained);
+    let input_is_taken = input_is_taken || features == "-";
+    let mut source = NamedSource::new(rt, program, input_is_taken).keeping(is_explained);
     let mut sink = Writing::new(io::writer(rt));
-    export_files(
+    let result = export_files(
         rt.alloc(),
         form,
         &mut setup_source,
         &mut features_source,
         &mut source,
         &mut sink,
-    )
+    );
+    if let Some(source) = setup_source {
+        texts.setup = source.into_text();
+    }
+    texts.features = features_source.into_text();
+    texts.program = source.into_text();
+    result
 }
 
 /// The order `export`, on files of these names.
@@ -53,18 +65,22 @@ pub fn export_named<R: Files + Input + Print + AllocGlobal>(
     form: Word,
     setup: Option<String>,
     features: String,
+    is_explained: bool,
     program: String,
-) -> Result<(), OrderFault> {
+) -> Result<(), Fault> {
+    let alloc = rt.alloc();
+    let mut texts = FileTexts::new(alloc);
     match export_named_files(
         rt,
         form_of(form),
         setup.as_deref(),
         features.as_str(),
         program.as_str(),
+        &mut texts,
+        is_explained,
     ) {
         Ok(()) => Ok(()),
         Err(fault) => {
-            let alloc = rt.alloc();
             let names = FileNames {
                 setup: setup.unwrap_or(String::new(alloc)),
                 schedule: String::new(alloc),
@@ -72,7 +88,7 @@ pub fn export_named<R: Files + Input + Print + AllocGlobal>(
                 contacts: String::new(alloc),
                 program,
             };
-            Err(shown_export(fault, names))
+            Err(refused_export(alloc, fault, names, &texts, is_explained))
         }
     }
 }

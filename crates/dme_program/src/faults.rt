@@ -18,11 +18,14 @@ pub enum Fault {
     #[error("error: invalid value '{0}' for '<CODE>': no refusal has this code\n\nFor more information, try '--help'.\n")]
     NoCode(String),
     /// A form that is none.
-    #[error("error: invalid value '{0}' for '--as <FORM>'\n  [possible values: csv, json]\n\nFor more information, try '--help'.\n")]
+    #[error("error: invalid value '{0}' for '--as <FORM>'\n  [possible values: csv, json, svg]\n\nFor more information, try '--help'.\n")]
     NoForm(String),
     /// An order that was not carried out.
     #[error("{0}")]
     Order(OrderFault),
+    /// An order that was not carried out, and behind it where its file is refused and what is wrong there.
+    #[error("{0}{1}")]
+    Explained(OrderFault, String),
 }
 
 impl From<WordsFault> for Fault {
@@ -59,7 +62,7 @@ impl Fault {
     {
         match self {
             Fault::Words(_) | Fault::NoCode(_) | Fault::NoForm(_) => 2,
-            Fault::Order(cause) => cause.status(),
+            Fault::Order(cause) | Fault::Explained(cause, _) => cause.status(),
         }
     }
 }

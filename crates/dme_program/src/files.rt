@@ -23,16 +23,18 @@ enum Place<F, I> {
 }
 
 /// A file of an order, by its name, or standard input. It is opened at its first pull, so that files are refused in the order in
-/// which they are read. It does not tell its bytes.
+/// which they are read. It does not tell its bytes; where that is asked for, it keeps the text that was read.
 #[derive(Drop)]
 pub struct NamedSource<'a, R: Files + Input> {
     rt: &'a R,
     name: &'a str,
     place: Place<R::File, R::Reader>,
     has_failed: bool,
+    text: Vec<u8>,
+    is_kept: bool,
 }
 
-impl<'a, R: Files + Input> NamedSource<'a, R> {
+impl<'a, R: Files + Input + AllocGlobal> NamedSource<'a, R> {
     /// The file of this name; `-` is standard input, or nothing where an earlier file was read from it.
     pub fn new(rt: &'a R, name: &'a str, input_is_taken: bool) -> Self {
         let place = match (name, input_is_taken) {
@@ -45,6 +47,8 @@ impl<'a, R: Files + Input> NamedSource<'a, R> {
             name,
             place,
             has_failed: false,
+            text: Vec::new(rt.alloc()),
+            is_kept: false,
         }
     }
 
@@ -59,6 +63,31 @@ impl<'a, R: Files + Input> NamedSource<'a, R> {
             name,
             place,
             has_failed: false,
+            text: Vec::new(rt.alloc()),
+            is_kept: false,
+        }
+    }
+
+    /// The same source, which keeps the text that is read where that is asked for.
+    pub fn keeping(mut self, is_kept: bool) -> Self {
+        self.is_kept = is_kept;
+        self
+    }
+
+    /// The text that was read, as far as it was kept.
+    pub fn into_text(self) -> Vec<u8> {
+        self.text
+    }
+}
+
+impl<'a, R: Files + Input> NamedSource<'a, R> {
+    /// Keeps what was read. Where memory is wanting for it, none of the text is kept: it is shown, and not understood.
+    fn keep(&mut self, bytes: &[u8])
+        ensures { self.new.has_failed ≡ self.old.has_failed }
+    {
+        if self.is_kept && self.text.extend_from_slice(bytes).is_err() {
+            self.text.clear();
+            self.is_kept = false;
         }
     }
 
@@ -104,7 +133,10 @@ impl<'a, R: Files + Input> Source for NamedSource<'a, R> {
             return Err(Failed);
         }
         match self.read(buf) {
-            Ok(count) => Ok(count),
+            Ok(count) => {
+                self.keep(&buf[..count]);
+                Ok(count)
+            }
             Err(_) => {
                 self.has_failed = true;
                 Err(Failed)

@@ -6,12 +6,14 @@
 //! - `running`: an order is carried out on files and the standard streams; `connecting`, `driving_connection`, `serving_connections`: one
 //!   that needs a connection, on sockets too; `exporting`: what was measured is printed, and what a refusal means
 //! - `files`: the files of an order as ports; `text_files`: files that are replaced as a whole
-//! - `progress`: lines that tell how far an order is
+//! - `progress`: lines that tell how far an order is; `tracing`: the lines of a connection
+//! - `explaining`: what is shown for an order whose files are refused
 //! - `faults`: what is printed on standard error, and the exit status
 #![tactic(auto)]
 
 mod connecting;
 mod driving_connection;
+mod explaining;
 mod exporting;
 mod faults;
 mod files;
@@ -19,6 +21,7 @@ mod progress;
 mod running;
 mod serving_connections;
 mod text_files;
+mod tracing;
 
 use std::process::ExitCode;
 

@@ -7,15 +7,16 @@ ghost use Rattle.dme_orders.specs.Reading.{On};
 
 use crate::connecting::loop_named;
 use crate::driving_connection::run_named;
+use crate::explaining::refused;
 use crate::exporting::{explain_topic, export_named};
 use crate::faults::Fault;
 use crate::files::NamedSource;
 use crate::serving_connections::serve_named;
+use crate::tracing::ErrorOutput;
 use byte_ports::Writing;
 use client_core::State;
 use dme_orders::{
-    FileNames, FilesFault, OrderFault, Role, audit_files, check_under_setup, shown_files, simulate,
-    status,
+    FileNames, FileTexts, FilesFault, Role, audit_files, check_under_setup, simulate, status,
 };
 use dme_words::{Order, WordsFault, read_words};
 use std::alloc::{AllocError, Global};
@@ -53,6 +54,8 @@ fn check_files<'a, R: Files + Input + Print + AllocGlobal>(
     rt: &'a R,
     setup: Option<&'a str>,
     program: &'a str,
+    texts: &mut FileTexts,
+    is_explained: bool,
 ) -> Result<(), FilesFault>
     ensures { IfErr result (On Role.Setup (λ _. is_some setup.entry ≡ true)) }
 {
@@ -61,23 +64,36 @@ fn check_files<'a, R: Files + Input + Print + AllocGlobal>(
         None => false,
     };
     let mut setup_source = match setup {
-        Some(name) => Some(NamedSource::new(rt, name, false)),
+        Some(name) => Some(NamedSource::new(rt, name, false).keeping(is_explained)),
         None => None,
     };
-    let mut source = NamedSource::new(rt, program, input_is_taken);
+    let mut source = NamedSource::new(rt, program, input_is_taken).keeping(is_explained);
     let mut sink = Writing::new(io::writer(rt));
-    check_under_setup(rt.alloc(), &mut setup_source, &mut source, &mut sink)
+    let result = check_under_setup(rt.alloc(), &mut setup_source, &mut source, &mut sink);
+    if let Some(source) = setup_source {
+        texts.setup = source.into_text();
+    }
+    texts.program = source.into_text();
+    result
 }
 
 fn check<R: Files + Input + Print + AllocGlobal>(
     rt: &R,
     setup: Option<String>,
+    is_explained: bool,
     program: String,
-) -> Result<(), OrderFault> {
-    match check_files(rt, setup.as_deref(), program.as_str()) {
+) -> Result<(), Fault> {
+    let alloc = rt.alloc();
+    let mut texts = FileTexts::new(alloc);
+    match check_files(
+        rt,
+        setup.as_deref(),
+        program.as_str(),
+        &mut texts,
+        is_explained,
+    ) {
         Ok(()) => Ok(()),
         Err(fault) => {
-            let alloc = rt.alloc();
             let names = FileNames {
                 setup: setup.unwrap_or(String::new(alloc)),
                 schedule: String::new(alloc),
@@ -85,62 +101,82 @@ fn check<R: Files + Input + Print + AllocGlobal>(
                 contacts: String::new(alloc),
                 program,
             };
-            Err(shown_files(fault, names))
+            Err(refused(alloc, fault, names, &texts, is_explained))
         }
     }
 }
 
 /// The setup of a file is read, then the schedule, then the program; `-` is standard input, which is empty for those behind the first that
 /// was read from it.
-fn simulate_files<'a, R: Files + Input + Print + AllocGlobal>(
+fn simulate_files<'a, R: Files + Input + Print + Eprint + AllocGlobal>(
     rt: &'a R,
     setup: &'a str,
     schedule: &'a str,
     window: u8,
+    is_traced: bool,
     program: &'a str,
+    texts: &mut FileTexts,
+    is_explained: bool,
 ) -> Result<State, FilesFault>
     requires { is_window window ≡ true }
 {
-    let mut setup_source = NamedSource::new(rt, setup, false);
-    let mut schedule_source = NamedSource::new(rt, schedule, setup == "-");
-    let mut source = NamedSource::new(rt, program, setup == "-" || schedule == "-");
-    let mut sink = Writing::new(io::writer(rt));
-    simulate(
+    let mut setup_source = NamedSource::new(rt, setup, false).keeping(is_explained);
+    let mut schedule_source = NamedSource::new(rt, schedule, setup == "-").keeping(is_explained);
+    let is_taken = setup == "-" || schedule == "-";
+    let mut source = NamedSource::new(rt, program, is_taken).keeping(is_explained);
+    let mut lines = if is_traced {
+        Some(ErrorOutput::new(rt))
+    } else {
+        None
+    };
+    let result = simulate(
         rt.alloc(),
         &mut setup_source,
         &mut schedule_source,
         window,
         &mut source,
-        &mut sink,
-    )
+        &mut lines,
+        &mut Writing::new(io::writer(rt)),
+    );
+    texts.setup = setup_source.into_text();
+    texts.schedule = schedule_source.into_text();
+    texts.program = source.into_text();
+    result
 }
 
-fn simulate_named<R: Files + Input + Print + AllocGlobal>(
+fn simulate_named<R: Files + Input + Print + Eprint + AllocGlobal>(
     rt: &R,
     setup: String,
     schedule: String,
     window: u8,
+    is_traced: bool,
+    is_explained: bool,
     program: String,
-) -> Result<u8, OrderFault>
+) -> Result<u8, Fault>
     requires { is_window window ≡ true }
 {
+    let alloc = rt.alloc();
+    let mut texts = FileTexts::new(alloc);
     match simulate_files(
         rt,
         setup.as_str(),
         schedule.as_str(),
         window,
+        is_traced,
         program.as_str(),
+        &mut texts,
+        is_explained,
     ) {
         Ok(state) => Ok(status(state)),
         Err(fault) => {
             let names = FileNames {
                 setup,
                 schedule,
-                features: String::new(rt.alloc()),
-                contacts: String::new(rt.alloc()),
+                features: String::new(alloc),
+                contacts: String::new(alloc),
                 program,
             };
-            Err(shown_files(fault, names))
+            Err(refused(alloc, fault, names, &texts, is_explained))
         }
     }
 }
@@ -153,21 +189,29 @@ fn audit_named_files<'a, R: Files + Input + Print + AllocGlobal>(
     features: &'a str,
     contacts: &'a str,
     program: &'a str,
+    texts: &mut FileTexts,
+    is_explained: bool,
 ) -> Result<u8, FilesFault> {
-    let mut setup_source = NamedSource::new(rt, setup, false);
-    let mut features_source = NamedSource::new(rt, features, setup == "-");
+    let mut setup_source = NamedSource::new(rt, setup, false).keeping(is_explained);
+    let mut features_source = NamedSource::new(rt, features, setup == "-").keeping(is_explained);
     let is_taken = setup == "-" || features == "-";
-    let mut contacts_source = NamedSource::new(rt, contacts, is_taken);
-    let mut source = NamedSource::new(rt, program, is_taken || contacts == "-");
+    let mut contacts_source = NamedSource::new(rt, contacts, is_taken).keeping(is_explained);
+    let is_taken = is_taken || contacts == "-";
+    let mut source = NamedSource::new(rt, program, is_taken).keeping(is_explained);
     let mut sink = Writing::new(io::writer(rt));
-    audit_files(
+    let result = audit_files(
         rt.alloc(),
         &mut setup_source,
         &mut features_source,
         &mut contacts_source,
         &mut source,
         &mut sink,
-    )
+    );
+    texts.setup = setup_source.into_text();
+    texts.features = features_source.into_text();
+    texts.contacts = contacts_source.into_text();
+    texts.program = source.into_text();
+    result
 }
 
 fn audit_named<R: Files + Input + Print + AllocGlobal>(
@@ -175,25 +219,30 @@ fn audit_named<R: Files + Input + Print + AllocGlobal>(
     setup: String,
     features: String,
     contacts: String,
+    is_explained: bool,
     program: String,
-) -> Result<u8, OrderFault> {
+) -> Result<u8, Fault> {
+    let alloc = rt.alloc();
+    let mut texts = FileTexts::new(alloc);
     match audit_named_files(
         rt,
         setup.as_str(),
         features.as_str(),
         contacts.as_str(),
         program.as_str(),
+        &mut texts,
+        is_explained,
     ) {
         Ok(status) => Ok(status),
         Err(fault) => {
             let names = FileNames {
                 setup,
-                schedule: String::new(rt.alloc()),
+                schedule: String::new(alloc),
                 features,
                 contacts,
                 program,
             };
-            Err(shown_files(fault, names))
+            Err(refused(alloc, fault, names, &texts, is_explained))
         }
     }
 }
@@ -206,39 +255,49 @@ fn carry_out<
         + Eprint
         + Net<Listener = TcpListener, Stream = TcpStream>
         + AllocGlobal,
->(rt: &R, order: Order) -> Result<u8, OrderFault>
+>(rt: &R, order: Order) -> Result<u8, Fault>
     requires { IsReady order }
 {
     match order {
-        Order::Check { setup, program } => {
-            check(rt, setup, program)?;
+        Order::Check {
+            setup,
+            explain,
+            program,
+        } => {
+            check(rt, setup, explain, program)?;
             Ok(0)
         }
         Order::Simulate {
             setup,
             schedule,
             window,
+            trace,
+            explain,
             program,
-        } => simulate_named(rt, setup, schedule, window, program),
+        } => simulate_named(rt, setup, schedule, window, trace, explain, program),
         Order::Audit {
             setup,
             features,
             contacts,
+            explain,
             program,
-        } => audit_named(rt, setup, features, contacts, program),
+        } => audit_named(rt, setup, features, contacts, explain, program),
         Order::Loop {
             setup,
             window,
             progress,
+            trace,
+            explain,
             program,
-        } => loop_named(rt, setup, window, progress, program),
+        } => loop_named(rt, setup, window, progress, trace, explain, program),
         Order::Serve {
             setup,
             port,
             connections,
             contacts,
             progress,
-        } => serve_named(rt, setup, port, connections, contacts, progress),
+            explain,
+        } => serve_named(rt, setup, port, connections, contacts, progress, explain),
         Order::Run {
             setup,
             host,
@@ -246,8 +305,11 @@ fn carry_out<
             window,
             features,
             progress,
+            explain,
             program,
-        } => run_named(rt, setup, host, port, window, features, progress, program),
+        } => run_named(
+            rt, setup, host, port, window, features, progress, explain, program,
+        ),
         Order::Explain { topic } => {
             explain_topic(rt, topic)?;
             Ok(0)
@@ -256,9 +318,10 @@ fn carry_out<
             form,
             setup,
             features,
+            explain,
             program,
         } => {
-            export_named(rt, form, setup, features, program)?;
+            export_named(rt, form, setup, features, explain, program)?;
             Ok(0)
         }
     }
@@ -275,5 +338,5 @@ pub fn run<
         + AllocGlobal,
 >(rt: &R) -> Result<u8, Fault> {
     let order = read_order(rt)?;
-    Ok(carry_out(rt, order)?)
+    carry_out(rt, order)
 }

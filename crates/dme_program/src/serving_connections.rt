@@ -1,12 +1,14 @@
 // The order `serve`, on files, sockets and the standard streams.
 
 use crate::connecting::{no_connection, of_output};
+use crate::explaining::refused;
+use crate::faults::Fault;
 use crate::files::NamedSource;
 use crate::text_files::NamedFile;
 use byte_ports::{Reading, Writing};
 use dme_orders::{
-    FileNames, FilesFault, OrderFault, close_service, read_setup, serve_one, shown_break,
-    shown_files, with_break,
+    FileNames, FileTexts, FilesFault, OrderFault, close_service, read_setup, serve_one,
+    shown_break, with_break,
 };
 use link_world::{LoopFault, PumpFault, Simulated};
 use server_core::{Server, ServerFault};
@@ -113,9 +115,13 @@ fn serve_setup<
 fn serve_file<'a, R: Files + Input + AllocGlobal>(
     rt: &'a R,
     setup: &'a str,
+    texts: &mut FileTexts,
+    is_explained: bool,
 ) -> Result<Setup, FilesFault> {
-    let mut source = NamedSource::new(rt, setup, false);
-    read_setup(rt.alloc(), &mut source)
+    let mut source = NamedSource::new(rt, setup, false).keeping(is_explained);
+    let result = read_setup(rt.alloc(), &mut source);
+    texts.setup = source.into_text();
+    result
 }
 
 /// The order `serve`, on files of these names: its exit status.
@@ -133,11 +139,13 @@ pub fn serve_named<
     connections: u32,
     contacts: Option<String>,
     is_told: bool,
-) -> Result<u8, OrderFault> {
-    match serve_file(rt, setup.as_str()) {
-        Ok(read) => serve_setup(rt, read, port, connections, contacts, is_told),
+    is_explained: bool,
+) -> Result<u8, Fault> {
+    let alloc = rt.alloc();
+    let mut texts = FileTexts::new(alloc);
+    match serve_file(rt, setup.as_str(), &mut texts, is_explained) {
+        Ok(read) => Ok(serve_setup(rt, read, port, connections, contacts, is_told)?),
         Err(fault) => {
-            let alloc = rt.alloc();
             let names = FileNames {
                 setup,
                 schedule: String::new(alloc),
@@ -145,7 +153,7 @@ pub fn serve_named<
                 contacts: String::new(alloc),
                 program: String::new(alloc),
             };
-            Err(shown_files(fault, names))
+            Err(refused(alloc, fault, names, &texts, is_explained))
         }
     }
 }

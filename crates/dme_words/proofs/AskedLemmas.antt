@@ -10,10 +10,10 @@ use Rattle.clap.specs.Walk.{Text, answers_to, nothing_held, rows_after, walk, wa
 use Rattle.clap.specs.Simple.{App, Shape, argument_words, built, built_leaf, entered, inherited, label_of, marked_built, names_of}
 use Rattle.clap.specs.Simple.{on_top, rows_at, subcommand_of, with_leaf_noted}
 use Rattle.clap.specs.Faults.{entered_fault, fault_of, level_fault, walk_fault}
-use Rattle.dme_words.specs.CommandLine.{audit_line, explain_line, export_line, loop_line, run_line, serve_line, simulate_line, whole_line}
-use Rattle.dme_words.specs.Ordered.{HasAudit, HasExport, HasLoop, HasRun, HasService, HasSimulation, HasValue, IsAskable}
+use Rattle.dme_words.specs.CommandLine.{audit_line, check_line, explain_line, export_line, loop_line, run_line, serve_line, simulate_line, whole_line}
+use Rattle.dme_words.specs.Ordered.{HasAudit, HasExplained, HasExport, HasLoop, HasRun, HasService, HasSimulation, HasValue, IsAskable}
 use Rattle.dme_words.proofs.HelpLemmas.{NotAtHelp, entered_there, first_none, second_none, walk_stops}
-use Rattle.dme_words.proofs.FoundLemmas.{has_number, has_progress, has_value, level_found}
+use Rattle.dme_words.proofs.FoundLemmas.{has_flag, has_number, has_value, level_found}
 
 -- each of these subcommands may be asked for where it answers to the word and has no fault
 abbrev Serve : Text → List Text → List Shape → Type 0
@@ -50,125 +50,86 @@ no_help word words free answers = go (bytes_eq (codes "help") word) refl answers
 abbrev leaf : App → Shape
 leaf a = built_leaf (inherited (on_top with_leaf_noted (on_top marked_built whole_line)).top a.top)
 
+checked : (words : List Text) → level_fault (leaf check_line) [] nothing_held words false [] ≡ []
+    → HasExplained (rows_after (leaf check_line).rules [] words)
+checked words none =
+    let found = level_found (leaf check_line) words refl
+    ((refl, inl (refl, refl)), ((refl, inr (inl (refl, omega arith))), ((refl, inl (refl, refl)), ((refl, inr (inr refl)), tt)))) none in
+    has_flag (leaf check_line).rules _ (codes "explain") _ refl refl found.fit (found.defaulted.1.0 (omega arith))
+
 simulation : (words : List Text) → level_fault (leaf simulate_line) [] nothing_held words false [] ≡ []
     → HasSimulation (rows_after (leaf simulate_line).rules [] words)
 simulation words none =
     let c = (leaf simulate_line).rules in
-    let found = level_found (leaf simulate_line) words refl (
-      (refl, inl (refl, refl)),
-      (
-        (refl, inl (refl, refl)),
-        (
-          (refl, inl (refl, refl)),
-          (
-            (refl, inl (refl, refl)),
-            ((refl, inr (inr refl)), tt),
-          ),
-        ),
-      ),
-    ) none in
+    let found = level_found (leaf simulate_line) words refl
+    ((refl, inl (refl, refl)), ((refl, inl (refl, refl)), ((refl, inl (refl, refl)), ((refl, inr (inl (refl, omega arith))), ((refl, inr (inl (refl, omega arith))), ((refl, inl (refl, refl)), ((refl, inr (inr refl)), tt)))))))
+    none in
     record {
       setup = has_value c (codes "setup") _ refl found.fit (found.needed.0 refl);
       schedule = has_value c (codes "schedule") _ refl found.fit (found.needed.1.0 refl);
       window = has_number c _ (codes "window") 16 _ refl refl found.fit (found.defaulted.1.1.0 (omega arith));
+      trace = has_flag c _ (codes "trace") _ refl refl found.fit (found.defaulted.1.1.1.0 (omega arith));
+      explain = has_flag c _ (codes "explain") _ refl refl found.fit (found.defaulted.1.1.1.1.0 (omega arith));
     }
 
 audit : (words : List Text) → level_fault (leaf audit_line) [] nothing_held words false [] ≡ []
     → HasAudit (rows_after (leaf audit_line).rules [] words)
 audit words none =
     let c = (leaf audit_line).rules in
-    let found = level_found (leaf audit_line) words refl (
-      (refl, inl (refl, refl)),
-      (
-        (refl, inl (refl, refl)),
-        (
-          (refl, inl (refl, refl)),
-          (
-            (refl, inl (refl, refl)),
-            ((refl, inr (inr refl)), tt),
-          ),
-        ),
-      ),
-    ) none in
+    let found = level_found (leaf audit_line) words refl
+    ((refl, inl (refl, refl)), ((refl, inl (refl, refl)), ((refl, inl (refl, refl)), ((refl, inr (inl (refl, omega arith))), ((refl, inl (refl, refl)), ((refl, inr (inr refl)), tt))))))
+    none in
     record {
       setup = has_value c (codes "setup") _ refl found.fit (found.needed.0 refl);
       features = has_value c (codes "features") _ refl found.fit (found.needed.1.0 refl);
       contacts = has_value c (codes "contacts") _ refl found.fit (found.needed.1.1.0 refl);
+      explain = has_flag c _ (codes "explain") _ refl refl found.fit (found.defaulted.1.1.1.0 (omega arith));
     }
 
 loop : (words : List Text) → level_fault (leaf loop_line) [] nothing_held words false [] ≡ []
     → HasLoop (rows_after (leaf loop_line).rules [] words)
 loop words none =
     let c = (leaf loop_line).rules in
-    let found = level_found (leaf loop_line) words refl (
-      (refl, inl (refl, refl)),
-      (
-        (refl, inl (refl, refl)),
-        (
-          (refl, inr (inl (refl, omega arith))),
-          (
-            (refl, inl (refl, refl)),
-            ((refl, inr (inr refl)), tt),
-          ),
-        ),
-      ),
-    ) none in
+    let found = level_found (leaf loop_line) words refl
+    ((refl, inl (refl, refl)), ((refl, inl (refl, refl)), ((refl, inr (inl (refl, omega arith))), ((refl, inr (inl (refl, omega arith))), ((refl, inr (inl (refl, omega arith))), ((refl, inl (refl, refl)), ((refl, inr (inr refl)), tt)))))))
+    none in
     record {
       setup = has_value c (codes "setup") _ refl found.fit (found.needed.0 refl);
       window = has_number c _ (codes "window") 16 _ refl refl found.fit (found.defaulted.1.0 (omega arith));
-      progress = has_progress c _ _ refl refl found.fit (found.defaulted.1.1.0 (omega arith));
+      progress = has_flag c _ (codes "progress") _ refl refl found.fit (found.defaulted.1.1.0 (omega arith));
+      trace = has_flag c _ (codes "trace") _ refl refl found.fit (found.defaulted.1.1.1.0 (omega arith));
+      explain = has_flag c _ (codes "explain") _ refl refl found.fit (found.defaulted.1.1.1.1.0 (omega arith));
     }
 
 service : (words : List Text) → level_fault (leaf serve_line) [] nothing_held words false [] ≡ []
     → HasService (rows_after (leaf serve_line).rules [] words)
 service words none =
     let c = (leaf serve_line).rules in
-    let found = level_found (leaf serve_line) words refl (
-      (refl, inl (refl, refl)),
-      (
-        (refl, inl (refl, refl)),
-        (
-          (refl, inl (refl, refl)),
-          (
-            (refl, inl (refl, refl)),
-            ((refl, inr (inl (refl, omega arith))), ((refl, inr (inr refl)), tt)),
-          ),
-        ),
-      ),
-    ) none in
+    let found = level_found (leaf serve_line) words refl
+    ((refl, inl (refl, refl)), ((refl, inl (refl, refl)), ((refl, inl (refl, refl)), ((refl, inl (refl, refl)), ((refl, inr (inl (refl, omega arith))), ((refl, inr (inl (refl, omega arith))), ((refl, inr (inr refl)), tt)))))))
+    none in
     record {
       setup = has_value c (codes "setup") _ refl found.fit (found.needed.0 refl);
       port = has_number c _ (codes "port") 65535 _ refl refl found.fit (found.needed.1.0 refl);
       connections = has_number c _ (codes "connections") 4000000000 _ refl refl found.fit (found.defaulted.1.1.0 (omega arith));
-      progress = has_progress c _ _ refl refl found.fit (found.defaulted.1.1.1.1.0 (omega arith));
+      progress = has_flag c _ (codes "progress") _ refl refl found.fit (found.defaulted.1.1.1.1.0 (omega arith));
+      explain = has_flag c _ (codes "explain") _ refl refl found.fit (found.defaulted.1.1.1.1.1.0 (omega arith));
     }
 
 driven : (words : List Text) → level_fault (leaf run_line) [] nothing_held words false [] ≡ []
     → HasRun (rows_after (leaf run_line).rules [] words)
 driven words none =
     let c = (leaf run_line).rules in
-    let found = level_found (leaf run_line) words refl (
-      (refl, inl (refl, refl)),
-      (
-        (refl, inl (refl, refl)),
-        (
-          (refl, inl (refl, refl)),
-          (
-            (refl, inl (refl, refl)),
-            (
-              (refl, inl (refl, refl)),
-              ((refl, inr (inl (refl, omega arith))), ((refl, inl (refl, refl)), ((refl, inr (inr refl)), tt))),
-            ),
-          ),
-        ),
-      ),
-    ) none in
+    let found = level_found (leaf run_line) words refl
+    ((refl, inl (refl, refl)), ((refl, inl (refl, refl)), ((refl, inl (refl, refl)), ((refl, inl (refl, refl)), ((refl, inl (refl, refl)), ((refl, inr (inl (refl, omega arith))), ((refl, inr (inl (refl, omega arith))), ((refl, inl (refl, refl)), ((refl, inr (inr refl)), tt)))))))))
+    none in
     record {
       setup = has_value c (codes "setup") _ refl found.fit (found.needed.0 refl);
       host = has_value c (codes "host") _ refl found.fit (found.needed.1.0 refl);
       port = has_number c _ (codes "port") 65535 _ refl refl found.fit (found.needed.1.1.0 refl);
       window = has_number c _ (codes "window") 16 _ refl refl found.fit (found.defaulted.1.1.1.0 (omega arith));
-      progress = has_progress c _ _ refl refl found.fit (found.defaulted.1.1.1.1.1.0 (omega arith));
+      progress = has_flag c _ (codes "progress") _ refl refl found.fit (found.defaulted.1.1.1.1.1.0 (omega arith));
+      explain = has_flag c _ (codes "explain") _ refl refl found.fit (found.defaulted.1.1.1.1.1.1.0 (omega arith));
     }
 
 explained : (words : List Text) → level_fault (leaf explain_line) [] nothing_held words false [] ≡ []
@@ -181,28 +142,19 @@ export : (words : List Text) → level_fault (leaf export_line) [] nothing_held 
     → HasExport (rows_after (leaf export_line).rules [] words)
 export words none =
     let c = (leaf export_line).rules in
-    let found = level_found (leaf export_line) words refl (
-      (refl, inl (refl, refl)),
-      (
-        (refl, inl (refl, refl)),
-        (
-          (refl, inl (refl, refl)),
-          (
-            (refl, inl (refl, refl)),
-            ((refl, inr (inr refl)), tt),
-          ),
-        ),
-      ),
-    ) none in
+    let found = level_found (leaf export_line) words refl
+    ((refl, inl (refl, refl)), ((refl, inl (refl, refl)), ((refl, inl (refl, refl)), ((refl, inr (inl (refl, omega arith))), ((refl, inl (refl, refl)), ((refl, inr (inr refl)), tt))))))
+    none in
     record {
       form = has_value c (codes "as") _ refl found.fit (found.needed.0 refl);
       features = has_value c (codes "features") _ refl found.fit (found.needed.1.1.0 refl);
+      explain = has_flag c _ (codes "explain") _ refl refl found.fit (found.defaulted.1.1.1.0 (omega arith));
     }
 
 -- each subcommand of `dme` may be asked for, and `help` was not met
 serves : (p : Text × List Text) → NotAtHelp (Some p) → Serve p.0 p.1 (built whole_line).subs
 serves p free = (
-  λ answers none. inl refl,
+  λ answers none. inl (refl, checked p.1 none),
   (
     λ answers none. inr (inl (refl, simulation p.1 none)),
     (

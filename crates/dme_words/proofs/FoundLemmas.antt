@@ -24,7 +24,7 @@ use Rattle.clap.specs.declared.builder.value_parser.Reading.{Reading}
 use Rattle.clap.specs.declared.builder.value_parser.ValueParser.{ValueParser}
 use Rattle.clap.specs.declared.builder.value_parser.ValueParser.TheVariants.{Bool as OfBool, Signed}
 use Rattle.clap.proofs.ValueTestLemmas.{accepts-Accepts}
-use Rattle.dme_words.specs.Ordered.{HasNumber, HasProgress, HasValue}
+use Rattle.dme_words.specs.Ordered.{HasFlag, HasNumber, HasValue}
 use Rattle.dme_words.proofs.HelpLemmas.{first_none, second_none, not_empty}
 use Rattle.dme_words.proofs.LevelLemmas.{AllFit, Fits, Known, Knows, fit_with, settle_fits, walk_fits}
 
@@ -258,26 +258,26 @@ has_number c a id most rows is parser fit has =
     }
 
 -- a text that is `true` or `false` writes one of the two
-written_bool : (text : Text) (rows : List Row) → (bytes_eq text (codes "true") || bytes_eq text (codes "false")) ≡ true
-    → first_of (codes "progress") rows ≡ Some text → one_of (codes "progress") rows ≡ Some text → HasProgress rows
-written_bool text rows is first read = go (bytes_eq text (codes "true")) refl (bytes_eq text (codes "false")) refl is
+written_bool : (id text : Text) (rows : List Row) → (bytes_eq text (codes "true") || bytes_eq text (codes "false")) ≡ true
+    → first_of id rows ≡ Some text → one_of id rows ≡ Some text → HasFlag id rows
+written_bool id text rows is first read = go (bytes_eq text (codes "true")) refl (bytes_eq text (codes "false")) refl is
   where
-    told : (b : Bool) → text ≡ bool_text b → HasProgress rows
+    told : (b : Bool) → text ≡ bool_text b → HasFlag id rows
     told b e = record { is_set = b; written = first ∙ ap (λ (t : Text). Some t) e; read = read ∙ ap (λ (t : Text). Some t) e }
 
     go : (a : Bool) → bytes_eq text (codes "true") ≡ a → (b : Bool) → bytes_eq text (codes "false") ≡ b → (a || b) ≡ true
-        → HasProgress rows
+        → HasFlag id rows
     go true raised b lowered is = told true ((bytes_eq-Decides text (codes "true")).0 raised)
     go false raised true lowered is = told false ((bytes_eq-Decides text (codes "false")).0 lowered)
     go false raised false lowered is = absurd (true≢false (sym is))
 
 -- the flag with a row is set, or it is not
-pub has_progress : (c : List Rule) (a : Rule) (rows : List Row) → arg_by_id c (codes "progress") ≡ Some a → a.parser ≡ Some OfBool
-    → AllFit c rows → has_row (codes "progress") rows ≡ true → HasProgress rows
-has_progress c a rows is parser fit has =
-    let value = value_passed c a (codes "progress") rows is fit has in
+pub has_flag : (c : List Rule) (a : Rule) (id : Text) (rows : List Row) → arg_by_id c id ≡ Some a → a.parser ≡ Some OfBool
+    → AllFit c rows → has_row id rows ≡ true → HasFlag id rows
+has_flag c a id rows is parser fit has =
+    let value = value_passed c a id rows is fit has in
     let passed : value_kinds a.ignore_case OfBool value.text ≡ [] =
     subst (λ (o : Option ValueParser). value_kinds a.ignore_case (parser_of_value o) value.text ≡ []) parser value.passed in
-    written_bool value.text rows (accepted _ _ passed) value.first
-    (subst (λ (o : Option ValueParser). one_of (codes "progress") rows ≡ Some (read_as (reading_of (parser_of_value o)) value.text)) parser
+    written_bool id value.text rows (accepted _ _ passed) value.first
+    (subst (λ (o : Option ValueParser). one_of id rows ≡ Some (read_as (reading_of (parser_of_value o)) value.text)) parser
     value.read)

@@ -10,7 +10,7 @@ use Rattle.clap.specs.Lexer.{without_minus}
 use Rattle.clap.specs.Values.{bool_text}
 use Rattle.clap.specs.Walk.{Row, Text, first_of, one_of}
 use Rattle.client_core.specs.Clients.{is_window}
-use Rattle.dme_words.specs.Ordered.{HasProgress, IsNumber, IsProgressOf}
+use Rattle.dme_words.specs.Ordered.{HasFlag, IsFlagOf, IsNumber}
 
 -- a text that does not begin with a minus
 without_minus-same : (t : List ℕ) → starts_with_minus t ≡ false → without_minus t ≡ t
@@ -49,10 +49,10 @@ pub number-window : (window : ℕ) (text : Text) → IsNumber 16 window text →
 number-window window text is = ap₂ (λ a b. a && b) (le-leb 1 window is.1) (le-leb window 16 is.2)
 
 -- the flag that was read is the one that was told
-pub progress_reads : (rows : List Row) (one : Option Text) (result : Bool) → one ≡ one_of (codes "progress") rows → HasProgress rows
-    → (one ≡ Some (codes "true") → result ≡ true) → (one ≡ Some (codes "false") → result ≡ false) → IsProgressOf rows result
-progress_reads rows one result same has raised lowered = go has.is_set has.written (same ∙ has.read)
+pub flag_reads : (id : Text) (rows : List Row) (one : Option Text) (result : Bool) → one ≡ one_of id rows → HasFlag id rows
+    → (one ≡ Some (codes "true") → result ≡ true) → (one ≡ Some (codes "false") → result ≡ false) → IsFlagOf id rows result
+flag_reads id rows one result same has raised lowered = go has.is_set has.written (same ∙ has.read)
   where
-    go : (b : Bool) → first_of (codes "progress") rows ≡ Some (bool_text b) → one ≡ Some (bool_text b) → IsProgressOf rows result
-    go true written read = subst (IsProgressOf rows) (sym (raised read)) written
-    go false written read = subst (IsProgressOf rows) (sym (lowered read)) written
+    go : (b : Bool) → first_of id rows ≡ Some (bool_text b) → one ≡ Some (bool_text b) → IsFlagOf id rows result
+    go true written read = subst (IsFlagOf id rows) (sym (raised read)) written
+    go false written read = subst (IsFlagOf id rows) (sym (lowered read)) written

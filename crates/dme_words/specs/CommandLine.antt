@@ -1,5 +1,5 @@
 -- The command line of `dme`, as the crate `clap` reads it: a simple command of its words, with one level of subcommands.
-use Rattle.std.specs.Prelude.{ℕ, [], ◌∷◌, Some, codes, pos, true}
+use Rattle.std.specs.Prelude.{ℕ, List, [], ◌∷◌, Some, codes, fold, pos, true}
 use Rattle.clap.specs.Words.{App, Rule, Text, new_app, new_rule, with_rule, with_subcommand}
 use Rattle.clap.specs.declared.builder.action.ArgAction.TheVariants.{SetTrue}
 use Rattle.clap.specs.declared.builder.value_parser.ValueParser.TheVariants.{Signed}
@@ -28,43 +28,46 @@ port_rule = record (number_rule (codes "port") 65535) { required = true }
 abbrev pub connections_rule : Rule
 connections_rule = record (number_rule (codes "connections") 4000000000) { defaults = codes "1" ∷ [] }
 
--- the flag `--progress`
-abbrev pub progress_rule : Rule
-progress_rule = record (new_rule (codes "progress")) { long = Some (codes "progress"); action = Some SetTrue }
+-- the flag `--NAME`, which is set or not
+abbrev pub flag_rule : Text → Rule
+flag_rule name = record (new_rule name) { long = Some name; action = Some SetTrue }
 
 -- the positional `PROGRAM`, `-` where none is named
 abbrev pub program_rule : Rule
 program_rule = record (new_rule (codes "PROGRAM")) { defaults = codes "-" ∷ [] }
 
--- `check [--setup FILE] [PROGRAM]`
+-- a command of this name with these arguments, in their order
+abbrev pub line_of : Text → List Rule → App
+line_of name rules = fold with_rule (new_app name) rules
+
+-- `check [--setup FILE] [--explain] [PROGRAM]`
 abbrev pub check_line : App
-check_line = with_rule (with_rule (new_app (codes "check")) (text_rule (codes "setup"))) program_rule
+check_line = line_of (codes "check") (text_rule (codes "setup") ∷ flag_rule (codes "explain") ∷ program_rule ∷ [])
 
--- `simulate --setup FILE --schedule FILE [--window W] [PROGRAM]`
+-- `simulate --setup FILE --schedule FILE [--window W] [--trace] [--explain] [PROGRAM]`
 abbrev pub simulate_line : App
-simulate_line = with_rule (with_rule (with_rule (with_rule (new_app (codes "simulate")) (needed_rule (codes "setup")))
-    (needed_rule (codes "schedule"))) window_rule) program_rule
+simulate_line = line_of (codes "simulate") (needed_rule (codes "setup") ∷ needed_rule (codes "schedule") ∷ window_rule
+    ∷ flag_rule (codes "trace") ∷ flag_rule (codes "explain") ∷ program_rule ∷ [])
 
--- `audit --setup FILE --features FILE --contacts FILE [PROGRAM]`
+-- `audit --setup FILE --features FILE --contacts FILE [--explain] [PROGRAM]`
 abbrev pub audit_line : App
-audit_line = with_rule (with_rule (with_rule (with_rule (new_app (codes "audit")) (needed_rule (codes "setup")))
-    (needed_rule (codes "features"))) (needed_rule (codes "contacts"))) program_rule
+audit_line = line_of (codes "audit") (needed_rule (codes "setup") ∷ needed_rule (codes "features") ∷ needed_rule (codes "contacts")
+    ∷ flag_rule (codes "explain") ∷ program_rule ∷ [])
 
--- `loop --setup FILE [--window W] [--progress] [PROGRAM]`
+-- `loop --setup FILE [--window W] [--progress] [--trace] [--explain] [PROGRAM]`
 abbrev pub loop_line : App
-loop_line = with_rule (with_rule (with_rule (with_rule (new_app (codes "loop")) (needed_rule (codes "setup"))) window_rule)
-    progress_rule) program_rule
+loop_line = line_of (codes "loop") (needed_rule (codes "setup") ∷ window_rule ∷ flag_rule (codes "progress") ∷ flag_rule (codes "trace")
+    ∷ flag_rule (codes "explain") ∷ program_rule ∷ [])
 
--- `serve --setup FILE --port N [--connections K] [--contacts FILE] [--progress]`
+-- `serve --setup FILE --port N [--connections K] [--contacts FILE] [--progress] [--explain]`
 abbrev pub serve_line : App
-serve_line = with_rule (with_rule (with_rule (with_rule (with_rule (new_app (codes "serve")) (needed_rule (codes "setup"))) port_rule)
-    connections_rule) (text_rule (codes "contacts"))) progress_rule
+serve_line = line_of (codes "serve") (needed_rule (codes "setup") ∷ port_rule ∷ connections_rule ∷ text_rule (codes "contacts")
+    ∷ flag_rule (codes "progress") ∷ flag_rule (codes "explain") ∷ [])
 
--- `run --setup FILE --host H --port N [--window W] [--features FILE] [--progress] [PROGRAM]`
+-- `run --setup FILE --host H --port N [--window W] [--features FILE] [--progress] [--explain] [PROGRAM]`
 abbrev pub run_line : App
-run_line = with_rule (with_rule (with_rule (with_rule (with_rule (with_rule (with_rule (new_app (codes "run"))
-    (needed_rule (codes "setup"))) (needed_rule (codes "host"))) port_rule) window_rule) (text_rule (codes "features"))) progress_rule)
-    program_rule
+run_line = line_of (codes "run") (needed_rule (codes "setup") ∷ needed_rule (codes "host") ∷ port_rule ∷ window_rule
+    ∷ text_rule (codes "features") ∷ flag_rule (codes "progress") ∷ flag_rule (codes "explain") ∷ program_rule ∷ [])
 
 -- the positional `CODE`, which must be named
 abbrev pub code_rule : Rule
@@ -72,12 +75,12 @@ code_rule = record (new_rule (codes "CODE")) { required = true }
 
 -- `explain CODE`
 abbrev pub explain_line : App
-explain_line = with_rule (new_app (codes "explain")) code_rule
+explain_line = line_of (codes "explain") (code_rule ∷ [])
 
--- `export --as FORM [--setup FILE] --features FILE [PROGRAM]`
+-- `export --as FORM [--setup FILE] --features FILE [--explain] [PROGRAM]`
 abbrev pub export_line : App
-export_line = with_rule (with_rule (with_rule (with_rule (new_app (codes "export")) (needed_rule (codes "as")))
-    (text_rule (codes "setup"))) (needed_rule (codes "features"))) program_rule
+export_line = line_of (codes "export") (needed_rule (codes "as") ∷ text_rule (codes "setup") ∷ needed_rule (codes "features")
+    ∷ flag_rule (codes "explain") ∷ program_rule ∷ [])
 
 -- the command without its subcommands, of which one is required
 abbrev pub bare_line : App
@@ -85,6 +88,5 @@ bare_line = record (new_app (codes "dme")) { top = record (new_app (codes "dme")
 
 -- `dme COMMAND ..`
 abbrev pub whole_line : App
-whole_line = with_subcommand (with_subcommand (with_subcommand (with_subcommand (with_subcommand (with_subcommand (with_subcommand
-    (with_subcommand bare_line check_line.top) simulate_line.top) audit_line.top) loop_line.top) serve_line.top) run_line.top)
-    explain_line.top) export_line.top
+whole_line = fold (λ line order. with_subcommand line order.top) bare_line (check_line ∷ simulate_line ∷ audit_line ∷ loop_line
+    ∷ serve_line ∷ run_line ∷ explain_line ∷ export_line ∷ [])

@@ -12,7 +12,7 @@ use Rattle.refusal_guide.specs.Titles.{is_called, title_of}
 use Rattle.refusal_guide.specs.declared.topics.Topic.{Topic}
 use Rattle.dme_words.specs.CommandLine.{whole_line}
 use Rattle.dme_words.specs.declared.words.Form.{Form}
-use Rattle.dme_words.specs.declared.words.Form.TheVariants.{Csv, Json}
+use Rattle.dme_words.specs.declared.words.Form.TheVariants.{Csv, Json, Svg}
 use Rattle.dme_words.specs.declared.words.Order.{Order}
 use Rattle.dme_words.specs.declared.words.Order.TheVariants.{Audit, Check, Explain, Export, Loop, Run, Serve, Simulate}
 use Rattle.dme_words.specs.declared.words.WordsFault.{WordsFault}
@@ -50,51 +50,57 @@ IsPortOf = IsNumberOf (codes "port") 65535
 abbrev pub IsConnectionsOf : List Row → ℕ → Type 0
 IsConnectionsOf = IsNumberOf (codes "connections") 4000000000
 
--- the flag `--progress` is set, or it is not, as `clap` writes it
-abbrev pub IsProgressOf : List Row → Bool → Type 0
-IsProgressOf rows is_set = first_of (codes "progress") rows ≡ Some (bool_text is_set)
+-- the flag with this id is set, or it is not, as `clap` writes it
+abbrev pub IsFlagOf : Text → List Row → Bool → Type 0
+IsFlagOf id rows is_set = first_of id rows ≡ Some (bool_text is_set)
+
+-- the flag `--explain` is set, or it is not
+abbrev pub IsExplainedOf : List Row → Bool → Type 0
+IsExplainedOf = IsFlagOf (codes "explain")
 
 -- a check of the program with the named setup, or with none where none is named
 abbrev pub IsCheckOf : List Row → Order → Type 0
-IsCheckOf rows (Check setup program) =
-    IsMaybeOf (codes "setup") rows (option_map string_bytes setup) × IsProgramOf rows (string_bytes program)
+IsCheckOf rows (Check setup explain program) =
+    IsMaybeOf (codes "setup") rows (option_map string_bytes setup) × IsExplainedOf rows explain × IsProgramOf rows (string_bytes program)
 IsCheckOf rows _ = ⊥
 
 -- a simulation of the program with the named setup and schedule, and the named window
 abbrev pub IsSimulateOf : List Row → Order → Type 0
-IsSimulateOf rows (Simulate setup schedule window program) =
+IsSimulateOf rows (Simulate setup schedule window trace explain program) =
     IsValueOf (codes "setup") rows (string_bytes setup) × IsValueOf (codes "schedule") rows (string_bytes schedule)
-    × IsWindowOf rows window × IsProgramOf rows (string_bytes program)
+    × IsWindowOf rows window × IsFlagOf (codes "trace") rows trace × IsExplainedOf rows explain
+    × IsProgramOf rows (string_bytes program)
 IsSimulateOf rows _ = ⊥
 
 -- an audit of the program with the named setup, features and contacts
 abbrev pub IsAuditOf : List Row → Order → Type 0
-IsAuditOf rows (Audit setup features contacts program) =
+IsAuditOf rows (Audit setup features contacts explain program) =
     IsValueOf (codes "setup") rows (string_bytes setup) × IsValueOf (codes "features") rows (string_bytes features)
-    × IsValueOf (codes "contacts") rows (string_bytes contacts) × IsProgramOf rows (string_bytes program)
+    × IsValueOf (codes "contacts") rows (string_bytes contacts) × IsExplainedOf rows explain × IsProgramOf rows (string_bytes program)
 IsAuditOf rows _ = ⊥
 
 -- a run of the program over one connection to itself, with the named setup and window
 abbrev pub IsLoopOf : List Row → Order → Type 0
-IsLoopOf rows (Loop setup window progress program) =
-    IsValueOf (codes "setup") rows (string_bytes setup) × IsWindowOf rows window × IsProgressOf rows progress
-    × IsProgramOf rows (string_bytes program)
+IsLoopOf rows (Loop setup window progress trace explain program) =
+    IsValueOf (codes "setup") rows (string_bytes setup) × IsWindowOf rows window × IsFlagOf (codes "progress") rows progress
+    × IsFlagOf (codes "trace") rows trace × IsExplainedOf rows explain × IsProgramOf rows (string_bytes program)
 IsLoopOf rows _ = ⊥
 
 -- a server with the named setup at the named port, for so many connections, with the named file for its contacts, if any
 abbrev pub IsServeOf : List Row → Order → Type 0
-IsServeOf rows (Serve setup port connections contacts progress) =
+IsServeOf rows (Serve setup port connections contacts progress explain) =
     IsValueOf (codes "setup") rows (string_bytes setup) × IsPortOf rows port × IsConnectionsOf rows connections
-    × IsMaybeOf (codes "contacts") rows (option_map string_bytes contacts) × IsProgressOf rows progress
+    × IsMaybeOf (codes "contacts") rows (option_map string_bytes contacts) × IsFlagOf (codes "progress") rows progress
+    × IsExplainedOf rows explain
 IsServeOf rows _ = ⊥
 
 -- a run of the program against the server at the named host and port, with the named setup and window, and the named file of features,
 -- if any
 abbrev pub IsRunOf : List Row → Order → Type 0
-IsRunOf rows (Run setup host port window features progress program) =
+IsRunOf rows (Run setup host port window features progress explain program) =
     IsValueOf (codes "setup") rows (string_bytes setup) × IsValueOf (codes "host") rows (string_bytes host) × IsPortOf rows port
-    × IsWindowOf rows window × IsMaybeOf (codes "features") rows (option_map string_bytes features) × IsProgressOf rows progress
-    × IsProgramOf rows (string_bytes program)
+    × IsWindowOf rows window × IsMaybeOf (codes "features") rows (option_map string_bytes features)
+    × IsFlagOf (codes "progress") rows progress × IsExplainedOf rows explain × IsProgramOf rows (string_bytes program)
 IsRunOf rows _ = ⊥
 
 -- a code that a refusal is called by, its letters in any case
@@ -110,12 +116,13 @@ IsExplainOf rows _ = ⊥
 abbrev pub form_word : Form → Text
 form_word Csv = codes "csv"
 form_word Json = codes "json"
+form_word Svg = codes "svg"
 
 -- what was measured of the program, in the named form, with the named features, and with the named setup or with none where none is named
 abbrev pub IsExportOf : List Row → Order → Type 0
-IsExportOf rows (Export form setup features program) =
+IsExportOf rows (Export form setup features explain program) =
     IsValueOf (codes "as") rows (form_word form) × IsMaybeOf (codes "setup") rows (option_map string_bytes setup)
-    × IsValueOf (codes "features") rows (string_bytes features) × IsProgramOf rows (string_bytes program)
+    × IsValueOf (codes "features") rows (string_bytes features) × IsExplainedOf rows explain × IsProgramOf rows (string_bytes program)
 IsExportOf rows _ = ⊥
 
 -- the order of a subcommand with its values, by its name
@@ -149,36 +156,46 @@ HasPort = HasNumber (codes "port") 65535
 abbrev pub HasConnections : List Row → Type 0
 HasConnections = HasNumber (codes "connections") 4000000000
 
--- the flag has a value, which is read as it is written
-pub record HasProgress (rows : List Row) : Type 0 where
+-- the flag with this id has a value, which is read as it is written
+pub record HasFlag (id : Text) (rows : List Row) : Type 0 where
   pub is_set : Bool
-  pub written : first_of (codes "progress") rows ≡ Some (bool_text is_set)
-  pub read : one_of (codes "progress") rows ≡ Some (bool_text is_set)
+  pub written : first_of id rows ≡ Some (bool_text is_set)
+  pub read : one_of id rows ≡ Some (bool_text is_set)
+
+-- the flag `--explain` has a value
+abbrev pub HasExplained : List Row → Type 0
+HasExplained = HasFlag (codes "explain")
 
 -- the values that a simulation cannot do without are there
 pub record HasSimulation (rows : List Row) : Type 0 where
   pub setup : HasValue (codes "setup") rows
   pub schedule : HasValue (codes "schedule") rows
   pub window : HasWindow rows
+  pub trace : HasFlag (codes "trace") rows
+  pub explain : HasExplained rows
 
 -- the values that an audit cannot do without are there
 pub record HasAudit (rows : List Row) : Type 0 where
   pub setup : HasValue (codes "setup") rows
   pub features : HasValue (codes "features") rows
   pub contacts : HasValue (codes "contacts") rows
+  pub explain : HasExplained rows
 
 -- the values that a run over a connection to itself cannot do without are there
 pub record HasLoop (rows : List Row) : Type 0 where
   pub setup : HasValue (codes "setup") rows
   pub window : HasWindow rows
-  pub progress : HasProgress rows
+  pub progress : HasFlag (codes "progress") rows
+  pub trace : HasFlag (codes "trace") rows
+  pub explain : HasExplained rows
 
 -- the values that a server cannot do without are there
 pub record HasService (rows : List Row) : Type 0 where
   pub setup : HasValue (codes "setup") rows
   pub port : HasPort rows
   pub connections : HasConnections rows
-  pub progress : HasProgress rows
+  pub progress : HasFlag (codes "progress") rows
+  pub explain : HasExplained rows
 
 -- the values that a run against a server cannot do without are there
 pub record HasRun (rows : List Row) : Type 0 where
@@ -186,29 +203,31 @@ pub record HasRun (rows : List Row) : Type 0 where
   pub host : HasValue (codes "host") rows
   pub port : HasPort rows
   pub window : HasWindow rows
-  pub progress : HasProgress rows
+  pub progress : HasFlag (codes "progress") rows
+  pub explain : HasExplained rows
 
 -- the values that an export cannot do without are there
 pub record HasExport (rows : List Row) : Type 0 where
   pub form : HasValue (codes "as") rows
   pub features : HasValue (codes "features") rows
+  pub explain : HasExplained rows
 
 -- the name of a subcommand of `dme`, with the values that it cannot do without
 abbrev pub IsAskable : Text × List Row → Type 0
-IsAskable p = (p.0 ≡ codes "check") ⊎ ((p.0 ≡ codes "simulate") × HasSimulation p.1) ⊎ ((p.0 ≡ codes "audit") × HasAudit p.1)
+IsAskable p = ((p.0 ≡ codes "check") × HasExplained p.1) ⊎ ((p.0 ≡ codes "simulate") × HasSimulation p.1) ⊎ ((p.0 ≡ codes "audit") × HasAudit p.1)
     ⊎ ((p.0 ≡ codes "loop") × HasLoop p.1) ⊎ ((p.0 ≡ codes "serve") × HasService p.1) ⊎ ((p.0 ≡ codes "run") × HasRun p.1)
     ⊎ ((p.0 ≡ codes "explain") × HasValue (codes "CODE") p.1) ⊎ ((p.0 ≡ codes "export") × HasExport p.1)
 
 -- the window is one that a client takes, the port is one that can be listened on, and the count is one of a server's connections
 abbrev pub IsReady : Order → Type 0
-IsReady (Simulate setup schedule window program) = is_window window ≡ true
-IsReady (Check setup program) = Unit {0}
-IsReady (Audit setup features contacts program) = Unit {0}
-IsReady (Loop setup window progress program) = is_window window ≡ true
-IsReady (Serve setup port connections contacts progress) = (1 ≤ port) × (1 ≤ connections) × (connections ≤ 4000000000)
-IsReady (Run setup host port window features progress program) = (1 ≤ port) × (is_window window ≡ true)
+IsReady (Simulate setup schedule window trace explain program) = is_window window ≡ true
+IsReady (Check setup explain program) = Unit {0}
+IsReady (Audit setup features contacts explain program) = Unit {0}
+IsReady (Loop setup window progress trace explain program) = is_window window ≡ true
+IsReady (Serve setup port connections contacts progress explain) = (1 ≤ port) × (1 ≤ connections) × (connections ≤ 4000000000)
+IsReady (Run setup host port window features progress explain program) = (1 ≤ port) × (is_window window ≡ true)
 IsReady (Explain topic) = Unit {0}
-IsReady (Export form setup features program) = Unit {0}
+IsReady (Export form setup features explain program) = Unit {0}
 
 -- the words are a command line without a fault, and this is the order of the subcommand that they name, with its values
 pub record Asks (words : List Text) (order : Order) : Type 0 where

@@ -2,8 +2,8 @@
 
 ghost use Rattle.std.specs.Prelude.{◌≡◌, IfOk, false, codes};
 ghost use Rattle.clap.specs.declared.builder.command.Command.TheViews.{out-Command};
-ghost use Rattle.clap.specs.Words.{app_of, rule_of};
-ghost use Rattle.dme_words.specs.CommandLine.{text_rule, needed_rule, window_rule, port_rule, connections_rule, progress_rule};
+ghost use Rattle.clap.specs.Words.{app_of, rule_of, shape_of, with_rule, with_subcommand};
+ghost use Rattle.dme_words.specs.CommandLine.{text_rule, needed_rule, window_rule, port_rule, connections_rule, flag_rule};
 ghost use Rattle.dme_words.specs.CommandLine.{program_rule, check_line, simulate_line, audit_line, loop_line, serve_line, run_line};
 ghost use Rattle.dme_words.specs.CommandLine.{code_rule, explain_line, export_line, bare_line, whole_line};
 
@@ -91,15 +91,47 @@ fn connections_option<'a>(alloc: Global) -> Arg<'a>
         .default_value(ONE)
 }
 
-/// `--progress`.
-fn progress_flag<'a>(alloc: Global) -> Arg<'a>
-    ensures rule { rule_of result ≡ progress_rule }
+/// `--NAME`, which is set or not.
+fn flag<'a>(alloc: Global, name: &'a str, help: &'a str) -> Arg<'a>
+    ensures rule { rule_of result ≡ flag_rule name.entry.now }
     ensures local { result.global ≡ false }
 {
-    Arg::new(alloc, "progress")
-        .long("progress")
-        .help("Tells on standard error how far it is")
+    Arg::new(alloc, name)
+        .long(name)
+        .help(help)
         .action(ArgAction::SetTrue)
+}
+
+/// `--progress`.
+fn progress_flag<'a>(alloc: Global) -> Arg<'a>
+    ensures rule { rule_of result ≡ flag_rule (codes "progress") }
+    ensures local { result.global ≡ false }
+{
+    flag(alloc, "progress", "Tells on standard error how far it is")
+}
+
+/// `--explain`.
+fn explain_flag<'a>(alloc: Global) -> Arg<'a>
+    ensures rule { rule_of result ≡ flag_rule (codes "explain") }
+    ensures local { result.global ≡ false }
+{
+    flag(
+        alloc,
+        "explain",
+        "Shows the line of a file that is refused, and what is wrong with it",
+    )
+}
+
+/// `--trace`.
+fn trace_flag<'a>(alloc: Global) -> Arg<'a>
+    ensures rule { rule_of result ≡ flag_rule (codes "trace") }
+    ensures local { result.global ≡ false }
+{
+    flag(
+        alloc,
+        "trace",
+        "Shows on standard error each line that either side writes",
+    )
 }
 
 /// `PROGRAM`.
@@ -112,93 +144,127 @@ fn program_argument<'a>(alloc: Global) -> Arg<'a>
         .default_value("-")
 }
 
-/// `check [--setup FILE] [PROGRAM]`.
+/// A command that takes an argument more.
+fn with_argument<'a>(command: Command<'a>, argument: Arg<'a>) -> Result<Command<'a>, AllocError>
+    requires command { (out-Command command).has_globals ≡ false }
+    requires argument { argument.global ≡ false }
+    ensures shape { IfOk result (λ made. app_of made
+        ≡ with_rule (app_of command.entry) (rule_of argument.entry)) }
+    ensures local { IfOk result (λ made. (out-Command made).has_globals ≡ false) }
+{
+    command.arg(argument)
+}
+
+/// A command that has a subcommand more.
+fn with_order<'a>(command: Command<'a>, order: Command<'a>) -> Result<Command<'a>, AllocError>
+    requires command { (out-Command command).has_globals ≡ false }
+    requires order { (out-Command order).has_globals ≡ false }
+    ensures shape { IfOk result (λ made. app_of made
+        ≡ with_subcommand (app_of command.entry) (app_of order.entry).top) }
+    ensures local { IfOk result (λ made. (out-Command made).has_globals ≡ false) }
+{
+    command.subcommand(order)
+}
+
+/// `check [--setup FILE] [--explain] [PROGRAM]`.
 fn check_command<'a>(alloc: Global) -> Result<Command<'a>, AllocError>
     ensures shape { IfOk result (λ command. app_of command ≡ check_line) }
     ensures local { IfOk result (λ command. (out-Command command).has_globals ≡ false) }
 {
-    Command::new(alloc, "check")
-        .about("Prints the I++ DME command lines of a DMIS program")
-        .arg(setup_option(alloc))?
-        .arg(program_argument(alloc))
+    let command = Command::new(alloc, "check").about(
+        "Prints the I++ DME command lines of a DMIS program",
+    );
+    let command = with_argument(command, setup_option(alloc))?;
+    let command = with_argument(command, explain_flag(alloc))?;
+    with_argument(command, program_argument(alloc))
 }
 
-/// `simulate --setup FILE --schedule FILE [--window W] [PROGRAM]`.
+/// `simulate --setup FILE --schedule FILE [--window W] [--trace] [--explain] [PROGRAM]`.
 fn simulate_command<'a>(alloc: Global) -> Result<Command<'a>, AllocError>
     ensures shape { IfOk result (λ command. app_of command ≡ simulate_line) }
     ensures local { IfOk result (λ command. (out-Command command).has_globals ≡ false) }
 {
     let schedule = "The schedule of the link's events; - is standard input";
-    Command::new(alloc, "simulate")
-        .about("Runs a DMIS program on a simulated machine, event by event, and prints the report")
-        .arg(setup_option(alloc).required(true))?
-        .arg(needed_option(alloc, "schedule", schedule))?
-        .arg(window_option(alloc))?
-        .arg(program_argument(alloc))
+    let command = Command::new(alloc, "simulate").about(
+        "Runs a DMIS program on a simulated machine, event by event, and prints the report",
+    );
+    let command = with_argument(command, setup_option(alloc).required(true))?;
+    let command = with_argument(command, needed_option(alloc, "schedule", schedule))?;
+    let command = with_argument(command, window_option(alloc))?;
+    let command = with_argument(command, trace_flag(alloc))?;
+    let command = with_argument(command, explain_flag(alloc))?;
+    with_argument(command, program_argument(alloc))
 }
 
-/// `audit --setup FILE --features FILE --contacts FILE [PROGRAM]`.
+/// `audit --setup FILE --features FILE --contacts FILE [--explain] [PROGRAM]`.
 fn audit_command<'a>(alloc: Global) -> Result<Command<'a>, AllocError>
     ensures shape { IfOk result (λ command. app_of command ≡ audit_line) }
     ensures local { IfOk result (λ command. (out-Command command).has_globals ≡ false) }
 {
     let features = "The features that the client holds; - is standard input";
     let contacts = "The contacts that the server made; - is standard input";
-    Command::new(alloc, "audit")
-        .about("Says in which runs of the server's contacts the client's features were measured")
-        .arg(setup_option(alloc).required(true))?
-        .arg(needed_option(alloc, "features", features))?
-        .arg(needed_option(alloc, "contacts", contacts))?
-        .arg(program_argument(alloc))
+    let command = Command::new(alloc, "audit").about(
+        "Says in which runs of the server's contacts the client's features were measured",
+    );
+    let command = with_argument(command, setup_option(alloc).required(true))?;
+    let command = with_argument(command, needed_option(alloc, "features", features))?;
+    let command = with_argument(command, needed_option(alloc, "contacts", contacts))?;
+    let command = with_argument(command, explain_flag(alloc))?;
+    with_argument(command, program_argument(alloc))
 }
 
-/// `loop --setup FILE [--window W] [--progress] [PROGRAM]`.
+/// `loop --setup FILE [--window W] [--progress] [--trace] [--explain] [PROGRAM]`.
 fn loop_command<'a>(alloc: Global) -> Result<Command<'a>, AllocError>
     ensures shape { IfOk result (λ command. app_of command ≡ loop_line) }
     ensures local { IfOk result (λ command. (out-Command command).has_globals ≡ false) }
 {
-    Command::new(alloc, "loop")
-        .about(
-            "Runs a DMIS program on a simulated machine over a connection to itself, and prints the report",
-        )
-        .arg(setup_option(alloc).required(true))?
-        .arg(window_option(alloc))?
-        .arg(progress_flag(alloc))?
-        .arg(program_argument(alloc))
+    let command = Command::new(alloc, "loop").about(
+        "Runs a DMIS program on a simulated machine over a connection to itself, and prints the report",
+    );
+    let command = with_argument(command, setup_option(alloc).required(true))?;
+    let command = with_argument(command, window_option(alloc))?;
+    let command = with_argument(command, progress_flag(alloc))?;
+    let command = with_argument(command, trace_flag(alloc))?;
+    let command = with_argument(command, explain_flag(alloc))?;
+    with_argument(command, program_argument(alloc))
 }
 
-/// `serve --setup FILE --port N [--connections K] [--contacts FILE] [--progress]`.
+/// `serve --setup FILE --port N [--connections K] [--contacts FILE] [--progress] [--explain]`.
 fn serve_command<'a>(alloc: Global) -> Result<Command<'a>, AllocError>
     ensures shape { IfOk result (λ command. app_of command ≡ serve_line) }
     ensures local { IfOk result (λ command. (out-Command command).has_globals ≡ false) }
 {
     let port = "The port of 127.0.0.1 that is listened on, from 1 to 65535";
     let contacts = "The file that the contacts are written to";
-    Command::new(alloc, "serve")
-        .about("Is the server of a simulated machine, and prints the contacts that it made")
-        .arg(setup_option(alloc).required(true))?
-        .arg(port_option(alloc, port))?
-        .arg(connections_option(alloc))?
-        .arg(file_option(alloc, "contacts", contacts))?
-        .arg(progress_flag(alloc))
+    let command = Command::new(alloc, "serve").about(
+        "Is the server of a simulated machine, and prints the contacts that it made",
+    );
+    let command = with_argument(command, setup_option(alloc).required(true))?;
+    let command = with_argument(command, port_option(alloc, port))?;
+    let command = with_argument(command, connections_option(alloc))?;
+    let command = with_argument(command, file_option(alloc, "contacts", contacts))?;
+    let command = with_argument(command, progress_flag(alloc))?;
+    with_argument(command, explain_flag(alloc))
 }
 
-/// `run --setup FILE --host H --port N [--window W] [--features FILE] [--progress] [PROGRAM]`.
+/// `run --setup FILE --host H --port N [--window W] [--features FILE] [--progress] [--explain] [PROGRAM]`.
 fn run_command<'a>(alloc: Global) -> Result<Command<'a>, AllocError>
     ensures shape { IfOk result (λ command. app_of command ≡ run_line) }
     ensures local { IfOk result (λ command. (out-Command command).has_globals ≡ false) }
 {
     let port = "The server's port, from 1 to 65535";
     let features = "The features that are there already, and the file that they are written to";
-    Command::new(alloc, "run")
-        .about("Runs a DMIS program on the machine of a server, and prints the report")
-        .arg(setup_option(alloc).required(true))?
-        .arg(host_option(alloc))?
-        .arg(port_option(alloc, port))?
-        .arg(window_option(alloc))?
-        .arg(file_option(alloc, "features", features))?
-        .arg(progress_flag(alloc))?
-        .arg(program_argument(alloc))
+    let command = Command::new(alloc, "run").about(
+        "Runs a DMIS program on the machine of a server, and prints the report",
+    );
+    let command = with_argument(command, setup_option(alloc).required(true))?;
+    let command = with_argument(command, host_option(alloc))?;
+    let command = with_argument(command, port_option(alloc, port))?;
+    let command = with_argument(command, window_option(alloc))?;
+    let command = with_argument(command, file_option(alloc, "features", features))?;
+    let command = with_argument(command, progress_flag(alloc))?;
+    let command = with_argument(command, explain_flag(alloc))?;
+    with_argument(command, program_argument(alloc))
 }
 
 /// `CODE`.
@@ -218,9 +284,10 @@ fn explain_command<'a>(alloc: Global) -> Result<Command<'a>, AllocError>
     ensures shape { IfOk result (λ command. app_of command ≡ explain_line) }
     ensures local { IfOk result (λ command. (out-Command command).has_globals ≡ false) }
 {
-    Command::new(alloc, "explain")
-        .about("Says what a refusal means and what to do about it")
-        .arg(code_argument(alloc))
+    let command = Command::new(alloc, "explain").about(
+        "Says what a refusal means and what to do about it",
+    );
+    with_argument(command, code_argument(alloc))
 }
 
 /// `--as FORM`.
@@ -231,22 +298,24 @@ fn form_option<'a>(alloc: Global) -> Arg<'a>
     Arg::new(alloc, "as")
         .long("as")
         .value_name("FORM")
-        .help("The form that is printed: csv, comma-separated values, or json")
+        .help("The form that is printed: csv, comma-separated values; json; or svg, a drawing")
         .required(true)
 }
 
-/// `export --as FORM [--setup FILE] --features FILE [PROGRAM]`.
+/// `export --as FORM [--setup FILE] --features FILE [--explain] [PROGRAM]`.
 fn export_command<'a>(alloc: Global) -> Result<Command<'a>, AllocError>
     ensures shape { IfOk result (λ command. app_of command ≡ export_line) }
     ensures local { IfOk result (λ command. (out-Command command).has_globals ≡ false) }
 {
     let measured = "The features that were measured; - is standard input";
-    Command::new(alloc, "export")
-        .about("Prints how far the measured points of features lie from their nominal points")
-        .arg(form_option(alloc))?
-        .arg(setup_option(alloc))?
-        .arg(needed_option(alloc, "features", measured))?
-        .arg(program_argument(alloc))
+    let command = Command::new(alloc, "export").about(
+        "Prints how far the measured points of features lie from their nominal points",
+    );
+    let command = with_argument(command, form_option(alloc))?;
+    let command = with_argument(command, setup_option(alloc))?;
+    let command = with_argument(command, needed_option(alloc, "features", measured))?;
+    let command = with_argument(command, explain_flag(alloc))?;
+    with_argument(command, program_argument(alloc))
 }
 
 /// `dme`, without its subcommands.
@@ -264,13 +333,12 @@ pub(crate) fn whole_command<'a>(alloc: Global) -> Result<Command<'a>, AllocError
     ensures shape { IfOk result (λ command. app_of command ≡ whole_line) }
     ensures local { IfOk result (λ command. (out-Command command).has_globals ≡ false) }
 {
-    bare_command(alloc)
-        .subcommand(check_command(alloc)?)?
-        .subcommand(simulate_command(alloc)?)?
-        .subcommand(audit_command(alloc)?)?
-        .subcommand(loop_command(alloc)?)?
-        .subcommand(serve_command(alloc)?)?
-        .subcommand(run_command(alloc)?)?
-        .subcommand(explain_command(alloc)?)?
-        .subcommand(export_command(alloc)?)
+    let command = with_order(bare_command(alloc), check_command(alloc)?)?;
+    let command = with_order(command, simulate_command(alloc)?)?;
+    let command = with_order(command, audit_command(alloc)?)?;
+    let command = with_order(command, loop_command(alloc)?)?;
+    let command = with_order(command, serve_command(alloc)?)?;
+    let command = with_order(command, run_command(alloc)?)?;
+    let command = with_order(command, explain_command(alloc)?)?;
+    with_order(command, export_command(alloc)?)
 }

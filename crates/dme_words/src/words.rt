@@ -4,10 +4,10 @@ ghost use Rattle.std.specs.Prelude.{◌≡◌, ◌≤◌, IfOk, IfErr, IsErrAnd,
 ghost use Rattle.std.specs.Option.{option_map};
 ghost use Rattle.clap.specs.Words.{first_of, found_of, rows_of, subcommand_rows_of};
 ghost use Rattle.client_core.specs.Clients.{is_window};
-ghost use Rattle.dme_words.specs.Ordered.{IsValueOf, IsMaybeOf, IsProgramOf, IsWindowOf, IsPortOf, IsConnectionsOf, IsProgressOf};
+ghost use Rattle.dme_words.specs.Ordered.{IsValueOf, IsMaybeOf, IsProgramOf, IsWindowOf, IsPortOf, IsConnectionsOf, IsFlagOf};
 ghost use Rattle.dme_words.specs.Ordered.{IsCheckOf, IsSimulateOf, IsAuditOf, IsLoopOf, IsServeOf, IsRunOf, IsOrderOf};
 ghost use Rattle.dme_words.specs.Ordered.{IsExplainOf, IsExportOf, HasExport, AsksForNothing, IsNoCode, IsNoForm, IsCodeOf, form_word, HasNoTopic, HasNoForm};
-ghost use Rattle.dme_words.specs.Ordered.{HasValue, HasWindow, HasPort, HasConnections, HasProgress};
+ghost use Rattle.dme_words.specs.Ordered.{HasValue, HasWindow, HasPort, HasConnections, HasFlag, HasExplained};
 ghost use Rattle.dme_words.specs.Ordered.{HasSimulation, HasAudit, HasLoop, HasService, HasRun};
 ghost use Rattle.dme_words.specs.Ordered.{IsAskable, IsReady, Asks, IsRefusal, IsCalled};
 
@@ -24,6 +24,8 @@ pub enum Form {
     Csv,
     /// JSON (RFC 8259).
     Json,
+    /// A drawing (SVG 1.1).
+    Svg,
 }
 
 /// What the words of a command line ask for, with its values.
@@ -33,6 +35,8 @@ pub enum Order {
     Check {
         /// The file of the machine's setup, whose frames the program may recall; `-` is standard input.
         setup: Option<String>,
+        /// Whether a line that is refused is shown, with what is wrong with it.
+        explain: bool,
         /// The file of the program; `-` is standard input.
         program: String,
     },
@@ -44,6 +48,10 @@ pub enum Order {
         schedule: String,
         /// How many commands may be open at once, from 1 to 16.
         window: u8,
+        /// Whether each line that either side writes is shown.
+        trace: bool,
+        /// Whether a line that is refused is shown, with what is wrong with it.
+        explain: bool,
         /// The file of the program; `-` is standard input.
         program: String,
     },
@@ -55,6 +63,8 @@ pub enum Order {
         features: String,
         /// The file of the contacts that the server made; `-` is standard input.
         contacts: String,
+        /// Whether a line that is refused is shown, with what is wrong with it.
+        explain: bool,
         /// The file of the program; `-` is standard input.
         program: String,
     },
@@ -66,6 +76,10 @@ pub enum Order {
         window: u8,
         /// Whether it tells how far it is.
         progress: bool,
+        /// Whether each line that either side writes is shown.
+        trace: bool,
+        /// Whether a line that is refused is shown, with what is wrong with it.
+        explain: bool,
         /// The file of the program; `-` is standard input.
         program: String,
     },
@@ -81,6 +95,8 @@ pub enum Order {
         contacts: Option<String>,
         /// Whether it tells how far it is.
         progress: bool,
+        /// Whether a line that is refused is shown, with what is wrong with it.
+        explain: bool,
     },
     /// Run a program on the machine of a server, and print the report.
     Run {
@@ -96,6 +112,8 @@ pub enum Order {
         features: Option<String>,
         /// Whether it tells how far it is.
         progress: bool,
+        /// Whether a line that is refused is shown, with what is wrong with it.
+        explain: bool,
         /// The file of the program; `-` is standard input.
         program: String,
     },
@@ -112,6 +130,8 @@ pub enum Order {
         setup: Option<String>,
         /// The file of the features that were measured; `-` is standard input.
         features: String,
+        /// Whether a line that is refused is shown, with what is wrong with it.
+        explain: bool,
         /// The file of the program; `-` is standard input.
         program: String,
     },
@@ -224,22 +244,28 @@ fn connections_of(values: &ArgMatches) -> u32
     }
 }
 
-/// Whether `--progress` is set.
-fn progress_of(values: &ArgMatches) -> bool
-    requires { HasProgress (rows_of (found_of values.now)) }
-    ensures { IsProgressOf (rows_of (found_of values.now)) result }
+/// Whether a flag is set.
+fn flag_of(values: &ArgMatches, id: &str) -> bool
+    requires { HasFlag id.now (rows_of (found_of values.now)) }
+    ensures { IsFlagOf id.now (rows_of (found_of values.now)) result }
 {
-    values.get_flag("progress")
+    values.get_flag(id)
 }
 
 /// The order of `check` with these values.
 fn check_order(alloc: Global, values: &ArgMatches) -> Result<Order, AllocError>
+    requires { HasExplained (rows_of (found_of values.now)) }
     ensures named { IfOk result (IsCheckOf (rows_of (found_of values.now))) }
     ensures ready { IfOk result IsReady }
 {
     let setup = copied_maybe(alloc, values, "setup")?;
+    let explain = flag_of(values, "explain");
     let program = copied_program(alloc, values)?;
-    Ok(Order::Check { setup, program })
+    Ok(Order::Check {
+        setup,
+        explain,
+        program,
+    })
 }
 
 /// The order of `simulate` with these values.
@@ -251,11 +277,15 @@ fn simulate_order(alloc: Global, values: &ArgMatches) -> Result<Order, AllocErro
     let setup = copied_value(alloc, values, "setup")?;
     let schedule = copied_value(alloc, values, "schedule")?;
     let window = window_of(values);
+    let trace = flag_of(values, "trace");
+    let explain = flag_of(values, "explain");
     let program = copied_program(alloc, values)?;
     Ok(Order::Simulate {
         setup,
         schedule,
         window,
+        trace,
+        explain,
         program,
     })
 }
@@ -269,11 +299,13 @@ fn audit_order(alloc: Global, values: &ArgMatches) -> Result<Order, AllocError>
     let setup = copied_value(alloc, values, "setup")?;
     let features = copied_value(alloc, values, "features")?;
     let contacts = copied_value(alloc, values, "contacts")?;
+    let explain = flag_of(values, "explain");
     let program = copied_program(alloc, values)?;
     Ok(Order::Audit {
         setup,
         features,
         contacts,
+        explain,
         program,
     })
 }
@@ -286,12 +318,16 @@ fn loop_order(alloc: Global, values: &ArgMatches) -> Result<Order, AllocError>
 {
     let setup = copied_value(alloc, values, "setup")?;
     let window = window_of(values);
-    let progress = progress_of(values);
+    let progress = flag_of(values, "progress");
+    let trace = flag_of(values, "trace");
+    let explain = flag_of(values, "explain");
     let program = copied_program(alloc, values)?;
     Ok(Order::Loop {
         setup,
         window,
         progress,
+        trace,
+        explain,
         program,
     })
 }
@@ -306,13 +342,15 @@ fn serve_order(alloc: Global, values: &ArgMatches) -> Result<Order, AllocError>
     let port = port_of(values);
     let connections = connections_of(values);
     let contacts = copied_maybe(alloc, values, "contacts")?;
-    let progress = progress_of(values);
+    let progress = flag_of(values, "progress");
+    let explain = flag_of(values, "explain");
     Ok(Order::Serve {
         setup,
         port,
         connections,
         contacts,
         progress,
+        explain,
     })
 }
 
@@ -327,7 +365,8 @@ fn run_order(alloc: Global, values: &ArgMatches) -> Result<Order, AllocError>
     let port = port_of(values);
     let window = window_of(values);
     let features = copied_maybe(alloc, values, "features")?;
-    let progress = progress_of(values);
+    let progress = flag_of(values, "progress");
+    let explain = flag_of(values, "explain");
     let program = copied_program(alloc, values)?;
     Ok(Order::Run {
         setup,
@@ -336,6 +375,7 @@ fn run_order(alloc: Global, values: &ArgMatches) -> Result<Order, AllocError>
         window,
         features,
         progress,
+        explain,
         program,
     })
 }
@@ -373,6 +413,7 @@ fn form_of(word: String) -> Result<Form, WordsFault>
     match word.as_str() {
         "csv" => Ok(Form::Csv),
         "json" => Ok(Form::Json),
+        "svg" => Ok(Form::Svg),
         _ => Err(WordsFault::NoForm(word)),
     }
 }
@@ -390,6 +431,7 @@ fn export_order(alloc: Global, values: &ArgMatches) -> Result<Order, WordsFault>
         form,
         setup: copied_maybe(alloc, values, "setup")?,
         features: copied_value(alloc, values, "features")?,
+        explain: flag_of(values, "explain"),
         program: copied_program(alloc, values)?,
     })
 }

@@ -5,6 +5,7 @@
 //! - `client_events`, `server_events`: what each event does
 //! - `connection`: the bytes of a connection, both ways
 //! - `faults`: why an event is refused
+//! - `traces`: the lines that both sides write, as text, where they are asked for
 //! - `machines`: what ends the jobs of a server, and the simulated machine
 //! - `schedules`: lists of instructions that events are made of; `schedule_reading`, `schedule_faults`: schedules read from a text
 //! - `playing`, `rounds`: schedules played on a world, and the quiet rounds in which all that can happens
@@ -39,6 +40,7 @@ pub mod schedule_rows;
 mod schedules;
 mod server_events;
 mod server_pump;
+mod traces;
 mod world;
 
 pub use client_pump::client_turns;

@@ -17,6 +17,7 @@ ghost use Rattle.link_world.specs.Claims.{IsSound, IsTold, DoNotDisagree, IsNew,
 
 use crate::connection::Connection;
 use crate::faults::{NewFault, WorldFault};
+use crate::traces::Trace;
 use client_core::{Client, State};
 use contact_ledger::{Act, Feature, FeatureLedger, ServerLedger};
 use dmis_program::Program;
@@ -39,6 +40,7 @@ pub struct World {
     pub(crate) server: Server,
     pub(crate) connections: Vec<Connection>,
     pub(crate) written: Vec<u8>,
+    pub(crate) trace: Trace,
 }
 
 /// How many events of a list happened, could not happen, and wanted memory.
@@ -88,6 +90,7 @@ impl World {
                     server,
                     connections: Vec::new(alloc),
                     written: Vec::new(alloc),
+                    trace: Trace::silent(alloc),
                 }),
                 Err(AllocError) => Err(NewFault::Memory),
             },
@@ -126,6 +129,24 @@ impl World {
         }
     }
 
+    /// An event happens, if it can, and what it wrote is kept, where that is asked for.
+    fn happen_traced(&mut self, event: Event) -> Result<(), WorldFault>
+        ensures can { HappensIf result (can event self.old.world) }
+        ensures takes { IsErrOf result WorldFault.Memory → takes_memory event ≡ true }
+        ensures world { LeadsRead result self.old self.new
+            (λ readers. with_world self.old (happens readers event self.old.world)) }
+        ensures unread { reads event ≡ false → OnOk result ((readers : Readers)
+            → self.new ≡ with_world self.old (happens readers event self.old.world)) }
+    {
+        if !self.trace.is_on() {
+            return self.happen(event);
+        }
+        let before = self.standing();
+        self.happen(event)?;
+        self.note(&event, &before);
+        Ok(())
+    }
+
     /// An event happens, if it can. `NotNow` exactly where it cannot; `Memory` only where it can; neither changes anything. To take or to leave
     /// a connection and to begin again wants no memory.
     #[tactic(auto, using(crate::proofs::Reached::sound, crate::proofs::Reached::told, crate::proofs::Reached::agree))]
@@ -155,7 +176,7 @@ impl World {
         ensures told { IsTold self.new.world }
         ensures agree { DoNotDisagree self.new.world }
     {
-        let done = self.happen(event);
+        let done = self.happen_traced(event);
         let _known = &self.alloc;
         done
     }

@@ -1,1 +1,3 @@
 pub mod TopicLemmas
+pub mod LineSteps
+pub mod PlaceLemmas

@@ -1,2 +1,4 @@
 pub mod Titles
 pub mod Pages
+pub mod Places
+pub mod Lengths

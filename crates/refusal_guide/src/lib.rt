@@ -1,15 +1,35 @@
-//! What each refusal of `dme` means and what to do about it: the codes of this profile, and the numbers of a server's errors.
+//! What each refusal of `dme` means and what to do about it: the codes of this profile, and the numbers of a server's errors. And of a text
+//! that is refused: its line, and which word of it is meant.
 //!
 //! - `topics`: what is refused by a code, and the topic of a code
 //! - `pages`: what a topic means, what to do, and a line as it should be
 //! - `faults`: the topic of each fault
 //! - `written`: the page of a topic as text
+//! - `places`: the line of a text that is refused, with a sentence on it
+//! - `lines`, `words`: a line and a word as they are shown
+//! - `programs`: the sentences of programs; `statements`, `blocks`, `bad_bytes`: what they speak of; `arguments`, `numerals`, `names`: why
+//!   a parameter does not fit
+//! - `setups`, `schedules`, `ledgers`: the sentences of the other texts
 #![tactic(auto)]
 
+mod arguments;
+mod bad_bytes;
+mod blocks;
 mod faults;
+mod ledgers;
+mod lines;
+mod names;
+mod numerals;
 mod pages;
+mod places;
+mod programs;
+mod schedules;
+mod setups;
+mod statements;
 mod topics;
+mod words;
 mod written;
 
+pub use places::{Refused, write_place};
 pub use topics::Topic;
 pub use written::{Page, write_page};

@@ -5,6 +5,6 @@ use Rattle.link_world.specs.Schedules.{Plays}
 use Rattle.dme_orders.proofs.simulating.played.Goals as goal
 
 pub returns : goal.returns
-returns c = λ readers are. subst (λ (w : Linked). Plays readers
+returns g c = λ readers are. subst (λ (w : Linked). Plays readers
     (simulated w.setup.shifts) c.args.schedule.now false w.world c.play.new.world.world)
     c.in_ok-world.ensures (c.in_ok-play.ensures.ok readers are)

@@ -2,25 +2,16 @@ use Rattle.std.proofs.Common.{◌≡◌, codes, rules, ap₂, ◌∙◌}
 use Rattle.std.proofs.lemmas.Result.{IfOk-weaker}
 use Rattle.clap.specs.Words.{app_of, new_app, rule_of, with_rule}
 use Rattle.dme_words.specs.CommandLine.{needed_rule}
-use Rattle.dme_words.proofs.LineLemmas.{adds_locally}
 use Rattle.dme_words.proofs.line.loop_command.Goals as goal
 
-pub returns : goal.returns
-returns c =
-    let named : app_of c.about.result ≡ new_app (codes "loop") = search rules in
+pub returns-clause-shape : goal.returns-clause-shape
+returns-clause-shape c =
+    let named : app_of c.about-command.result ≡ new_app (codes "loop") = search rules in
     let setup : rule_of c.required.result ≡ needed_rule (codes "setup") = search rules in
-    let first = adds_locally c.about.result c.required.result c.in_ok-arg.field-0 c.in_ok-arg.ensures
-    (search rules) (search rules) in
-    let first-line = first.0 ∙ ap₂ with_rule named setup in
-    let second = adds_locally c.in_ok-arg.field-0 c.window_option.result c.in_ok-arg-2.field-0 c.in_ok-arg-2.ensures
-    first.1 c.window_option.ensures.local in
-    let second-line = second.0 ∙ ap₂ with_rule first-line c.window_option.ensures.rule in
-    let third = adds_locally c.in_ok-arg-2.field-0 c.progress_flag.result c.in_ok-arg-3.field-0 c.in_ok-arg-3.ensures
-    second.1 c.progress_flag.ensures.local in
-    let third-line = third.0 ∙ ap₂ with_rule second-line c.progress_flag.ensures.rule in
-    record {
-      shape = IfOk-weaker c.arg-4.result _ _ (λ command added. added.shape c.program_argument.ensures.local
-          ∙ ap₂ with_rule third-line c.program_argument.ensures.rule) c.arg-4.ensures;
-      local = IfOk-weaker c.arg-4.result _ _
-          (λ command added. (adds_locally _ _ command added third.1 c.program_argument.ensures.local).1) c.arg-4.ensures;
-    }
+    let first = c.in_ok-command.ensures.shape ∙ ap₂ with_rule named setup in
+    let second = c.in_ok-command-2.ensures.shape ∙ ap₂ with_rule first c.window_option.ensures.rule in
+    let third = c.in_ok-command-3.ensures.shape ∙ ap₂ with_rule second c.progress_flag.ensures.rule in
+    let fourth = c.in_ok-command-4.ensures.shape ∙ ap₂ with_rule third c.trace_flag.ensures.rule in
+    let fifth = c.in_ok-command-5.ensures.shape ∙ ap₂ with_rule fourth c.explain_flag.ensures.rule in
+    IfOk-weaker c.with_argument-6.result _ _ (λ command shape. shape ∙ ap₂ with_rule fifth c.program_argument.ensures.rule)
+    c.with_argument-6.ensures.shape

@@ -12,10 +12,10 @@ returns-clause-agree c =
 
 pub returns-clause-program : goal.returns-clause-program
 returns-clause-program c =
-    (same_behind c.args.self.now c.happen-done.new.self c.args.event c.happen-done.result c.happen-done.ensures.can
-    c.happen-done.ensures.world).program
+    (same_behind c.args.self.now c.happen_traced-done.new.self c.args.event c.happen_traced-done.result c.happen_traced-done.ensures.can
+    c.happen_traced-done.ensures.world).program
 
 pub returns-clause-window : goal.returns-clause-window
 returns-clause-window c =
-    (same_behind c.args.self.now c.happen-done.new.self c.args.event c.happen-done.result c.happen-done.ensures.can
-    c.happen-done.ensures.world).window
+    (same_behind c.args.self.now c.happen_traced-done.new.self c.args.event c.happen_traced-done.result c.happen_traced-done.ensures.can
+    c.happen_traced-done.ensures.world).window

@@ -1,9 +1,0 @@
-use Rattle.std.proofs.Common.{codes}
-use Rattle.clap.specs.Words.{found_of, rows_of}
-use Rattle.clap.proofs.WalkLemmas.{one_text-rows}
-use Rattle.dme_words.proofs.NumberLemmas.{progress_reads}
-use Rattle.dme_words.proofs.words.progress_of.Goals as goal
-
-pub returns : goal.returns
-returns c = progress_reads (rows_of (found_of c.args.values.now)) _ c.get_flag.result
-    (one_text-rows (found_of c.args.values.now) (codes "progress")) c.requires c.get_flag.ensures.value c.get_flag.ensures.other

@@ -1,0 +1,5 @@
+pub mod Scales
+pub mod Places
+pub mod Sheet
+pub mod Texts
+pub mod Views

@@ -1,0 +1,16 @@
+-- Positions in machine axes, and the spans that they fill along one axis.
+use Rattle.std.specs.Prelude.{ℕ, ℤ, ◌+ℤ◌, ◌≤ℤ◌}
+use Rattle.fixed_um.specs.declared.lengths.Point.{Point}
+use Rattle.drawings.specs.declared.places.Place.{Place}
+
+-- a coordinate in machine axes, in micrometres: one on the wire, and a zero point of a frame that is one
+abbrev pub machine_limit : ℕ
+machine_limit = 8000000000
+
+-- a point in a frame's axes, seen in the machine's: axes of frames are parallel to those of the machine
+abbrev pub place_of : Point → Point → Place
+place_of p origin = record { x = p.x +ℤ origin.x; y = p.y +ℤ origin.y; z = p.z +ℤ origin.z }
+
+-- what lies between two coordinates
+abbrev pub IsBetween : ℤ → ℤ → ℤ → Type 0
+IsBetween low high c = (low ≤ℤ c) × (c ≤ℤ high)

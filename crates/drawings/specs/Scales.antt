@@ -1,0 +1,39 @@
+-- Round scales, as drawings have them (ISO 5455): 1, 2 or 5 times a power of ten to one, or one to that.
+use Rattle.std.specs.Prelude.{ℕ, zero, suc, ◌+◌, ◌-◌, ◌*◌, ◌/◌, ◌%◌, ◌^◌, ◌≤◌}
+use Rattle.drawings.specs.declared.scales.Lengths.{Lengths}
+use Rattle.drawings.specs.declared.scales.Room.{Room}
+
+-- the first digits of round numbers in turn
+abbrev pub leading : ℕ → ℕ
+leading zero = 1
+leading (suc zero) = 2
+leading (suc (suc _)) = 5
+
+-- the round numbers in their order: 1, 2, 5, 10, 20, 50, ..
+abbrev pub round : ℕ → ℕ
+round index = leading (index % 3) * 10 ^ (index / 3)
+
+-- scales in their order, from 10,000:1 over 1:1, which is number 12, down to 1:1,000,000, number 30
+unfoldable pub numerator : ℕ → ℕ
+numerator scale = round (12 - scale)
+
+unfoldable pub denominator : ℕ → ℕ
+denominator scale = round (scale - 12)
+
+-- a length on paper, in whole micrometres, cut
+unfoldable pub on_paper : ℕ → ℕ → ℕ
+on_paper scale length = length * numerator scale / denominator scale
+
+-- at a scale there is room for a length across the paper, and for two above each other
+pub record Fits (scale : ℕ) (lengths : Lengths) (room : Room) : Type 0 where
+  pub across : on_paper scale lengths.across ≤ room.across
+  pub upright : on_paper scale lengths.first + on_paper scale lengths.second ≤ room.upright
+
+-- a length that is drawn, in micrometres: no span of the machine is longer
+abbrev pub length_limit : ℕ
+length_limit = 16000000000
+
+pub record AreShort (lengths : Lengths) : Type 0 where
+  pub across : lengths.across ≤ length_limit
+  pub first : lengths.first ≤ length_limit
+  pub second : lengths.second ≤ length_limit

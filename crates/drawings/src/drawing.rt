@@ -1,0 +1,69 @@
+// The whole drawing.
+
+ghost use Rattle.std.specs.Prelude.{◌≡◌, ◌++◌, ℕ, List, OnOk, OnErr};
+
+use crate::extents::Extents;
+use crate::footer::put_footer;
+use crate::labels::put_labels;
+use crate::pictures::put_picture;
+use crate::sheet::Position;
+use crate::texts::put_text;
+use crate::views::Views;
+use crate::walk::Walk;
+use crate::whiskers::Whiskers;
+use contact_ledger::Feature;
+use dmis_program::Program;
+use std::alloc::{AllocError, Global};
+
+fn put_drawing(
+    alloc: Global,
+    out: &mut Vec<u8>,
+    program: &Program,
+    walk: &Walk<'_>,
+) -> Result<(), AllocError> {
+    let stops = walk.stops.as_slice();
+    let marks = walk.marks.as_slice();
+    let views = Views::of(&Extents::of(stops));
+    let whiskers = Whiskers::of(stops);
+    out.extend_from_slice(
+        b"<svg xmlns=\"http://www.w3.org/2000/svg\" width=\"297mm\" height=\"210mm\"",
+    )?;
+    out.extend_from_slice(
+        b" viewBox=\"0 0 297 210\" font-family=\"sans-serif\" font-size=\"3.5\">\n",
+    )?;
+    out.extend_from_slice(
+        b"<rect width=\"297\" height=\"210\" fill=\"#fff\"/>\n<g font-size=\"5\">\n",
+    )?;
+    put_text(
+        out,
+        Position::new(10_000, 12_000),
+        b"Measured points and their deviations",
+    )?;
+    out.extend_from_slice(b"</g>\n")?;
+    put_labels(alloc, out, marks, program.features(), &views.plan)?;
+    put_picture(out, &views.plan, stops, &whiskers)?;
+    put_picture(out, &views.front, stops, &whiskers)?;
+    put_footer(out, views.plan.scale, stops, &whiskers)?;
+    out.extend_from_slice(b"</svg>\n")
+}
+
+/// Appends a drawing (SVG 1.1) of a program and of the features that were measured first, in their order, on one sheet A4: plan and front
+/// view in machine axes at one round scale, the way of the machine, the nominal points, hollow where they are not measured yet, and from
+/// each measured one a line that shows how far the measured point lies from it, at a round scale of its own. Of features that are not those
+/// of the program, points are taken in their order as far as there are touches.
+///
+/// Only want of memory is an `Err`, and then nothing is appended.
+pub fn write_drawing(
+    alloc: Global,
+    out: &mut Vec<u8>,
+    program: &Program,
+    features: &[Feature],
+) -> Result<(), AllocError>
+    ensures ok { OnOk result ((text : List ℕ) × (out.new.items ≡ out.old.items ++ text)) }
+    ensures err { OnErr result (out.new.items ≡ out.old.items) }
+{
+    let walk = Walk::of(alloc, program, features)?;
+    let mut text = Vec::new(alloc);
+    put_drawing(alloc, &mut text, program, &walk)?;
+    out.extend_from_slice(text.as_slice())
+}

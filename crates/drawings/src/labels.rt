@@ -1,0 +1,140 @@
+// The column of the features' names.
+
+ghost use Rattle.std.specs.Prelude.{◌≤◌, ◌+◌, ◌*◌, vec_len, IfOk};
+
+use crate::sheet::Position;
+use crate::texts::{begin_text, end_text, put_disc, put_escaped, put_line, put_number};
+use crate::views::View;
+use crate::walk::Mark;
+use dmis_program::Wanted;
+use std::alloc::{AllocError, Global};
+
+/// The lines of names: where the first stands, how far below each the next, and how many there are at most.
+const FIRST_LINE: u64 = 26_000;
+
+const PITCH: u64 = 4_800;
+
+const MOST: usize = 33;
+
+/// How far above its line the middle of a name is.
+const HALF_LETTER: u64 = 1_200;
+
+/// The lowest line behind which so many more stand.
+const LAST_LINE: u64 = 186_000;
+
+/// The most bytes of a name that are shown.
+const NAME_BYTES: usize = 26;
+
+/// The line of a name: as near to what it names as the lines above and those that are to come below it let it.
+fn line_at(highest: u64, wanted: u64, later: u64) -> u64
+    requires later { later ≤ 32 }
+    requires room { highest + later * 4800 ≤ 186000 }
+    ensures below { highest ≤ result }
+    ensures room { result + later * 4800 ≤ 186000 }
+{
+    wanted.min(LAST_LINE - later * PITCH).max(highest)
+}
+
+/// What is named where, from top to bottom: the position of each of the first features and its number.
+fn ordered(alloc: Global, marks: &[Mark], plan: &View) -> Result<Vec<(u64, u64, usize)>, AllocError>
+    ensures { IfOk result (λ order. vec_len order ≤ 33) }
+{
+    let mut order = Vec::new(alloc);
+    for (number, mark) in marks.iter().enumerate() {
+        if number < MOST {
+            let anchor = plan.position(mark.place);
+            order.push((anchor.down() + HALF_LETTER, anchor.across(), number))?;
+        }
+    }
+    order.sort()?;
+    Ok(order)
+}
+
+/// A name, or its first bytes.
+fn put_name(out: &mut Vec<u8>, name: &[u8]) -> Result<(), AllocError> {
+    if name.len() <= NAME_BYTES {
+        return put_escaped(out, name);
+    }
+    put_escaped(out, &name[..NAME_BYTES - 2])?;
+    out.extend_from_slice(b"..")
+}
+
+fn put_bullet(out: &mut Vec<u8>, is_measured: bool, down: u64) -> Result<(), AllocError>
+    requires { down ≤ 200000 }
+{
+    if is_measured {
+        out.extend_from_slice(b"<g fill=\"#000\">")?;
+    } else {
+        out.extend_from_slice(
+            b"<g fill=\"#fff\" stroke=\"#000\" stroke-width=\"0.25\" stroke-dasharray=\"none\">",
+        )?;
+    }
+    put_disc(out, Position::new(224_500, down), 800)?;
+    out.extend_from_slice(b"</g>\n")
+}
+
+/// A name at its line, with a line to what it names.
+fn put_label(
+    out: &mut Vec<u8>,
+    mark: &Mark,
+    name: &[u8],
+    plan: &View,
+    line: u64,
+) -> Result<(), AllocError>
+    requires low { 26000 ≤ line }
+    requires high { line ≤ 186000 }
+{
+    let middle = line - HALF_LETTER;
+    put_line(
+        out,
+        plan.position(mark.place),
+        Position::new(222_500, middle),
+    )?;
+    put_bullet(out, mark.is_measured, middle)?;
+    out.extend_from_slice(b"<g stroke=\"none\" font-family=\"monospace\">")?;
+    begin_text(out, Position::new(227_000, line))?;
+    put_name(out, name)?;
+    end_text(out)?;
+    out.extend_from_slice(b"</g>\n")
+}
+
+/// Tells how many features have no line.
+fn put_more(out: &mut Vec<u8>, more: usize) -> Result<(), AllocError> {
+    begin_text(out, Position::new(227_000, 190_800))?;
+    out.extend_from_slice(b"and ")?;
+    put_number(out, more as u64)?;
+    out.extend_from_slice(b" more")?;
+    end_text(out)
+}
+
+/// Appends the names of the first features, each on a line of its own, from top to bottom as what they name, and how many there are more.
+pub(crate) fn put_labels(
+    alloc: Global,
+    out: &mut Vec<u8>,
+    marks: &[Mark],
+    wanted: &[Wanted],
+    plan: &View,
+) -> Result<(), AllocError> {
+    let order = ordered(alloc, marks, plan)?;
+    let mut highest = FIRST_LINE;
+    let lines = order.as_slice();
+    let mut later = lines.len();
+    out.extend_from_slice(
+        b"<g stroke=\"#999\" stroke-width=\"0.15\" stroke-dasharray=\"1 0.7\">\n",
+    )?;
+    for (down, _, number) in lines {
+        later -= 1;
+        let line = line_at(highest, *down, later as u64);
+        if let Some(mark) = marks.get(*number)
+            && let Some(feature) = wanted.get(*number)
+        {
+            put_label(out, mark, feature.label.as_bytes(), plan, line)?;
+        }
+        highest = line + PITCH;
+    }
+    out.extend_from_slice(b"</g>\n")?;
+    if marks.len() > order.len() {
+        put_more(out, marks.len() - order.len())?;
+    }
+    Ok(())
+}

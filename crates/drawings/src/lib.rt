@@ -1,0 +1,30 @@
+//! An SVG drawing of a program and of what was measured: the way of the machine, the points that the program asks for, and how far the
+//! measured ones lie from there, in a plan and a front view on one sheet.
+//!
+//! - `places`, `away`: positions in machine axes, and deviations; `spans`, `extents`: what positions fill
+//! - `scales`: round scales, and the largest at which lengths have room
+//! - `sheet`: positions on the sheet of paper
+//! - `walk`: a program as stops of the machine in machine axes, each with what was measured there
+//! - `sides`, `views`: the two views, where they stand on the sheet, and where a place is in them
+//! - `whiskers`: how long deviations are drawn
+//! - `pictures`: what is drawn in a view; `labels`: the column of the features' names; `footer`: what stands below
+//! - `texts`: the elements of SVG; `drawing`: the whole
+#![tactic(auto)]
+
+mod away;
+mod drawing;
+mod extents;
+mod footer;
+mod labels;
+mod pictures;
+mod places;
+mod scales;
+mod sheet;
+mod sides;
+mod spans;
+mod texts;
+mod views;
+mod walk;
+mod whiskers;
+
+pub use drawing::write_drawing;

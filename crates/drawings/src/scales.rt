@@ -1,0 +1,159 @@
+// Scales, and the largest at which there is room.
+
+ghost use Rattle.std.specs.Prelude.{◌≡◌, ◌≤◌, ◌<◌, ◌*◌, ◌^◌, ℕ, IsTrue, ◌↔◌};
+ghost use Rattle.drawings.specs.Scales.{round, numerator, denominator, on_paper, Fits, AreShort, length_limit};
+
+use std::marker::Model;
+
+/// Lengths that are to be drawn, in micrometres: one across the paper, and two above each other.
+#[derive(Clone, Copy)]
+pub(crate) struct Lengths {
+    pub across: u64,
+    pub first: u64,
+    pub second: u64,
+}
+
+/// The paper that there is, in micrometres.
+#[derive(Clone, Copy)]
+pub(crate) struct Room {
+    pub across: u64,
+    pub upright: u64,
+}
+
+/// A round scale (ISO 5455): 1, 2 or 5 times a power of ten to one, from 10,000:1 on, or one to that, down to 1:1,000,000.
+#[derive(Clone, Copy)]
+pub(crate) struct Scale {
+    number: usize,
+}
+
+impl Model for Scale {
+    ghost use Rattle.std.specs.Prelude.{ℕ, ◌≤◌};
+
+    ghost Value = { ℕ };
+
+    ghost view = { λ s. s.number };
+
+    ghost invariant = { λ s. s.number ≤ 30 };
+
+    ghost inverse = { λ n. record { number = n } };
+}
+
+/// The round number of an index: 1, 2, 5, 10, 20, 50, ..
+pub(crate) fn round(index: usize) -> u64
+    requires { index ≤ 30 }
+    ensures value { result ≡ round index }
+    ensures some { 0 < result }
+    ensures few { index ≤ 12 → result ≤ 10 ^ 4 }
+    ensures within { result ≤ 10 ^ 10 }
+{
+    match index {
+        0 => 1,
+        1 => 2,
+        2 => 5,
+        3 => 10,
+        4 => 20,
+        5 => 50,
+        6 => 100,
+        7 => 200,
+        8 => 500,
+        9 => 1_000,
+        10 => 2_000,
+        11 => 5_000,
+        12 => 10_000,
+        13 => 20_000,
+        14 => 50_000,
+        15 => 100_000,
+        16 => 200_000,
+        17 => 500_000,
+        18 => 1_000_000,
+        19 => 2_000_000,
+        20 => 5_000_000,
+        21 => 10_000_000,
+        22 => 20_000_000,
+        23 => 50_000_000,
+        24 => 100_000_000,
+        25 => 200_000_000,
+        26 => 500_000_000,
+        27 => 1_000_000_000,
+        28 => 2_000_000_000,
+        29 => 5_000_000_000,
+        _ => 10_000_000_000,
+    }
+}
+
+impl Scale {
+    /// 1:1.
+    pub fn full() -> Scale
+        ensures { result ≡ 12 }
+    {
+        Scale { number: 12 }
+    }
+
+    /// How much of the paper stands for so much of the thing.
+    #[tactic(auto, unfolding(crate::specs::Scales::numerator))]
+    pub fn numerator(self) -> u64
+        ensures value { result ≡ numerator self }
+        ensures within { result ≤ 10 ^ 4 }
+    {
+        round(12usize.saturating_sub(self.number))
+    }
+
+    /// How much of the thing so much of the paper stands for.
+    #[tactic(auto, unfolding(crate::specs::Scales::denominator))]
+    pub fn denominator(self) -> u64
+        ensures value { result ≡ denominator self }
+        ensures some { 0 < result }
+    {
+        round(self.number.saturating_sub(12))
+    }
+
+    /// A length on paper, in whole micrometres, cut.
+    #[tactic(auto, unfolding(crate::specs::Scales::on_paper))]
+    pub fn on_paper(self, length: u64) -> u64
+        requires { length ≤ length_limit }
+        ensures { result ≡ on_paper self length }
+    {
+        length * self.numerator() / self.denominator()
+    }
+
+    fn fits(self, lengths: Lengths, room: Room) -> bool
+        requires { AreShort lengths }
+        ensures fits { IsTrue result → Fits self lengths room }
+        ensures fits_not { Fits self lengths room → IsTrue result }
+    {
+        let across = u128::from(self.on_paper(lengths.across));
+        let first = u128::from(self.on_paper(lengths.first));
+        let second = u128::from(self.on_paper(lengths.second));
+        across <= u128::from(room.across) && first + second <= u128::from(room.upright)
+    }
+
+    /// The largest scale at which there is room. The caller owes that there is at the smallest.
+    pub fn largest(lengths: Lengths, room: Room) -> Scale
+        requires lengths { AreShort lengths }
+        requires smallest { Fits 30 lengths room }
+        ensures fits { Fits result lengths room }
+        ensures largest { (larger : ℕ) → larger < result → Fits larger lengths room → ⊥ }
+    {
+        for number in 0..30 {
+            let scale = Scale { number };
+            if scale.fits(lengths, room) {
+                return scale;
+            }
+        }
+        Scale { number: 30 }
+    }
+
+    /// The longest round length, in micrometres, that is at most so long on paper; the shortest where none is.
+    pub fn bar(self, room: u64) -> u64
+        ensures round { (index : ℕ) × (result ≡ round index) }
+        ensures within { result ≤ length_limit }
+    {
+        for back in 0..30 {
+            let length = round(30 - back);
+            if self.on_paper(length) <= room {
+                return length;
+            }
+        }
+        round(0)
+    }
+}

@@ -1,0 +1,81 @@
+// What coordinates fill along an axis.
+
+ghost use Rattle.std.specs.Prelude.{◌≡◌, ◌≤◌, ◌≤ℤ◌, ◌-ℤ◌, ℤ, unsigned_abs};
+ghost use Rattle.drawings.specs.Scales.{length_limit};
+ghost use Rattle.drawings.specs.Places.{machine_limit, IsBetween};
+
+use crate::places::Coordinate;
+
+/// From the lowest to the highest of coordinates, in micrometres.
+#[derive(Clone, Copy)]
+pub(crate) struct Span {
+    pub low: i64,
+    pub high: i64,
+    ghost ordered: { low ≤ℤ high },
+    ghost low_within: { unsigned_abs low ≤ machine_limit },
+    ghost high_within: { unsigned_abs high ≤ machine_limit },
+}
+
+impl Span {
+    /// One coordinate alone.
+    pub fn at(coordinate: Coordinate) -> Span
+        ensures { IsBetween result.low result.high coordinate }
+    {
+        let only = coordinate.get();
+        Span {
+            low: only,
+            high: only,
+        }
+    }
+
+    /// The zero point alone.
+    pub fn zero() -> Span {
+        Span { low: 0, high: 0 }
+    }
+
+    /// The span that has this coordinate too.
+    pub fn with(self, coordinate: Coordinate) -> Span
+        ensures holds { IsBetween result.low result.high coordinate }
+        ensures keeps { (other : ℤ) → IsBetween self.low self.high other
+            → IsBetween result.low result.high other }
+    {
+        let more = coordinate.get();
+        if more < self.low {
+            Span {
+                low: more,
+                high: self.high,
+            }
+        } else if self.high < more {
+            Span {
+                low: self.low,
+                high: more,
+            }
+        } else {
+            self
+        }
+    }
+
+    /// How long it is.
+    pub fn length(self) -> u64
+        ensures value { result ≡ unsigned_abs (self.high -ℤ self.low) }
+        ensures within { result ≤ length_limit }
+    {
+        (self.high - self.low) as u64
+    }
+
+    /// How far above the lowest a coordinate is; one that lies outside is taken at the nearer end.
+    pub fn above(self, coordinate: Coordinate) -> u64
+        ensures value { IsBetween self.low self.high coordinate
+            → result ≡ unsigned_abs (coordinate -ℤ self.low) }
+        ensures within { result ≤ unsigned_abs (self.high -ℤ self.low) }
+    {
+        let here = coordinate.get();
+        if here < self.low {
+            0
+        } else if self.high < here {
+            self.length()
+        } else {
+            (here - self.low) as u64
+        }
+    }
+}

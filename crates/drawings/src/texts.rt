@@ -1,0 +1,161 @@
+// The elements of SVG (W3C SVG 1.1).
+
+ghost use Rattle.std.specs.Prelude.{◌≡◌, ◌≤◌, ◌<◌, ◌++◌, ◌∷◌, [], pos, decimal, codes, OnOk};
+ghost use Rattle.fixed_um.specs.Written.{written};
+ghost use Rattle.fixed_um.specs.Calls.{Writes};
+ghost use Rattle.drawings.specs.Texts.{escaped, escaped_byte, spot_text};
+
+use crate::sheet::Position;
+use fixed_um::{Um, write_um};
+use itoa::Buffer;
+use std::alloc::AllocError;
+
+/// Appends a whole number.
+pub(crate) fn put_number(out: &mut Vec<u8>, number: u64) -> Result<(), AllocError>
+    ensures { OnOk result (out.new.items ≡ out.old.items ++ decimal number) }
+{
+    let mut buffer = Buffer::new();
+    out.extend_from_slice(buffer.format(number).as_bytes())
+}
+
+/// Appends a length on paper in millimetres with three decimals.
+pub(crate) fn put_length(out: &mut Vec<u8>, micrometres: u64) -> Result<(), AllocError>
+    requires { micrometres ≤ 297000 }
+    ensures { OnOk result (out.new.items ≡ out.old.items ++ written (pos micrometres)) }
+{
+    let length = Um::new(micrometres as i64).unwrap();
+    write_um(out, length)
+}
+
+/// Appends a position as in a list of points.
+pub(crate) fn put_spot(out: &mut Vec<u8>, position: Position) -> Result<(), AllocError>
+    ensures { OnOk result (out.new.items ≡ out.old.items ++ spot_text position) }
+{
+    put_length(out, position.across())?;
+    out.push(b',')?;
+    put_length(out, position.down())
+}
+
+fn put_escaped_byte(out: &mut Vec<u8>, byte: u8) -> Result<(), AllocError>
+    ensures { OnOk result (out.new.items ≡ out.old.items ++ escaped_byte byte) }
+{
+    match byte {
+        b'&' => out.extend_from_slice(b"&amp;"),
+        b'<' => out.extend_from_slice(b"&lt;"),
+        b'>' => out.extend_from_slice(b"&gt;"),
+        _ => Ok(out.push(byte)?),
+    }
+}
+
+/// Appends a name as character data of XML.
+pub(crate) fn put_escaped(out: &mut Vec<u8>, text: &[u8]) -> Result<(), AllocError>
+    ensures { OnOk result (out.new.items ≡ out.old.items ++ escaped text.now) }
+{
+    let mut left = text;
+    while let [byte, others @ ..] = left {
+        put_escaped_byte(out, *byte)?;
+        left = others;
+    }
+    Ok(())
+}
+
+fn put_attribute(out: &mut Vec<u8>, name: &[u8], length: u64) -> Result<(), AllocError>
+    requires { length ≤ 297000 }
+{
+    out.extend_from_slice(name)?;
+    put_length(out, length)?;
+    Ok(out.push(b'"')?)
+}
+
+/// Appends a disc, whose attributes but for its centre are its group's.
+pub(crate) fn put_disc(out: &mut Vec<u8>, centre: Position, radius: u64) -> Result<(), AllocError>
+    requires { radius ≤ 5000 }
+{
+    put_attribute(out, b"<circle cx=\"", centre.across())?;
+    put_attribute(out, b" cy=\"", centre.down())?;
+    put_attribute(out, b" r=\"", radius)?;
+    out.extend_from_slice(b"/>\n")
+}
+
+/// Appends a line.
+pub(crate) fn put_line(out: &mut Vec<u8>, from: Position, to: Position) -> Result<(), AllocError> {
+    put_attribute(out, b"<line x1=\"", from.across())?;
+    put_attribute(out, b" y1=\"", from.down())?;
+    put_attribute(out, b" x2=\"", to.across())?;
+    put_attribute(out, b" y2=\"", to.down())?;
+    out.extend_from_slice(b"/>\n")
+}
+
+/// Appends a rectangle between its left upper and its right lower corner.
+pub(crate) fn put_frame(
+    out: &mut Vec<u8>,
+    first: Position,
+    last: Position,
+) -> Result<(), AllocError> {
+    let width = last.across().saturating_sub(first.across());
+    let height = last.down().saturating_sub(first.down());
+    put_attribute(out, b"<rect x=\"", first.across())?;
+    put_attribute(out, b" y=\"", first.down())?;
+    put_attribute(out, b" width=\"", width)?;
+    put_attribute(out, b" height=\"", height)?;
+    out.extend_from_slice(b"/>\n")
+}
+
+/// Appends the start of a text; what follows is its characters.
+pub(crate) fn begin_text(out: &mut Vec<u8>, at: Position) -> Result<(), AllocError> {
+    put_attribute(out, b"<text x=\"", at.across())?;
+    put_attribute(out, b" y=\"", at.down())?;
+    out.push(b'>')?;
+    Ok(())
+}
+
+/// Appends the end of a text.
+pub(crate) fn end_text(out: &mut Vec<u8>) -> Result<(), AllocError> {
+    out.extend_from_slice(b"</text>\n")
+}
+
+/// Appends a text.
+pub(crate) fn put_text(out: &mut Vec<u8>, at: Position, text: &[u8]) -> Result<(), AllocError> {
+    begin_text(out, at)?;
+    put_escaped(out, text)?;
+    end_text(out)
+}
+
+/// Appends three digits.
+fn put_three(out: &mut Vec<u8>, number: u64) -> Result<(), AllocError>
+    requires { number < 1000 }
+{
+    out.push(b'0' + (number / 100) as u8)?;
+    out.push(b'0' + (number / 10 % 10) as u8)?;
+    Ok(out.push(b'0' + (number % 10) as u8)?)
+}
+
+/// Appends a coordinate in millimetres with three decimals.
+pub(crate) fn put_coordinate(out: &mut Vec<u8>, micrometres: i64) -> Result<(), AllocError> {
+    if micrometres < 0 {
+        out.push(b'-')?;
+    }
+    let magnitude = micrometres.unsigned_abs();
+    put_number(out, magnitude / 1000)?;
+    out.push(b'.')?;
+    put_three(out, magnitude % 1000)
+}
+
+/// Appends a length in millimetres with as many decimals as it needs.
+pub(crate) fn put_millimetres(out: &mut Vec<u8>, micrometres: u64) -> Result<(), AllocError> {
+    put_number(out, micrometres / 1000)?;
+    let rest = micrometres % 1000;
+    if rest == 0 {
+        return Ok(());
+    }
+    out.push(b'.')?;
+    out.push(b'0' + (rest / 100) as u8)?;
+    if rest % 100 == 0 {
+        return Ok(());
+    }
+    out.push(b'0' + (rest / 10 % 10) as u8)?;
+    if rest % 10 == 0 {
+        return Ok(());
+    }
+    Ok(out.push(b'0' + (rest % 10) as u8)?)
+}

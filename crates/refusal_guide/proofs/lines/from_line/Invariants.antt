@@ -1,0 +1,9 @@
+use Rattle.std.specs.Str.Lines.{lines}
+use Rattle.refusal_guide.proofs.LineSteps.{IsPassed}
+use Rattle.refusal_guide.proofs.lines.from_line.Given as goal
+
+abbrev pub invariant-loop-left : goal.invariant-loop-left
+invariant-loop-left l = IsPassed l.number l.left (lines l.text) (lines l.rest)
+
+abbrev pub decreases-loop-left : goal.decreases-loop-left
+decreases-loop-left l = l.left

@@ -1,0 +1,23 @@
+use Rattle.std.proofs.Common.{◌≡◌, List, ℕ, ℤ, pos, Result, sym, ◌∙◌, ap}
+use Rattle.std.specs.Prelude.{unsigned_abs}
+use Rattle.fixed_um.specs.Limits.{volume_limit}
+use Rattle.fixed_um.specs.Computed.{value_of}
+use Rattle.fixed_um.specs.Numerals.{Reads}
+use Rattle.fixed_um.specs.declared.numerals.NumeralFault.{NumeralFault}
+use Rattle.fixed_um.proofs.ComputedLemmas.{value_of-is}
+use Rattle.refusal_guide.specs.Lengths.{fault_in, length_fault}
+use Rattle.refusal_guide.proofs.numerals.length_fault.Goals as goal
+
+length_fault-is : (text : List ℕ) (limit : ℤ) (r : Result ℤ NumeralFault) → limit ≡ pos volume_limit → Reads 3 (unsigned_abs limit) text r
+    → fault_in r ≡ length_fault text
+unfolding length_fault
+length_fault-is text limit r e h = sym (ap (λ (n : ℤ). fault_in (value_of 3 (unsigned_abs n) text)) (sym e)
+    ∙ ap fault_in (value_of-is 3 (unsigned_abs limit) text r h))
+
+pub returns-in-Ok : goal.returns-in-Ok
+returns-in-Ok c = rw c.in-Ok.is at (length_fault-is c.args.text.now c.volume_limit.result c.read_um.result c.volume_limit.ensures
+    c.read_um.ensures)
+
+pub returns-in-Err : goal.returns-in-Err
+returns-in-Err c = rw c.in-Err.is at (length_fault-is c.args.text.now c.volume_limit.result c.read_um.result c.volume_limit.ensures
+    c.read_um.ensures)

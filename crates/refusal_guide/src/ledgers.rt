@@ -1,0 +1,140 @@
+// Why a line of features or of contacts cannot stand in its place, in a sentence. What may stand there is told by their readers.
+
+use crate::lines::{Place, first_line};
+use crate::words::{Reason, Word};
+use contact_ledger::{TextFault, read_contacts, read_features};
+use std::alloc::{AllocError, Global};
+use tool_rack::fields::cut_field;
+
+/// The texts that are read line by line: measured features, and what a server did.
+#[derive(Clone, Copy)]
+pub(crate) enum Ledger {
+    Features,
+    Contacts,
+}
+
+/// Whether a reader's answer is a text; only want of memory is an `Err`.
+fn is_read<T: Drop>(answer: Result<T, TextFault>) -> Result<bool, AllocError> {
+    match answer {
+        Ok(_) => Ok(true),
+        Err(TextFault::Damaged(_)) => Ok(false),
+        Err(TextFault::Memory) => Err(AllocError),
+    }
+}
+
+/// Whether features may go on behind these lines with this line.
+fn goes_on(alloc: Global, above: &[u8], line: &[u8]) -> Result<bool, AllocError> {
+    let mut text = Vec::from_slice(alloc, above)?;
+    text.extend_from_slice(line)?;
+    is_read(read_features(alloc, &text))
+}
+
+/// What has to stand behind these lines of features.
+fn wanted(alloc: Global, above: &[u8]) -> Result<&'static str, AllocError> {
+    if goes_on(alloc, above, b"END\n")? {
+        return Ok("END stands here, since the feature above has all its points.");
+    }
+    if goes_on(alloc, above, b"FEATURE A 1 -\n")? {
+        return Ok(
+            "A feature begins here, as FEATURE C 3 2 M or FEATURE C 3 -, with a count from 1 to 10000.",
+        );
+    }
+    if goes_on(alloc, above, b"FEATURE A 1\n")? {
+        return Ok("A feature begins here, as FEATURE C 3, with a count from 1 to 10000.");
+    }
+    Ok(
+        "A point of the feature above stands here, three lengths with three decimals, as 1.000 0.000 -0.004.",
+    )
+}
+
+/// Whether a line of contacts is read.
+fn is_act(alloc: Global, front: &[u8], behind: &[u8]) -> Result<bool, AllocError> {
+    let mut text = Vec::from_slice(alloc, b"DME-CONTACTS 1\n")?;
+    text.extend_from_slice(front)?;
+    text.extend_from_slice(behind)?;
+    is_read(read_contacts(alloc, &text))
+}
+
+/// Whether a word is that of an act.
+fn is_act_word(word: &[u8]) -> bool {
+    word == b"HOMEDIS".as_slice()
+        || word == b"HOMED".as_slice()
+        || word == b"MOVED".as_slice()
+        || word == b"CHANGED".as_slice()
+        || word == b"FRAMED".as_slice()
+        || word == b"CONTACT".as_slice()
+}
+
+/// Why a line of contacts is no act.
+fn act_reason(alloc: Global, line: &[u8]) -> Result<Reason, AllocError> {
+    let (connection, rest) = match cut_field(line) {
+        Some((connection, rest)) => (connection, rest),
+        None => line.split_at(0),
+    };
+    let connection = Word::found(line, 0, connection);
+    if !is_act(alloc, connection.bytes, b" HOMED\n")? {
+        let shown = connection.shown(alloc)?;
+        let said = format!(in alloc;
+            "An act begins with the number of its connection, from 1 to 4000000000 and without a zero in front, and not with {shown}."
+        )?;
+        return Ok(Reason::of_word(said, connection));
+    }
+    let (act, _) = match cut_field(rest) {
+        Some((act, behind)) => (act, behind),
+        None => rest.split_at(0),
+    };
+    let act = Word::found(line, connection.bytes.len(), act);
+    let shown = act.shown(alloc)?;
+    let said = if is_act_word(act.bytes) {
+        format!(in alloc;
+            "The fields of {shown} do not stand in the one form in which they are written, with one space before each."
+        )?
+    } else {
+        format!(in alloc; "{shown} is none of HOMEDIS, HOMED, MOVED, CHANGED, FRAMED and CONTACT.")?
+    };
+    Ok(Reason::of_word(said, act))
+}
+
+/// Whether a line ends with CR LF.
+fn has_return(rest: &[u8]) -> bool {
+    match rest.get(first_line(rest).len()) {
+        Some(byte) => *byte == b'\r',
+        None => false,
+    }
+}
+
+/// Why a line of features cannot stand in its place.
+fn feature_reason(alloc: Global, place: Place) -> Result<Reason, AllocError> {
+    if place.rest.len() > place.text.len() {
+        return Ok(Reason::of_line(String::new(alloc)));
+    }
+    let (above, _) = place.text.split_at(place.text.len() - place.rest.len());
+    Ok(Reason::of_line(String::from_str(alloc, wanted(alloc, above)?)?))
+}
+
+/// Why a line of this ledger cannot stand in its place.
+pub(crate) fn ledger_reason(
+    alloc: Global,
+    ledger: Ledger,
+    place: Place,
+) -> Result<Reason, AllocError> {
+    if has_return(place.rest) {
+        let said = String::from_str(
+            alloc,
+            "The line ends with CR LF, and the lines of this file end with LF alone.",
+        )?;
+        return Ok(Reason::of_line(said));
+    }
+    match ledger {
+        Ledger::Features if place.number == 1 => Ok(Reason::of_line(String::from_str(
+            alloc,
+            "A file of features begins with the line DME-FEATURES 2, or DME-FEATURES 1.",
+        )?)),
+        Ledger::Contacts if place.number == 1 => Ok(Reason::of_line(String::from_str(
+            alloc,
+            "A file of contacts begins with the line DME-CONTACTS 1.",
+        )?)),
+        Ledger::Features => feature_reason(alloc, place),
+        Ledger::Contacts => act_reason(alloc, first_line(place.rest)),
+    }
+}

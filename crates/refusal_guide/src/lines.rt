@@ -1,0 +1,146 @@
+// The line of a number, and how it is shown.
+
+ghost use Rattle.std.specs.Prelude.{◌≡◌, ◌<◌, ◌≤◌, ◌-◌, ◌++◌, length, OnOk, IfOk, string_bytes};
+ghost use Rattle.std.specs.List.{flat_map};
+ghost use Rattle.std.specs.Str.Lines.{lines};
+ghost use Rattle.refusal_guide.specs.Places.{lines_from, first_of, hex_digit, visible, visible_in_line, shown_front, shown_from};
+
+use dmis_text::cut_line;
+use std::alloc::{AllocError, Global};
+
+/// The most bytes of a line that are shown (this profile).
+const MOST_SHOWN: usize = 200;
+
+/// A text with the line of its refusal: the whole text, the bytes from that line on, and the line's number.
+#[derive(Clone, Copy)]
+pub(crate) struct Place<'a> {
+    pub(crate) text: &'a [u8],
+    pub(crate) rest: &'a [u8],
+    pub(crate) number: u64,
+}
+
+/// The bytes of a text from the line of this number on; from its last line on where it has fewer.
+pub(crate) fn from_line(text: &[u8], number: u64) -> &[u8]
+    ensures { lines result.now ≡ lines_from number text.now }
+{
+    let mut rest = text;
+    let mut left = number;
+    while left > 1 {
+        let Some((_, after)) = cut_line(rest) else {
+            return rest;
+        };
+        let Some(_) = cut_line(after) else {
+            return rest;
+        };
+        rest = after;
+        left -= 1;
+    }
+    rest
+}
+
+/// The first line of a text; nothing where it has none.
+pub(crate) fn first_line(text: &[u8]) -> &[u8]
+    ensures { result.now ≡ first_of (lines text.now) }
+{
+    match cut_line(text) {
+        Some((line, _)) => line,
+        None => text,
+    }
+}
+
+/// A hexadecimal digit.
+fn hex_digit(value: u8) -> char
+    requires { value < 16 }
+    ensures digit { result ≡ hex_digit value }
+    ensures ascii { result < 128 }
+{
+    if value < 10 {
+        (b'0' + value) as char
+    } else {
+        (b'A' + (value - 10)) as char
+    }
+}
+
+/// Appends a byte as it can be read: from 32 to 126 as it is, any other as `\xNN`.
+fn push_byte(text: &mut String, byte: u8) -> Result<(), AllocError>
+    ensures { OnOk result (string_bytes text.new ≡ string_bytes text.old ++ visible byte) }
+{
+    if byte >= 32 && byte <= 126 {
+        return text.push(byte as char);
+    }
+    text.push_str("\\x")?;
+    text.push(hex_digit(byte / 16))?;
+    text.push(hex_digit(byte % 16))
+}
+
+/// Bytes as they can be read.
+pub(crate) fn visible(alloc: Global, bytes: &[u8]) -> Result<String, AllocError>
+    ensures { IfOk result (λ text. string_bytes text ≡ flat_map visible bytes.now) }
+{
+    let mut text = String::new(alloc);
+    for byte in bytes {
+        push_byte(&mut text, *byte)?;
+    }
+    Ok(text)
+}
+
+/// Appends a byte of a line: a tab as it is, any other as it can be read.
+fn push_line_byte(text: &mut String, byte: u8) -> Result<(), AllocError>
+    ensures { OnOk result (string_bytes text.new
+        ≡ string_bytes text.old ++ visible_in_line byte) }
+{
+    if byte == b'\t' {
+        return text.push('\t');
+    }
+    push_byte(text, byte)
+}
+
+/// Appends bytes of a line.
+fn push_line(text: &mut String, bytes: &[u8]) -> Result<(), AllocError>
+    ensures { OnOk result (string_bytes text.new
+        ≡ string_bytes text.old ++ flat_map visible_in_line bytes.now) }
+{
+    for byte in bytes {
+        push_line_byte(text, *byte)?;
+    }
+    Ok(())
+}
+
+/// Appends the front of a line, at most 200 bytes of it, and `..` where it has more.
+fn push_front(text: &mut String, bytes: &[u8]) -> Result<(), AllocError>
+    ensures { OnOk result (string_bytes text.new
+        ≡ string_bytes text.old ++ shown_front bytes.now) }
+{
+    if bytes.len() <= MOST_SHOWN {
+        return push_line(text, bytes);
+    }
+    let (front, _) = bytes.split_at(MOST_SHOWN);
+    push_line(text, front)?;
+    text.push_str(" ..")
+}
+
+/// The byte from which on a line is shown, so that the word of this place and length stands among the 200 bytes that are shown, where it
+/// has no more: the first byte where the word then does, else so that the word stands in their middle.
+pub(crate) fn shown_start(line: &[u8], at: usize, len: usize) -> usize
+    ensures { result ≤ length line.now - 200 }
+{
+    if line.len() <= MOST_SHOWN || (at < MOST_SHOWN && len <= MOST_SHOWN - at) {
+        return 0;
+    }
+    let before = (MOST_SHOWN - len.min(MOST_SHOWN)) / 2;
+    at.saturating_sub(before).min(line.len() - MOST_SHOWN)
+}
+
+/// A line as it is shown from this byte on: at most 200 bytes of it, and `..` where something was cut off.
+pub(crate) fn shown_line(alloc: Global, line: &[u8], start: usize) -> Result<String, AllocError>
+    requires { start ≤ length line.now - 200 }
+    ensures { IfOk result (λ text. string_bytes text ≡ shown_from start line.now) }
+{
+    let mut text = String::new(alloc);
+    if start > 0 {
+        text.push_str(".. ")?;
+    }
+    let (_, tail) = line.split_at(start);
+    push_front(&mut text, tail)?;
+    Ok(text)
+}

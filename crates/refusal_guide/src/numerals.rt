@@ -1,0 +1,122 @@
+// Which numeral does not read, and why.
+
+ghost use Rattle.std.specs.Prelude.{◌≡◌, ◌<◌, ◌∷◌, [], length, IfSome};
+ghost use Rattle.std.specs.List.{position, find};
+ghost use Rattle.std.specs.Option.{option_map};
+ghost use Rattle.refusal_guide.specs.Lengths.{length_fault, is_no_length};
+
+use crate::words::Word;
+use dmis_text::Text;
+use fixed_um::{NumeralFault, Um, read_dir, read_um};
+use std::alloc::{AllocError, Global};
+
+/// What a numeral is to be: a length in millimetres, or a component of a direction.
+#[derive(Clone, Copy)]
+pub(crate) enum Measure {
+    Length,
+    Component,
+}
+
+/// Why a text is not read as a length within the machine's volume; none where it is.
+pub(crate) fn length_fault(text: &[u8]) -> Option<NumeralFault>
+    ensures { result ≡ length_fault text.now }
+{
+    match read_um(text, Um::volume_limit()) {
+        Ok(_) => None,
+        Err(fault) => Some(fault),
+    }
+}
+
+/// Whether a text is not read as a length.
+fn is_no_length(text: &[u8]) -> bool
+    ensures { result ≡ is_no_length text.now }
+{
+    length_fault(text).is_some()
+}
+
+/// Why a text is not read as a component of a direction; none where it is.
+pub(crate) fn component_fault(text: &[u8]) -> Option<NumeralFault> {
+    match read_dir(text, b"0", b"0") {
+        Ok(_) => None,
+        Err(fault) => Some(fault),
+    }
+}
+
+/// The number of the leftmost parameter that is not read as a length.
+pub(crate) fn leftmost_length(params: &[Text]) -> Option<usize>
+    ensures leftmost { result ≡ position is_no_length params.now }
+    ensures within { IfSome result (λ index. index < length params.now) }
+{
+    params.iter().position(|p| is_no_length(p))
+}
+
+/// The number of the leftmost parameter that is not read as a component of a direction.
+pub(crate) fn leftmost_component(params: &[Text]) -> Option<usize>
+    ensures { IfSome result (λ index. index < length params.now) }
+{
+    params.iter().position(|p| component_fault(p).is_some())
+}
+
+/// The leftmost of three fields that is not read as a length; none where all are.
+pub(crate) fn leftmost_field<'a>(x: &'a [u8], y: &'a [u8], z: &'a [u8]) -> Option<&'a [u8]>
+    ensures { option_map (λ t. t.now) result
+        ≡ find is_no_length (x.now ∷ y.now ∷ z.now ∷ []) }
+{
+    if is_no_length(x) {
+        return Some(x);
+    }
+    if is_no_length(y) {
+        return Some(y);
+    }
+    if is_no_length(z) {
+        return Some(z);
+    }
+    None
+}
+
+/// Whether an exponent begins at the byte.
+fn is_exponent(byte: u8) -> bool {
+    byte == b'E' || byte == b'e'
+}
+
+/// How many digits stand before an exponent.
+fn count_digits(numeral: &[u8]) -> usize {
+    numeral
+        .iter()
+        .take_while(|b| !is_exponent(**b))
+        .filter(|b| b.is_ascii_digit())
+        .count()
+}
+
+/// Why a numeral does not read, in a sentence that names it.
+pub(crate) fn numeral_sentence(
+    alloc: Global,
+    numeral: Word,
+    fault: NumeralFault,
+    measure: Measure,
+) -> Result<String, AllocError> {
+    let word = numeral.shown(alloc)?;
+    match (fault, measure) {
+        (NumeralFault::NotNumeral, _) => {
+            format!(in alloc;
+                "{word} is no numeral: a numeral has digits with at most one point, and if wanted a sign and an exponent of one to three digits."
+            )
+        }
+        (NumeralFault::TooManyDigits, _) => {
+            let count = count_digits(numeral.bytes);
+            format!(in alloc;
+                "The numeral {word} has {count} digits before its exponent, and at most 30 are read."
+            )
+        }
+        (NumeralFault::TooLarge, Measure::Length) => {
+            format!(in alloc;
+                "The numeral {word}, rounded to micrometres, is past the limit of 1000000 millimetres."
+            )
+        }
+        (NumeralFault::TooLarge, Measure::Component) => {
+            format!(in alloc;
+                "The numeral {word}, rounded to millionths, is past the limit of 1000 for a component of a direction."
+            )
+        }
+    }
+}

@@ -1,0 +1,137 @@
+// Why a line of a schedule asks for nothing, in a sentence. What a word asks for is told by the reader of schedules.
+
+use crate::lines::{Place, first_line};
+use crate::numerals::{Measure, leftmost_field, length_fault, numeral_sentence};
+use crate::setups::{count_fields, space_reason};
+use crate::topics::Topic;
+use crate::words::{Reason, Word};
+use link_world::{Schedule, ScheduleFault};
+use std::alloc::{AllocError, Global};
+use tool_rack::fields::{cut_field, has_outer_space, is_word, three_fields};
+
+/// Whether a word with this field behind it asks for something.
+fn asks(alloc: Global, word: &[u8], field: &[u8]) -> Result<bool, AllocError> {
+    let mut line = Vec::from_slice(alloc, word)?;
+    line.extend_from_slice(b" ")?;
+    line.extend_from_slice(field)?;
+    is_read(alloc, &line)
+}
+
+/// Whether a line asks for something.
+fn is_read(alloc: Global, line: &[u8]) -> Result<bool, AllocError> {
+    match Schedule::read(alloc, line) {
+        Ok(_) => Ok(true),
+        Err(ScheduleFault::BadLine(_)) => Ok(false),
+        Err(ScheduleFault::Memory) => Err(AllocError),
+    }
+}
+
+/// What may stand behind a word; none where it is no word of a schedule.
+fn takes(alloc: Global, word: &[u8]) -> Result<Option<&'static str>, AllocError> {
+    if asks(alloc, word, b"done")? {
+        return Ok(Some("done, missed, fault, auto, or touched x y z"));
+    }
+    let alone = is_read(alloc, word)?;
+    let numbered = asks(alloc, word, b"1")?;
+    let all = asks(alloc, word, b"all")?;
+    Ok(match (alone, numbered, all) {
+        (true, true, _) => Some("nothing, or a number from 0 to 1000000"),
+        (true, false, true) => Some("nothing, or all"),
+        (true, false, false) => Some("nothing"),
+        (false, true, true) => Some("a number of one to ten digits, or all"),
+        (false, true, false) => Some("a number of one to ten digits"),
+        (false, false, true) => Some("all"),
+        (false, false, false) => None,
+    })
+}
+
+/// Why the coordinates of a touch do not read; none where they do.
+fn touched_reason(alloc: Global, line: &[u8], values: &[u8]) -> Result<Option<Reason>, AllocError> {
+    let Some((x, y, z)) = three_fields(values) else {
+        let count = count_fields(values);
+        let said = format!(in alloc;
+            "machine touched takes 3 numerals, x, y and z, and {count} fields stand behind it."
+        )?;
+        return Ok(Some(Reason::of_line(said)));
+    };
+    let Some(numeral) = leftmost_field(x, y, z) else {
+        return Ok(None);
+    };
+    let Some(fault) = length_fault(numeral) else {
+        return Ok(None);
+    };
+    let from = line.len().saturating_sub(values.len());
+    let numeral = Word::found(line, from, numeral);
+    let said = numeral_sentence(alloc, numeral, fault, Measure::Length)?;
+    Ok(Some(Reason::of_word(said, numeral)))
+}
+
+/// That a field asks for nothing behind a word that takes this.
+fn field_reason(
+    alloc: Global,
+    line: &[u8],
+    word: &[u8],
+    field: &[u8],
+    taken: &str,
+) -> Result<Reason, AllocError> {
+    let field = Word::found(line, word.len(), field);
+    let shown = field.shown(alloc)?;
+    let word = Word::found(line, 0, word).shown(alloc)?;
+    let said = format!(in alloc; "{shown} asks for nothing behind {word}, which takes {taken}.")?;
+    Ok(Reason::of_word(said, field))
+}
+
+/// Why what stands behind a word asks for nothing, where the word takes this.
+fn behind_word(
+    alloc: Global,
+    line: &[u8],
+    word: &[u8],
+    rest: &[u8],
+    taken: &str,
+) -> Result<Option<Reason>, AllocError> {
+    let Some((field, rest)) = cut_field(rest) else {
+        let word = Word::found(line, 0, word);
+        let shown = word.shown(alloc)?;
+        let said = format!(in alloc; "Nothing stands behind {shown}, which takes {taken}.")?;
+        return Ok(Some(Reason::of_word(said, word)));
+    };
+    if is_word(b"machine", word) && is_word(b"touched", field) {
+        return touched_reason(alloc, line, rest);
+    }
+    if !asks(alloc, word, field)? {
+        return Ok(Some(field_reason(alloc, line, word, field, taken)?));
+    }
+    let Some((third, _)) = cut_field(rest) else {
+        return Ok(None);
+    };
+    let from = line.len().saturating_sub(rest.len());
+    let third = Word::found(line, from, third);
+    let shown = third.shown(alloc)?;
+    let said = format!(in alloc; "{shown} is one field too many.")?;
+    Ok(Some(Reason::of_word(said, third)))
+}
+
+/// Why a line asks for nothing; none where it asks for something.
+fn bad_line(alloc: Global, line: &[u8]) -> Result<Option<Reason>, AllocError> {
+    if has_outer_space(line) {
+        return Ok(Some(space_reason(alloc, line)?));
+    }
+    let Some((field, rest)) = cut_field(line) else {
+        return Ok(None);
+    };
+    if let Some(taken) = takes(alloc, field)? {
+        return behind_word(alloc, line, field, rest, taken);
+    }
+    let word = Word::found(line, 0, field);
+    let shown = word.shown(alloc)?;
+    let said = format!(in alloc; "{shown} is no word of a schedule.")?;
+    Ok(Some(Reason::of_word(said, word)))
+}
+
+/// Why a line of a schedule asks for nothing. Where the text is none that is refused so, what the refusal means.
+pub(crate) fn schedule_reason(alloc: Global, place: Place) -> Result<Reason, AllocError> {
+    match bad_line(alloc, first_line(place.rest))? {
+        Some(reason) => Ok(reason),
+        None => Reason::of_topic(alloc, Topic::ScheduleLine),
+    }
+}

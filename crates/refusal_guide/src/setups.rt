@@ -1,0 +1,197 @@
+// Why a setup is refused, in a sentence.
+
+use crate::lines::{Place, first_line};
+use crate::names::name_sentence;
+use crate::numerals::{Measure, leftmost_field, length_fault, numeral_sentence};
+use crate::topics::Topic;
+use crate::words::{Reason, Word};
+use dmis_text::cut_line;
+use fixed_um::Name;
+use std::alloc::{AllocError, Global};
+use tool_rack::fields::{cut_field, has_outer_space, is_word, three_fields};
+
+/// How many fields there are.
+pub(crate) fn count_fields(bytes: &[u8]) -> usize {
+    let mut count = 0usize;
+    let mut rest = bytes;
+    while let Some((_, after)) = cut_field(rest) {
+        count = count.saturating_add(1);
+        rest = after;
+    }
+    count
+}
+
+/// That a space stands at an end of the line.
+pub(crate) fn space_reason(alloc: Global, line: &[u8]) -> Result<Reason, AllocError> {
+    let (place, at) = match line {
+        [b' ', ..] => ("start", 0),
+        _ => ("end", line.len().saturating_sub(1)),
+    };
+    let said = format!(in alloc; "A space stands at the {place} of the line.")?;
+    Ok(Reason { said, at, len: 1 })
+}
+
+/// How many fields a line has behind its word, and how many it takes.
+fn count_reason(
+    alloc: Global,
+    word: Word,
+    values: &[u8],
+    wanted: &str,
+) -> Result<Reason, AllocError> {
+    let shown = word.shown(alloc)?;
+    let count = count_fields(values);
+    let fields = if count == 1 { "field" } else { "fields" };
+    let said = format!(in alloc; "{shown} has {count} {fields} behind it, and takes {wanted}.")?;
+    Ok(Reason::of_word(said, word))
+}
+
+/// Why a field is no name; none where it is one.
+fn name_reason(alloc: Global, line: &[u8], name: &[u8]) -> Result<Option<Reason>, AllocError> {
+    if Name::new(alloc, name)?.is_some() {
+        return Ok(None);
+    }
+    let word = Word::found(line, 1, name);
+    let said = name_sentence(alloc, word)?;
+    Ok(Some(Reason::of_word(said, word)))
+}
+
+/// Why the fields behind the word of a line do not fit; none where they do.
+fn values_reason(
+    alloc: Global,
+    line: &[u8],
+    word: Word,
+    values: &[u8],
+) -> Result<Option<Reason>, AllocError> {
+    let count = count_fields(values);
+    if is_word(b"SHIFT", word.bytes) {
+        let reason = count_reason(alloc, word, values, "3, dx, dy and dz")?;
+        return Ok(Some(reason));
+    }
+    if is_word(b"TOOL", word.bytes) && count != 1 {
+        return Ok(Some(count_reason(alloc, word, values, "1, a name")?));
+    }
+    if is_word(b"FRAME", word.bytes) && count != 4 {
+        let reason = count_reason(alloc, word, values, "4, a name and x, y and z")?;
+        return Ok(Some(reason));
+    }
+    match cut_field(values) {
+        Some((name, _)) => name_reason(alloc, line, name),
+        None => Ok(None),
+    }
+}
+
+/// Whether a word begins a statement of a setup.
+fn is_known(word: &[u8]) -> bool {
+    is_word(b"TOOL", word) || is_word(b"FRAME", word) || is_word(b"SHIFT", word)
+}
+
+/// Why a line is none of a setup; none where it is one.
+fn bad_line(alloc: Global, line: &[u8]) -> Result<Option<Reason>, AllocError> {
+    if has_outer_space(line) {
+        return Ok(Some(space_reason(alloc, line)?));
+    }
+    let Some((field, values)) = cut_field(line) else {
+        return Ok(None);
+    };
+    let word = Word::found(line, 0, field);
+    if is_known(field) {
+        return values_reason(alloc, line, word, values);
+    }
+    let shown = word.shown(alloc)?;
+    let said = format!(in alloc;
+        "{shown} is none of TOOL, FRAME and SHIFT, of which one begins a line, with spaces behind it."
+    )?;
+    Ok(Some(Reason::of_word(said, word)))
+}
+
+/// What the name of a line is that a line above it may have: the word of both, and the name.
+fn named(line: &[u8]) -> Option<(&[u8], &[u8])> {
+    let (word, values) = cut_field(line)?;
+    let (name, _) = cut_field(values)?;
+    Some((word, name))
+}
+
+/// The number of the first line that has this name behind this word.
+fn first_named(text: &[u8], word: &[u8], name: &[u8]) -> Option<u64> {
+    let mut number = 0u64;
+    let mut rest = text;
+    while let Some((line, after)) = cut_line(rest) {
+        number = number.saturating_add(1);
+        if let Some((other, taken)) = named(line)
+            && is_word(word, other)
+            && is_word(name, taken)
+        {
+            return Some(number);
+        }
+        rest = after;
+    }
+    None
+}
+
+/// Which name is given twice, and where it stood first.
+fn twice(alloc: Global, place: Place) -> Result<Option<Reason>, AllocError> {
+    let line = first_line(place.rest);
+    let Some((word, name)) = named(line) else {
+        return Ok(None);
+    };
+    let Some(first) = first_named(place.text, word, name) else {
+        return Ok(None);
+    };
+    let kind = if is_word(b"TOOL", word) {
+        "tool"
+    } else {
+        "frame"
+    };
+    let name = Word::found(line, word.len(), name);
+    let shown = name.shown(alloc)?;
+    let said = format!(in alloc; "The {kind} {shown} is there already, at line {first}.")?;
+    Ok(Some(Reason::of_word(said, name)))
+}
+
+/// Which numeral of a line does not read, and why.
+fn bad_numeral(alloc: Global, line: &[u8]) -> Result<Option<Reason>, AllocError> {
+    let Some((word, values)) = cut_field(line) else {
+        return Ok(None);
+    };
+    let numerals = match cut_field(values) {
+        Some((_, behind)) if is_word(b"FRAME", word) => behind,
+        _ => values,
+    };
+    let Some((x, y, z)) = three_fields(numerals) else {
+        return Ok(None);
+    };
+    let Some(numeral) = leftmost_field(x, y, z) else {
+        return Ok(None);
+    };
+    let Some(fault) = length_fault(numeral) else {
+        return Ok(None);
+    };
+    let from = line.len().saturating_sub(numerals.len());
+    let numeral = Word::found(line, from, numeral);
+    let said = numeral_sentence(alloc, numeral, fault, Measure::Length)?;
+    Ok(Some(Reason::of_word(said, numeral)))
+}
+
+/// Why a line of a setup is none. Where the text is none that is refused so, what the refusal means.
+pub(crate) fn setup_line_reason(alloc: Global, place: Place) -> Result<Reason, AllocError> {
+    match bad_line(alloc, first_line(place.rest))? {
+        Some(reason) => Ok(reason),
+        None => Reason::of_topic(alloc, Topic::SetupLine),
+    }
+}
+
+/// Which name of a setup is given twice, and where it stood first.
+pub(crate) fn setup_twice_reason(alloc: Global, place: Place) -> Result<Reason, AllocError> {
+    match twice(alloc, place)? {
+        Some(reason) => Ok(reason),
+        None => Reason::of_topic(alloc, Topic::SetupTwice),
+    }
+}
+
+/// Which numeral of a setup does not read, and why.
+pub(crate) fn setup_numeral_reason(alloc: Global, place: Place) -> Result<Reason, AllocError> {
+    match bad_numeral(alloc, first_line(place.rest))? {
+        Some(reason) => Ok(reason),
+        None => Reason::of_topic(alloc, Topic::SetupNumeral),
+    }
+}

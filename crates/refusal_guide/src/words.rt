@@ -1,0 +1,109 @@
+// The word of a line that a sentence names.
+
+ghost use Rattle.std.specs.Prelude.{◌≡◌, ◌≤◌, ◌+◌, length, take, drop, IfSome};
+
+use crate::lines::visible;
+use crate::topics::Topic;
+use std::alloc::{AllocError, Global};
+
+/// The most bytes of a word that a sentence shows (this profile).
+const MOST_OF_WORD: usize = 100;
+
+/// A word that a sentence names, and where it stands in the bytes from its line on; at no place where it is not found there in one piece.
+#[derive(Clone, Copy)]
+pub(crate) struct Word<'a> {
+    pub(crate) bytes: &'a [u8],
+    pub(crate) at: Option<usize>,
+}
+
+impl<'a> Word<'a> {
+    /// The word of these bytes in a text, its letters in any case: the first from this place on, as it stands there. Where it does not
+    /// stand there, it is the bytes themselves.
+    pub(crate) fn found(text: &'a [u8], from: usize, wanted: &'a [u8]) -> Word<'a>
+        ensures { IfSome result.at (λ at. result.bytes.now
+            ≡ take (length wanted.now) (drop at text.now)) }
+    {
+        match place_from(text, from, wanted) {
+            Some(at) => {
+                let (_, tail) = text.split_at(at);
+                let (bytes, _) = tail.split_at(wanted.len());
+                Word {
+                    bytes,
+                    at: Some(at),
+                }
+            }
+            None => Word {
+                bytes: wanted,
+                at: None,
+            },
+        }
+    }
+
+    /// The word as a sentence shows it: with at most 100 of its bytes.
+    pub(crate) fn shown(&self, alloc: Global) -> Result<String, AllocError> {
+        if self.bytes.is_empty() {
+            return String::from_str(alloc, "(nothing)");
+        }
+        if self.bytes.len() <= MOST_OF_WORD {
+            return visible(alloc, self.bytes);
+        }
+        let (front, _) = self.bytes.split_at(MOST_OF_WORD);
+        let front = visible(alloc, front)?;
+        format!(in alloc; "{front} ..")
+    }
+}
+
+/// The first place from this one on at which these bytes stand, letters in any case.
+pub(crate) fn place_from(text: &[u8], from: usize, wanted: &[u8]) -> Option<usize>
+    ensures { IfSome result (λ at. at + length wanted.now ≤ length text.now) }
+{
+    if wanted.len() > text.len() {
+        return None;
+    }
+    let last = text.len() - wanted.len();
+    for at in from..last + 1 {
+        let (_, tail) = text.split_at(at);
+        let (front, _) = tail.split_at(wanted.len());
+        if front.eq_ignore_ascii_case(wanted) {
+            return Some(at);
+        }
+    }
+    None
+}
+
+/// What is wrong with a line: a sentence, and the place and the length of the word that it names in the bytes from that line on.
+#[derive(Drop)]
+pub(crate) struct Reason {
+    pub(crate) said: String,
+    pub(crate) at: usize,
+    pub(crate) len: usize,
+}
+
+impl Reason {
+    /// A sentence that names this word.
+    pub(crate) fn of_word(said: String, word: Word) -> Reason {
+        match word.at {
+            Some(at) => Reason {
+                said,
+                at,
+                len: word.bytes.len(),
+            },
+            None => Reason::of_line(said),
+        }
+    }
+
+    /// What the refusal of a topic means.
+    pub(crate) fn of_topic(alloc: Global, topic: Topic) -> Result<Reason, AllocError> {
+        let said = String::from_str(alloc, topic.meaning())?;
+        Ok(Reason::of_line(said))
+    }
+
+    /// A sentence that names no word of its line.
+    pub(crate) fn of_line(said: String) -> Reason {
+        Reason {
+            said,
+            at: 0,
+            len: 0,
+        }
+    }
+}
