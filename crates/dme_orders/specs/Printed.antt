@@ -1,5 +1,5 @@
 -- What is shown for the fault of an order, and the exit status of a fault (this profile).
-use Rattle.std.specs.Prelude.{◌≡◌, ℕ, List, string_bytes, Option, Some}
+use Rattle.std.specs.Prelude.{◌≡◌, ℕ, List, [], string_bytes, Option, Some}
 use Rattle.tool_rack.specs.declared.faults.SetupFault.TheVariants as setup
 use Rattle.dmis_program.specs.declared.faults.ProgramFault.TheVariants as program
 use Rattle.link_world.specs.declared.schedule_faults.ScheduleFault.TheVariants as schedule
@@ -11,6 +11,9 @@ use Rattle.dme_orders.specs.declared.reading.Role.{Role}
 use Rattle.dme_orders.specs.declared.reading.Role.TheVariants as role
 use Rattle.contact_ledger.specs.declared.faults.TextFault.TheVariants as ledger
 use Rattle.dme_orders.specs.declared.faults.FileNames.{FileNames}
+use Rattle.dme_orders.specs.declared.faults.FileTexts.{FileTexts}
+use Rattle.refusal_guide.specs.Places.{Places}
+use Rattle.refusal_guide.specs.declared.places.Refused.TheVariants as refused
 use Rattle.dme_orders.specs.declared.faults.OrderFault.{OrderFault}
 use Rattle.dme_orders.specs.declared.faults.OrderFault.TheVariants as fault
 
@@ -61,3 +64,25 @@ AreFilesShown files.Memory names shown = shown ≡ fault.Memory
 abbrev pub IsExportShown : ExportFault → (Role → List ℕ) → OrderFault → Type 0
 IsExportShown (export.Files cause) names shown = AreFilesShown cause names shown
 IsExportShown export.NotOurs names shown = shown ≡ fault.NotOurs
+
+-- the text of an order's file, by what it is to the order
+abbrev pub text_in : FileTexts → Role → List ℕ
+text_in texts role.Setup = texts.setup.items
+text_in texts role.Schedule = texts.schedule.items
+text_in texts role.Features = texts.features.items
+text_in texts role.Contacts = texts.contacts.items
+text_in texts role.Program = texts.program.items
+
+-- where the file of a fault is refused, by the names and the texts of an order's files; nothing where no file is
+abbrev pub IsPlaceShown : FilesFault → (Role → List ℕ) → (Role → List ℕ) → List ℕ → Type 0
+IsPlaceShown (files.Setup cause) names texts shown = Places (refused.Setup cause) (names role.Setup) (texts role.Setup) [] shown
+IsPlaceShown (files.Schedule cause) names texts shown =
+    Places (refused.Schedule cause) (names role.Schedule) (texts role.Schedule) [] shown
+IsPlaceShown (files.Features cause) names texts shown =
+    Places (refused.Features cause) (names role.Features) (texts role.Features) [] shown
+IsPlaceShown (files.Contacts cause) names texts shown =
+    Places (refused.Contacts cause) (names role.Contacts) (texts role.Contacts) [] shown
+IsPlaceShown (files.Program cause) names texts shown = Places (refused.Program cause) (names role.Program) (texts role.Program) [] shown
+IsPlaceShown (files.Unread unread) names texts shown = shown ≡ []
+IsPlaceShown files.Write names texts shown = shown ≡ []
+IsPlaceShown files.Memory names texts shown = shown ≡ []

@@ -1,7 +1,8 @@
 // What is shown for an order that was not carried out, and the exit status that goes with it.
 
-ghost use Rattle.std.specs.Prelude.{◌≡◌, string_bytes};
-ghost use Rattle.dme_orders.specs.Printed.{status_of, name_in, AreFilesShown, IsExportShown};
+ghost use Rattle.std.specs.Prelude.{◌≡◌, [], IfOk, string_bytes};
+ghost use Rattle.refusal_guide.specs.Places.{Places};
+ghost use Rattle.dme_orders.specs.Printed.{status_of, name_in, text_in, AreFilesShown, IsExportShown, IsPlaceShown};
 
 use crate::exporting::ExportFault;
 use crate::reading::{FilesFault, Role};
@@ -138,6 +139,15 @@ impl FileTexts {
     }
 }
 
+/// Where a text is refused and what is wrong there. Only want of memory is an `Err`.
+fn placed(alloc: Global, refused: Refused, name: &str, text: &[u8]) -> Result<Vec<u8>, AllocError>
+    ensures { IfOk result (λ shown. Places refused name.now text.now [] shown.items) }
+{
+    let mut out = Vec::new(alloc);
+    write_place(&mut out, refused, name, text)?;
+    Ok(out)
+}
+
 /// Where a file is refused and what is wrong there, as `write_place` shows it; nothing where no file is refused. Only want of memory is an
 /// `Err`.
 pub fn place_of(
@@ -145,57 +155,21 @@ pub fn place_of(
     fault: FilesFault,
     names: &FileNames,
     texts: &FileTexts,
-) -> Result<Vec<u8>, AllocError> {
-    let mut out = Vec::new(alloc);
-    match fault {
-        FilesFault::Setup(cause) => {
-            let refused = Refused::Setup(cause);
-            write_place(
-                &mut out,
-                refused,
-                names.setup.as_str(),
-                texts.setup.as_slice(),
-            )?
+) -> Result<Vec<u8>, AllocError>
+    ensures { IfOk result (λ shown. IsPlaceShown fault (name_in names.now) (text_in texts.now)
+        shown.items) }
+{
+    let (refused, name, text) = match fault {
+        FilesFault::Setup(cause) => (Refused::Setup(cause), &names.setup, &texts.setup),
+        FilesFault::Schedule(cause) => (Refused::Schedule(cause), &names.schedule, &texts.schedule),
+        FilesFault::Features(cause) => (Refused::Features(cause), &names.features, &texts.features),
+        FilesFault::Contacts(cause) => (Refused::Contacts(cause), &names.contacts, &texts.contacts),
+        FilesFault::Program(cause) => (Refused::Program(cause), &names.program, &texts.program),
+        FilesFault::Unread(_) | FilesFault::Write | FilesFault::Memory => {
+            return Ok(Vec::new(alloc));
         }
-        FilesFault::Schedule(cause) => {
-            let refused = Refused::Schedule(cause);
-            write_place(
-                &mut out,
-                refused,
-                names.schedule.as_str(),
-                texts.schedule.as_slice(),
-            )?
-        }
-        FilesFault::Features(cause) => {
-            let refused = Refused::Features(cause);
-            write_place(
-                &mut out,
-                refused,
-                names.features.as_str(),
-                texts.features.as_slice(),
-            )?
-        }
-        FilesFault::Contacts(cause) => {
-            let refused = Refused::Contacts(cause);
-            write_place(
-                &mut out,
-                refused,
-                names.contacts.as_str(),
-                texts.contacts.as_slice(),
-            )?
-        }
-        FilesFault::Program(cause) => {
-            let refused = Refused::Program(cause);
-            write_place(
-                &mut out,
-                refused,
-                names.program.as_str(),
-                texts.program.as_slice(),
-            )?
-        }
-        FilesFault::Unread(_) | FilesFault::Write | FilesFault::Memory => {}
-    }
-    Ok(out)
+    };
+    placed(alloc, refused, name.as_str(), text.as_slice())
 }
 
 /// What is shown for the fault of an order, with the names of its files.

@@ -64,9 +64,11 @@ impl View {
         ensures across { IsBetween self.now.across.low self.now.across.high place.x
             → result.across ≡ self.now.left
             + on_paper self.now.scale (unsigned_abs (place.x -ℤ self.now.across.low)) }
-        ensures down { IsBetween self.now.upright.low self.now.upright.high (upright_of self.now.side place)
+        ensures down { IsBetween self.now.upright.low self.now.upright.high
+            (upright_of self.now.side place)
             → result.down ≡ self.now.base
-            - on_paper self.now.scale (unsigned_abs (upright_of self.now.side place -ℤ self.now.upright.low)) }
+            - on_paper self.now.scale (unsigned_abs (upright_of self.now.side place
+            -ℤ self.now.upright.low)) }
         ensures in_view { IsInView result }
     {
         let right = self.scale.on_paper(self.across.above(place.x));
