@@ -10,7 +10,7 @@ use crate::progress::Progress;
 use crate::tracing::Traced;
 use byte_ports::{Reading, Writing};
 use dme_orders::{
-    FileNames, FileTexts, FilesFault, OrderFault, loop_over, setup_and_program, shown_files,
+    Ended, FileNames, FileTexts, FilesFault, OrderFault, loop_over, setup_and_program, shown_files,
 };
 use dmis_program::Program;
 use std::io::{self, ErrorKind};
@@ -47,7 +47,37 @@ fn own_connection<R: Net<Listener = TcpListener, Stream = TcpStream>>(
     Ok((near, far))
 }
 
-/// Both ends of a program over one connection, and their report on standard output.
+/// Both ends of a program over this connection, and their report on standard output.
+fn loop_ends<'a, R: Print + Eprint + Net<Listener = TcpListener, Stream = TcpStream> + AllocGlobal>(
+    rt: &'a R,
+    near: &'a TcpStream,
+    far: &'a TcpStream,
+    setup: Setup,
+    program: Program,
+    window: u8,
+    is_told: bool,
+    is_traced: bool,
+) -> Result<Ended, FilesFault>
+    requires { is_window window ≡ true }
+{
+    let mut watcher = Progress::new(rt, is_told, program.features().len());
+    let mut client_sink = Traced::new(rt, Writing::new(near), ">", is_traced);
+    let mut server_sink = Traced::new(rt, Writing::new(far), "<", is_traced);
+    loop_over(
+        rt.alloc(),
+        setup,
+        program,
+        window,
+        &mut Reading::new(near),
+        &mut client_sink,
+        &mut Reading::new(far),
+        &mut server_sink,
+        &mut watcher,
+        &mut Writing::new(io::writer(rt)),
+    )
+}
+
+/// Both ends of a program over a connection of this process to itself.
 fn loop_program<R: Print + Eprint + Net<Listener = TcpListener, Stream = TcpStream> + AllocGlobal>(
     rt: &R,
     setup: Setup,
@@ -62,20 +92,7 @@ fn loop_program<R: Print + Eprint + Net<Listener = TcpListener, Stream = TcpStre
         Ok(ends) => ends,
         Err(error) => return Err(no_connection(&error, is_told)),
     };
-    let mut watcher = Progress::new(rt, is_told, program.features().len());
-    let result = loop_over(
-        rt.alloc(),
-        setup,
-        program,
-        window,
-        &mut Reading::new(&near),
-        &mut Traced::new(rt, Writing::new(&near), ">", is_traced),
-        &mut Reading::new(&far),
-        &mut Traced::new(rt, Writing::new(&far), "<", is_traced),
-        &mut watcher,
-        &mut Writing::new(io::writer(rt)),
-    );
-    match result {
+    match loop_ends(rt, &near, &far, setup, program, window, is_told, is_traced) {
         Ok(ended) => ended.verdict(is_told),
         Err(fault) => Err(of_output(rt, fault)),
     }

@@ -40,30 +40,17 @@ impl<'a, R: Eprint> Sink for ErrorOutput<'a, R> {
     }
 }
 
-/// A sink of what a side writes on connection 1. Where that is asked for, each line is shown on standard error once the sink has taken all of
-/// it, behind the side's mark: `>` for the client, `<` for the server.
+/// The lines of a side on connection 1. Where that is asked for, each is shown on standard error once all of it is written, behind the side's
+/// mark: `>` for the client, `<` for the server.
 #[derive(Drop)]
-pub struct Traced<'a, R: Eprint, W: Sink> {
+struct Lines<'a, R: Eprint> {
     rt: &'a R,
-    sink: W,
     mark: &'static str,
     line: Vec<u8>,
     is_on: bool,
 }
 
-impl<'a, R: Eprint + AllocGlobal, W: Sink> Traced<'a, R, W> {
-    pub fn new(rt: &'a R, sink: W, mark: &'static str, is_on: bool) -> Self {
-        Traced {
-            rt,
-            sink,
-            mark,
-            line: Vec::new(rt.alloc()),
-            is_on,
-        }
-    }
-}
-
-impl<'a, R: Eprint, W: Sink> Traced<'a, R, W> {
+impl<'a, R: Eprint> Lines<'a, R> {
     /// The line that has come to its end is shown.
     fn show(&mut self) {
         let mark = self.mark;
@@ -72,7 +59,7 @@ impl<'a, R: Eprint, W: Sink> Traced<'a, R, W> {
         self.line.clear();
     }
 
-    /// A byte that was taken.
+    /// A byte that was written.
     fn keep(&mut self, byte: u8) -> Result<(), AllocError> {
         match byte {
             b'\n' => self.show(),
@@ -82,14 +69,39 @@ impl<'a, R: Eprint, W: Sink> Traced<'a, R, W> {
         Ok(())
     }
 
-    /// Bytes that were taken. Where memory is wanting for them, that stands in place of their line.
+    /// Bytes that were written. Where memory is wanting for them, that stands in place of their line, and no more is shown.
     fn keep_all(&mut self, bytes: &[u8]) {
+        if !self.is_on {
+            return;
+        }
         for byte in bytes {
             if self.keep(*byte).is_err() {
-                let _ = eprintln!(self.rt; "1 {} out of memory", self.mark);
+                let mark = self.mark;
+                let _ = eprintln!(self.rt; "1 {mark} out of memory");
                 self.is_on = false;
                 return;
             }
+        }
+    }
+}
+
+/// A sink of what a side writes on connection 1, which shows its lines where that is asked for.
+#[derive(Drop)]
+pub struct Traced<'a, R: Eprint, W: Sink> {
+    sink: W,
+    lines: Lines<'a, R>,
+}
+
+impl<'a, R: Eprint + AllocGlobal, W: Sink> Traced<'a, R, W> {
+    pub fn new(rt: &'a R, sink: W, mark: &'static str, is_on: bool) -> Self {
+        Traced {
+            sink,
+            lines: Lines {
+                rt,
+                mark,
+                line: Vec::new(rt.alloc()),
+                is_on,
+            },
         }
     }
 }
@@ -101,9 +113,7 @@ impl<'a, R: Eprint, W: Sink> Sink for Traced<'a, R, W> {
 
     fn push(&mut self, bytes: &[u8]) -> Result<usize, Failed> {
         let count = self.sink.push(bytes)?;
-        if self.is_on {
-            self.keep_all(&bytes[..count]);
-        }
+        self.lines.keep_all(&bytes[..count]);
         Ok(count)
     }
 }
