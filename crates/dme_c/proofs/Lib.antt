@@ -1,0 +1,3 @@
+-- What is proved of handles and calls.
+mod Calls
+mod Option

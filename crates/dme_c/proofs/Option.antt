@@ -1,0 +1,13 @@
+-- What is there.
+use Rattle.std.specs.Prelude.{◌≡◌, Option, None, Some, IsSome}
+use Rattle.std.proofs.Common.{refl}
+use Rattle.std.proofs.lemmas.Bool.{false≢true}
+
+pub there : {X : Type 0} → (o : Option X) → IsSome o → X
+there (Some x) _ = x
+there None p = absurd (false≢true p)
+
+pub there_is : {X : Type 0} → (o : Option X) → (p : IsSome o) → o ≡ Some (there o p)
+unfolding there
+there_is (Some x) p = refl
+there_is None p = absurd (false≢true p)

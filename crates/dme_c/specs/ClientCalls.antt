@@ -1,0 +1,48 @@
+-- What each call of a client does, in the words of the client's own contracts.
+use Rattle.std.specs.Prelude.{◌≡◌, ◌↔◌, ◌++◌, ℕ, min, take, drop, Bool, true, List, length, Result, OnOk, IfOk, IfErr, IsTrue, is_some}
+use Rattle.fixed_um.specs.Calls.{Leads}
+use Rattle.line_framing.specs.Next.{next_of}
+use Rattle.line_framing.specs.Framing.{IsLineDue}
+use Rattle.protocol_model.specs.Client.{due, may_abort, may_resume}
+use Rattle.protocol_model.specs.Lines.{Readers, AreReaders}
+use Rattle.protocol_model.specs.Ends.{ClientEnd, end_connected, end_sent, end_aborted, end_fed, end_read, end_resumed, end_taken}
+use Rattle.client_core.specs.Clients.{may_connect, may_read}
+use Rattle.client_core.specs.Refusals.{IsRefused, IsReadRefused, IsSendRefused}
+use Rattle.client_core.specs.declared.faults.ClientFault.{ClientFault}
+
+-- a call that leads from one client to another where it may, and else changes nothing
+abbrev pub DoesOrStays : (ClientEnd → Bool) → (ClientEnd → ClientEnd) → ClientEnd → ClientEnd → Result (Unit {0}) ClientFault → Type 0
+DoesOrStays may then old new answer =
+    Leads answer old new (then old) × OnOk answer (may old ≡ true) × IfErr answer (λ fault. IsRefused (may old) old fault)
+
+abbrev pub Connects : ℕ → ClientEnd → ClientEnd → Result (Unit {0}) ClientFault → Type 0
+Connects number = DoesOrStays (λ e. may_connect number e.client) (end_connected number)
+
+abbrev pub Feeds : List ℕ → ClientEnd → ClientEnd → Result (Unit {0}) ClientFault → Type 0
+Feeds piece = DoesOrStays (λ e. may_read e.client) (end_fed piece)
+
+abbrev pub Resumes : ClientEnd → ClientEnd → Result (Unit {0}) ClientFault → Type 0
+Resumes = DoesOrStays (λ e. may_resume e.client e.client.state) end_resumed
+
+-- a call that writes a line
+abbrev pub Writes : (ClientEnd → Bool) → (ClientEnd → ClientEnd) → ClientEnd → ClientEnd → Result (Unit {0}) ClientFault → Type 0
+Writes may then old new answer =
+    OnOk answer (new ≡ then old) × OnOk answer (may old ≡ true) × IfErr answer (λ fault. IsSendRefused (may old) old new (then old) fault)
+
+abbrev pub Sends : ClientEnd → ClientEnd → Result (Unit {0}) ClientFault → Type 0
+Sends = Writes (λ e. is_some (due e.client)) end_sent
+
+abbrev pub Aborts : ClientEnd → ClientEnd → Result (Unit {0}) ClientFault → Type 0
+Aborts = Writes (λ e. may_abort e.client.state) end_aborted
+
+-- a call that reads a line
+abbrev pub Reads : ClientEnd → ClientEnd → Result Bool ClientFault → Type 0
+Reads old new answer =
+    OnOk answer ((readers : Readers) → AreReaders readers → new ≡ end_read readers old)
+    × IfOk answer (λ read. IsTrue read ↔ IsLineDue (next_of old.input.rest))
+    × OnOk answer (may_read old.client ≡ true) × IfErr answer (λ fault. IsReadRefused old new fault)
+
+-- a front of what is to be sent went into the front of the room, as much as fits, and counts as sent
+abbrev pub Takes : List ℕ → List ℕ → ℕ → ClientEnd → ClientEnd → Type 0
+Takes room_old room_new count old new =
+    (count ≡ min (length old.out) (length room_old)) × (room_new ≡ take count old.out ++ drop count room_old) × (new ≡ end_taken count old)

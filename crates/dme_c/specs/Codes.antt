@@ -1,0 +1,39 @@
+-- The numbers that stand for answers, as the header has them.
+use Rattle.std.specs.Prelude.{ℕ, ◌==◌, if◌then◌else◌, Bool, true, false, Option, None, Some, Result, Ok, Err}
+use Rattle.protocol_model.specs.declared.states.Cause.TheVariants as cause
+use Rattle.protocol_model.specs.declared.states.State.{State}
+use Rattle.protocol_model.specs.declared.states.State.TheVariants as state
+use Rattle.client_core.specs.declared.faults.ClientFault.{ClientFault}
+use Rattle.client_core.specs.declared.faults.ClientFault.TheVariants as fault
+
+-- the fault of a client that a number stands for
+abbrev pub client_fault : ℕ → Option ClientFault
+client_fault n =
+    if n == 2 then Some fault.NotNow else if n == 3 then Some fault.Memory
+    else if n == 16 then Some (fault.Faulted cause.NotResponse) else if n == 17 then Some (fault.Faulted cause.LineTooLong)
+    else if n == 18 then Some (fault.Faulted cause.BadByte) else if n == 19 then Some (fault.Faulted cause.UnknownTag)
+    else if n == 20 then Some (fault.Faulted cause.OutOfOrder) else if n == 21 then Some (fault.Faulted cause.NoData)
+    else if n == 22 then Some (fault.Faulted cause.SecondData) else if n == 23 then Some (fault.Faulted cause.TagsSpent) else None
+
+-- where no call is done, the number is a fault's
+abbrev pub refused : {A : Type 0} → Option ClientFault → Option (Result A ClientFault)
+refused None = None
+refused (Some fault) = Some (Err fault)
+
+-- a call's answer: 0 where it is done
+abbrev pub call_answer : ℕ → Option (Result (Unit {0}) ClientFault)
+call_answer n = if n == 0 then Some (Ok tt) else refused (client_fault n)
+
+-- a reading call's answer: 0 where a line was read, 1 where none is there
+abbrev pub read_answer : ℕ → Option (Result Bool ClientFault)
+read_answer n = if n == 0 then Some (Ok true) else if n == 1 then Some (Ok false) else refused (client_fault n)
+
+-- the number of a state
+abbrev pub state_number : State → ℕ
+state_number state.Apart = 0
+state_number state.Running = 1
+state_number state.Failing = 2
+state_number state.Aborting = 3
+state_number state.Halted = 4
+state_number state.Done = 5
+state_number state.Faulted = 6

@@ -1,0 +1,6 @@
+-- What the contracts cite.
+pub mod Calls
+pub mod ClientCalls
+pub mod Codes
+pub mod Held
+pub mod ServerCalls

@@ -1,0 +1,16 @@
+//! The cores of a client and of a server, for callers in C: each function is declared in `include/dme.h`, with what its caller owes.
+//!
+//! - `client_handles`, `server_handles`: what a caller holds, and how a core is taken out and put back
+//! - `client_making`, `client_calls`, `server_calls`, `server_jobs`: the functions that are exported
+//! - `room`: what is copied out
+//! - `codes`: the numbers that stand for answers
+#![tactic(auto)]
+
+mod client_calls;
+mod client_handles;
+mod client_making;
+mod codes;
+mod room;
+mod server_calls;
+mod server_handles;
+mod server_jobs;

@@ -1,0 +1,246 @@
+// The calls of a server, for C.
+
+ghost use Rattle.std.specs.Prelude.{◌≡◌, ◌≢◌, ◌≤◌, unsigned_abs, None, Some, Ok, IsSome, IfSome, option_map};
+ghost use Rattle.fixed_um.specs.Limits.{wire_limit};
+ghost use Rattle.protocol_model.specs.Ends.{serving_left};
+ghost use Rattle.protocol_model.specs.declared.machine.Outcome.TheVariants as outcome;
+ghost use Rattle.server_core.specs.Serving.{new_serving, with_end};
+ghost use Rattle.tool_rack.specs.Setups.{setup_of};
+ghost use Rattle.dme_c.specs.Calls.{Called};
+ghost use Rattle.dme_c.specs.ServerCalls.{Accepts, Ends, Feeds, Reads, Takes, Turns, line_served, served, server_fault};
+
+use crate::room::copy_front;
+use crate::server_handles::ServerHandle;
+use fixed_um::{Point, Um};
+use line_framing::FramingFault;
+use server_core::{Outcome, Server, ServerFault};
+use std::alloc::Global;
+use tool_rack::{Setup, SetupFault};
+
+/// The number of a fault of a server.
+fn fault_number(fault: ServerFault) -> u32
+    ensures { server_fault result ≡ Some fault }
+{
+    match fault {
+        ServerFault::NotNow => 2,
+        ServerFault::Memory => 3,
+        ServerFault::Framing(FramingFault::LineTooLong) => 17,
+        ServerFault::Framing(FramingFault::BadByte) => 18,
+        ServerFault::NothingRuns => 24,
+        ServerFault::WrongOutcome => 25,
+        ServerFault::OutOfVolume => 26,
+    }
+}
+
+/// The number of a call's answer.
+fn call_number(answer: Result<(), ServerFault>) -> u32
+    ensures { served result ≡ Some answer }
+{
+    match answer {
+        Ok(()) => 0,
+        Err(fault) => fault_number(fault),
+    }
+}
+
+/// The number of a reading call's answer.
+fn read_number(answer: Result<bool, ServerFault>) -> u32
+    ensures { line_served result ≡ Some answer }
+{
+    match answer {
+        Ok(true) => 0,
+        Ok(false) => 1,
+        Err(fault) => fault_number(fault),
+    }
+}
+
+/// Makes a server of the text of a setup. Where it answers another number than 0, none is held.
+#[unsafe(no_mangle)]
+pub extern "C" fn dme_server_new(server: &mut ServerHandle, alloc: Global, setup: &[u8]) -> u32
+    requires { server.old.held ≡ None }
+    ensures made { result ≡ 0 → IsSome server.new.held }
+    ensures refused { result ≢ 0 → server.new.held ≡ None }
+    ensures setup { IfSome server.new.held (λ made. setup_of setup.now ≡ Ok made.setup) }
+    ensures fresh { IfSome server.new.held (λ made. made ≡ new_serving made.setup) }
+{
+    let setup = match Setup::read(alloc, setup) {
+        Ok(setup) => setup,
+        Err(SetupFault::Memory) => return 3,
+        Err(_) => return 4,
+    };
+    let Ok(core) = Server::new(alloc, setup) else {
+        return 3;
+    };
+    match Box::new(alloc, core) {
+        Ok(core) => server.put(core),
+        Err(_) => return 3,
+    }
+    0
+}
+
+/// Gives the server up, with all that it holds.
+#[unsafe(no_mangle)]
+pub extern "C" fn dme_server_free(server: &mut ServerHandle, alloc: Global)
+    requires { IsSome server.old.held }
+    ensures { server.new.held ≡ None }
+{
+    let _given_up = server.take(alloc);
+}
+
+/// Comes to the connection of this number.
+#[tactic(auto, using(crate::proofs::Calls::called))]
+#[unsafe(no_mangle)]
+pub extern "C" fn dme_server_accept(server: &mut ServerHandle, alloc: Global, number: u64) -> u32
+    requires { IsSome server.old.held }
+    ensures { Called server.old.held server.new.held (served result) (Accepts number) }
+{
+    let mut core = server.take(alloc);
+    let answer = core.accept(number);
+    server.put(core);
+    call_number(answer)
+}
+
+/// Takes bytes of the connection.
+#[tactic(auto, using(crate::proofs::Calls::called))]
+#[unsafe(no_mangle)]
+pub extern "C" fn dme_server_feed(server: &mut ServerHandle, alloc: Global, piece: &[u8]) -> u32
+    requires { IsSome server.old.held }
+    ensures { Called server.old.held server.new.held (served result) (Feeds piece.now) }
+{
+    let mut core = server.take(alloc);
+    let answer = core.feed(piece);
+    server.put(core);
+    call_number(answer)
+}
+
+/// Reads the first whole line, if one is there, and answers it.
+#[tactic(auto, using(crate::proofs::Calls::called))]
+#[unsafe(no_mangle)]
+pub extern "C" fn dme_server_read(server: &mut ServerHandle, alloc: Global) -> u32
+    requires { IsSome server.old.held }
+    ensures { Called server.old.held server.new.held (line_served result) Reads }
+{
+    let mut core = server.take(alloc);
+    let answer = core.read_one();
+    server.put(core);
+    read_number(answer)
+}
+
+/// Lets the first waiting command have its turn.
+#[tactic(auto, using(crate::proofs::Calls::called))]
+#[unsafe(no_mangle)]
+pub extern "C" fn dme_server_turn(server: &mut ServerHandle, alloc: Global) -> u32
+    requires { IsSome server.old.held }
+    ensures { Called server.old.held server.new.held (served result) Turns }
+{
+    let mut core = server.take(alloc);
+    let answer = core.turn();
+    server.put(core);
+    call_number(answer)
+}
+
+/// What runs, which is no touch, is done.
+#[tactic(auto, using(crate::proofs::Calls::called))]
+#[unsafe(no_mangle)]
+pub extern "C" fn dme_server_done(server: &mut ServerHandle, alloc: Global) -> u32
+    requires { IsSome server.old.held }
+    ensures { Called server.old.held server.new.held (served result) (Ends outcome.Done) }
+{
+    let mut core = server.take(alloc);
+    let answer = core.machine(Outcome::Done);
+    server.put(core);
+    call_number(answer)
+}
+
+/// The touch that runs met no surface.
+#[tactic(auto, using(crate::proofs::Calls::called))]
+#[unsafe(no_mangle)]
+pub extern "C" fn dme_server_missed(server: &mut ServerHandle, alloc: Global) -> u32
+    requires { IsSome server.old.held }
+    ensures { Called server.old.held server.new.held (served result) (Ends outcome.Missed) }
+{
+    let mut core = server.take(alloc);
+    let answer = core.machine(Outcome::Missed);
+    server.put(core);
+    call_number(answer)
+}
+
+/// The machine stopped.
+#[tactic(auto, using(crate::proofs::Calls::called))]
+#[unsafe(no_mangle)]
+pub extern "C" fn dme_server_stopped(server: &mut ServerHandle, alloc: Global) -> u32
+    requires { IsSome server.old.held }
+    ensures { Called server.old.held server.new.held (served result) (Ends outcome.Fault) }
+{
+    let mut core = server.take(alloc);
+    let answer = core.machine(Outcome::Fault);
+    server.put(core);
+    call_number(answer)
+}
+
+/// The place of these lengths. The caller owes that each is within the wire limit.
+fn place(x: i64, y: i64, z: i64) -> Point
+    requires x { unsigned_abs x ≤ wire_limit }
+    requires y { unsigned_abs y ≤ wire_limit }
+    requires z { unsigned_abs z ≤ wire_limit }
+    ensures x { result.x ≡ x }
+    ensures y { result.y ≡ y }
+    ensures z { result.z ≡ z }
+{
+    match (Um::new(x), Um::new(y), Um::new(z)) {
+        (Some(x), Some(y), Some(z)) => Point { x, y, z },
+        _ => unreachable!(),
+    }
+}
+
+/// The touch that runs met a surface here, in machine axes and whole micrometres.
+#[tactic(auto, using(crate::proofs::Calls::called))]
+#[unsafe(no_mangle)]
+pub extern "C" fn dme_server_touched(
+    server: &mut ServerHandle,
+    alloc: Global,
+    x: i64,
+    y: i64,
+    z: i64,
+) -> u32
+    requires held { IsSome server.old.held }
+    requires x { unsigned_abs x ≤ wire_limit }
+    requires y { unsigned_abs y ≤ wire_limit }
+    requires z { unsigned_abs z ≤ wire_limit }
+    ensures { Called server.old.held server.new.held (served result) (Ends (outcome.Touched (record { x = x; y = y; z = z }))) }
+{
+    let mut core = server.take(alloc);
+    let answer = core.machine(Outcome::Touched(place(x, y, z)));
+    server.put(core);
+    call_number(answer)
+}
+
+/// Copies a front of what is to be sent into the room, as much as fits, which then counts as sent. Answers how many bytes.
+#[tactic(auto, using(crate::proofs::Calls::called))]
+#[unsafe(no_mangle)]
+pub extern "C" fn dme_server_take(
+    server: &mut ServerHandle,
+    alloc: Global,
+    room: &mut [u8],
+) -> usize
+    requires { IsSome server.old.held }
+    ensures { Called server.old.held server.new.held (Some result)
+        (λ old new count. Takes room.old room.new count old new) }
+{
+    let mut core = server.take(alloc);
+    let count = copy_front(core.out(), room);
+    core.sent(count);
+    server.put(core);
+    count
+}
+
+/// Gives the connection up.
+#[unsafe(no_mangle)]
+pub extern "C" fn dme_server_leave(server: &mut ServerHandle, alloc: Global)
+    requires { IsSome server.old.held }
+    ensures { server.new.held
+        ≡ option_map (λ old. with_end old (serving_left old.end)) server.old.held }
+{
+    let mut core = server.take(alloc);
+    core.leave();
+    server.put(core);
+}

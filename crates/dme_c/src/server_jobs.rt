@@ -1,0 +1,137 @@
+// What a server asks of its machine, for C.
+
+ghost use Rattle.std.specs.Prelude.{◌≡◌, ◌<◌, ◌≤◌, None, IsSome, IfSome, length, take, drop};
+ghost use Rattle.protocol_model.specs.Server.{running_job};
+ghost use Rattle.dme_c.specs.ServerCalls.{job_number, job_place, job_normal, job_tool};
+
+use crate::room::copy_whole;
+use crate::server_handles::ServerHandle;
+use fixed_um::{Dir, Point};
+use server_core::{Job, Server};
+use std::alloc::Global;
+
+/// What runs on the machine, as a number, with its place in machine axes and whole micrometres and its normal in whole millionths; zeros
+/// where it has none.
+#[repr(C)]
+#[derive(Drop)]
+pub struct Running {
+    pub number: u32,
+    pub x: i64,
+    pub y: i64,
+    pub z: i64,
+    pub i: i64,
+    pub j: i64,
+    pub k: i64,
+}
+
+/// The number of what runs.
+fn number_of(server: &Server) -> u32
+    ensures { result ≡ job_number (running_job server.now.end.server) }
+{
+    match server.running() {
+        None => 0,
+        Some(Job::Home) => 1,
+        Some(Job::Move(_)) => 2,
+        Some(Job::Touch(_, _)) => 3,
+        Some(Job::Change(_)) => 4,
+    }
+}
+
+/// The place of what runs.
+fn place_of(server: &Server) -> Option<Point>
+    ensures { result ≡ job_place (running_job server.now.end.server) }
+{
+    match server.running() {
+        Some(Job::Move(place)) => Some(*place),
+        Some(Job::Touch(place, _)) => Some(*place),
+        _ => None,
+    }
+}
+
+/// The normal of what runs.
+fn normal_of(server: &Server) -> Option<Dir>
+    ensures { result ≡ job_normal (running_job server.now.end.server) }
+{
+    match server.running() {
+        Some(Job::Touch(_, normal)) => *normal,
+        _ => None,
+    }
+}
+
+/// What runs on the machine of this server.
+fn shown(server: &Server) -> Running
+    ensures number { result.number ≡ job_number (running_job server.now.end.server) }
+    ensures place { IfSome (job_place (running_job server.now.end.server)) (λ at.
+        (result.x ≡ at.x) × (result.y ≡ at.y) × (result.z ≡ at.z)) }
+    ensures normal { IfSome (job_normal (running_job server.now.end.server)) (λ at.
+        (result.i ≡ at.i) × (result.j ≡ at.j) × (result.k ≡ at.k)) }
+{
+    let number = number_of(server);
+    let (x, y, z) = match place_of(server) {
+        Some(at) => (at.x.get(), at.y.get(), at.z.get()),
+        None => (0, 0, 0),
+    };
+    let (i, j, k) = match normal_of(server) {
+        Some(at) => (at.i, at.j, at.k),
+        None => (0, 0, 0),
+    };
+    Running {
+        number,
+        x,
+        y,
+        z,
+        i,
+        j,
+        k,
+    }
+}
+
+/// What runs on the machine.
+#[unsafe(no_mangle)]
+pub extern "C" fn dme_server_job(server: &mut ServerHandle, alloc: Global) -> Running
+    requires { IsSome server.old.held }
+    ensures same { server.new.held ≡ server.old.held }
+    ensures number { IfSome server.old.held (λ s.
+        result.number ≡ job_number (running_job s.end.server)) }
+    ensures place { IfSome server.old.held (λ s. IfSome (job_place (running_job s.end.server))
+        (λ at. (result.x ≡ at.x) × (result.y ≡ at.y) × (result.z ≡ at.z))) }
+    ensures normal { IfSome server.old.held (λ s. IfSome (job_normal (running_job s.end.server))
+        (λ at. (result.i ≡ at.i) × (result.j ≡ at.j) × (result.k ≡ at.k))) }
+{
+    let core = server.take(alloc);
+    let running = shown(&core);
+    server.put(core);
+    running
+}
+
+/// The name of the tool that is changed to; no bytes where none is.
+fn tool_of(server: &Server) -> &[u8]
+    ensures { result.now ≡ job_tool (running_job server.now.end.server) }
+{
+    match server.running() {
+        Some(Job::Change(name)) => name.as_bytes(),
+        _ => &[],
+    }
+}
+
+/// Copies the name of the tool that is changed to into the room where it fits, and answers its length.
+#[unsafe(no_mangle)]
+pub extern "C" fn dme_server_tool(
+    server: &mut ServerHandle,
+    alloc: Global,
+    room: &mut [u8],
+) -> usize
+    requires { IsSome server.old.held }
+    ensures same { server.new.held ≡ server.old.held }
+    ensures count { IfSome server.old.held (λ s.
+        result ≡ length (job_tool (running_job s.end.server))) }
+    ensures tool { result ≤ length room.old → IfSome server.old.held (λ s.
+        take result room.new ≡ job_tool (running_job s.end.server)) }
+    ensures beside { result ≤ length room.old → drop result room.new ≡ drop result room.old }
+    ensures long { length room.old < result → room.new ≡ room.old }
+{
+    let core = server.take(alloc);
+    let count = copy_whole(tool_of(&core), room);
+    server.put(core);
+    count
+}
