@@ -124,6 +124,8 @@ pub struct FileTexts {
     pub features: Vec<u8>,
     pub contacts: Vec<u8>,
     pub program: Vec<u8>,
+    /// Whether memory was wanting for one of them.
+    pub is_short: bool,
 }
 
 impl FileTexts {
@@ -135,6 +137,7 @@ impl FileTexts {
             features: Vec::new(alloc),
             contacts: Vec::new(alloc),
             program: Vec::new(alloc),
+            is_short: false,
         }
     }
 }

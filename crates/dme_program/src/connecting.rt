@@ -122,8 +122,8 @@ fn loop_files<'a, R: Files + Input + AllocGlobal>(
     let mut setup_source = NamedSource::new(rt, setup, false).keeping(is_explained);
     let mut source = NamedSource::new(rt, program, setup == "-").keeping(is_explained);
     let result = setup_and_program(rt.alloc(), &mut setup_source, &mut source);
-    texts.setup = setup_source.into_text();
-    texts.program = source.into_text();
+    texts.setup = setup_source.into_text(&mut texts.is_short);
+    texts.program = source.into_text(&mut texts.is_short);
     result
 }
 

@@ -38,9 +38,9 @@ fn run_files<'a, R: Files + Input + AllocGlobal>(
         &mut features_source,
         &mut source,
     );
-    texts.setup = setup_source.into_text();
-    texts.features = features_source.into_text();
-    texts.program = source.into_text();
+    texts.setup = setup_source.into_text(&mut texts.is_short);
+    texts.features = features_source.into_text(&mut texts.is_short);
+    texts.program = source.into_text(&mut texts.is_short);
     result
 }
 

@@ -6,8 +6,11 @@ use dme_orders::{
 };
 use std::alloc::Global;
 
-/// Where a file is refused and what is wrong there, as text; nothing where memory is wanting for it.
+/// Where a file is refused and what is wrong there, as text; nothing where memory is wanting for it, or was for the text of a file.
 fn place(alloc: Global, fault: FilesFault, names: &FileNames, texts: &FileTexts) -> String {
+    if texts.is_short {
+        return String::new(alloc);
+    }
     let Ok(bytes) = place_of(alloc, fault, names, texts) else {
         return String::new(alloc);
     };

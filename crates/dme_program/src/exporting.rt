@@ -52,10 +52,10 @@ fn export_named_files<'a, R: Files + Input + Print + AllocGlobal>(
         &mut sink,
     );
     if let Some(source) = setup_source {
-        texts.setup = source.into_text();
+        texts.setup = source.into_text(&mut texts.is_short);
     }
-    texts.features = features_source.into_text();
-    texts.program = source.into_text();
+    texts.features = features_source.into_text(&mut texts.is_short);
+    texts.program = source.into_text(&mut texts.is_short);
     result
 }
 

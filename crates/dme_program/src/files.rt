@@ -32,6 +32,7 @@ pub struct NamedSource<'a, R: Files + Input> {
     has_failed: bool,
     text: Vec<u8>,
     is_kept: bool,
+    is_short: bool,
 }
 
 impl<'a, R: Files + Input + AllocGlobal> NamedSource<'a, R> {
@@ -49,6 +50,7 @@ impl<'a, R: Files + Input + AllocGlobal> NamedSource<'a, R> {
             has_failed: false,
             text: Vec::new(rt.alloc()),
             is_kept: false,
+            is_short: false,
         }
     }
 
@@ -65,6 +67,7 @@ impl<'a, R: Files + Input + AllocGlobal> NamedSource<'a, R> {
             has_failed: false,
             text: Vec::new(rt.alloc()),
             is_kept: false,
+            is_short: false,
         }
     }
 
@@ -74,19 +77,20 @@ impl<'a, R: Files + Input + AllocGlobal> NamedSource<'a, R> {
         self
     }
 
-    /// The text that was read, as far as it was kept.
-    pub fn into_text(self) -> Vec<u8> {
+    /// The text that was read, as far as it was kept; that it is short is told where memory was wanting for it.
+    pub fn into_text(self, is_short: &mut bool) -> Vec<u8> {
+        *is_short = *is_short || self.is_short;
         self.text
     }
 }
 
 impl<'a, R: Files + Input> NamedSource<'a, R> {
-    /// Keeps what was read. Where memory is wanting for it, none of the text is kept: it is shown, and not understood.
+    /// Keeps what was read. Where memory is wanting for it, no more of the text is kept: it is shown, and not understood.
     fn keep(&mut self, bytes: &[u8])
         ensures { self.new.has_failed ≡ self.old.has_failed }
     {
         if self.is_kept && self.text.extend_from_slice(bytes).is_err() {
-            self.text.clear();
+            self.is_short = true;
             self.is_kept = false;
         }
     }

@@ -71,9 +71,9 @@ fn check_files<'a, R: Files + Input + Print + AllocGlobal>(
     let mut sink = Writing::new(io::writer(rt));
     let result = check_under_setup(rt.alloc(), &mut setup_source, &mut source, &mut sink);
     if let Some(source) = setup_source {
-        texts.setup = source.into_text();
+        texts.setup = source.into_text(&mut texts.is_short);
     }
-    texts.program = source.into_text();
+    texts.program = source.into_text(&mut texts.is_short);
     result
 }
 
@@ -138,9 +138,9 @@ fn simulate_files<'a, R: Files + Input + Print + Eprint + AllocGlobal>(
         &mut lines,
         &mut Writing::new(io::writer(rt)),
     );
-    texts.setup = setup_source.into_text();
-    texts.schedule = schedule_source.into_text();
-    texts.program = source.into_text();
+    texts.setup = setup_source.into_text(&mut texts.is_short);
+    texts.schedule = schedule_source.into_text(&mut texts.is_short);
+    texts.program = source.into_text(&mut texts.is_short);
     result
 }
 
@@ -207,10 +207,10 @@ fn audit_named_files<'a, R: Files + Input + Print + AllocGlobal>(
         &mut source,
         &mut sink,
     );
-    texts.setup = setup_source.into_text();
-    texts.features = features_source.into_text();
-    texts.contacts = contacts_source.into_text();
-    texts.program = source.into_text();
+    texts.setup = setup_source.into_text(&mut texts.is_short);
+    texts.features = features_source.into_text(&mut texts.is_short);
+    texts.contacts = contacts_source.into_text(&mut texts.is_short);
+    texts.program = source.into_text(&mut texts.is_short);
     result
 }
 

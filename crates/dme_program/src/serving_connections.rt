@@ -120,7 +120,7 @@ fn serve_file<'a, R: Files + Input + AllocGlobal>(
 ) -> Result<Setup, FilesFault> {
     let mut source = NamedSource::new(rt, setup, false).keeping(is_explained);
     let result = read_setup(rt.alloc(), &mut source);
-    texts.setup = source.into_text();
+    texts.setup = source.into_text(&mut texts.is_short);
     result
 }
 
