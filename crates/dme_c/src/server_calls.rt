@@ -206,7 +206,8 @@ pub extern "C" fn dme_server_touched(
     requires x { unsigned_abs x ≤ wire_limit }
     requires y { unsigned_abs y ≤ wire_limit }
     requires z { unsigned_abs z ≤ wire_limit }
-    ensures { Called server.old.held server.new.held (served result) (Ends (outcome.Touched (record { x = x; y = y; z = z }))) }
+    ensures { Called server.old.held server.new.held (served result)
+        (Ends (outcome.Touched (record { x = x; y = y; z = z }))) }
 {
     let mut core = server.take(alloc);
     let answer = core.machine(Outcome::Touched(place(x, y, z)));
