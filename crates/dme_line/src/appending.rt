@@ -1,6 +1,6 @@
-// Appending a text where there is room for it.
+// Appending a text where there is room for it, and putting one in front of another.
 
-ghost use Rattle.std.specs.Prelude.{◌≡◌, ◌+◌, ◌++◌, length};
+ghost use Rattle.std.specs.Prelude.{◌≡◌, ◌+◌, ◌++◌, ◌≤◌, drop, length};
 ghost use Rattle.fixed_um.specs.Calls.{Grows, HasRoom};
 ghost use Rattle.dme_line.specs.Words.{quoted};
 
@@ -22,4 +22,16 @@ pub(crate) fn append_quoted_reserved(out: &mut Vec<u8>, text: &[u8])
     out.push_reserved(b'"');
     append_reserved(out, text);
     out.push_reserved(b'"');
+}
+
+/// Puts a text in front of a place in another. Answers where it begins.
+#[inline(always)]
+pub(crate) fn put_before(text: &mut [u8], end: usize, part: &[u8]) -> usize
+    requires { (length part.now ≤ end) × (end ≤ length text.old) }
+    ensures written { drop result text.new ≡ part.now ++ drop end text.old }
+    ensures place { result + length part.now ≡ end }
+{
+    let start = end - part.len();
+    text[start..end].copy_from_slice(part);
+    start
 }

@@ -1,13 +1,13 @@
 // Lengths within the limits of this profile, and directions.
 
-ghost use Rattle.std.specs.Prelude.{◌≡◌, ◌≤◌, ◌+◌, ◌++◌, ◌≤ℤ◌, ℤ, pos, unsigned_abs, codes, Ok};
+ghost use Rattle.std.specs.Prelude.{◌≡◌, ◌<◌, ◌≤◌, ◌+◌, ◌++◌, ◌≤ℤ◌, ℤ, pos, unsigned_abs, codes, drop, length, Ok};
 ghost use Rattle.fixed_um.specs.Calls.{Finds, Grows, HasRoom};
 ghost use Rattle.fixed_um.specs.Limits.{wire_limit, volume_limit};
 ghost use Rattle.fixed_um.specs.Numerals.{Reads};
 ghost use Rattle.fixed_um.specs.Shapes.{IsDirection};
 ghost use Rattle.fixed_um.specs.Written.{written, written_direction};
 
-use fixed_um::{Dir, Um, read_um, write_dir_reserved, write_um_reserved};
+use fixed_um::{Dir, Um, read_um, write_dir_reserved, write_um_before, write_um_reserved};
 
 /// Appends a length, where the caller has made room for it. As every length it is within the wire limit.
 pub(crate) fn write_length_reserved(out: &mut Vec<u8>, length: Um)
@@ -18,6 +18,19 @@ pub(crate) fn write_length_reserved(out: &mut Vec<u8>, length: Um)
 {
     prove!(length.get().unsigned_abs() <= 4_000_000_000);
     write_um_reserved(out, length);
+}
+
+/// Puts a length in front of a place in a text with 12 bytes in front of it, and answers where it begins. As every length it is within
+/// the wire limit.
+#[inline(always)]
+pub(crate) fn put_length_before(text: &mut [u8], end: usize, value: Um) -> usize
+    requires { (12 ≤ end) × (end ≤ length text.old) }
+    ensures written { drop result text.new ≡ written value ++ drop end text.old }
+    ensures place { (end ≤ result + 12) × (result < end) }
+    ensures on_wire { unsigned_abs value ≤ wire_limit }
+{
+    prove!(value.get().unsigned_abs() <= 4_000_000_000);
+    write_um_before(text, end, value)
 }
 
 /// Appends the components of a direction with a comma and a space between each two, where the caller has made room for them.

@@ -7,9 +7,9 @@ ghost use Rattle.dme_line.specs.Tokens.{Token, Comma, tokens, is_word_byte};
 ghost use Rattle.dme_line.specs.Arguments.{Single, argument_tokens};
 ghost use Rattle.dme_line.specs.Points.{written_point, IsOnWire, HasCoordinates, IsPointText, ReadsPoint, BeginsWithAxis, BeginsWithPoint, point_tokens};
 
-use crate::appending::append_reserved;
+use crate::appending::{append_reserved, put_before};
 use crate::arguments::{Argument, take_argument};
-use crate::lengths::{wire_length, write_length_reserved};
+use crate::lengths::{put_length_before, wire_length};
 use crate::tokens::{is_end, take_mark, take_word};
 use fixed_um::{Point, Um, cut_um};
 use std::alloc::AllocError;
@@ -29,13 +29,15 @@ pub fn write_point_reserved(out: &mut Vec<u8>, point: Point)
     ensures grows { Grows out.old out.new point_most }
     ensures on_wire { IsOnWire point }
 {
-    append_reserved(out, b"X(");
-    write_length_reserved(out, point.x);
-    append_reserved(out, b"), Y(");
-    write_length_reserved(out, point.y);
-    append_reserved(out, b"), Z(");
-    write_length_reserved(out, point.z);
-    out.push_reserved(b')');
+    let mut text = [0; POINT_MAX];
+    let end = put_before(&mut text, POINT_MAX, b")");
+    let z = put_length_before(&mut text, end, point.z);
+    let end = put_before(&mut text, z, b"), Z(");
+    let y = put_length_before(&mut text, end, point.y);
+    let end = put_before(&mut text, y, b"), Y(");
+    let x = put_length_before(&mut text, end, point.x);
+    let start = put_before(&mut text, x, b"X(");
+    append_reserved(out, &text[start..]);
 }
 
 /// Appends the text of a point in millimetres, as `X(10.000), Y(20.000), Z(-0.001)`.

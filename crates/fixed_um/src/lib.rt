@@ -34,4 +34,4 @@ pub use front::cut_um;
 pub use lengths::{Point, Um};
 pub use naming::Name;
 pub use numerals::{NumeralFault, computed_reading, is_zero, one_reading, read_dir, read_um};
-pub use writing::{write_dir, write_dir_reserved, write_um, write_um_reserved};
+pub use writing::{write_dir, write_dir_reserved, write_um, write_um_before, write_um_reserved};

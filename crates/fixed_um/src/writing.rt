@@ -3,27 +3,17 @@
 // A writer whose name ends in `_reserved` needs room that its caller has made, and cannot fail. The others make the room first,
 // so that want of memory changes nothing.
 
-ghost use Rattle.std.specs.Prelude.{◌≡◌, ◌≤◌, ◌+◌, ◌*◌, ◌%◌, ◌^◌, ◌++◌, ◌∷◌, [], ℕ, length, vec_len, vec_capacity, IfSome, IfNone, OnOk, OnErr, Ok, Some, unsigned_abs, decimal, ◌<◌, drop};
+ghost use Rattle.std.specs.Prelude.{◌≡◌, ◌≤◌, ◌+◌, ◌*◌, ◌%◌, ◌^◌, ◌++◌, ◌∷◌, [], ℕ, length, vec_len, vec_capacity, IfSome, IfNone, OnOk, OnErr, Ok, Some, unsigned_abs, decimal, codes, ◌<◌, drop};
 ghost use Rattle.fixed_um.specs.Calls.{Grows, HasRoom, Writes};
 ghost use Rattle.fixed_um.specs.Limits.{wire_limit, component_limit};
 ghost use Rattle.fixed_um.specs.Numerals.{Reads, ReadsDirection};
 ghost use Rattle.fixed_um.specs.Shapes.{IsDirection};
-ghost use Rattle.fixed_um.specs.Written.{minus_sign, three_digits, six_digits, written, written_component, written_direction};
+ghost use Rattle.fixed_um.specs.Written.{minus_sign, three_digits, written, written_component, written_direction};
 
 use crate::directions::Dir;
 use crate::lengths::Um;
 use itoa::write_digits;
 use std::alloc::AllocError;
-
-fn write_minus(out: &mut Vec<u8>, value: i64)
-    requires { HasRoom out.old 1 }
-    ensures text { out.new.items ≡ out.old.items ++ minus_sign value }
-    ensures grows { Grows out.old out.new 1 }
-{
-    if value < 0 {
-        out.push_reserved(b'-');
-    }
-}
 
 /// The last three digits of a number, as they are written.
 #[tactic(auto, using(crate::proofs::WrittenLemmas::last_three))]
@@ -39,56 +29,89 @@ fn three_digits(value: u64) -> [u8; 3]
     ]
 }
 
-/// The last six digits of a number, as they are written.
-fn six_digits(value: u64) -> [u8; 6]
-    ensures { result ≡ six_digits value }
+/// Puts the last three digits of a number in front of a place in a text. Answers where they begin.
+#[inline(always)]
+fn put_three_before(text: &mut [u8], end: usize, value: u64) -> usize
+    requires { (3 ≤ end) × (end ≤ length text.old) }
+    ensures written { drop result text.new ≡ three_digits value ++ drop end text.old }
+    ensures place { result + 3 ≡ end }
 {
-    let [a, b, c] = three_digits(value / 1000);
-    let [d, e, f] = three_digits(value);
-    [a, b, c, d, e, f]
+    let [a, b, c] = three_digits(value);
+    text[end - 1] = c;
+    text[end - 2] = b;
+    text[end - 3] = a;
+    end - 3
 }
 
-/// Appends a whole part and, in one call with it, what stands behind the seventh byte of a text: the whole part is written before that.
+/// Puts the sign of a value, a whole part and a point in front of a place in a text, at most nine bytes. Answers where they begin.
 #[tactic(auto, using(crate::proofs::WrittenLemmas::short))]
 #[inline(always)]
-fn write_before(out: &mut Vec<u8>, whole: u64, text: &mut [u8])
+fn put_whole_before(text: &mut [u8], end: usize, value: i64, whole: u64) -> usize
     requires whole { whole < 10 ^ 7 }
-    requires seven { 7 ≤ length text.old }
-    requires room { HasRoom out.old (length text.old) }
-    ensures text { out.new.items ≡ out.old.items ++ (decimal whole ++ drop 7 text.old) }
-    ensures grows { Grows out.old out.new (length text.old) }
+    requires place { (9 ≤ end) × (end ≤ length text.old) }
+    ensures written { drop result text.new ≡ minus_sign value
+        ++ (decimal whole ++ (codes "." ++ drop end text.old)) }
+    ensures place { (end ≤ result + 9) × (result < end) }
 {
-    let start = write_digits(whole, text, 7);
-    out.extend_from_slice(&text[start..]).unwrap();
+    text[end - 1] = b'.';
+    let start = write_digits(whole, text, end - 1);
+    if value >= 0 {
+        return start;
+    }
+    text[start - 1] = b'-';
+    start - 1
+}
+
+/// Puts a length in millimetres with three decimals, as `-0.001`, at most 12 bytes, in front of a place in a text: what stands behind
+/// that place stays. Answers where the length begins.
+///
+/// The caller owes a place with 12 bytes in front of it.
+#[tactic(auto, unfolding(crate::specs::Written::written))]
+pub fn write_um_before(text: &mut [u8], end: usize, value: Um) -> usize
+    requires { (12 ≤ end) × (end ≤ length text.old) }
+    ensures written { drop result text.new ≡ written value ++ drop end text.old }
+    ensures place { (end ≤ result + 12) × (result < end) }
+{
+    let micrometres = value.get();
+    let magnitude = micrometres.unsigned_abs();
+    let point = put_three_before(text, end, magnitude);
+    put_whole_before(text, point, micrometres, magnitude / 1000)
 }
 
 /// Appends a length in millimetres with three decimals, as `-0.001`, at most 12 bytes, where the caller has made room for them.
-#[tactic(auto, unfolding(crate::specs::Written::written), using(crate::proofs::WrittenLemmas::short))]
 pub fn write_um_reserved(out: &mut Vec<u8>, value: Um)
     requires { HasRoom out.old 12 }
     ensures text { out.new.items ≡ out.old.items ++ written value }
     ensures grows { Grows out.old out.new 12 }
 {
-    let micrometres = value.get();
-    let magnitude = micrometres.unsigned_abs();
-    write_minus(out, micrometres);
-    let [a, b, c] = three_digits(magnitude);
-    let mut text = [0, 0, 0, 0, 0, 0, 0, b'.', a, b, c];
-    write_before(out, magnitude / 1000, &mut text);
+    let mut text = [0; 12];
+    let start = write_um_before(&mut text, 12, value);
+    out.extend_from_slice(&text[start..]).unwrap();
 }
 
-#[tactic(auto, unfolding(crate::specs::Written::written_component), using(crate::proofs::WrittenLemmas::short))]
+/// Puts a component of a direction with six decimals in front of a place in a text. Answers where it begins.
+#[tactic(auto, unfolding(crate::specs::Written::written_component))]
+fn write_component_before(text: &mut [u8], end: usize, value: i64) -> usize
+    requires value { unsigned_abs value ≤ component_limit }
+    requires place { (15 ≤ end) × (end ≤ length text.old) }
+    ensures written { drop result text.new ≡ written_component value ++ drop end text.old }
+    ensures place { (end ≤ result + 15) × (result < end) }
+{
+    let magnitude = value.unsigned_abs();
+    let middle = put_three_before(text, end, magnitude);
+    let point = put_three_before(text, middle, magnitude / 1000);
+    put_whole_before(text, point, value, magnitude / 1_000_000)
+}
+
 fn write_component_reserved(out: &mut Vec<u8>, value: i64)
     requires value { unsigned_abs value ≤ component_limit }
     requires room { HasRoom out.old 15 }
     ensures text { out.new.items ≡ out.old.items ++ written_component value }
     ensures grows { Grows out.old out.new 15 }
 {
-    let magnitude = value.unsigned_abs();
-    write_minus(out, value);
-    let [a, b, c, d, e, f] = six_digits(magnitude);
-    let mut text = [0, 0, 0, 0, 0, 0, 0, b'.', a, b, c, d, e, f];
-    write_before(out, magnitude / 1_000_000, &mut text);
+    let mut text = [0; 15];
+    let start = write_component_before(&mut text, 15, value);
+    out.extend_from_slice(&text[start..]).unwrap();
 }
 
 /// Appends the three components of a direction with six decimals each, as `0.577350`, with a text between each two,
