@@ -5,7 +5,7 @@ use Rattle.std.proofs.Common.{Ok, Some}
 use Rattle.std.specs.Prelude.{unsigned_abs, decimal}
 use Rattle.std.specs.Char.{digit_value}
 use Rattle.std.specs.Str.Parse.{AllDigits, digits_value, digits_value_after}
-use Rattle.std.proofs.lemmas.Fmt.{length-decimal-le, decimal_is_IsNumeral}
+use Rattle.std.proofs.lemmas.Fmt.{length-decimal-le, decimal_is_IsNumeral, decimal_digit, decimal_step}
 use Rattle.std.proofs.lemmas.Bool.Decides.{nat_tests}
 use Rattle.fixed_um.specs.Limits.{wire_limit, component_limit}
 use Rattle.fixed_um.specs.Written.{minus_sign, last_digit, three_digits, six_digits, written, written_component}
@@ -21,21 +21,35 @@ use Rattle.std.proofs.Math.Nat.{one-le-pow}
 pub whole-short : (n : ℕ) → n < 10 ^ 7 → length (decimal n) ≤ 7
 whole-short n small = length-decimal-le 7 n (omega arith) small (omega arith)
 
--- six digits are three and three
-pub six_parts : (n : ℕ) → six_digits n ≡ three_digits (n / 1000) ++ three_digits n
-six_parts n = refl
+-- three digits behind a 1
+step : (n : ℕ) → 10 ≤ n → n < 2000 → decimal n ≡ decimal (n / 10) ++ ((48 + n % 10) ∷ [])
+step n low high = decimal_step n low (omega arith)
 
--- the last three digits of a number are those of what three digits can tell
-pub last_three-is : (n : ℕ) → three_digits n ≡ (48 + n % 1000 / 100) ∷ (48 + n % 1000 % 100 / 10) ∷ (48 + n % 1000 % 100 % 10) ∷ []
-last_three-is n =
-    let a : n / 100 % 10 ≡ n % 1000 / 100 = omega arith in
-    let b : n / 10 % 10 ≡ n % 1000 % 100 / 10 = omega arith in
-    let c : n % 10 ≡ n % 1000 % 100 % 10 = omega arith in
-    rw (a, b, c) refl
+four : (m n : ℕ) → m ≡ 1000 + n % 1000 → decimal m ≡ 49 ∷ three_digits n
+four m n e =
+    let one : m / 10 / 10 / 10 ≡ 1 = omega (arith, e) in
+    let a : m / 10 / 10 % 10 ≡ n / 100 % 10 = omega (arith, e) in
+    let b : m / 10 % 10 ≡ n / 10 % 10 = omega (arith, e) in
+    let c : m % 10 ≡ n % 10 = omega (arith, e) in
+    rw (
+      step m (omega (arith, e)) (omega (arith, e)),
+      step (m / 10) (omega (arith, e)) (omega (arith, e)),
+      step (m / 10 / 10) (omega (arith, e)) (omega (arith, e)),
+      one,
+      decimal_digit 1 (omega arith),
+      a,
+      b,
+      c,
+    )
+    refl
 
-pub ruleset last_three = (last_three-is)
+pub three_behind_one : (n : ℕ) → decimal (1000 + n % 1000) ≡ 49 ∷ three_digits n
+three_behind_one n = four (1000 + n % 1000) n refl
 
-pub ruleset short = (whole-short, six_parts)
+pub three_behind_one-length : (n : ℕ) → length (decimal (1000 + n % 1000)) ≡ 4
+three_behind_one-length n = ap length (three_behind_one n)
+
+pub ruleset short = (whole-short)
 
 -- ---- what is written reads back
 

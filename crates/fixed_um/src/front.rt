@@ -36,31 +36,19 @@ fn cut_whole(text: &[u8]) -> (u64, &[u8])
     (value, &text[most..])
 }
 
-#[inline(always)]
-fn digit(byte: u8) -> Option<u64>
-    ensures value { IfSome result (λ n. n ≡ digit_value byte) }
-    ensures small { IfSome result (λ n. n < 10) }
-{
-    if !byte.is_ascii_digit() {
-        return None;
-    }
-    Some(u64::from(byte - b'0'))
-}
-
 /// The number of the three digits behind a point in front, and what stands behind them.
 #[inline(always)]
 fn cut_decimals(text: &[u8]) -> Option<(u64, &[u8])>
     ensures { IfSome result (λ p. BeginsWithDecimals text.now p.1.now p.0) }
 {
-    match text {
-        [b'.', a, b, c, rest @ ..] => {
-            let a = digit(*a)?;
-            let b = digit(*b)?;
-            let c = digit(*c)?;
-            Some((a * 100 + b * 10 + c, rest))
-        }
-        _ => None,
+    let [b'.', a, b, c, rest @ ..] = text else {
+        return None;
+    };
+    if !a.is_ascii_digit() || !b.is_ascii_digit() || !c.is_ascii_digit() {
+        return None;
     }
+    let value = u64::from(*a - b'0') * 100 + u64::from(*b - b'0') * 10 + u64::from(*c - b'0');
+    Some((value, rest))
 }
 
 /// The micrometres of the length in millimetres that stands at the front of a text with exactly three decimals, as `-0.001`, and what

@@ -15,32 +15,15 @@ use crate::lengths::Um;
 use itoa::write_digits;
 use std::alloc::AllocError;
 
-/// The last three digits of a number, as they are written.
-#[tactic(auto, using(crate::proofs::WrittenLemmas::last_three))]
-fn three_digits(value: u64) -> [u8; 3]
-    ensures { result ≡ three_digits value }
-{
-    let last = (value % 1000) as u32;
-    let tens = last % 100;
-    [
-        b'0' + (last / 100) as u8,
-        b'0' + (tens / 10) as u8,
-        b'0' + (tens % 10) as u8,
-    ]
-}
-
 /// Puts the last three digits of a number in front of a place in a text. Answers where they begin.
 #[inline(always)]
 fn put_three_before(text: &mut [u8], end: usize, value: u64) -> usize
-    requires { (3 ≤ end) × (end ≤ length text.old) }
+    requires { (4 ≤ end) × (end ≤ length text.old) }
     ensures written { drop result text.new ≡ three_digits value ++ drop end text.old }
     ensures place { result + 3 ≡ end }
 {
-    let [a, b, c] = three_digits(value);
-    text[end - 1] = c;
-    text[end - 2] = b;
-    text[end - 3] = a;
-    end - 3
+    // The 1 in front keeps the zeros behind it; what comes in front is written over it.
+    write_digits(1000 + value % 1000, text, end) + 1
 }
 
 /// Puts the sign of a value, a whole part and a point in front of a place in a text, at most nine bytes. Answers where they begin.
@@ -67,6 +50,7 @@ fn put_whole_before(text: &mut [u8], end: usize, value: i64, whole: u64) -> usiz
 ///
 /// The caller owes a place with 12 bytes in front of it.
 #[tactic(auto, unfolding(crate::specs::Written::written))]
+#[inline(always)]
 pub fn write_um_before(text: &mut [u8], end: usize, value: Um) -> usize
     requires { (12 ≤ end) × (end ≤ length text.old) }
     ensures written { drop result text.new ≡ written value ++ drop end text.old }
