@@ -8,6 +8,7 @@ pub mod TagLemmas
 pub mod KindLemmas
 pub mod CommandLemmas
 pub mod WrittenLemmas
+pub mod NamedLemmas
 pub mod PointLemmas
 pub mod HomedLemmas
 pub mod ErrorLemmas

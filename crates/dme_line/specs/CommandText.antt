@@ -34,6 +34,14 @@ pub record Begins (line : List ℕ) (tag : Tag) (name rest : List ℕ) : Type 0 
   pub tagged : IsTagged line tag text
   pub named : IsNamed text name rest
 
+-- a text is the name of a command of this kind and what this command says
+pub record IsCommandOf (kind : Kind) (text : List ℕ) (command : Command) : Type 0 where
+  pub name : List ℕ
+  pub rest : List ℕ
+  pub named : IsNamed text name rest
+  pub known : is_word (kind_name kind) name ≡ true
+  pub says : Says kind (tokens rest) command
+
 -- the line stands for this command under this tag
 pub record IsCommandText (line : List ℕ) (tag : Tag) (command : Command) : Type 0 where
   pub name : List ℕ

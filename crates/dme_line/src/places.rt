@@ -1,17 +1,17 @@
 // What the arguments of a move, a touch or a transformation say.
 
-ghost use Rattle.std.specs.Prelude.{◌≡◌, MatchOption, IfSome, Option, Some, None};
+ghost use Rattle.std.specs.Prelude.{◌≡◌, ◌∷◌, MatchOption, IfSome, Option, Some, None};
 ghost use Rattle.fixed_um.specs.Calls.{Finds};
 ghost use Rattle.std.specs.Option.{option_copied, option_map};
 ghost use Rattle.fixed_um.specs.Shapes.{Direction};
 ghost use Rattle.dme_line.specs.Arguments.{single_of, triple_of, single_named, triple_named, IsAxis, IsAlong, IsTarget, IsPlace, EndsWithAlong};
 ghost use Rattle.dme_line.specs.Taken.{the_argument, the_list, the_words};
-ghost use Rattle.dme_line.specs.Tokens.{tokens};
+ghost use Rattle.dme_line.specs.Tokens.{Open, tokens};
 
 use crate::arguments::{Argument, Place, is_closed, read_place, take_next};
 use crate::lengths::wire_length;
 use crate::points::cut_written_point;
-use crate::tokens::{is_word, take_mark};
+use crate::tokens::is_word;
 use fixed_um::{Dir, Point, Um, read_dir};
 
 impl<'a> Argument<'a> {
@@ -117,11 +117,13 @@ fn read_direction(bytes: &[u8]) -> Option<Dir>
     }
 }
 
-/// A touch whose axes stand in their written form, read at once. `None` says nothing: it may stand there in another form, or be none.
-fn read_written_touch(bytes: &[u8]) -> Option<(Point, Option<Dir>)>
-    ensures { IfSome result (λ t. IsPlace (tokens bytes.now) t.0 t.1) }
+/// The target and the direction, if one is given, of a touch behind its opening parenthesis, its axes in their written form and read at
+/// once. `None` says nothing: it may stand there in another form, or be none.
+#[inline(always)]
+pub(crate) fn read_written_touch(bytes: &[u8]) -> Option<(Point, Option<Dir>)>
+    ensures { IfSome result (λ t. IsPlace (Open ∷ tokens bytes.now) t.0 t.1) }
 {
-    let Some((target, rest)) = cut_written_point(take_mark(bytes, b'(')?) else {
+    let Some((target, rest)) = cut_written_point(bytes) else {
         return None;
     };
     if is_closed(rest) {
@@ -131,8 +133,22 @@ fn read_written_touch(bytes: &[u8]) -> Option<(Point, Option<Dir>)>
     Some((target, Some(along)))
 }
 
+/// The target of a move behind its opening parenthesis, its axes in their written form. `None` says nothing, as with a touch.
+#[inline(always)]
+pub(crate) fn read_written_move(bytes: &[u8]) -> Option<Point>
+    ensures { IfSome result (λ p. IsPlace (Open ∷ tokens bytes.now) p None) }
+{
+    let Some((target, rest)) = cut_written_point(bytes) else {
+        return None;
+    };
+    if is_closed(rest) {
+        return Some(target);
+    }
+    None
+}
+
 /// The target and the direction, if one is given, of a touch whose arguments stand in any order and form.
-fn read_any_touch(bytes: &[u8]) -> Option<(Point, Option<Dir>)>
+pub(crate) fn read_touch(bytes: &[u8]) -> Option<(Point, Option<Dir>)>
     ensures { MatchOption result
         ((p : Point) (d : Option Direction) → IsPlace (tokens bytes.now) p d → ⊥)
         (λ t. IsPlace (tokens bytes.now) t.0 t.1) }
@@ -145,18 +161,6 @@ fn read_any_touch(bytes: &[u8]) -> Option<(Point, Option<Dir>)>
             let direction = place.along()?;
             Some((target, Some(direction)))
         }
-    }
-}
-
-/// The target and the direction, if one is given, of a touch.
-pub(crate) fn read_touch(bytes: &[u8]) -> Option<(Point, Option<Dir>)>
-    ensures { MatchOption result
-        ((p : Point) (d : Option Direction) → IsPlace (tokens bytes.now) p d → ⊥)
-        (λ t. IsPlace (tokens bytes.now) t.0 t.1) }
-{
-    match read_written_touch(bytes) {
-        Some(touch) => Some(touch),
-        None => read_any_touch(bytes),
     }
 }
 

@@ -7,14 +7,15 @@ ghost use Rattle.dme_line.specs.Words.{is_word};
 ghost use Rattle.dme_line.specs.Kinds.{kind_name};
 ghost use Rattle.dme_line.specs.Tokens.{tokens};
 ghost use Rattle.dme_line.specs.Arguments.{Says, IsOneWord};
-ghost use Rattle.dme_line.specs.CommandText.{is_name_part, IsNamed, IsTagged, HoldsTool, ReadsCommand};
+ghost use Rattle.dme_line.specs.CommandText.{is_name_part, IsNamed, IsTagged, IsCommandOf, HoldsTool, ReadsCommand};
 
 use crate::arguments::is_empty_list;
 use crate::commands::{Command, Kind};
-use crate::places::{read_move, read_touch};
+use crate::places::{read_move, read_touch, read_written_move, read_written_touch};
 use crate::settings::{read_report, read_system, read_tool, read_zero_point};
 use crate::tags::{Tag, cut_tag};
 use crate::tokens::is_word;
+use fixed_um::{Dir, Point};
 use std::alloc::{AllocError, Global};
 
 /// Why a line is no command; of several reasons the first in this order.
@@ -81,17 +82,6 @@ fn find_kind(name: &[u8]) -> Option<Kind>
         .find(|kind| is_word(kind.name(), name))
 }
 
-/// The kind whose name is written just so, of those that nearly all commands have. `None` says nothing.
-fn written_kind(name: &[u8]) -> Option<Kind>
-    ensures { IfSome result (λ kind. is_word (kind_name kind) name.now ≡ true) }
-{
-    match name {
-        [b'G', b'o', b'T', b'o'] => Some(Kind::GoTo),
-        [b'P', b't', b'M', b'e', b'a', b's'] => Some(Kind::PtMeas),
-        _ => None,
-    }
-}
-
 /// The kind that a name most likely is of, by its first letter and its length. It is looked at first: a wrong one costs time alone.
 fn likely_kind(name: &[u8]) -> Kind {
     match name.first() {
@@ -119,9 +109,6 @@ fn likely_kind(name: &[u8]) -> Kind {
 fn kind_named(name: &[u8]) -> Option<Kind>
     ensures { Finds result (λ kind. is_word (kind_name kind) name.now ≡ true) }
 {
-    if let Some(kind) = written_kind(name) {
-        return Some(kind);
-    }
     let likely = likely_kind(name);
     if is_word(likely.name(), name) {
         return Some(likely);
@@ -189,6 +176,53 @@ fn read_arguments(alloc: Global, kind: Kind, bytes: &[u8]) -> Result<Option<Comm
     }
 }
 
+/// The target of a `GoTo` behind the tag and its space, its name and axes in their written form and read at once. `None` says nothing:
+/// the text may stand for one in another form, or for none.
+#[inline(always)]
+fn read_written_go_to(text: &[u8]) -> Option<Point>
+    ensures { IfSome result (λ p. IsCommandOf Kind.GoTo text.now (Command.GoTo p)) }
+{
+    match text {
+        [b'G', b'o', b'T', b'o', b'(', bytes @ ..] => read_written_move(bytes),
+        _ => None,
+    }
+}
+
+/// The target and the direction, if one is given, of such a `PtMeas`.
+#[inline(always)]
+fn read_written_pt_meas(text: &[u8]) -> Option<(Point, Option<Dir>)>
+    ensures { IfSome result (λ t. IsCommandOf Kind.PtMeas text.now (Command.PtMeas t.0 t.1)) }
+{
+    match text {
+        [b'P', b't', b'M', b'e', b'a', b's', b'(', bytes @ ..] => read_written_touch(bytes),
+        _ => None,
+    }
+}
+
+/// The command of a text behind a tag and its space, in any form; or why there is none.
+#[inline(never)]
+fn read_any_command(
+    alloc: Global,
+    tag: Tag,
+    text: &[u8],
+) -> Result<Result<(Tag, Command), LineFault>, AllocError>
+    ensures reads { IfOk result (λ reading. (line : List ℕ) → IsTagged line tag text.now
+        → ReadsCommand line reading) }
+    ensures memory { OnErr result ((line : List ℕ) → IsTagged line tag text.now → HoldsTool line) }
+{
+    let (name, bytes) = cut_name(text);
+    let Some(kind) = kind_named(name) else {
+        return Ok(Err(LineFault::UnknownCommand(tag)));
+    };
+    if tag.is_event() != kind.is_event() {
+        return Ok(Err(LineFault::BadArguments(tag, kind)));
+    }
+    match read_arguments(alloc, kind, bytes)? {
+        Some(command) => Ok(Ok((tag, command))),
+        None => Ok(Err(LineFault::BadArguments(tag, kind))),
+    }
+}
+
 /// The command that a line without its end stands for, with its tag; or why it stands for none.
 ///
 /// Names of commands, axes and coordinate systems are read in any case, with any number of spaces beside parentheses and commas
@@ -203,15 +237,13 @@ pub fn read_command(
     let Some((tag, text)) = cut_numbered_tag(line) else {
         return Ok(Err(LineFault::NoTag));
     };
-    let (name, bytes) = cut_name(text);
-    let Some(kind) = kind_named(name) else {
-        return Ok(Err(LineFault::UnknownCommand(tag)));
-    };
-    if tag.is_event() != kind.is_event() {
-        return Ok(Err(LineFault::BadArguments(tag, kind)));
+    if !tag.is_event() {
+        if let Some(target) = read_written_go_to(text) {
+            return Ok(Ok((tag, Command::GoTo(target))));
+        }
+        if let Some((target, direction)) = read_written_pt_meas(text) {
+            return Ok(Ok((tag, Command::PtMeas(target, direction))));
+        }
     }
-    match read_arguments(alloc, kind, bytes)? {
-        Some(command) => Ok(Ok((tag, command))),
-        None => Ok(Err(LineFault::BadArguments(tag, kind))),
-    }
+    read_any_command(alloc, tag, text)
 }

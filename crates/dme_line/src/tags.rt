@@ -26,10 +26,12 @@ pub(crate) fn write_four_digits_reserved(out: &mut Vec<u8>, value: u32)
     ensures text { out.new.items ≡ out.old.items ++ four_digits value }
     ensures grows { Grows out.old out.new 4 }
 {
-    out.push_reserved(last_digit(value / 1000));
-    out.push_reserved(last_digit(value / 100));
-    out.push_reserved(last_digit(value / 10));
-    out.push_reserved(last_digit(value));
+    let front = value / 100 % 100;
+    let back = value % 100;
+    out.push_reserved(b'0' + (front / 10) as u8);
+    out.push_reserved(b'0' + (front % 10) as u8);
+    out.push_reserved(b'0' + (back / 10) as u8);
+    out.push_reserved(b'0' + (back % 10) as u8);
 }
 
 /// Appends the five bytes of a tag, where the caller has made room for them.

@@ -1,7 +1,7 @@
 use Rattle.std.proofs.Common.{◌≡◌, length, refl}
 use Rattle.dme_line.specs.Taken.{the_list}
 use Rattle.dme_line.proofs.PlaceLemmas.{no_target, no_along}
-use Rattle.dme_line.proofs.places.read_any_touch.Goals as goal
+use Rattle.dme_line.proofs.places.read_touch.Goals as goal
 
 pub returns-in_err-target : goal.returns-in_err-target
 returns-in_err-target c = rw c.from_residual-in_err-target.ensures

@@ -1,10 +1,11 @@
+use Rattle.std.proofs.Common.{refl}
 use Rattle.dme_line.proofs.WrittenLemmas.{written_move, written_touch}
 use Rattle.dme_line.proofs.places.read_written_touch.Goals as goal
 
 pub returns-then-is_closed : goal.returns-then-is_closed
-returns-then-is_closed c = written_move _ c.in_ok-take_mark.field-0.now c.in-Some.rest.now c.in-Some.target c.in-Some.ensures
-    c.in_ok-take_mark.ensures (c.is_closed.ensures.0 c.if-is_closed.true)
+returns-then-is_closed c = written_move _ c.args.bytes.now c.in-Some.rest.now c.in-Some.target c.in-Some.ensures refl
+    (c.is_closed.ensures.0 c.if-is_closed.true)
 
 pub returns : goal.returns
-returns c = written_touch _ c.in_ok-take_mark.field-0.now c.in-Some.rest.now c.in-Some.target c.in_ok-along.along c.in-Some.ensures
-    c.in_ok-take_mark.ensures c.in_ok-along.ensures
+returns c = written_touch _ c.args.bytes.now c.in-Some.rest.now c.in-Some.target c.in_ok-along.along c.in-Some.ensures refl
+    c.in_ok-along.ensures
