@@ -1,14 +1,14 @@
 // Writing command lines.
 
-ghost use Rattle.std.specs.Prelude.{◌≡◌, ◌+◌, ◌++◌, OnOk};
+ghost use Rattle.std.specs.Prelude.{◌≡◌, ◌+◌, ◌++◌, ◌∷◌, codes, OnOk};
 ghost use Rattle.fixed_um.specs.Calls.{Grows, HasRoom, Writes};
 ghost use Rattle.dme_line.specs.Limits.{command_most, line_end_length};
 ghost use Rattle.dme_line.specs.Words.{line_end};
-ghost use Rattle.dme_line.specs.Kinds.{kind_of, IsTagOf};
+ghost use Rattle.dme_line.specs.Kinds.{kind_of, kind_name, IsTagOf};
 ghost use Rattle.dme_line.specs.Written.{written_ijk, written_transformation, written_arguments, written_command, HasVolumeLengths, HasArguments, IsIjk, IsWritable};
 
 use crate::appending::{append_quoted_reserved, append_reserved};
-use crate::commands::Command;
+use crate::commands::{Command, Kind};
 use crate::lengths::{write_direction_reserved, write_length_reserved};
 use crate::points::write_point_reserved;
 use crate::tags::{Tag, write_tag_reserved};
@@ -58,29 +58,59 @@ fn write_transformation_reserved(out: &mut Vec<u8>, lengths: Point)
     append_reserved(out, b", 0, 0, 0");
 }
 
-fn write_arguments_reserved(out: &mut Vec<u8>, command: &Command)
+/// Appends what stands between a tag and the arguments: a space, the name of the command and the parenthesis.
+#[inline(always)]
+fn write_name_reserved(out: &mut Vec<u8>, kind: Kind)
+    requires { HasRoom out.old 22 }
+    ensures text { out.new.items ≡ out.old.items ++ (32 ∷ (kind_name kind ++ codes "(")) }
+    ensures grows { Grows out.old out.new 22 }
+{
+    out.push_reserved(b' ');
+    append_reserved(out, kind.name());
+    out.push_reserved(b'(');
+}
+
+/// Appends what stands between a tag and the last parenthesis.
+fn write_call_reserved(out: &mut Vec<u8>, command: &Command)
     requires lengths { HasVolumeLengths command.now }
-    requires room { HasRoom out.old 105 }
-    ensures text { out.new.items ≡ out.old.items ++ written_arguments command.now }
-    ensures grows { Grows out.old out.new 105 }
+    requires room { HasRoom out.old 127 }
+    ensures text { out.new.items ≡ out.old.items
+        ++ (32 ∷ (kind_name (kind_of command.now) ++ (40 ∷ written_arguments command.now))) }
+    ensures grows { Grows out.old out.new 127 }
     ensures arguments { HasArguments command.now }
 {
     match command {
-        Command::OnPtMeasReport => append_reserved(out, b"X(), Y(), Z()"),
-        Command::GoTo(target) => write_point_reserved(out, *target),
+        Command::OnPtMeasReport => {
+            write_name_reserved(out, Kind::OnPtMeasReport);
+            append_reserved(out, b"X(), Y(), Z()");
+        }
+        Command::GoTo(target) => {
+            write_name_reserved(out, Kind::GoTo);
+            write_point_reserved(out, *target);
+        }
         Command::PtMeas(target, direction) => {
+            write_name_reserved(out, Kind::PtMeas);
             write_point_reserved(out, *target);
             write_ijk_reserved(out, *direction);
         }
-        Command::ChangeTool(tool) => append_quoted_reserved(out, tool.as_bytes()),
-        Command::SetCsyTransformation(lengths) => write_transformation_reserved(out, *lengths),
-        Command::SetCoordSystem(system) => append_reserved(out, system.name()),
-        Command::StartSession
-        | Command::EndSession
-        | Command::ClearAllErrors
-        | Command::IsHomed
-        | Command::Home
-        | Command::AbortE => {}
+        Command::ChangeTool(tool) => {
+            write_name_reserved(out, Kind::ChangeTool);
+            append_quoted_reserved(out, tool.as_bytes());
+        }
+        Command::SetCsyTransformation(lengths) => {
+            write_name_reserved(out, Kind::SetCsyTransformation);
+            write_transformation_reserved(out, *lengths);
+        }
+        Command::SetCoordSystem(system) => {
+            write_name_reserved(out, Kind::SetCoordSystem);
+            append_reserved(out, system.name());
+        }
+        Command::StartSession => write_name_reserved(out, Kind::StartSession),
+        Command::EndSession => write_name_reserved(out, Kind::EndSession),
+        Command::ClearAllErrors => write_name_reserved(out, Kind::ClearAllErrors),
+        Command::IsHomed => write_name_reserved(out, Kind::IsHomed),
+        Command::Home => write_name_reserved(out, Kind::Home),
+        Command::AbortE => write_name_reserved(out, Kind::AbortE),
     }
 }
 
@@ -98,10 +128,7 @@ pub fn write_command_reserved(out: &mut Vec<u8>, tag: Tag, command: &Command)
     ensures writable { IsWritable tag command.now }
 {
     write_tag_reserved(out, tag);
-    out.push_reserved(b' ');
-    append_reserved(out, command.kind().name());
-    out.push_reserved(b'(');
-    write_arguments_reserved(out, command);
+    write_call_reserved(out, command);
     out.push_reserved(b')');
 }
 
