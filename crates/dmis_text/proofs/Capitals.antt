@@ -45,7 +45,7 @@ module _ (mark : ℕ) (text front behind : List ℕ) (cut : cut_at mark false te
       let same : turned (inside_after false front) mark ≡ false = rw (closed, other) in
       sym (ap (λ i. folded i behind) same) ∙ ap others on
 
-blank_turns : (c : ℕ) → is_blank c ≡ true → turned false c ≡ false
+pub blank_turns : (c : ℕ) → is_blank c ≡ true → turned false c ≡ false
 blank_turns c e = go (eqb c 32) refl e
   where
     go : (b : Bool) → eqb c 32 ≡ b → (b || eqb c 9) ≡ true → turned false c ≡ false

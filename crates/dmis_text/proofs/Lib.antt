@@ -3,6 +3,7 @@ pub mod LineEnds
 pub mod Capitals
 pub mod Comments
 pub mod Splitting
+pub mod Continued
 pub mod Readings
 pub mod SplittingLaws
 pub mod CommentLaws

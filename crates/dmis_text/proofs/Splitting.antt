@@ -13,7 +13,7 @@ put_before front None = None
 put_before front (Some p) = Some (front ++ p.0, p.1)
 
 -- the pieces by the first cut
-abbrev pieces_at : List ℕ → Option (List ℕ × List ℕ) → List (List ℕ)
+abbrev pub pieces_at : List ℕ → Option (List ℕ × List ℕ) → List (List ℕ)
 pieces_at bytes None = bytes ∷ []
 pieces_at bytes (Some p) = p.0 ∷ pieces false p.1
 
@@ -22,7 +22,7 @@ onto_cut : (c : ℕ) (cs : List ℕ) (o : Option (List ℕ × List ℕ))
 onto_cut c cs None = refl
 onto_cut c cs (Some p) = refl
 
-pieces_by_cut : (inside : Bool) (bytes : List ℕ) → pieces inside bytes ≡ pieces_at bytes (cut_at 44 inside bytes)
+pub pieces_by_cut : (inside : Bool) (bytes : List ℕ) → pieces inside bytes ≡ pieces_at bytes (cut_at 44 inside bytes)
 pieces_by_cut inside [] = refl
 pieces_by_cut inside (c ∷ cs) = go (pieces_by_cut (turned inside c) cs) (not inside && eqb c 44) refl
   where

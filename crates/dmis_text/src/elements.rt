@@ -1,9 +1,9 @@
-ghost use Rattle.std.specs.Prelude.{◌≡◌, ℕ, Bool, true, false, List, [], ◌∷◌, ◌++◌, map, IfOk, IsTrue, length};
+ghost use Rattle.std.specs.Prelude.{◌≡◌, ℕ, Bool, true, false, List, [], ◌∷◌, ◌++◌, map, None, IfOk, IsTrue, length};
 ghost use Rattle.dmis_text.specs.Texts.{inside_after};
-ghost use Rattle.dmis_text.specs.Elements.{element_of, folded, pieces};
+ghost use Rattle.dmis_text.specs.Elements.{cut_at, element_of, folded, pieces};
 
 use crate::bytes::{
-    cut_at, ends_inside, is_folded, split_end_blanks, turned, without_front_blanks,
+    cut_at, ends_inside, is_all_blank, is_folded, split_end_blanks, turned, without_front_blanks,
 };
 use std::alloc::{AllocError, Global};
 use std::marker::Model;
@@ -115,20 +115,54 @@ impl<'a> Text<'a> {
     }
 }
 
-/// Equal texts with bytes of their own, in the memory that is handed in.
+/// These texts, and behind them equal texts of others with bytes of their own.
 fn owned_texts<'b>(
     alloc: Global,
-    memory: Vec<Text<'b>>,
-    texts: &[Text<'_>],
+    texts: Vec<Text<'b>>,
+    others: &[Text<'_>],
 ) -> Result<Vec<Text<'b>>, AllocError>
-    requires { memory.items ≡ [] }
-    ensures { IfOk result (λ made. made.items ≡ texts.now) }
+    ensures { IfOk result (λ made. made.items ≡ texts.entry.items ++ others.now) }
 {
-    let mut made = memory;
-    for text in texts {
+    let mut made = texts;
+    for text in others {
         made.push(text.owned(alloc)?)?;
     }
     Ok(made)
+}
+
+/// These texts, and behind them the pieces up to the last comma outside texts; and the piece behind that comma, with which what follows
+/// the bytes goes on.
+#[inline(always)]
+fn cut_pieces<'a>(
+    alloc: Global,
+    texts: Vec<Text<'a>>,
+    bytes: &'a [u8],
+    capitals: bool,
+) -> Result<(Vec<Text<'a>>, &'a [u8]), AllocError>
+    requires { IsTrue capitals → folded false bytes.now ≡ bytes.now }
+    ensures pieces { (more : List ℕ) → IfOk result (λ p.
+        p.0.items ++ map element_of (pieces false (p.1.now ++ more))
+        ≡ texts.entry.items ++ map element_of (pieces false (bytes.now ++ more))) }
+    ensures last { IfOk result (λ p. cut_at 44 false p.1.now ≡ None) }
+    ensures capitals { IfOk result (λ p. IsTrue capitals → folded false p.1.now ≡ p.1.now) }
+{
+    let mut made = texts;
+    let mut rest = bytes;
+    while let Some((piece, behind)) = cut_at(rest, b',') {
+        made.push(Text::element(alloc, piece, capitals)?)?;
+        rest = behind;
+    }
+    Ok((made, rest))
+}
+
+/// The bytes of both, one behind the other.
+fn join(alloc: Global, front: &[u8], behind: &[u8]) -> Result<Vec<u8>, AllocError>
+    ensures { IfOk result (λ joined. joined.items ≡ front.now ++ behind.now) }
+{
+    let mut joined = Vec::with_capacity(alloc, front.len() + behind.len())?;
+    joined.extend_from_slice(front)?;
+    joined.extend_from_slice(behind)?;
+    Ok(joined)
 }
 
 /// The parameters of a statement in order, which contracts see as a list of lists of bytes. They are read as a slice.
@@ -158,8 +192,42 @@ impl<'a> DerefSlice for Params<'a> {
 }
 
 impl<'a> Params<'a> {
+    /// These texts, and behind them the pieces between the commas outside texts.
+    #[inline(always)]
+    fn with_pieces(
+        alloc: Global,
+        texts: Vec<Text<'a>>,
+        bytes: &'a [u8],
+        capitals: bool,
+    ) -> Result<Params<'a>, AllocError>
+        requires { IsTrue capitals → folded false bytes.now ≡ bytes.now }
+        ensures { IfOk result (λ params.
+            params ≡ texts.entry.items ++ map element_of (pieces false bytes.now)) }
+    {
+        let (mut made, last) = cut_pieces(alloc, texts, bytes, capitals)?;
+        made.push(Text::element(alloc, last, capitals)?)?;
+        Ok(Params { texts: made })
+    }
+
+    /// The same of bytes that are joined first, with bytes of their own.
+    #[inline(never)]
+    fn with_joined_pieces(
+        alloc: Global,
+        texts: Vec<Text<'a>>,
+        front: &[u8],
+        behind: &[u8],
+    ) -> Result<Params<'a>, AllocError>
+        ensures { IfOk result (λ params.
+            params ≡ texts.entry.items ++ map element_of (pieces false (front.now ++ behind.now))) }
+    {
+        let joined = join(alloc, front, behind)?;
+        let lent = Params::split(alloc, Vec::new(alloc), joined.as_slice(), false)?;
+        let texts = owned_texts(alloc, texts, lent.texts.as_slice())?;
+        Ok(Params { texts })
+    }
+
     /// The pieces between the commas outside texts.
-    #[tactic(auto, using(crate::proofs::Splitting::splits))]
+    #[inline(always)]
     fn split(
         alloc: Global,
         memory: Vec<Text<'a>>,
@@ -172,13 +240,29 @@ impl<'a> Params<'a> {
     {
         let mut texts = memory;
         texts.reserve(USUAL_PARAMS)?;
-        let mut rest = bytes;
-        while let Some((piece, behind)) = cut_at(rest, b',') {
-            texts.push(Text::element(alloc, piece, capitals)?)?;
-            rest = behind;
+        Params::with_pieces(alloc, texts, bytes, capitals)
+    }
+
+    /// The same of bytes that go on behind a line. What ends on its line is lent by it, and a line mostly ends behind a comma.
+    fn split_over(
+        alloc: Global,
+        memory: Vec<Text<'a>>,
+        front: &'a [u8],
+        behind: &'a [u8],
+        capitals: bool,
+    ) -> Result<Params<'a>, AllocError>
+        requires empty { memory.items ≡ [] }
+        requires capitals { IsTrue capitals → folded false front.now ≡ front.now }
+        ensures { IfOk result (λ params.
+            params ≡ map element_of (pieces false (front.now ++ behind.now))) }
+    {
+        let mut texts = memory;
+        texts.reserve(USUAL_PARAMS)?;
+        let (made, last) = cut_pieces(alloc, texts, front, capitals)?;
+        if is_all_blank(last) {
+            return Params::with_pieces(alloc, made, behind, is_folded(behind));
         }
-        texts.push(Text::element(alloc, rest, capitals)?)?;
-        Ok(Params { texts })
+        Params::with_joined_pieces(alloc, made, last, behind)
     }
 
     /// Equal parameters with bytes of their own, in the memory that is handed in.
@@ -207,7 +291,7 @@ pub struct Statement<'a> {
 }
 
 impl<'a> Statement<'a> {
-    ghost use Rattle.dmis_text.specs.Statements.{statement_of, has_open_text};
+    ghost use Rattle.dmis_text.specs.Statements.{headed, statement_of, has_open_text};
 
     /// Whether a text that was opened in the statement was not closed. Who reads the statement may refuse it for that.
     #[tactic(auto, using(crate::proofs::Splitting::last_element_at))]
@@ -241,6 +325,22 @@ impl<'a> Statement<'a> {
             });
         };
         let params = Params::split(alloc, memory, behind, capitals)?;
+        Statement::headed(alloc, line, head, capitals, params)
+    }
+
+    /// The statement with these parameters and what stands before the `/`: the word, or the label and the word.
+    #[inline(always)]
+    fn headed(
+        alloc: Global,
+        line: u64,
+        head: &'a [u8],
+        capitals: bool,
+        params: Params<'a>,
+    ) -> Result<Statement<'a>, AllocError>
+        requires { IsTrue capitals → folded false head.now ≡ head.now }
+        ensures { IfOk result (λ statement.
+            statement ≡ headed line params.entry head.now (cut_at 61 false head.now)) }
+    {
         let Some((label, word)) = cut_at(head, b'=') else {
             let word = Text::element(alloc, head, capitals)?;
             return Ok(Statement {
@@ -260,6 +360,43 @@ impl<'a> Statement<'a> {
         })
     }
 
+    /// The statement that begins with what stands on one line and ends with what stands on the next.
+    #[tactic(auto, using(crate::proofs::Continued::over_lines))]
+    pub(crate) fn split_over(
+        alloc: Global,
+        memory: Vec<Text<'a>>,
+        line: u64,
+        front: &'a [u8],
+        behind: &'a [u8],
+    ) -> Result<Statement<'a>, AllocError>
+        requires { memory.items ≡ [] }
+        ensures { IfOk result (λ statement.
+            statement ≡ statement_of line (front.now ++ behind.now)) }
+    {
+        let capitals = is_folded(front);
+        let Some((head, begun)) = cut_at(front, b'/') else {
+            let joined = join(alloc, front, behind)?;
+            return Statement::split_owned(alloc, memory, line, joined.as_slice());
+        };
+        let params = Params::split_over(alloc, memory, begun, behind, capitals)?;
+        Statement::headed(alloc, line, head, capitals, params)
+    }
+
+    /// The statement of a joined text, with bytes of its own. Its parameters take the memory that is handed in.
+    #[inline(never)]
+    pub(crate) fn split_owned(
+        alloc: Global,
+        memory: Vec<Text<'a>>,
+        line: u64,
+        text: &[u8],
+    ) -> Result<Statement<'a>, AllocError>
+        requires { memory.items ≡ [] }
+        ensures { IfOk result (λ statement. statement ≡ statement_of line text.now) }
+    {
+        let lent = Statement::split(alloc, Vec::new(alloc), line, text)?;
+        lent.owned(alloc, memory)
+    }
+
     /// The memory of its parameters, for those of another.
     pub(crate) fn into_memory(self) -> Vec<Text<'a>>
         ensures { result.items ≡ [] }
@@ -276,11 +413,7 @@ impl<'a> Statement<'a> {
     }
 
     /// An equal statement with bytes of its own. Its parameters take the memory that is handed in.
-    pub(crate) fn owned<'b>(
-        &self,
-        alloc: Global,
-        memory: Vec<Text<'b>>,
-    ) -> Result<Statement<'b>, AllocError>
+    fn owned<'b>(&self, alloc: Global, memory: Vec<Text<'b>>) -> Result<Statement<'b>, AllocError>
         requires { memory.items ≡ [] }
         ensures { IfOk result (λ statement. statement ≡ self.now) }
     {

@@ -1,7 +1,8 @@
-ghost use Rattle.std.specs.Prelude.{◌≡◌, Bool, true, false, List, [], ◌∷◌, ◌++◌, Option, Some, None, IfOk};
+ghost use Rattle.std.specs.Prelude.{◌≡◌, Bool, true, false, List, [], ◌∷◌, ◌++◌, Option, Some, None, IfOk, OnOk};
 ghost use Rattle.std.specs.Option.{option_to_list};
 ghost use Rattle.dmis_text.specs.Texts.{inside_after};
 ghost use Rattle.dmis_text.specs.Begun.{is_open, grown};
+ghost use Rattle.dmis_text.specs.Look.{part_text};
 ghost use Rattle.dmis_text.specs.Reading.{ended, finished};
 
 use crate::bytes::is_all_blank;
@@ -13,36 +14,60 @@ use std::marker::Model;
 /// The room that each part of a statement makes: few statements on several lines have more.
 const USUAL_TEXT: usize = 128;
 
-/// A statement under way, or none.
+/// Appends the bytes, where there are any.
+fn extend_over(text: &mut Vec<u8>, bytes: &[u8]) -> Result<(), AllocError>
+    ensures { OnOk result (text.new.items ≡ text.old.items ++ bytes.now) }
+{
+    if !bytes.is_empty() {
+        text.reserve(USUAL_TEXT)?;
+        text.extend_from_slice(bytes)?;
+    }
+    Ok(())
+}
+
+/// Appends a part but for its last bytes that stand together in the text that is read, and answers these.
+fn append_part<'a>(text: &mut Vec<u8>, part: Part<'a>) -> Result<&'a [u8], AllocError>
+    ensures { IfOk result (λ last.
+        text.new.items ++ last.now ≡ text.old.items ++ part_text part.entry) }
+{
+    if part.blanks.is_empty() {
+        return Ok(part.front);
+    }
+    extend_over(text, part.front)?;
+    Ok(part.blanks)
+}
+
+/// A statement under way, or none. Its last part is lent by the text that is read, where no blanks stand behind the mark that ends it.
 #[derive(Drop)]
-pub(crate) struct Joined {
+pub(crate) struct Joined<'a> {
     first: Option<u64>,
     text: Vec<u8>,
+    last: &'a [u8],
     inside: bool,
 }
 
-impl Model for Joined {
-    ghost use Rattle.std.specs.Prelude.{◌≡◌, Option, List, [], IfNone};
+impl<'a> Model for Joined<'a> {
+    ghost use Rattle.std.specs.Prelude.{◌≡◌, Option, List, [], ◌++◌, IfNone};
     ghost use Rattle.dmis_text.specs.Begun.{Begun, begun_of, is_open};
 
     ghost Value = { Option Begun };
 
-    ghost view = { λ j. begun_of j.first j.text.items };
+    ghost view = { λ j. begun_of j.first (j.text.items ++ j.last.now) };
 
     ghost invariant = { λ j.
-        (j.inside ≡ is_open (begun_of j.first j.text.items)) × IfNone j.first (j.text.items ≡ []) };
+        (j.inside ≡ is_open (begun_of j.first (j.text.items ++ j.last.now)))
+        × IfNone j.first (j.text.items ++ j.last.now ≡ []) };
 }
 
-impl Joined {
-    ghost use Rattle.dmis_text.specs.Look.{part_text};
-
+impl<'a> Joined<'a> {
     /// No statement.
-    pub(crate) fn new(alloc: Global) -> Joined
+    pub(crate) fn new(alloc: Global) -> Joined<'a>
         ensures { result ≡ None }
     {
         Joined {
             first: None,
             text: Vec::new(alloc),
+            last: &[],
             inside: false,
         }
     }
@@ -56,27 +81,28 @@ impl Joined {
 
     /// One part more, which stands on this line.
     #[tactic(auto, using(crate::proofs::Readings::parts))]
-    pub(crate) fn with(self, line: u64, part: Part) -> Result<Joined, AllocError>
+    pub(crate) fn with(self, line: u64, part: Part<'a>) -> Result<Joined<'a>, AllocError>
         requires { part.inside ≡ inside_after (is_open self) (part_text part) }
-        ensures { IfOk result (λ joined. joined ≡ Some (grown self line (part_text part.entry))) }
+        ensures { IfOk result (λ joined. joined ≡ Some (grown self.entry line (part_text part.entry))) }
     {
         let Joined {
             first,
             mut text,
+            last,
             inside: _,
         } = self;
-        text.reserve(USUAL_TEXT)?;
-        text.extend_from_slice(part.front)?;
-        text.extend_from_slice(part.blanks)?;
+        extend_over(&mut text, last)?;
+        let last = append_part(&mut text, part)?;
         Ok(Joined {
             first: Some(first.unwrap_or(line)),
             text,
+            last,
             inside: part.inside,
         })
     }
 
     /// The statement that ends with this content on this line. Its parameters take the memory that is handed in.
-    pub(crate) fn finish<'a>(
+    pub(crate) fn finish(
         self,
         alloc: Global,
         memory: Vec<Text<'a>>,
@@ -84,36 +110,40 @@ impl Joined {
         content: &'a [u8],
     ) -> Result<Statement<'a>, AllocError>
         requires { memory.items ≡ [] }
-        ensures { IfOk result (λ statement. statement ≡ finished (grown self line content.now)) }
+        ensures { IfOk result (λ statement. statement ≡ finished (grown self.entry line content.now)) }
     {
         let Joined {
             first,
             mut text,
+            last,
             inside: _,
         } = self;
-        match first {
-            None => Statement::split(alloc, memory, line, content),
-            Some(first) => {
-                text.extend_from_slice(content)?;
-                let joined = Statement::split(alloc, Vec::new(alloc), first, text.as_slice())?;
-                joined.owned(alloc, memory)
-            }
+        let Some(first) = first else {
+            return Statement::split(alloc, memory, line, content);
+        };
+        if text.is_empty() {
+            return Statement::split_over(alloc, memory, first, last, content);
         }
+        text.extend_from_slice(last)?;
+        text.extend_from_slice(content)?;
+        Statement::split_owned(alloc, memory, first, text.as_slice())
     }
 
     /// The statement as far as it goes; none where there is none, or one of blanks alone.
-    pub(crate) fn end<'a>(self, alloc: Global) -> Result<Option<Statement<'a>>, AllocError>
-        ensures { IfOk result (λ statement. (ended self).statements ≡ option_to_list statement) }
+    pub(crate) fn end(self, alloc: Global) -> Result<Option<Statement<'a>>, AllocError>
+        ensures { IfOk result (λ statement. (ended self.entry).statements ≡ option_to_list statement) }
     {
         let Joined {
             first,
-            text,
+            mut text,
+            last,
             inside: _,
         } = self;
+        text.extend_from_slice(last)?;
         match first {
             Some(first) if !is_all_blank(text.as_slice()) => {
-                let lent = Statement::split(alloc, Vec::new(alloc), first, text.as_slice())?;
-                Ok(Some(lent.owned(alloc, Vec::new(alloc))?))
+                let own = Statement::split_owned(alloc, Vec::new(alloc), first, text.as_slice())?;
+                Ok(Some(own))
             }
             _ => Ok(None),
         }

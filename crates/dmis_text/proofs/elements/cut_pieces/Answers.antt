@@ -1,20 +1,17 @@
 use Rattle.std.proofs.Common.{ℕ, List, ◌++◌, map, refl, ◌∙◌, sym, ap, append_assoc}
 use Rattle.dmis_text.specs.Elements.{element_of}
 use Rattle.dmis_text.proofs.Capitals.{front_of_cut, behind_cut}
-use Rattle.dmis_text.proofs.Splitting.{pieces_some}
-use Rattle.dmis_text.proofs.elements.Params.split.Goals as goal
+use Rattle.dmis_text.proofs.Continued.{pieces_more}
+use Rattle.dmis_text.proofs.elements.cut_pieces.Goals as goal
 
 pub element-requires : goal.element-requires
 element-requires c = λ capitals. front_of_cut 44 _ _ _ c.in-Some.ensures.cut (c.loop-piece.invariant.1 capitals)
 
-pub element-requires-2 : goal.element-requires-2
-element-requires-2 c = c.loop-piece.invariant.1
-
 pub loop-piece-preserved : goal.loop-piece-preserved
 loop-piece-preserved c = (
-  rw (c.in_ok-push.ensures.items, c.in_ok-element.ensures, append_assoc)
-      (ap (λ (ps : List (List ℕ)). c.loop-piece.texts.items ++ map element_of ps) (sym (pieces_some
-      c.loop-piece.rest.now c.in-Some.piece.now c.in-Some.behind.now c.in-Some.ensures.cut))
-      ∙ c.loop-piece.invariant.0),
+  λ more. rw (c.in_ok-push.ensures.items, c.in_ok-element.ensures, append_assoc)
+      (ap (λ (ps : List (List ℕ)). c.loop-piece.made.items ++ map element_of ps) (sym (pieces_more
+      c.loop-piece.rest.now c.in-Some.piece.now c.in-Some.behind.now more c.in-Some.ensures.cut))
+      ∙ c.loop-piece.invariant.0 more),
   λ capitals. behind_cut 44 _ _ _ c.in-Some.ensures.cut (c.loop-piece.invariant.1 capitals) refl,
 )

@@ -1,0 +1,12 @@
+use Rattle.std.proofs.Common.{◌≡◌, ℕ, List, ◌++◌, map, length, false, IsTrue}
+use Rattle.dmis_text.specs.Elements.{element_of, pieces, folded}
+use Rattle.dmis_text.proofs.elements.cut_pieces.Given as goal
+
+abbrev pub invariant-loop-piece : goal.invariant-loop-piece
+invariant-loop-piece l =
+    ((more : List ℕ) → l.made.items ++ map element_of (pieces false (l.rest ++ more))
+    ≡ l.fn.texts.items ++ map element_of (pieces false (l.fn.bytes ++ more)))
+    × (IsTrue l.capitals → folded false l.rest ≡ l.rest)
+
+abbrev pub decreases-loop-piece : goal.decreases-loop-piece
+decreases-loop-piece l = length l.rest
