@@ -3,7 +3,8 @@ use Rattle.std.proofs.Common.{◌≡◌, ℕ, zero, suc, ◌+◌, ◌-◌, ◌<�
 use Rattle.std.proofs.Common.{take, drop, get_or, refl, sym, ap, ◌∙◌, arith, length-append, append_assoc}
 use Rattle.std.proofs.lemmas.Bool.{and_right, and_left, both_ways, ne_eqb}
 use Rattle.std.proofs.lemmas.List.Folds.{list_all_at}
-use Rattle.dmis_text.specs.Texts.{turned, inside_after, is_blank, all_blank, without_end_blanks, is_continued, without_mark}
+use Rattle.std.proofs.lemmas.List.{take_all, drop_all}
+use Rattle.dmis_text.specs.Texts.{turned, inside_after, is_blank, all_blank, without_front_blanks, without_end_blanks, is_continued, without_mark}
 use Rattle.dmis_text.specs.Reading.{content_role}
 use Rattle.dmis_text.specs.Reading.Role.{Continued, Last}
 
@@ -23,6 +24,20 @@ kept_cut (c ∷ cs) (suc m) within blanks last =
     let here : is_blank (get_or (c ∷ cs) m 0) ≡ false = rw e at (last (omega arith)) in
     let some : all_blank (c ∷ cs) ≡ false = list_all_at is_blank (c ∷ cs) m 0 (omega arith) here in
     rw some (ap (λ (ys : List ℕ). c ∷ ys) (kept_cut cs m (omega arith) blanks (before_tail c cs m here)))
+
+-- bytes with no blank at either end stay as they are
+above_blanks : (c : ℕ) → 32 < c → is_blank c ≡ false
+above_blanks c h = rw (ne_eqb c 32 (λ e. omega (arith, e, h)), ne_eqb c 9 (λ e. omega (arith, e, h)))
+
+pub without_blanks : (bytes : List ℕ) → 0 < length bytes → 32 < get_or bytes 0 0 → 32 < get_or bytes (length bytes - 1) 0
+    → bytes ≡ without_end_blanks (without_front_blanks bytes)
+without_blanks [] some first last = absurd (omega arith)
+without_blanks (c ∷ cs) some first last =
+    let bytes = c ∷ cs in
+    let front : without_front_blanks bytes ≡ bytes = rw (above_blanks c first) in
+    let end : take (length bytes) bytes ≡ without_end_blanks bytes =
+    kept_cut bytes (length bytes) (omega arith) (rw (drop_all (length bytes) bytes (omega arith))) (λ _. above_blanks _ last) in
+    sym (ap without_end_blanks front ∙ sym end ∙ take_all (length bytes) bytes (omega arith))
 
 -- what is left of blanks alone is nothing, and of nothing else
 blank_from_none : (xs : List ℕ) → without_end_blanks xs ≡ [] → all_blank xs ≡ true

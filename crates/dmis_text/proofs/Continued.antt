@@ -4,7 +4,7 @@ use Rattle.std.proofs.Common.{append_assoc}
 use Rattle.std.proofs.lemmas.Bool.{eqb-true}
 use Rattle.std.proofs.lemmas.List.{append-nil}
 use Rattle.std.specs.List.{onto_first}
-use Rattle.dmis_text.specs.Texts.{turned, is_blank, all_blank}
+use Rattle.dmis_text.specs.Texts.{is_blank, all_blank}
 use Rattle.dmis_text.specs.Elements.{cut_at, pieces, element_of}
 use Rattle.dmis_text.proofs.Splitting.{pieces_at, pieces_by_cut, pieces_some, pieces_none}
 use Rattle.dmis_text.proofs.SplittingLaws.{cut_is}

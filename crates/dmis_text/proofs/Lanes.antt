@@ -1,5 +1,5 @@
 -- Runs in a block: the bits of a mask that was computed lane by lane say where a class ends.
-use Rattle.std.proofs.Common.{◌≡◌, ℕ, zero, suc, ◌+◌, ◌-◌, ◌%◌, ◌^◌, ◌<◌, ◌≤◌, eqb, leb, Bool, true, false, not, ◌&&◌, cond, List, [], ◌∷◌, ◌++◌, map, length, take, drop, Fits, w8}
+use Rattle.std.proofs.Common.{◌≡◌, ℕ, zero, suc, ◌+◌, ◌-◌, ◌%◌, ◌^◌, ◌<◌, ◌≤◌, leb, Bool, true, false, not, ◌&&◌, cond, List, [], ◌∷◌, ◌++◌, map, length, take, drop, Fits, w8}
 use Rattle.std.proofs.Common.{get_or, refl, sym, ap, ap₂, ◌∙◌, arith, inl, inr}
 use Rattle.std.proofs.lemmas.Bool.{agree_below, agree_below_at, cases_eq, eq-eqb, ne_eqb, cond-true, cond-false}
 use Rattle.std.proofs.lemmas.Simd.{map-map, mask_l-mod, length-chunk, chunk-drop, chunk-fits, zip2-map, leading_from_mask_l, trailing_mask_l}
@@ -134,3 +134,16 @@ ends_in_last p bytes from at last r behind before long passed run =
     let on = within_run p (drop from bytes) k (omega (arith, behind, before, passed)) in
     let is : r ≡ prefix_len p (drop k (drop from bytes)) = run ∙ ap (prefix_len p) (whole ∙ sym here) in
     omega (arith, on, is, there)
+
+-- where the last sixteen bytes are all of a class, those from a place among them on are
+pub filled_to_end : (p : ℕ → Bool) (bytes : List ℕ) (from last r : ℕ) → last ≤ from → from ≤ length bytes → last + 16 ≡ length bytes
+    → r ≡ prefix_len p (take 16 (drop last bytes)) → r ≡ 16 → from + prefix_len p (drop from bytes) ≡ length bytes
+filled_to_end p bytes from last r behind within long run full =
+    let k = from - last in
+    let there : last + k ≡ from = omega (arith, behind) in
+    let whole = take_all 16 (drop last bytes) (omega (arith, length-drop last bytes, long)) in
+    let all : prefix_len p (drop last bytes) ≡ 16 = ap (prefix_len p) (sym whole) ∙ sym run ∙ full in
+    let here : drop k (drop last bytes) ≡ drop from bytes = drop-drop k last bytes ∙ ap (λ n. drop n bytes) there in
+    let on = within_run p (drop last bytes) k (omega (arith, all, there, within, long)) in
+    let same : prefix_len p (drop from bytes) ≡ prefix_len p (drop k (drop last bytes)) = ap (prefix_len p) (sym here) in
+    omega (arith, on, all, same, there, long)

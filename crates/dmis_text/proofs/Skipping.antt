@@ -12,7 +12,7 @@ use Rattle.std.specs.Option.{option_map}
 use Rattle.std.specs.Char.{to_ascii_uppercase}
 use Rattle.dmis_text.specs.Texts.{turned, inside_after, begins_comment, before_comment, may_stand, is_clean}
 use Rattle.dmis_text.specs.Elements.{onto_front, cut_at, folded}
-use Rattle.dmis_text.specs.Runs.{is_passed, is_in_text, is_plain, is_unquoted, is_unmarked, is_settled, is_within, is_kept}
+use Rattle.dmis_text.specs.Runs.{is_passed, is_in_text, is_unquoted, is_unmarked, is_within, is_kept}
 use Rattle.dmis_text.proofs.Comments.{inside_after-append}
 use Rattle.dmis_text.proofs.Splitting.{put_before}
 
@@ -173,6 +173,23 @@ pub cut_behind : (mark : ℕ) (inside : Bool) (bytes : List ℕ) (at : ℕ) → 
 cut_behind mark inside bytes at m =
     rw (take-add at (prefix_len (is_within inside) (drop at bytes)) bytes, put_twice)
     (ap (put_before (take at bytes)) (cut_run mark inside bytes at m))
+
+-- the cut of all bytes, behind the first run
+pub cut_first : (mark : ℕ) (bytes : List ℕ) → is_unmarked mark ≡ false
+    → put_before (take (prefix_len is_unmarked bytes) bytes) (cut_at mark false (drop (prefix_len is_unmarked bytes) bytes))
+    ≡ cut_at mark false bytes
+cut_first mark bytes m = uncut (cut_at mark false) is_unmarked (λ c cs e. uncut_byte mark false c cs m e) bytes
+
+-- no mark stands in front of the first
+pub plain_uncut : (mark : ℕ) (front behind : List ℕ) → is_unmarked mark ≡ false → length front ≤ prefix_len is_unmarked (front ++ behind)
+    → cut_at mark false front ≡ None
+plain_uncut mark [] behind m e = refl
+plain_uncut mark (c ∷ cs) behind m e = go (λ k. plain_uncut mark cs behind m k) (is_unmarked c) refl e
+  where
+    go : (length cs ≤ prefix_len is_unmarked (cs ++ behind) → cut_at mark false cs ≡ None) → (b : Bool) → is_unmarked c ≡ b
+        → suc (length cs) ≤ cond b (1 + prefix_len is_unmarked (cs ++ behind)) 0 → cut_at mark false (c ∷ cs) ≡ None
+    go rest true is h = uncut_byte mark false c cs m is ∙ ap (option_map (onto_front c)) (rest (omega arith))
+    go rest false is h = absurd (omega arith)
 
 -- a run of bytes that are handed out as they are
 kept_byte : (inside : Bool) (c : ℕ) (cs : List ℕ) → is_kept inside c ≡ true → folded inside (c ∷ cs) ≡ c ∷ folded inside cs

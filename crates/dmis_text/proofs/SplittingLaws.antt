@@ -1,6 +1,6 @@
 -- Cuts and pieces are what their relations say, and nothing else is.
 use Rattle.std.proofs.Common.{◌≡◌, ◌≢◌, ℕ, zero, suc, ◌+◌, ◌<◌, Bool, true, false, not, ◌&&◌, cond, eqb, List, [], ◌∷◌, ◌++◌, length, take}
-use Rattle.std.proofs.Common.{map, Option, Some, None, refl, sym, ap, ◌∙◌, arith, length-append}
+use Rattle.std.proofs.Common.{◌≤◌, subst, map, Option, Some, None, refl, sym, ap, ◌∙◌, arith, length-append}
 use Rattle.std.specs.Prelude.{◌↔◌, slice_index}
 use Rattle.std.specs.Option.{option_map}
 use Rattle.std.proofs.lemmas.Bool.{eqb-true, eqb-false, ne_eqb, eq-eqb, false≢true}
@@ -11,6 +11,9 @@ use Rattle.dmis_text.specs.Splits.{NoneOutside, IsCut, IsSplit, Says}
 use Rattle.dmis_text.specs.Splits.Says.{word_alone, with_params, with_label}
 use Rattle.dmis_text.specs.Statements.{headed, statement_of}
 use Rattle.dmis_text.specs.declared.elements.Statement.{Statement}
+use Rattle.std.specs.List.{prefix_len}
+use Rattle.dmis_text.specs.Runs.{is_unmarked}
+use Rattle.dmis_text.proofs.Skipping.{plain_uncut}
 use Rattle.dmis_text.proofs.Splitting.{pieces_none, pieces_some}
 
 -- the same where a text may be open before the first byte
@@ -106,6 +109,12 @@ cut_is mark text front behind = (
   λ h. rw h.parts (cut_there false mark front behind h.first h.closed),
   λ e. let cut = cut_found false mark text front behind e in record { parts = cut.0; closed = cut.1; first = cut.2 },
 )
+
+-- where no mark stands before the first `/`, no label does
+pub no_label : (text head behind : List ℕ) → cut_at 47 false text ≡ Some (head, behind) → length head ≤ prefix_len is_unmarked text
+    → cut_at 61 false head ≡ None
+no_label text head behind e within = plain_uncut 61 head (47 ∷ behind) refl
+    (subst (λ (xs : List ℕ). length head ≤ prefix_len is_unmarked xs) ((cut_is 47 text head behind).1 e).parts within)
 
 -- and not at all where there is none
 pub uncut_is : (mark : ℕ) (text : List ℕ) → NoneOutside mark text ↔ (cut_at mark false text ≡ None)

@@ -1,6 +1,6 @@
 -- Classes of bytes that are passed over in blocks: no public clause cites them. LF is 10, an apostrophe 39, `$` 36, a comma 44,
 -- a `/` 47 and a `=` 61.
-use Rattle.std.specs.Prelude.{ℕ, Bool, not, ◌&&◌, ◌||◌, ◌==◌, true, false, if◌then◌else◌}
+use Rattle.std.specs.Prelude.{ℕ, Bool, not, ◌&&◌, ◌==◌, true, false, if◌then◌else◌}
 use Rattle.std.specs.Char.{to_ascii_uppercase}
 use Rattle.std.specs.Int.{w64, trailing_zeros}
 use Rattle.dmis_text.specs.Texts.{may_stand}

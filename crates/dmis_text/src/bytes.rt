@@ -6,7 +6,8 @@ ghost use Rattle.dmis_text.specs.Elements.{cut_at, folded};
 ghost use Rattle.dmis_text.specs.Texts.{turned, inside_after, is_blank, all_blank, begins_comment, may_stand, without_front_blanks, without_end_blanks};
 
 use crate::runs::{
-    InComment, Settled, Unmarked, Unquoted, long_run_end, run_end, run_end_by_last_block,
+    InComment, Settled, Unmarked, Unquoted, is_filled_to_end, long_run_end, run_end,
+    run_end_by_last_block,
 };
 
 /// Whether what follows the byte stands in a text.
@@ -70,11 +71,16 @@ pub(crate) fn is_all_blank(bytes: &[u8]) -> bool
     bytes.iter().all(|byte| is_blank(*byte))
 }
 
-/// Whether each byte may stand in a comment.
-pub(crate) fn may_be_comment(bytes: &[u8]) -> bool
-    ensures { result ≡ list_all (may_stand true) bytes.now }
+/// Whether each byte of a line from this place on may stand in a comment.
+pub(crate) fn may_be_comment(line: &[u8], at: usize) -> bool
+    requires { at ≤ length line.now }
+    ensures { result ≡ list_all (may_stand true) (drop at line.now) }
 {
-    long_run_end(&InComment, bytes, 0) == bytes.len()
+    if is_filled_to_end(&InComment, line, at) {
+        return true;
+    }
+    let (_, comment) = line.split_at(at);
+    long_run_end(&InComment, comment, 0) == comment.len()
 }
 
 /// The bytes from the first that is not blank on.
@@ -113,6 +119,21 @@ pub(crate) fn split_end_blanks(bytes: &[u8]) -> (&[u8], &[u8])
     bytes.split_at(count_to_last(bytes))
 }
 
+/// The bytes without blanks at both ends. Most have none.
+#[inline(always)]
+pub(crate) fn trimmed(bytes: &[u8]) -> &[u8]
+    ensures trimmed { result.now ≡ without_end_blanks (without_front_blanks bytes.now) }
+    ensures folded { folded false bytes.now ≡ bytes.now
+        → folded false result.now ≡ result.now }
+{
+    let count = bytes.len();
+    if count > 0 && bytes[0] > b' ' && bytes[count - 1] > b' ' {
+        return bytes;
+    }
+    let (kept, _) = split_end_blanks(without_front_blanks(bytes));
+    kept
+}
+
 /// The end of the bytes from this place on at which no element ends, where a text is open there or not.
 #[inline(always)]
 fn within_end(bytes: &[u8], at: usize, inside: bool) -> usize
@@ -135,16 +156,26 @@ fn is_cut(byte: u8, mark: u8, inside: bool) -> bool
     !inside && byte == mark
 }
 
-/// What stands before and behind the first mark outside texts: a `/`, a `=` or a comma.
+/// The place of the first mark or apostrophe, or the end of the bytes.
 #[inline(always)]
-pub(crate) fn cut_at(bytes: &[u8], mark: u8) -> Option<(&[u8], &[u8])>
-    requires { is_unmarked mark ≡ false }
+pub(crate) fn first_mark(bytes: &[u8]) -> usize
+    ensures run { result ≡ prefix_len is_unmarked bytes.now }
+    ensures within { result ≤ length bytes.now }
+{
+    within_end(bytes, 0, false)
+}
+
+/// What stands before and behind the first mark outside texts: a `/`, a `=` or a comma. The caller has the place of the first mark of any kind.
+#[inline(always)]
+pub(crate) fn cut_from(bytes: &[u8], mark: u8, first: usize) -> Option<(&[u8], &[u8])>
+    requires mark { is_unmarked mark ≡ false }
+    requires first { first ≡ prefix_len is_unmarked bytes.now }
     ensures cut { MatchOption result (cut_at mark false bytes.now ≡ None)
         (λ p. cut_at mark false bytes.now ≡ Some (p.0.now, p.1.now)) }
     ensures shorter { IfSome result (λ p. length p.1.now < length bytes.now) }
 {
     let mut inside = false;
-    let mut at = within_end(bytes, 0, false);
+    let mut at = first;
     while at < bytes.len() {
         let byte = bytes[at];
         if is_cut(byte, mark, inside) {
@@ -156,6 +187,17 @@ pub(crate) fn cut_at(bytes: &[u8], mark: u8) -> Option<(&[u8], &[u8])>
         at = within_end(bytes, at + 1, inside);
     }
     None
+}
+
+/// The same where the caller has no place.
+#[inline(always)]
+pub(crate) fn cut_at(bytes: &[u8], mark: u8) -> Option<(&[u8], &[u8])>
+    requires { is_unmarked mark ≡ false }
+    ensures cut { MatchOption result (cut_at mark false bytes.now ≡ None)
+        (λ p. cut_at mark false bytes.now ≡ Some (p.0.now, p.1.now)) }
+    ensures shorter { IfSome result (λ p. length p.1.now < length bytes.now) }
+{
+    cut_from(bytes, mark, first_mark(bytes))
 }
 
 /// The end of the bytes from this place on that are handed out as they are, where a text is open there or not.

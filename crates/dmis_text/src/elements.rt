@@ -3,7 +3,7 @@ ghost use Rattle.dmis_text.specs.Texts.{inside_after};
 ghost use Rattle.dmis_text.specs.Elements.{cut_at, element_of, folded, pieces};
 
 use crate::bytes::{
-    cut_at, ends_inside, is_all_blank, is_folded, split_end_blanks, turned, without_front_blanks,
+    cut_at, cut_from, ends_inside, first_mark, is_all_blank, is_folded, trimmed, turned,
 };
 use std::alloc::{AllocError, Global};
 use std::marker::Model;
@@ -85,7 +85,7 @@ impl<'a> Text<'a> {
         requires { IsTrue capitals → folded false bytes.now ≡ bytes.now }
         ensures { IfOk result (λ text. text ≡ element_of bytes.now) }
     {
-        let (kept, _) = split_end_blanks(without_front_blanks(bytes));
+        let kept = trimmed(bytes);
         if is_as_handed_out(kept, capitals) {
             return Ok(Text {
                 bytes: Bytes::Lent(kept),
@@ -243,24 +243,25 @@ impl<'a> Params<'a> {
         Params::with_pieces(alloc, texts, bytes, capitals)
     }
 
-    /// The same of bytes that go on behind a line. What ends on its line is lent by it, and a line mostly ends behind a comma.
+    /// The same of bytes that go on behind a line, without small letters outside texts. What ends on its line is lent by it, and a line
+    /// mostly ends behind a comma.
     fn split_over(
         alloc: Global,
         memory: Vec<Text<'a>>,
         front: &'a [u8],
         behind: &'a [u8],
-        capitals: bool,
     ) -> Result<Params<'a>, AllocError>
         requires empty { memory.items ≡ [] }
-        requires capitals { IsTrue capitals → folded false front.now ≡ front.now }
+        requires front { folded false front.now ≡ front.now }
+        requires behind { folded false behind.now ≡ behind.now }
         ensures { IfOk result (λ params.
             params ≡ map element_of (pieces false (front.now ++ behind.now))) }
     {
         let mut texts = memory;
         texts.reserve(USUAL_PARAMS)?;
-        let (made, last) = cut_pieces(alloc, texts, front, capitals)?;
+        let (made, last) = cut_pieces(alloc, texts, front, true)?;
         if is_all_blank(last) {
-            return Params::with_pieces(alloc, made, behind, is_folded(behind));
+            return Params::with_pieces(alloc, made, behind, true);
         }
         Params::with_joined_pieces(alloc, made, last, behind)
     }
@@ -314,8 +315,41 @@ impl<'a> Statement<'a> {
         requires { memory.items ≡ [] }
         ensures { IfOk result (λ statement. statement ≡ statement_of line text.now) }
     {
-        let capitals = is_folded(text);
-        let Some((head, behind)) = cut_at(text, b'/') else {
+        if is_folded(text) {
+            return Statement::split_as(alloc, memory, line, text, true);
+        }
+        Statement::split_with_small_letters(alloc, memory, line, text)
+    }
+
+    /// The same where small letters may stand outside texts.
+    #[inline(never)]
+    fn split_with_small_letters(
+        alloc: Global,
+        memory: Vec<Text<'a>>,
+        line: u64,
+        text: &'a [u8],
+    ) -> Result<Statement<'a>, AllocError>
+        requires { memory.items ≡ [] }
+        ensures { IfOk result (λ statement. statement ≡ statement_of line text.now) }
+    {
+        Statement::split_as(alloc, memory, line, text, false)
+    }
+
+    /// The same where the caller may have seen that no small letter stands outside texts. It has a body of its own for each.
+    #[inline(always)]
+    fn split_as(
+        alloc: Global,
+        memory: Vec<Text<'a>>,
+        line: u64,
+        text: &'a [u8],
+        capitals: bool,
+    ) -> Result<Statement<'a>, AllocError>
+        requires empty { memory.items ≡ [] }
+        requires capitals { IsTrue capitals → folded false text.now ≡ text.now }
+        ensures { IfOk result (λ statement. statement ≡ statement_of line text.now) }
+    {
+        let first = first_mark(text);
+        let Some((head, behind)) = cut_from(text, b'/', first) else {
             let word = Text::element(alloc, text, capitals)?;
             return Ok(Statement {
                 line,
@@ -325,6 +359,16 @@ impl<'a> Statement<'a> {
             });
         };
         let params = Params::split(alloc, memory, behind, capitals)?;
+        if first == head.len() {
+            // No mark stands before the `/`.
+            let word = Text::element(alloc, head, capitals)?;
+            return Ok(Statement {
+                line,
+                label: None,
+                word,
+                params,
+            });
+        }
         Statement::headed(alloc, line, head, capitals, params)
     }
 
@@ -373,13 +417,15 @@ impl<'a> Statement<'a> {
         ensures { IfOk result (λ statement.
             statement ≡ statement_of line (front.now ++ behind.now)) }
     {
-        let capitals = is_folded(front);
-        let Some((head, begun)) = cut_at(front, b'/') else {
-            let joined = join(alloc, front, behind)?;
-            return Statement::split_owned(alloc, memory, line, joined.as_slice());
-        };
-        let params = Params::split_over(alloc, memory, begun, behind, capitals)?;
-        Statement::headed(alloc, line, head, capitals, params)
+        if is_folded(front)
+            && is_folded(behind)
+            && let Some((head, begun)) = cut_at(front, b'/')
+        {
+            let params = Params::split_over(alloc, memory, begun, behind)?;
+            return Statement::headed(alloc, line, head, true, params);
+        }
+        let joined = join(alloc, front, behind)?;
+        Statement::split_owned(alloc, memory, line, joined.as_slice())
     }
 
     /// The statement of a joined text, with bytes of its own. Its parameters take the memory that is handed in.

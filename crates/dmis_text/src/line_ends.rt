@@ -4,7 +4,7 @@ ghost use Rattle.std.specs.Prelude.{◌≡◌, ◌∷◌, [], ◌<◌, ◌==◌,
 ghost use Rattle.std.specs.List.{position};
 ghost use Rattle.std.specs.Str.Lines.{lines, strip_carriage_return};
 
-use crate::runs::{InLine, long_run_end};
+use crate::runs::{InLine, short_or_long_run_end};
 
 /// The bytes without one CR at their end.
 fn without_return(line: &[u8]) -> &[u8]
@@ -21,7 +21,7 @@ fn line_feed(bytes: &[u8]) -> Option<usize>
     ensures place { result ≡ position (λ c. c == 10) bytes.now }
     ensures within { IfSome result (λ at. at < length bytes.now) }
 {
-    let at = long_run_end(&InLine, bytes, 0);
+    let at = short_or_long_run_end(&InLine, bytes, 0);
     if at < bytes.len() { Some(at) } else { None }
 }
 

@@ -58,7 +58,7 @@ fn content_of(line: &[u8], mut inside: bool) -> Option<(&[u8], bool)>
         let byte = line[at];
         let (content, rest) = line.split_at(at);
         if begins_comment(inside, rest) {
-            return if may_be_comment(rest) {
+            return if may_be_comment(line, at) {
                 Some((content, inside))
             } else {
                 None

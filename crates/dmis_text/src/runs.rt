@@ -117,6 +117,38 @@ pub(crate) fn long_run_end<C: Class>(class: &C, bytes: &[u8], from: usize) -> us
     run_end_by_last_block(class, bytes, at)
 }
 
+/// The same where most runs are short and some are long.
+#[inline(always)]
+pub(crate) fn short_or_long_run_end<C: Class>(class: &C, bytes: &[u8], from: usize) -> usize
+    requires { from ≤ length bytes.now }
+    ensures run { result ≡ from + prefix_len (C.holds class.now) (drop from bytes.now) }
+    ensures within { result ≤ length bytes.now }
+{
+    let mut at = from;
+    while bytes.len() - at >= LANES && at - from < MANY_LANES {
+        let run = class.run_in_block(bytes, at);
+        at += run;
+        if run < LANES {
+            return at;
+        }
+    }
+    long_run_end(class, bytes, at)
+}
+
+/// Whether the bytes from this place on, fewer than are looked at together, are seen to be all of the class: with those before them.
+#[inline(always)]
+pub(crate) fn is_filled_to_end<C: Class>(class: &C, bytes: &[u8], from: usize) -> bool
+    requires { from ≤ length bytes.now }
+    ensures { IsTrue result
+        → from + prefix_len (C.holds class.now) (drop from bytes.now) ≡ length bytes.now }
+{
+    if bytes.len() < LANES {
+        return false;
+    }
+    let last = bytes.len() - LANES;
+    last <= from && class.run_in_block(bytes, last) == LANES
+}
+
 /// The bytes that do not end a line.
 pub(crate) struct InLine;
 

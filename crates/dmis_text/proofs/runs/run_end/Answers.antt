@@ -1,6 +1,5 @@
 use Rattle.std.proofs.Common.{arith, ◌∙◌, sym, ap, ◌+◌}
 use Rattle.dmis_text.proofs.Lanes.{ends_in_block, goes_behind}
-use Rattle.dmis_text.proofs.Skipping.{run_within}
 use Rattle.dmis_text.proofs.runs.run_end.Goals as goal
 
 pub returns-then-run-lt-LANES-clause-run : goal.returns-then-run-lt-LANES-clause-run

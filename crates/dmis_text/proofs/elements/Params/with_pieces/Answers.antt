@@ -1,4 +1,3 @@
-use Rattle.std.proofs.Common.{◌++◌, ◌∷◌, [], ap, ◌∙◌}
 use Rattle.dmis_text.proofs.Continued.{pieces_to_last}
 use Rattle.dmis_text.proofs.elements.Params.with_pieces.Goals as goal
 

@@ -2,7 +2,7 @@ use Rattle.std.proofs.Common.{refl}
 use Rattle.std.proofs.lemmas.Simd.{zip2_splat, length-chunk}
 use lib.Lanes.{chunk}
 use Rattle.dmis_text.specs.Runs.{is_unquoted}
-use Rattle.dmis_text.proofs.Lanes.{of_both, run_of}
+use Rattle.dmis_text.proofs.Lanes.{run_of}
 use Rattle.dmis_text.proofs.runs.UnquotedClass.run_in_block.Goals as goal
 
 pub returns : goal.returns

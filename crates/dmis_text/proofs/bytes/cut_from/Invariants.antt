@@ -1,7 +1,7 @@
 use Rattle.std.proofs.Common.{◌≡◌, ◌-◌, ◌≤◌, take, drop, length, false}
 use Rattle.dmis_text.specs.Elements.{cut_at}
 use Rattle.dmis_text.proofs.Splitting.{put_before}
-use Rattle.dmis_text.proofs.bytes.cut_at.Given as goal
+use Rattle.dmis_text.proofs.bytes.cut_from.Given as goal
 
 abbrev pub invariant-loop-at : goal.invariant-loop-at
 invariant-loop-at l =

@@ -1,0 +1,12 @@
+use Rattle.std.proofs.Common.{◌≡◌, ◌+◌, ◌-◌, ◌≤◌, length, drop}
+use Rattle.std.specs.List.{prefix_len}
+use Rattle.dmis_text.proofs.runs.short_or_long_run_end.Given as goal
+
+abbrev pub invariant-loop-at : goal.invariant-loop-at
+invariant-loop-at g l =
+    (l.at + prefix_len (g.C.Class.holds l.class) (drop l.at l.bytes) ≡ l.from + prefix_len (g.C.Class.holds l.class) (drop l.from l.bytes))
+    × (l.from ≤ l.at)
+    × (l.at ≤ length l.bytes)
+
+abbrev pub decreases-loop-at : goal.decreases-loop-at
+decreases-loop-at g l = length l.bytes - l.at
