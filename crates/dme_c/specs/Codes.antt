@@ -5,6 +5,8 @@ use Rattle.protocol_model.specs.declared.states.State.{State}
 use Rattle.protocol_model.specs.declared.states.State.TheVariants as state
 use Rattle.client_core.specs.declared.faults.ClientFault.{ClientFault}
 use Rattle.client_core.specs.declared.faults.ClientFault.TheVariants as fault
+use Rattle.dme_c.specs.declared.codes.NotMade.{NotMade}
+use Rattle.dme_c.specs.declared.codes.NotMade.TheVariants as not_made
 
 -- the fault of a client that a number stands for
 abbrev pub client_fault : ℕ → Option ClientFault
@@ -37,3 +39,12 @@ state_number state.Aborting = 3
 state_number state.Halted = 4
 state_number state.Done = 5
 state_number state.Faulted = 6
+
+-- the number of why no client is made
+abbrev pub not_made_number : NotMade → ℕ
+not_made_number not_made.Memory = 3
+not_made_number not_made.BadSetup = 4
+not_made_number not_made.BadProgram = 5
+not_made_number not_made.BadFeatures = 6
+not_made_number not_made.BadWindow = 7
+not_made_number not_made.NotOurs = 8

@@ -3,4 +3,5 @@ pub mod Calls
 pub mod ClientCalls
 pub mod Codes
 pub mod Held
+pub mod Making
 pub mod ServerCalls

@@ -1,5 +1,5 @@
 -- What each call of a server does, in the words of the server's own contracts, and the numbers that stand for its answers.
-use Rattle.std.specs.Prelude.{◌≡◌, ◌↔◌, ◌++◌, ℕ, ◌==◌, if◌then◌else◌, min, take, drop, Bool, true, false, Option, Some, None, List, [], length}
+use Rattle.std.specs.Prelude.{◌≡◌, ◌↔◌, ◌++◌, ℕ, ℤ, pos, ◌==◌, if◌then◌else◌, min, take, drop, Bool, true, false, Option, Some, None, List, [], length}
 use Rattle.std.specs.Prelude.{Result, Ok, Err, OnOk, IfOk, IfErr, IsOk, IsTrue}
 use Rattle.fixed_um.specs.Calls.{Leads}
 use Rattle.fixed_um.specs.Shapes.{Direction}
@@ -88,6 +88,10 @@ job_place _ = None
 abbrev pub job_normal : Option Job → Option Direction
 job_normal (Some (job.Touch p d)) = d
 job_normal _ = None
+
+-- three numbers that say nothing
+abbrev pub AreZero : ℤ → ℤ → ℤ → Type 0
+AreZero x y z = (x ≡ pos 0) × (y ≡ pos 0) × (z ≡ pos 0)
 
 -- the tool that is changed to
 abbrev pub job_tool : Option Job → List ℕ

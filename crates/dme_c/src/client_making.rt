@@ -1,78 +1,56 @@
 // A client from the texts that a caller has.
 
-ghost use Rattle.std.specs.Prelude.{◌≡◌, ◌≢◌, ◌<◌, Ok, IfOk, IfErr, IsSome, IfSome, None};
+ghost use Rattle.std.specs.Prelude.{◌≡◌, ◌≢◌, ◌⊎◌, ◌≤◌, Ok, Some, IfOk, IfErr, IsSome, IfSome, None};
 ghost use Rattle.tool_rack.specs.Setups.{SetupValue, setup_of};
 ghost use Rattle.dmis_program.specs.Meaning.{program_of};
+ghost use Rattle.protocol_model.specs.Ends.{ClientEnd};
+ghost use Rattle.dme_c.specs.Making.{AnswersJust, IsBadSetup, IsBadProgram, IsBadFeatures, IsBadWindow, IsNotOurs, IsClientOf, IsWhy};
 
 use crate::client_handles::ClientHandle;
+use crate::codes::{NotMade, refusal_number};
+use crate::texts::{features_read, program_read, setup_read};
 use client_core::{Client, NewFault};
-use contact_ledger::{FeatureLedger, TextFault, read_features};
-use dmis_program::{Program, ProgramFault};
+use contact_ledger::laws::features_are_read_in_one_way;
 use std::alloc::Global;
-use tool_rack::{Setup, SetupFault};
-
-const DONE: u32 = 0;
-
-const MEMORY: u32 = 3;
-
-const BAD_SETUP: u32 = 4;
-
-const BAD_PROGRAM: u32 = 5;
-
-const BAD_FEATURES: u32 = 6;
-
-const BAD_WINDOW: u32 = 7;
-
-const NOT_OURS: u32 = 8;
-
-/// The program of this text, with the frames of this setup.
-fn program_read(alloc: Global, setup: &[u8], program: &[u8]) -> Result<Program, u32>
-    ensures number { IfErr result (λ number. 0 < number) }
-    ensures program { IfOk result (λ read. (known : SetupValue) → setup_of setup.now ≡ Ok known
-        → program_of known.frames program.now ≡ Ok read) }
-{
-    let setup = match Setup::read(alloc, setup) {
-        Ok(setup) => setup,
-        Err(SetupFault::Memory) => return Err(MEMORY),
-        Err(_) => return Err(BAD_SETUP),
-    };
-    match Program::read(alloc, program, setup.frames()) {
-        Ok(program) => Ok(program),
-        Err(ProgramFault::Memory) => Err(MEMORY),
-        Err(ProgramFault::Refused(_, _)) => Err(BAD_PROGRAM),
-    }
-}
-
-/// The features of this text; of no text none.
-fn features_read(alloc: Global, features: &[u8]) -> Result<FeatureLedger, u32>
-    ensures { IfErr result (λ number. 0 < number) }
-{
-    match read_features(alloc, features) {
-        Ok(features) => Ok(features),
-        Err(TextFault::Memory) => Err(MEMORY),
-        Err(_) => Err(BAD_FEATURES),
-    }
-}
 
 /// The client of these texts.
+#[tactic(auto, using(crate::proofs::Making::first_of_both, crate::proofs::Making::second_of_both, crate::proofs::Making::not_true))]
 fn client_read(
     alloc: Global,
     setup: &[u8],
     program: &[u8],
     features: &[u8],
     window: u8,
-) -> Result<Client, u32>
-    ensures number { IfErr result (λ number. 0 < number) }
-    ensures program { IfOk result (λ e. (known : SetupValue) → setup_of setup.now ≡ Ok known
-        → program_of known.frames program.now ≡ Ok e.client.program) }
-    ensures window { IfOk result (λ e. e.client.window ≡ window) }
+) -> Result<Client, NotMade>
+    ensures client { IfOk result (IsClientOf setup.now program.now features.now window) }
+    ensures refused { IfErr result (IsWhy setup.now program.now features.now window) }
 {
-    let program = program_read(alloc, setup, program)?;
+    let setup = setup_read(alloc, setup)?;
+    let program = program_read(alloc, setup.frames(), program)?;
     let features = features_read(alloc, features)?;
     match Client::new(alloc, program, features, window) {
         Ok(client) => Ok(client),
-        Err((NewFault::BadWindow, _, _)) => Err(BAD_WINDOW),
-        Err((NewFault::NotOurs, _, _)) => Err(NOT_OURS),
+        Err((NewFault::BadWindow, _, _)) => Err(NotMade::BadWindow),
+        Err((NewFault::NotOurs, _, _)) => Err(NotMade::NotOurs),
+    }
+}
+
+/// The same in a place of its own.
+fn client_boxed(
+    alloc: Global,
+    setup: &[u8],
+    program: &[u8],
+    features: &[u8],
+    window: u8,
+) -> Result<Box<Client>, NotMade>
+    ensures client { IfOk result (λ core.
+        IsClientOf setup.now program.now features.now window core.value) }
+    ensures refused { IfErr result (IsWhy setup.now program.now features.now window) }
+{
+    let core = client_read(alloc, setup, program, features, window)?;
+    match Box::new(alloc, core) {
+        Ok(core) => Ok(core),
+        Err(_) => Err(NotMade::Memory),
     }
 }
 
@@ -93,14 +71,26 @@ pub extern "C" fn dme_client_new(
         → setup_of setup.now ≡ Ok known
         → program_of known.frames program.now ≡ Ok e.client.program) }
     ensures window { IfSome client.new.held (λ e. e.client.window ≡ window) }
+    ensures client { IfSome client.new.held
+        (IsClientOf setup.now program.now features.now window) }
+    ensures can { (e : ClientEnd) → IsClientOf setup.now program.now features.now window e
+        → (client.new.held ≡ Some e) ⊎ (result ≡ 3) }
+    ensures bad_setup { AnswersJust result 4 (IsBadSetup setup.now) }
+    ensures bad_program { AnswersJust result 5 (IsBadProgram setup.now program.now) }
+    ensures bad_features { AnswersJust result 6
+        (IsBadFeatures setup.now program.now features.now) }
+    ensures bad_window { AnswersJust result 7
+        (IsBadWindow setup.now program.now features.now window) }
+    ensures not_ours { AnswersJust result 8
+        (IsNotOurs setup.now program.now features.now window) }
+    ensures number { (result ≡ 0) ⊎ ((3 ≤ result) × (result ≤ 8)) }
 {
-    let core = match client_read(alloc, setup, program, features, window) {
-        Ok(core) => core,
-        Err(number) => return number,
-    };
-    match Box::new(alloc, core) {
-        Ok(core) => client.put(core),
-        Err(_) => return MEMORY,
+    features_are_read_in_one_way();
+    match client_boxed(alloc, setup, program, features, window) {
+        Ok(core) => {
+            client.put(core);
+            0
+        }
+        Err(why) => refusal_number(why),
     }
-    DONE
 }

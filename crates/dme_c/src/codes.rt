@@ -1,9 +1,33 @@
 // The numbers that stand for answers.
 
 ghost use Rattle.std.specs.Prelude.{◌≡◌, Some};
-ghost use Rattle.dme_c.specs.Codes.{client_fault, call_answer, read_answer, state_number};
+ghost use Rattle.dme_c.specs.Codes.{client_fault, call_answer, read_answer, not_made_number, state_number};
 
 use client_core::{Cause, ClientFault, State};
+
+/// Why no client is made of texts.
+pub(crate) enum NotMade {
+    Memory,
+    BadSetup,
+    BadProgram,
+    BadFeatures,
+    BadWindow,
+    NotOurs,
+}
+
+/// The number of why no client is made.
+pub(crate) fn refusal_number(why: NotMade) -> u32
+    ensures { result ≡ not_made_number why }
+{
+    match why {
+        NotMade::Memory => 3,
+        NotMade::BadSetup => 4,
+        NotMade::BadProgram => 5,
+        NotMade::BadFeatures => 6,
+        NotMade::BadWindow => 7,
+        NotMade::NotOurs => 8,
+    }
+}
 
 /// The number of a fault of a client.
 fn fault_number(fault: ClientFault) -> u32

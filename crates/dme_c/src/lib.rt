@@ -2,6 +2,7 @@
 //!
 //! - `client_handles`, `server_handles`: what a caller holds, and how a core is taken out and put back
 //! - `client_making`, `client_calls`, `server_calls`, `server_jobs`: the functions that are exported
+//! - `texts`: the setups, programs and features that are passed in
 //! - `room`: what is copied out
 //! - `codes`: the numbers that stand for answers
 #![tactic(auto)]
@@ -14,3 +15,4 @@ mod room;
 mod server_calls;
 mod server_handles;
 mod server_jobs;
+mod texts;

@@ -1,21 +1,23 @@
 // The calls of a server, for C.
 
-ghost use Rattle.std.specs.Prelude.{◌≡◌, ◌≢◌, ◌≤◌, unsigned_abs, None, Some, Ok, IsSome, IfSome, option_map};
+ghost use Rattle.std.specs.Prelude.{◌≡◌, ◌≢◌, ◌⊎◌, ◌≤◌, unsigned_abs, None, Some, Ok, IsOk, IsSome, IfSome, option_map};
 ghost use Rattle.fixed_um.specs.Limits.{wire_limit};
 ghost use Rattle.protocol_model.specs.Ends.{serving_left};
 ghost use Rattle.protocol_model.specs.declared.machine.Outcome.TheVariants as outcome;
 ghost use Rattle.server_core.specs.Serving.{new_serving, with_end};
 ghost use Rattle.tool_rack.specs.Setups.{setup_of};
 ghost use Rattle.dme_c.specs.Calls.{Called};
+ghost use Rattle.dme_c.specs.Making.{AnswersJust, IsBadSetup};
 ghost use Rattle.dme_c.specs.ServerCalls.{Accepts, Ends, Feeds, Reads, Takes, Turns, line_served, served, server_fault};
 
+use crate::codes::refusal_number;
 use crate::room::copy_front;
 use crate::server_handles::ServerHandle;
+use crate::texts::setup_read;
 use fixed_um::{Point, Um};
 use line_framing::FramingFault;
 use server_core::{Outcome, Server, ServerFault};
 use std::alloc::Global;
-use tool_rack::{Setup, SetupFault};
 
 /// The number of a fault of a server.
 fn fault_number(fault: ServerFault) -> u32
@@ -61,11 +63,13 @@ pub extern "C" fn dme_server_new(server: &mut ServerHandle, alloc: Global, setup
     ensures refused { result ≢ 0 → server.new.held ≡ None }
     ensures setup { IfSome server.new.held (λ made. setup_of setup.now ≡ Ok made.setup) }
     ensures fresh { IfSome server.new.held (λ made. made ≡ new_serving made.setup) }
+    ensures bad_setup { AnswersJust result 4 (IsBadSetup setup.now) }
+    ensures can { AnswersJust result 0 (IsOk (setup_of setup.now)) }
+    ensures number { (result ≡ 0) ⊎ ((result ≡ 3) ⊎ (result ≡ 4)) }
 {
-    let setup = match Setup::read(alloc, setup) {
+    let setup = match setup_read(alloc, setup) {
         Ok(setup) => setup,
-        Err(SetupFault::Memory) => return 3,
-        Err(_) => return 4,
+        Err(why) => return refusal_number(why),
     };
     let Ok(core) = Server::new(alloc, setup) else {
         return 3;

@@ -2,7 +2,7 @@
 
 ghost use Rattle.std.specs.Prelude.{◌≡◌, ◌<◌, ◌≤◌, None, IsSome, IfSome, length, take, drop};
 ghost use Rattle.protocol_model.specs.Server.{running_job};
-ghost use Rattle.dme_c.specs.ServerCalls.{job_number, job_place, job_normal, job_tool};
+ghost use Rattle.dme_c.specs.ServerCalls.{AreZero, job_number, job_place, job_normal, job_tool};
 
 use crate::room::copy_whole;
 use crate::server_handles::ServerHandle;
@@ -65,6 +65,10 @@ fn shown(server: &Server) -> Running
         (result.x ≡ at.x) × (result.y ≡ at.y) × (result.z ≡ at.z)) }
     ensures normal { IfSome (job_normal (running_job server.now.end.server)) (λ at.
         (result.i ≡ at.i) × (result.j ≡ at.j) × (result.k ≡ at.k)) }
+    ensures no_place { job_place (running_job server.now.end.server) ≡ None
+        → AreZero result.x result.y result.z }
+    ensures no_normal { job_normal (running_job server.now.end.server) ≡ None
+        → AreZero result.i result.j result.k }
 {
     let number = number_of(server);
     let (x, y, z) = match place_of(server) {
@@ -97,6 +101,10 @@ pub extern "C" fn dme_server_job(server: &mut ServerHandle, alloc: Global) -> Ru
         (λ at. (result.x ≡ at.x) × (result.y ≡ at.y) × (result.z ≡ at.z))) }
     ensures normal { IfSome server.old.held (λ s. IfSome (job_normal (running_job s.end.server))
         (λ at. (result.i ≡ at.i) × (result.j ≡ at.j) × (result.k ≡ at.k))) }
+    ensures no_place { IfSome server.old.held (λ s.
+        job_place (running_job s.end.server) ≡ None → AreZero result.x result.y result.z) }
+    ensures no_normal { IfSome server.old.held (λ s.
+        job_normal (running_job s.end.server) ≡ None → AreZero result.i result.j result.k) }
 {
     let core = server.take(alloc);
     let running = shown(&core);
