@@ -76,8 +76,13 @@ typedef struct { uint32_t number; int64_t x, y, z; int64_t i, j, k; } dme_job;
 typedef struct { uint32_t number; size_t length; } dme_text;
 
 /*
- * A client for the program of this text, with the frames and tools of this setup. `features` is the text of the features that it has
- * already (of no bytes: none). The window, from 1 to 16, is how many commands it keeps open at most.
+ * A client for the program of this text, with the frames of this setup. `features` is the text of the features that it has already (of
+ * no bytes: none); one counts where its END has its line feed. The window, from 1 to 16, is how many commands it keeps open at most.
+ * A new client is in DME_APART, was on no connection and has nothing to send; what it keeps are just the features of that text.
+ *
+ * The first of these that is so is answered, or DME_MEMORY in its place, and no other number: DME_BAD_SETUP, DME_BAD_PROGRAM (with the
+ * frames of the setup), DME_BAD_FEATURES (a line is damaged), DME_BAD_WINDOW, DME_NOT_OURS (the kept features have not the labels and
+ * counts of points of the program's first). Where none of them is so, DME_DONE or DME_MEMORY.
  */
 uint32_t dme_client_new(dme_client *client, const uint8_t *setup, size_t setup_length, const uint8_t *program, size_t program_length,
                         const uint8_t *features, size_t features_length, uint8_t window);
@@ -107,7 +112,10 @@ uint32_t dme_client_state(dme_client *client);
  */
 dme_text dme_client_features(dme_client *client, uint8_t *room, size_t room_length);
 
-/* A server with this setup, not homed and without a tool. Its machine is the caller's: see `dme_server_job`. */
+/*
+ * A server with this setup, not homed, without a tool and never on a connection. Its machine is the caller's: see `dme_server_job`.
+ * Where the setup is refused DME_BAD_SETUP, else DME_DONE; in place of either DME_MEMORY, and no other number.
+ */
 uint32_t dme_server_new(dme_server *server, const uint8_t *setup, size_t setup_length);
 /* Empties the handle. */
 void dme_server_free(dme_server *server);

@@ -1,11 +1,13 @@
 -- What each call of a client does, in the words of the client's own contracts.
-use Rattle.std.specs.Prelude.{◌≡◌, ◌↔◌, ◌++◌, ℕ, min, take, drop, Bool, true, List, length, Result, OnOk, IfOk, IfErr, IsTrue, is_some}
+use Rattle.std.specs.Prelude.{◌≡◌, ◌↔◌, ◌++◌, ℕ, ◌≤◌, codes, min, take, drop, Bool, true, List, length, Result, OnOk, IfOk, IfErr, IsTrue, is_some}
 use Rattle.fixed_um.specs.Calls.{Leads}
 use Rattle.line_framing.specs.Next.{next_of}
 use Rattle.line_framing.specs.Framing.{IsLineDue}
 use Rattle.protocol_model.specs.Client.{due, may_abort, may_resume}
 use Rattle.protocol_model.specs.Lines.{Readers, AreReaders}
 use Rattle.protocol_model.specs.Ends.{ClientEnd, end_connected, end_sent, end_aborted, end_fed, end_read, end_resumed, end_taken}
+use Rattle.contact_ledger.specs.FeatureTexts.{features_text, header}
+use Rattle.contact_ledger.specs.declared.features.Feature.{Feature}
 use Rattle.client_core.specs.Clients.{may_connect, may_read}
 use Rattle.client_core.specs.Refusals.{IsRefused, IsReadRefused, IsSendRefused}
 use Rattle.client_core.specs.declared.faults.ClientFault.{ClientFault}
@@ -46,3 +48,14 @@ Reads old new answer =
 abbrev pub Takes : List ℕ → List ℕ → ℕ → ClientEnd → ClientEnd → Type 0
 Takes room_old room_new count old new =
     (count ≡ min (length old.out) (length room_old)) × (room_new ≡ take count old.out ++ drop count room_old) × (new ≡ end_taken count old)
+
+-- the text of these features in the version that begins so; versions are told apart by their first line
+abbrev pub IsTextOf : List Feature → List ℕ → Type 0
+IsTextOf features text = (version : _) × (header version ≡ codes "DME-FEATURES 2") × (text ≡ features_text version features)
+
+-- so many bytes has the text of these features, which went into the front of the room where it fits
+pub record HasText (features : List Feature) (count : ℕ) (room_old room_new : List ℕ) : Type 0 where
+  pub text : List ℕ
+  pub is_text : IsTextOf features text
+  pub count_is : count ≡ length text
+  pub front : count ≤ length room_old → take count room_new ≡ text

@@ -5,7 +5,7 @@ ghost use Rattle.dme_c.specs.Calls.{Called};
 ghost use Rattle.dme_c.specs.Codes.{call_answer, read_answer, state_number};
 ghost use Rattle.contact_ledger.specs.FeatureTexts.{IsFeatures};
 ghost use Rattle.protocol_model.specs.Ends.{end_left};
-ghost use Rattle.dme_c.specs.ClientCalls.{Aborts, Connects, Feeds, Reads, Resumes, Sends, Takes};
+ghost use Rattle.dme_c.specs.ClientCalls.{Aborts, Connects, Feeds, HasText, IsTextOf, Reads, Resumes, Sends, Takes};
 
 use crate::client_handles::ClientHandle;
 use crate::codes::{call_number, number_of_state, read_number};
@@ -155,8 +155,10 @@ pub struct Text {
 
 /// The text of the features.
 fn features_written(alloc: Global, client: &Client) -> Result<Vec<u8>, AllocError>
-    ensures { IfOk result (λ text.
+    ensures features { IfOk result (λ text.
         IsFeatures text.items client.now.client.table.tally.features) }
+    ensures text { IfOk result (λ text.
+        IsTextOf client.now.client.table.tally.features text.items) }
 {
     written_features_are_read_back();
     let mut text = Vec::new(alloc);
@@ -176,6 +178,8 @@ pub extern "C" fn dme_client_features(
     ensures text { result.number ≡ 0 → result.length ≤ length room.old
         → IfSome client.old.held (λ e.
         IsFeatures (take result.length room.new) e.client.table.tally.features) }
+    ensures whole { result.number ≡ 0 → IfSome client.old.held (λ e.
+        HasText e.client.table.tally.features result.length room.old room.new) }
     ensures beside { result.number ≡ 0 → result.length ≤ length room.old
         → drop result.length room.new ≡ drop result.length room.old }
     ensures long { length room.old < result.length → room.new ≡ room.old }
