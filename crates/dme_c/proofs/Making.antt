@@ -1,14 +1,14 @@
 -- Of all that can be due for texts one thing is, so the answer of a call that makes a core tells of each of them whether it is.
-use Rattle.std.specs.Prelude.{◌≡◌, ◌⊎◌, ◌≤◌, ℕ, Bool, false, true, not, ◌&&◌, List, Option, None, Some, Result, Ok, Err, IsErr}
+use Rattle.std.specs.Prelude.{◌≡◌, ℕ, Bool, false, true, not, ◌&&◌, List, Result, Ok, Err, IsErr}
 use Rattle.std.proofs.Common.{refl, inl, inr, subst, arith}
 use Rattle.contact_ledger.specs.FeatureTexts.{IsFeatures, IsDamagedFeatures}
 use Rattle.contact_ledger.specs.declared.features.Feature.{Feature}
 use Rattle.dmis_program.specs.Meaning.{Meaning, program_of}
 use Rattle.tool_rack.specs.Setups.{SetupValue, setup_of}
-use Rattle.client_core.specs.Clients.{are_ours, is_window}
-use Rattle.protocol_model.specs.Ends.{ClientEnd, new_client_end}
+use Rattle.client_core.specs.Clients.{is_window}
+use Rattle.protocol_model.specs.Ends.{ClientEnd}
 use Rattle.dme_c.specs.Codes.{not_made_number}
-use Rattle.dme_c.specs.Making.{AnswersJust, IsBadSetup, IsBadProgram, Means, IsBadFeatures, Say, IsBadWindow, IsNotOurs, IsClientOf, IsWhy, Refuses}
+use Rattle.dme_c.specs.Making.{AnswersJust, IsBadSetup, IsBadProgram, Means, IsBadFeatures, Say, IsBadWindow, IsNotOurs, IsClientOf, IsWhy}
 use Rattle.dme_c.specs.declared.codes.NotMade.{NotMade}
 use Rattle.dme_c.specs.declared.codes.NotMade.TheVariants as not_made
 

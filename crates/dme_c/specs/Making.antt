@@ -1,5 +1,5 @@
 -- What is due for the texts of which a core is made, want of memory apart (this profile).
-use Rattle.std.specs.Prelude.{◌≡◌, ◌⊎◌, ℕ, false, true, List, Result, Ok, IsErr}
+use Rattle.std.specs.Prelude.{◌≡◌, ◌⊎◌, ℕ, false, true, List, Ok, IsErr}
 use Rattle.contact_ledger.specs.FeatureTexts.{IsFeatures, IsDamagedFeatures}
 use Rattle.contact_ledger.specs.declared.features.Feature.{Feature}
 use Rattle.dmis_program.specs.Meaning.{Meaning, program_of}
@@ -9,7 +9,7 @@ use Rattle.protocol_model.specs.Ends.{ClientEnd, new_client_end}
 use Rattle.dme_c.specs.declared.codes.NotMade.{NotMade}
 use Rattle.dme_c.specs.declared.codes.NotMade.TheVariants as not_made
 
--- this number is answered only where that holds; where it holds no other number is, but 3 for want of memory
+-- of a call that answered `number`: `due` is answered only where that holds, and where it holds `due` is, or 3 for want of memory
 abbrev pub AnswersJust : ℕ → ℕ → Type 0 → Type 0
 AnswersJust number due Holds = (number ≡ due → Holds) × (Holds → (number ≡ due) ⊎ (number ≡ 3))
 
