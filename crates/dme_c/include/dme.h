@@ -51,7 +51,7 @@ extern "C" {
 #define DME_OUT_OF_VOLUME 26u /* a touched point is more than 1000000000 micrometres from an axis' zero */
 
 /* States of a client. */
-#define DME_APART 0u    /* on no connection, with something left to measure */
+#define DME_APART 0u    /* on no connection; so is a new client, also where it keeps all features */
 #define DME_RUNNING 1u
 #define DME_FAILING 2u  /* a command has failed, others are open */
 #define DME_ABORTING 3u
