@@ -1,7 +1,7 @@
-//! Tests of the crates of values, texts, lines and ports: that their clauses mean what the standards and a programmer write, and that a call
-//! succeeds where memory is there. They use public calls alone and stand here so that no library is proved a second time for their sake.
+//! Tests of the crates of values, texts, lines and ports that are no rows of a text (those are the input of `text_rows`): values that are made
+//! by hand, limits, ports that fail. They use public calls alone and stand here so that no library is proved a second time for their sake.
 //!
-//! - `values`: lengths, directions and names; `statements`, `programs`: DMIS texts; `wire`, `framing`: lines of the interface; `ports`
+//! - `values`: lengths, directions and names; `programs`: DMIS programs; `wire`, `framing`: lines of the interface; `ports`
 #![tactic(auto)]
 
 #[cfg(test)]
@@ -10,8 +10,6 @@ mod framing;
 mod ports;
 #[cfg(test)]
 mod programs;
-#[cfg(test)]
-mod statements;
 #[cfg(test)]
 mod values;
 #[cfg(test)]

@@ -1,0 +1,72 @@
+// The parts of the input.
+
+use crate::escapes::{bytes_of, push_text};
+use crate::stop::Stop;
+use crate::{framing, programs, statements, values, wire};
+use std::alloc::{AllocError, Global};
+
+/// The word of a head.
+fn head(line: &str) -> Option<&str> {
+    line.strip_prefix("[")?.strip_suffix("]")
+}
+
+/// What the bytes of a row show in a part of this word.
+fn push_bytes(alloc: Global, out: &mut Vec<u8>, word: &str, bytes: &[u8]) -> Result<(), Stop> {
+    match word {
+        "numerals" => Ok(values::push_numeral(alloc, out, bytes)?),
+        "zeros" => Ok(values::push_zero(out, bytes)?),
+        "names" => Ok(values::push_name(alloc, out, bytes)?),
+        "commands" => Ok(wire::push_command(alloc, out, bytes)?),
+        "responses" => Ok(wire::push_response(alloc, out, bytes)?),
+        "points" => Ok(wire::push_point(alloc, out, bytes)?),
+        "homed" => Ok(wire::push_homed(alloc, out, bytes)?),
+        _ => Err(Stop::Row),
+    }
+}
+
+/// What a row shows in a part of this word.
+fn push_answer(alloc: Global, out: &mut Vec<u8>, word: &str, row: &str) -> Result<(), Stop> {
+    match word {
+        "directions" => Ok(values::push_direction(alloc, out, row)?),
+        "errors" => wire::push_error(alloc, out, row),
+        "pieces" => Ok(framing::push_pieces(alloc, out, row)?),
+        "statements" => Ok(statements::push_text_row(alloc, out, row)?),
+        "long_lines" => statements::push_long_row(alloc, out, row),
+        "programs" => programs::push_program_row(alloc, out, row),
+        _ => {
+            let bytes = bytes_of(alloc, row)?;
+            push_bytes(alloc, out, word, bytes.as_slice())
+        }
+    }
+}
+
+/// A line of the input in a part of this word: what says something of the rows below it as it stands, a row with its answer.
+fn push_line(alloc: Global, out: &mut Vec<u8>, word: &str, line: &str) -> Result<(), Stop> {
+    push_text(out, line)?;
+    if !line.starts_with("-- ") {
+        push_text(out, " => ")?;
+        push_answer(alloc, out, word, line)?;
+    }
+    Ok(out.push(b'\n')?)
+}
+
+fn push_head(out: &mut Vec<u8>, line: &str) -> Result<(), AllocError> {
+    push_text(out, line)?;
+    push_text(out, "\n")
+}
+
+/// The input with the answer of each row behind it.
+pub(crate) fn answered(alloc: Global, input: &str) -> Result<Vec<u8>, Stop> {
+    let mut out = Vec::new(alloc);
+    let mut word = "";
+    for line in input.lines() {
+        match head(line) {
+            Some(next) => {
+                word = next;
+                push_head(&mut out, line)?;
+            }
+            None => push_line(alloc, &mut out, word, line)?,
+        }
+    }
+    Ok(out)
+}
