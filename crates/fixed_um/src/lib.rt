@@ -12,7 +12,7 @@
 //! - `points`: sums and differences of points
 //! - `rounding`: the whole number nearest to a fraction
 //! - `display`: how lengths, points, directions and names are printed
-//! - `writing`: `write_um`, `write_dir`, and the same for a caller who has made room
+//! - `writing`: `write_um`, `write_dir`, and the same for a caller who has made room or puts a length in front of a text
 #![tactic(auto)]
 
 pub mod directions;
