@@ -1,0 +1,147 @@
+"""Runs each line of README and of the pages in docs/ that calls `dme`, as it stands there but for its port, in a folder with the files of
+examples/. Each has to end with status 0 and with nothing said of a fault; where what it prints stands below it, it prints just that.
+
+A server in the lines of one block serves the client below it; to any other a client comes, and a client alone finds a server. What
+stands below is an indented block right behind it, or behind one paragraph that ends with a colon. `run` calls this; by itself:
+tests/documents.py
+"""
+
+import contextlib
+import os
+import pathlib
+import re
+import shutil
+import subprocess
+import sys
+import tempfile
+
+from listening import free_port, wait_for_listener
+
+ROOT = pathlib.Path(__file__).resolve().parent.parent
+PROGRAM = ROOT / "crates" / "dme_program" / "out" / "dme_program"
+SECONDS = 20
+INDENT = "    "
+IN_CRATE = re.compile(r"cd crates/dme_program && rt (?:try|run)(?: --data \S+)? -- (.*)")
+CLIENT = "dme run --setup machine.setup --host 127.0.0.1 --port 4000 circle.dmis"
+SERVER = "dme serve --setup machine.setup --port 4000"
+
+
+def call_of(line):
+    """The call of `dme` that a line is; none where it is another."""
+    inside = IN_CRATE.fullmatch(line)
+    if inside:
+        return "dme " + inside[1].replace("../../", "")
+    return line if line.startswith("dme ") else None
+
+
+def parts_of(text):
+    """The indented blocks of a text and the paragraphs between them, in order, each as its lines."""
+    parts, is_block = [], None
+    for line in text.splitlines():
+        if not line.strip():
+            is_block = is_block and None
+            continue
+        if line.startswith(INDENT) != is_block or not parts:
+            is_block = line.startswith(INDENT)
+            parts.append((is_block, []))
+        parts[-1][1].append(line.removeprefix(INDENT) if is_block else line)
+    return parts
+
+
+def printed_below(parts, at):
+    """What stands below a block of calls as what the last of them prints; none where nothing does."""
+    behind = parts[at + 1 : at + 3]
+    if behind and not behind[0][0] and behind[0][1][-1].endswith(":"):
+        behind = behind[1:]
+    if behind and behind[0][0] and not any(call_of(it) for it in behind[0][1]):
+        return "\n".join(behind[0][1]) + "\n"
+    return None
+
+
+def blocks_of(document):
+    """The calls of each block that has some, and what the last of them prints."""
+    parts = parts_of(document.read_text())
+    for at, (is_block, lines) in enumerate(parts):
+        calls = [call_of(it) for it in lines if call_of(it)] if is_block else []
+        if calls:
+            yield calls, printed_below(parts, at)
+
+
+class Room:
+    """A folder with the files of examples/, in which calls are run with `dme` on the path."""
+
+    def __init__(self, folder):
+        self.folder = folder
+        for to in (folder, folder / "examples"):
+            shutil.copytree(ROOT / "examples", to, dirs_exist_ok=True)
+        (folder / "bin").mkdir()
+        (folder / "bin" / "dme").symlink_to(PROGRAM)
+        self.path = {"PATH": f"{folder}/bin:{os.environ['PATH']}"}
+
+    def started(self, call, port):
+        words = call.rstrip("& ").replace(" 4000", f" {port}")
+        pipe = subprocess.PIPE
+        return subprocess.Popen(f"exec {words}", shell=True, cwd=self.folder, env=os.environ | self.path, stdin=subprocess.DEVNULL, stdout=pipe, stderr=pipe, text=True)
+
+    @contextlib.contextmanager
+    def serving(self, call, port):
+        """A server, until it has ended by itself."""
+        server = self.started(call, port)
+        wait_for_listener(port, lambda: server.poll() is not None, SECONDS)
+        yield
+        must_end_well(server)
+
+
+def must_end_well(process):
+    """What a call prints."""
+    output, errors = process.communicate(timeout=SECONDS)
+    if process.returncode != 0 or "dme: " in errors:
+        raise AssertionError(f"status {process.returncode}: {errors}")
+    return output
+
+
+def run_block(room, calls):
+    """What the last call of a block prints."""
+    port = free_port()
+    words = [it.split()[1] for it in calls]
+    if words[0] == "serve":
+        count = int(calls[0].split("--connections ")[1].split()[0]) if "--connections " in calls[0] else 1
+        with room.serving(calls[0], port):
+            for call in calls[1:] or [CLIENT] * count:
+                output = must_end_well(room.started(call, port))
+        return output
+    for word, call in zip(words, calls):
+        with room.serving(SERVER, port) if word == "run" else contextlib.nullcontext():
+            output = must_end_well(room.started(call, port))
+    return output
+
+
+def faults_of(room, document):
+    """How many blocks of a document have calls, and what is wrong with them."""
+    faults, count = [], 0
+    for calls, printed in blocks_of(document):
+        count += 1
+        try:
+            output = run_block(room, calls)
+            if printed is not None and output != printed:
+                faults.append(f"{calls[-1]}: {output!r}, not {printed!r}")
+        except (AssertionError, subprocess.TimeoutExpired) as why:
+            faults.append(f"{calls}: {why}")
+    return count, faults
+
+
+def check_documents():
+    """How many blocks of calls are true, and how many are not."""
+    passed = failed = 0
+    for document in [ROOT / "README.md", *sorted((ROOT / "docs").glob("*.md"))]:
+        with tempfile.TemporaryDirectory() as folder:
+            count, faults = faults_of(Room(pathlib.Path(folder)), document) if PROGRAM.exists() else (1, ["no executable"])
+        for fault in faults:
+            print(f"{document.name}: {fault}")
+        passed, failed = passed + count - len(faults), failed + len(faults)
+    print(f"calls in documents: {passed} of {passed + failed}", flush=True)
+    return passed, failed
+
+
+if __name__ == "__main__":
+    sys.exit(1 if check_documents()[1] else 0)
