@@ -5,11 +5,6 @@ use crate::stop::Stop;
 use crate::{framing, programs, statements, values, wire};
 use std::alloc::{AllocError, Global};
 
-/// The word of a head.
-fn head(line: &str) -> Option<&str> {
-    line.strip_prefix("[")?.strip_suffix("]")
-}
-
 /// What the bytes of a row show in a part of this word.
 fn push_bytes(alloc: Global, out: &mut Vec<u8>, word: &str, bytes: &[u8]) -> Result<(), Stop> {
     match word {
@@ -50,22 +45,22 @@ fn push_line(alloc: Global, out: &mut Vec<u8>, word: &str, line: &str) -> Result
     Ok(out.push(b'\n')?)
 }
 
-fn push_head(out: &mut Vec<u8>, line: &str) -> Result<(), AllocError> {
-    push_text(out, line)?;
-    push_text(out, "\n")
+/// A part with its answers.
+fn push_part(alloc: Global, out: &mut Vec<u8>, piece: &str) -> Result<(), Stop> {
+    let (word, text) = piece.split_once("]\n").ok_or(Stop::Row)?;
+    push_text(out, format!(in alloc; "[{word}]\n")?.as_str())?;
+    for line in text.lines() {
+        push_line(alloc, out, word, line)?;
+    }
+    Ok(())
 }
 
-/// The input with the answer of each row behind it.
+/// The input with the answer of each row behind it. No row has a bracket.
 pub(crate) fn answered(alloc: Global, input: &str) -> Result<Vec<u8>, Stop> {
     let mut out = Vec::new(alloc);
-    let mut word = "";
-    for line in input.lines() {
-        match head(line) {
-            Some(next) => {
-                word = next;
-                push_head(&mut out, line)?;
-            }
-            None => push_line(alloc, &mut out, word, line)?,
+    for piece in input.split("[") {
+        if !piece.is_empty() {
+            push_part(alloc, &mut out, piece)?;
         }
     }
     Ok(out)
