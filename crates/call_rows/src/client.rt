@@ -68,21 +68,16 @@ fn data_for<'a>(written: &[u8], text: &'a str) -> &'a str {
     }
 }
 
-/// What was sent under a tag is received, given its data where there are some, and done.
-fn end_tagged(client: &mut Client, tag: &[u8], data: &str) -> Result<bool, ClientFault> {
-    feed_line(client, &[tag, b" &\r\n"])?;
-    if !data.is_empty() {
-        feed_line(client, &[tag, b" # ", data.as_bytes(), b"\r\n"])?;
-    }
-    feed_line(client, &[tag, b" %\r\n"])
-}
-
 /// The command that is due is sent, received, given its data where a text stands here or it asks whether the machine is homed, and done.
 fn end_one(client: &mut Client, text: &str) -> Result<bool, ClientFault> {
     client.send()?;
     let tag = tag_of(client.out());
     let data = data_for(client.out(), text);
-    end_tagged(client, &tag, data)
+    feed_line(client, &[&tag, b" &\r\n"])?;
+    if !data.is_empty() {
+        feed_line(client, &[&tag, b" # ", data.as_bytes(), b"\r\n"])?;
+    }
+    feed_line(client, &[&tag, b" %\r\n"])
 }
 
 /// So many commands, one after another.
@@ -113,55 +108,25 @@ fn abort_often(client: &mut Client, count: u32) -> Result<(), ClientFault> {
     Ok(())
 }
 
-/// A call of one client that reads no line, by its word.
-fn called_alone(client: &mut Client, word: &str, rest: &str) -> Result<(), ClientFault> {
-    match word {
-        "connected" => client.connected(rest.parse().unwrap_or(0)),
-        "send" => client.send(),
-        "abort" => client.abort(),
-        "resume" => client.resume(),
-        "restart" => client.restart(rest.parse().unwrap_or(0)),
-        _ => {
-            client.leave();
-            Ok(())
-        }
-    }
-}
-
-/// Calls that are made so often, by their word.
-fn called_often(client: &mut Client, word: &str, count: u32) -> Result<(), ClientFault> {
-    match word {
-        "sends" => send_all(client, count),
-        "aborts" => abort_often(client, count),
-        "letters" => feed_letters(client, count),
-        _ => end_all(client, count),
-    }
-}
-
-/// A call that reads lines, by its word: of any other word the action itself is the line.
-fn called_reading(
-    client: &mut Client,
-    (word, rest): (&str, &str),
-    action: &str,
-) -> Result<bool, ClientFault> {
-    match word {
-        "ended" | "touched" | "told" => end_one(client, rest),
-        "read" => client.read_one(),
-        "bare" => feed_line(client, &[rest.as_bytes(), b"\n"]),
-        _ => feed_line(client, &[action.as_bytes(), b"\r\n"]),
-    }
-}
-
 /// A call by its word; false where no line was read.
 pub(crate) fn called(client: &mut Client, action: &str) -> Result<bool, ClientFault> {
     let (word, rest) = action.split_once(" ").unwrap_or((action, ""));
     match word {
-        "connected" | "send" | "abort" | "resume" | "leave" | "restart" => {
-            called_alone(client, word, rest)?;
-        }
-        "sends" | "aborts" | "letters" => called_often(client, word, rest.parse().unwrap_or(0))?,
-        "ended" if !rest.is_empty() => called_often(client, word, rest.parse().unwrap_or(0))?,
-        _ => return called_reading(client, (word, rest), action),
+        "connected" => client.connected(rest.parse().unwrap_or(0))?,
+        "send" => client.send()?,
+        "sends" => send_all(client, rest.parse().unwrap_or(0))?,
+        "abort" => client.abort()?,
+        "aborts" => abort_often(client, rest.parse().unwrap_or(0))?,
+        "resume" => client.resume()?,
+        "leave" => client.leave(),
+        "restart" => client.restart(rest.parse().unwrap_or(0))?,
+        "letters" => feed_letters(client, rest.parse().unwrap_or(0))?,
+        "ended" if rest.is_empty() => return end_one(client, ""),
+        "ended" => end_all(client, rest.parse().unwrap_or(0))?,
+        "touched" | "told" => return end_one(client, rest),
+        "read" => return client.read_one(),
+        "bare" => return feed_line(client, &[rest.as_bytes(), b"\n"]),
+        _ => return feed_line(client, &[action.as_bytes(), b"\r\n"]),
     }
     Ok(true)
 }
@@ -210,59 +175,22 @@ fn push_called(
     }
 }
 
-/// What a reader of a number or a state answers; false where the action is another.
-fn push_read_out(
-    alloc: Global,
-    out: &mut Vec<u8>,
-    client: &Client,
-    action: &str,
-) -> Result<bool, AllocError> {
-    match action {
-        "state" => push_state(alloc, out, client.state())?,
-        "due" => push_due(alloc, out, client)?,
-        "open" => push_number(alloc, out, client.open())?,
-        "completed" => push_number(alloc, out, client.completed())?,
-        _ => return Ok(false),
-    }
-    Ok(true)
-}
-
-/// What a reader of a list answers; false where the action is another.
-fn push_list(
-    alloc: Global,
-    out: &mut Vec<u8>,
-    client: &Client,
-    action: &str,
-) -> Result<bool, AllocError> {
-    match action {
-        "counted" => push_acts(out, client.counted())?,
-        "features" => push_features(alloc, out, client.features())?,
-        _ => return Ok(false),
-    }
-    Ok(true)
-}
-
-/// What a reader answers, or what a call does.
-fn push_action(
-    alloc: Global,
-    out: &mut Vec<u8>,
-    client: &mut Client,
-    action: &str,
-) -> Result<(), AllocError> {
-    if push_read_out(alloc, out, client, action)? || push_list(alloc, out, client, action)? {
-        return Ok(());
-    }
-    push_called(alloc, out, client, action)
-}
-
-/// What an action shows.
+/// What an action shows: what a reader answers, or what a call does.
 pub(crate) fn answer(
     alloc: Global,
     client: &mut Client,
     action: &str,
 ) -> Result<Vec<u8>, AllocError> {
     let mut text = Vec::new(alloc);
-    push_action(alloc, &mut text, client, action)?;
+    match action {
+        "state" => push_state(alloc, &mut text, client.state())?,
+        "due" => push_due(alloc, &mut text, client)?,
+        "open" => push_number(alloc, &mut text, client.open())?,
+        "completed" => push_number(alloc, &mut text, client.completed())?,
+        "counted" => push_acts(&mut text, client.counted())?,
+        "features" => push_features(alloc, &mut text, client.features())?,
+        _ => push_called(alloc, &mut text, client, action)?,
+    }
     if text.is_empty() {
         push_text(&mut text, "nothing")?;
     }
@@ -306,23 +234,13 @@ fn push_read(
     }
 }
 
-/// What a line of these parts does to a client of its own.
-fn push_mark(
-    alloc: Global,
-    out: &mut Vec<u8>,
-    (made, actions): (Made<'_>, &str),
-    line: &[&[u8]],
-) -> Result<(), Stop> {
-    let mut client = behind(alloc, made, actions)?;
-    Ok(push_read(alloc, out, &mut client, line)?)
-}
-
 /// What the four marks do to the command of a tag, each for a client of its own.
-fn mark_answers(
+fn mark_answers<'a>(
     alloc: Global,
-    behind: (Made<'_>, &str),
-    tag: &str,
-    data: &str,
+    made: Made<'_>,
+    tag: &'a str,
+    data: &'a str,
+    actions: &str,
 ) -> Result<Vec<u8>, Stop> {
     let marks = [(" &", ""), (" # ", data), (" !", ""), (" %", "")];
     let mut answers = Vec::new(alloc);
@@ -330,8 +248,9 @@ fn mark_answers(
         if !answers.is_empty() {
             push_text(&mut answers, ", ")?;
         }
+        let mut client = behind(alloc, made, actions)?;
         let line: [&[u8]; 4] = [tag.as_bytes(), mark.as_bytes(), text.as_bytes(), b"\r\n"];
-        push_mark(alloc, &mut answers, behind, &line)?;
+        push_read(alloc, &mut answers, &mut client, &line)?;
     }
     Ok(answers)
 }
@@ -350,5 +269,5 @@ pub(crate) fn text_answer(alloc: Global, made: Made<'_>, row: &str) -> Result<Ve
 pub(crate) fn marks_answer(alloc: Global, made: Made<'_>, row: &str) -> Result<Vec<u8>, Stop> {
     let (to, actions) = row.split_once(" | ").ok_or(Stop::Row)?;
     let (tag, data) = to.split_once(" # ").unwrap_or((to, "X(1), Y(2), Z(3)"));
-    mark_answers(alloc, (made, actions), tag, data)
+    mark_answers(alloc, made, tag, data, actions)
 }

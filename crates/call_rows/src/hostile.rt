@@ -135,9 +135,9 @@ fn work<M: Machine>(server: &mut Server, machine: &mut M) -> Result<(), Stop> {
         let number = server.ledger().contacts();
         if let Some(job) = server.running() {
             let outcome = machine.answer(job, number);
-            server.machine(outcome).ok().ok_or(Stop::Row)?;
+            server.machine(outcome).map_err(|_| Stop::Row)?;
         } else if server.may_turn() {
-            server.turn().ok().ok_or(Stop::Row)?;
+            server.turn().map_err(|_| Stop::Row)?;
         }
     }
     Ok(())
@@ -154,8 +154,8 @@ fn run_on<M: Machine>(
     if client.state() == State::Done {
         return Ok(());
     }
-    client.connected(2).ok().ok_or(Stop::Row)?;
-    server.accept(2).ok().ok_or(Stop::Row)?;
+    client.connected(2).map_err(|_| Stop::Row)?;
+    server.accept(2).map_err(|_| Stop::Row)?;
     for _ in 0..100u32 {
         if client.due().is_some() {
             worlds::serve_next(client, server, machine)?;

@@ -47,7 +47,7 @@ fn words_of(words: &str) -> Result<Asked, Stop> {
     };
     for pair in words.split(", ") {
         let (word, number) = pair.split_once(" ").ok_or(Stop::Row)?;
-        let number: u32 = number.parse().ok().ok_or(Stop::Row)?;
+        let number: u32 = number.parse().map_err(|_| Stop::Row)?;
         match word {
             "least" => asked.least = number as usize,
             "bound" => asked.bound = number,
@@ -107,13 +107,13 @@ struct ServerSide {
 
 fn connected(alloc: Global, made: Made<'_>) -> Result<Client, Stop> {
     let mut client = new_client(alloc, made)?;
-    client.connected(1).ok().ok_or(Stop::Row)?;
+    client.connected(1).map_err(|_| Stop::Row)?;
     Ok(client)
 }
 
 fn accepted(alloc: Global, setup: &str) -> Result<Server, Stop> {
     let mut server = new_server(alloc, setup)?;
-    server.accept(1).ok().ok_or(Stop::Row)?;
+    server.accept(1).map_err(|_| Stop::Row)?;
     Ok(server)
 }
 

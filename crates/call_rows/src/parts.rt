@@ -53,8 +53,8 @@ fn push_client(alloc: Global, out: &mut Vec<u8>, made: Made<'_>, text: &str) -> 
     Ok(())
 }
 
-/// What a row says of a client, or of both ends, of a program.
-fn program_answer(
+/// What a row of a part says that stands by itself.
+fn row_answer(
     alloc: Global,
     made: Made<'_>,
     setup: &str,
@@ -65,57 +65,18 @@ fn program_answer(
         "texts" => client::text_answer(alloc, made, row),
         "homings" => worlds::homings_answer(alloc, made, setup, row),
         "reports" => worlds::reports_answer(alloc, made, setup, row),
+        "schedules" => worlds::schedule_answer(alloc, row),
         "quiets" => quiets::quiet_answer(alloc, made, setup, row),
         "finishes" => quiets::finish_answer(alloc, made, setup, row),
-        _ => hostile::answer(alloc, (made, setup), (word, row)),
-    }
-}
-
-/// What a row says of a text, or of a server of the setup.
-fn text_answer(alloc: Global, setup: &str, (word, row): (&str, &str)) -> Result<Vec<u8>, Stop> {
-    match word {
-        "schedules" => worlds::schedule_answer(alloc, row),
         "setups" => Ok(setups::answer(alloc, row)?),
         "features" => Ok(texts::features_answer(alloc, row)?),
         "contacts" => Ok(texts::contacts_answer(alloc, row)?),
+        "client_cuts" | "server_cuts" | "both_cuts" => {
+            hostile::answer(alloc, (made, setup), (word, row))
+        }
         "serves" => links::served(alloc, setup, row),
         "connections" => links::connection(alloc, setup, row),
         _ => Err(Stop::Row),
-    }
-}
-
-/// Whether the rows of a part of this word are of a program.
-fn is_of_program(word: &str) -> bool {
-    match word {
-        "marks" | "texts" | "homings" | "reports" | "quiets" | "finishes" => true,
-        "client_cuts" | "server_cuts" | "both_cuts" => true,
-        _ => false,
-    }
-}
-
-/// What a row of a part says that stands by itself.
-fn row_answer(
-    alloc: Global,
-    made: Made<'_>,
-    setup: &str,
-    row: (&str, &str),
-) -> Result<Vec<u8>, Stop> {
-    if is_of_program(row.0) {
-        return program_answer(alloc, made, setup, row);
-    }
-    text_answer(alloc, setup, row)
-}
-
-/// The same; where memory was wanting it is asked once more.
-fn told_answer(
-    alloc: Global,
-    made: Made<'_>,
-    setup: &str,
-    row: (&str, &str),
-) -> Result<Vec<u8>, Stop> {
-    match row_answer(alloc, made, setup, row) {
-        Err(Stop::Memory) => row_answer(alloc, made, setup, row),
-        answer => answer,
     }
 }
 
@@ -131,7 +92,10 @@ fn push_rows(
         if is_comment(row) {
             push_line(out, row)?;
         } else {
-            let answer = told_answer(alloc, made, setup, (word, row))?;
+            let answer = match row_answer(alloc, made, setup, (word, row)) {
+                Err(Stop::Memory) => row_answer(alloc, made, setup, (word, row))?,
+                answer => answer?,
+            };
             push_row(out, row, answer.as_slice())?;
         }
     }
@@ -181,53 +145,6 @@ fn script<'a>(alloc: Global, input: &'a str, name: &str) -> Result<Script<'a>, S
     })
 }
 
-/// The text of the program of this name; an empty one where there is none.
-fn program<'a>(alloc: Global, input: &'a str, name: &str) -> Result<&'a str, AllocError> {
-    let head = format!(in alloc; "program {name}")?;
-    Ok(part(input, head.as_str()).unwrap_or(""))
-}
-
-/// The files that a schedule leaves.
-fn push_files(
-    alloc: Global,
-    out: &mut Vec<u8>,
-    (made, setup): (Made<'_>, &str),
-    schedule: &str,
-) -> Result<(), Stop> {
-    let files = worlds::files(alloc, made, setup, schedule)?;
-    Ok(out.extend_from_slice(files.as_slice())?)
-}
-
-/// Rows of turns and runs of a client, with what comes in of a program of this name.
-fn push_linked(
-    alloc: Global,
-    out: &mut Vec<u8>,
-    ends: (Made<'_>, &str),
-    (input, name, word): (&str, &str, &str),
-    text: &str,
-) -> Result<(), Stop> {
-    let script = script(alloc, input, name)?;
-    push_link_rows(alloc, out, ends, (script, word), text)
-}
-
-/// The rows of a part by its word, with what they are made of.
-fn push_made_rows(
-    alloc: Global,
-    out: &mut Vec<u8>,
-    ends: (Made<'_>, &str),
-    (input, name, word): (&str, &str, &str),
-    text: &str,
-) -> Result<(), Stop> {
-    match word {
-        "client" => push_client(alloc, out, ends.0, text),
-        "files" => push_files(alloc, out, ends, text),
-        "turns" | "runs" | "watches" | "loops" => {
-            push_linked(alloc, out, ends, (input, name, word), text)
-        }
-        _ => push_rows(alloc, out, ends, word, text),
-    }
-}
-
 /// The rows of a part by its head: a word, and where it asks for one a program and a window.
 fn push_rows_of(
     alloc: Global,
@@ -237,41 +154,34 @@ fn push_rows_of(
     text: &str,
 ) -> Result<(), Stop> {
     let (name, window) = rest.split_once(" ").unwrap_or((rest, "1"));
-    let window = window.parse().ok().ok_or(Stop::Row)?;
-    let program = program(alloc, input, name)?;
+    let head = format!(in alloc; "program {name}")?;
     let read = Setup::read(alloc, setup.as_bytes()).ok().ok_or(Stop::Row)?;
     let made = Made {
-        program,
+        program: part(input, head.as_str()).unwrap_or(""),
         frames: read.frames(),
-        window,
+        window: window.parse().map_err(|_| Stop::Row)?,
     };
-    push_made_rows(alloc, out, (made, setup), (input, name, word), text)
-}
-
-/// The rows of a part by its head; of a text that others are made of the text as it stands.
-fn push_answers(
-    alloc: Global,
-    out: &mut Vec<u8>,
-    input: &str,
-    (word, rest): (&str, &str),
-    text: &str,
-) -> Result<(), Stop> {
-    if let "program" | "setup" | "replies" | "commands" = word {
-        return Ok(push_text(out, text)?);
+    match word {
+        "client" => push_client(alloc, out, made, text),
+        "files" => Ok(out.extend_from_slice(worlds::files(alloc, made, setup, text)?.as_slice())?),
+        "turns" | "runs" | "watches" | "loops" => {
+            let script = script(alloc, input, name)?;
+            push_link_rows(alloc, out, (made, setup), (script, word), text)
+        }
+        _ => push_rows(alloc, out, (made, setup), word, text),
     }
-    let setup = part(input, "setup").ok_or(Stop::Row)?;
-    if word == "server" {
-        return push_server(alloc, out, setup, text);
-    }
-    push_rows_of(alloc, out, (input, setup), (word, rest), text)
 }
 
 /// A part with its answers.
 fn push_part(alloc: Global, out: &mut Vec<u8>, input: &str, piece: &str) -> Result<(), Stop> {
     let (head, text) = piece.split_once("]\n").ok_or(Stop::Row)?;
+    let setup = part(input, "setup").ok_or(Stop::Row)?;
     push_line(out, format!(in alloc; "[{head}]")?.as_str())?;
-    let words = head.split_once(" ").unwrap_or((head, ""));
-    push_answers(alloc, out, input, words, text)
+    match head.split_once(" ").unwrap_or((head, "")) {
+        ("program" | "setup" | "replies" | "commands", _) => Ok(push_text(out, text)?),
+        ("server", _) => push_server(alloc, out, setup, text),
+        head => push_rows_of(alloc, out, (input, setup), head, text),
+    }
 }
 
 /// The input with the answer of each row behind it.

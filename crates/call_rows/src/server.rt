@@ -5,7 +5,7 @@
 
 use crate::shown::{push_act, push_direction, push_frame, push_lines, push_point};
 use crate::stop::Stop;
-use fixed_um::{Dir, Frame, Name, Point, Um, read_um};
+use fixed_um::{Point, Um, read_um};
 use server_core::{Job, Outcome, Server, ServerFault};
 use std::alloc::{AllocError, Global};
 use tool_rack::Setup;
@@ -71,61 +71,27 @@ fn feed_homes(server: &mut Server, number: u32) -> Result<bool, ServerFault> {
     Ok(true)
 }
 
-/// A call that ends what runs, by its word.
-fn ended(server: &mut Server, word: &str, rest: &str) -> Result<(), ServerFault> {
-    server.machine(match word {
-        "done" => Outcome::Done,
-        "missed" => Outcome::Missed,
-        "fault" => Outcome::Fault,
-        _ => Outcome::Touched(point(rest)),
-    })
-}
-
-/// Another call that reads no line, by its word.
-fn called_alone(server: &mut Server, word: &str, rest: &str) -> Result<(), ServerFault> {
-    match word {
-        "accept" => server.accept(rest.parse().unwrap_or(0)),
-        "turn" => server.turn(),
-        "leave" => {
-            server.leave();
-            Ok(())
-        }
-        _ => {
-            server.restart();
-            Ok(())
-        }
-    }
-}
-
-/// The errors are cleared.
-fn clear(server: &mut Server) -> Result<(), ServerFault> {
-    feed_line(server, b"09999 ClearAllErrors()", b"\r\n")?;
-    server.turn()
-}
-
-/// A call that reads lines, by its word: of any other word the action itself is the line.
-fn called_reading(
-    server: &mut Server,
-    (word, rest): (&str, &str),
-    action: &str,
-) -> Result<bool, ServerFault> {
-    match word {
-        "read" => server.read_one(),
-        "homes" => feed_homes(server, rest.parse().unwrap_or(0)),
-        "bad" => feed_line(server, rest.as_bytes(), b"\n"),
-        "long" => feed_long(server),
-        _ => feed_line(server, action.as_bytes(), b"\r\n"),
-    }
-}
-
 /// A call by its word; false where no line was read.
 pub(crate) fn called(server: &mut Server, action: &str) -> Result<bool, ServerFault> {
     let (word, rest) = action.split_once(" ").unwrap_or((action, ""));
     match word {
-        "accept" | "turn" | "leave" | "restart" => called_alone(server, word, rest)?,
-        "done" | "missed" | "fault" | "touched" => ended(server, word, rest)?,
-        "clear" => clear(server)?,
-        _ => return called_reading(server, (word, rest), action),
+        "accept" => server.accept(rest.parse().unwrap_or(0))?,
+        "turn" => server.turn()?,
+        "done" => server.machine(Outcome::Done)?,
+        "missed" => server.machine(Outcome::Missed)?,
+        "fault" => server.machine(Outcome::Fault)?,
+        "touched" => server.machine(Outcome::Touched(point(rest)))?,
+        "leave" => server.leave(),
+        "restart" => server.restart(),
+        "clear" => {
+            feed_line(server, b"09999 ClearAllErrors()", b"\r\n")?;
+            server.turn()?;
+        }
+        "read" => return server.read_one(),
+        "homes" => return feed_homes(server, rest.parse().unwrap_or(0)),
+        "bad" => return feed_line(server, rest.as_bytes(), b"\n"),
+        "long" => return feed_long(server),
+        _ => return feed_line(server, action.as_bytes(), b"\r\n"),
     }
     Ok(true)
 }
@@ -134,74 +100,48 @@ fn push_word(out: &mut Vec<u8>, is: bool, yes: &str, no: &str) -> Result<(), All
     out.extend_from_slice(if is { yes.as_bytes() } else { no.as_bytes() })
 }
 
-fn push_connection(
-    alloc: Global,
-    out: &mut Vec<u8>,
-    connection: Option<u64>,
-) -> Result<(), AllocError> {
-    match connection {
-        Some(number) => out.extend_from_slice(format!(in alloc; "on {number};")?.as_bytes()),
-        None => out.extend_from_slice(b"off;"),
-    }
-}
-
-/// The tool in the head, with `;` behind it.
-fn push_tool(out: &mut Vec<u8>, tool: Option<&Name>) -> Result<(), AllocError> {
-    match tool {
-        Some(tool) => out.extend_from_slice(tool.as_bytes())?,
-        None => out.extend_from_slice(b"no tool")?,
-    }
-    out.extend_from_slice(b";")
-}
-
-/// The frame that is selected and the place that is stored, each with `;` behind it.
-fn push_frames(out: &mut Vec<u8>, frame: Frame, stored: Point) -> Result<(), AllocError> {
-    push_frame(out, frame)?;
-    out.extend_from_slice(b";")?;
-    push_point(out, stored)?;
-    out.extend_from_slice(b";")
-}
-
 pub(crate) fn push_state(
     alloc: Global,
     out: &mut Vec<u8>,
     server: &Server,
 ) -> Result<(), AllocError> {
     let view = server.view();
-    push_connection(alloc, out, view.connection)?;
+    match view.connection {
+        Some(number) => out.extend_from_slice(format!(in alloc; "on {number};")?.as_bytes())?,
+        None => out.extend_from_slice(b"off;")?,
+    }
     push_word(out, view.session, "session;", "no session;")?;
     push_word(out, view.homed, "homed;", "not homed;")?;
-    push_tool(out, view.tool)?;
-    push_frames(out, view.frame, view.stored)?;
+    match view.tool {
+        Some(tool) => out.extend_from_slice(tool.as_bytes())?,
+        None => out.extend_from_slice(b"no tool")?,
+    }
+    out.push(b';')?;
+    push_frame(out, view.frame)?;
+    out.push(b';')?;
+    push_point(out, view.stored)?;
+    out.push(b';')?;
     push_word(out, view.error, "error;", "no error;")
-}
-
-/// A word and a place.
-fn push_place(out: &mut Vec<u8>, word: &[u8], target: Point) -> Result<(), AllocError> {
-    out.extend_from_slice(word)?;
-    push_point(out, target)
-}
-
-/// A word, a place and a direction.
-fn push_touch(out: &mut Vec<u8>, target: Point, dir: Option<Dir>) -> Result<(), AllocError> {
-    push_place(out, b"Touch ", target)?;
-    out.extend_from_slice(b" ")?;
-    push_direction(out, dir)
-}
-
-/// A word and a tool.
-fn push_change(out: &mut Vec<u8>, tool: &[u8]) -> Result<(), AllocError> {
-    out.extend_from_slice(b"Change ")?;
-    out.extend_from_slice(tool)
 }
 
 pub(crate) fn push_job(out: &mut Vec<u8>, server: &Server) -> Result<(), AllocError> {
     match server.running() {
         None => out.extend_from_slice(b"nothing"),
         Some(Job::Home) => out.extend_from_slice(b"Home"),
-        Some(Job::Move(target)) => push_place(out, b"Move ", *target),
-        Some(Job::Touch(target, dir)) => push_touch(out, *target, *dir),
-        Some(Job::Change(tool)) => push_change(out, tool.as_bytes()),
+        Some(Job::Move(target)) => {
+            out.extend_from_slice(b"Move ")?;
+            push_point(out, *target)
+        }
+        Some(Job::Touch(target, dir)) => {
+            out.extend_from_slice(b"Touch ")?;
+            push_point(out, *target)?;
+            out.push(b' ')?;
+            push_direction(out, *dir)
+        }
+        Some(Job::Change(tool)) => {
+            out.extend_from_slice(b"Change ")?;
+            out.extend_from_slice(tool.as_bytes())
+        }
     }
 }
 

@@ -14,17 +14,6 @@ use server_core::Server;
 use std::alloc::{AllocError, Global};
 use tool_rack::Setup;
 
-/// A new world of a program and a setup.
-fn new_world(alloc: Global, made: Made<'_>, setup: &str) -> Result<World, Stop> {
-    let setup = Setup::read(alloc, setup.as_bytes()).ok().ok_or(Stop::Row)?;
-    let program = Program::read(alloc, made.program.as_bytes(), setup.frames())
-        .ok()
-        .ok_or(Stop::Row)?;
-    World::new(alloc, program, setup, made.window)
-        .ok()
-        .ok_or(Stop::Row)
-}
-
 /// A world of a program and a setup behind a schedule.
 pub(crate) fn played(
     alloc: Global,
@@ -32,8 +21,14 @@ pub(crate) fn played(
     setup: &str,
     schedule: &[u8],
 ) -> Result<World, Stop> {
+    let setup = Setup::read(alloc, setup.as_bytes()).ok().ok_or(Stop::Row)?;
+    let program = Program::read(alloc, made.program.as_bytes(), setup.frames())
+        .ok()
+        .ok_or(Stop::Row)?;
     let schedule = Schedule::read(alloc, schedule).ok().ok_or(Stop::Row)?;
-    let mut world = new_world(alloc, made, setup)?;
+    let Ok(mut world) = World::new(alloc, program, setup, made.window) else {
+        return Err(Stop::Row);
+    };
     schedule.play(&mut world)?;
     Ok(world)
 }
@@ -69,44 +64,33 @@ pub(crate) fn homings_answer(
     Ok(state_and_homings(alloc, &world)?)
 }
 
-/// The server is fed what the client has written, and reads a line.
-fn hear_command(client: &mut Client, server: &mut Server) -> Result<(), Stop> {
-    server.feed(client.out()).ok().ok_or(Stop::Row)?;
-    let count = client.out().len();
-    client.sent(count);
-    server.read_one().ok().ok_or(Stop::Row)?;
-    Ok(())
-}
-
-/// What waits has its turn, and the machine ends what then runs.
-fn serve_one<M: Machine>(server: &mut Server, machine: &mut M) -> Result<(), Stop> {
-    server.turn().ok().ok_or(Stop::Row)?;
-    let number = server.ledger().contacts();
-    if let Some(job) = server.running() {
-        let outcome = machine.answer(job, number);
-        server.machine(outcome).ok().ok_or(Stop::Row)?;
-    }
-    Ok(())
-}
-
 /// The command that is due is sent, and the server and its machine do it.
 pub(crate) fn serve_next<M: Machine>(
     client: &mut Client,
     server: &mut Server,
     machine: &mut M,
 ) -> Result<(), Stop> {
-    client.send().ok().ok_or(Stop::Row)?;
-    hear_command(client, server)?;
-    serve_one(server, machine)
+    client.send().map_err(|_| Stop::Row)?;
+    server.feed(client.out()).map_err(|_| Stop::Row)?;
+    let count = client.out().len();
+    client.sent(count);
+    server.read_one().map_err(|_| Stop::Row)?;
+    server.turn().map_err(|_| Stop::Row)?;
+    let number = server.ledger().contacts();
+    if let Some(job) = server.running() {
+        let outcome = machine.answer(job, number);
+        server.machine(outcome).map_err(|_| Stop::Row)?;
+    }
+    Ok(())
 }
 
 /// The client reads all that was answered, at most ten lines.
 pub(crate) fn hear_all(client: &mut Client, server: &mut Server) -> Result<(), Stop> {
-    client.feed(server.out()).ok().ok_or(Stop::Row)?;
+    client.feed(server.out()).map_err(|_| Stop::Row)?;
     let count = server.out().len();
     server.sent(count);
     for _ in 0..10u32 {
-        client.read_one().ok().ok_or(Stop::Row)?;
+        client.read_one().map_err(|_| Stop::Row)?;
     }
     Ok(())
 }
@@ -115,8 +99,8 @@ pub(crate) fn hear_all(client: &mut Client, server: &mut Server) -> Result<(), S
 fn both_ends(alloc: Global, made: Made<'_>, setup: &str) -> Result<(Client, Server), Stop> {
     let mut client = new_client(alloc, made)?;
     let mut server = new_server(alloc, setup)?;
-    client.connected(1).ok().ok_or(Stop::Row)?;
-    server.accept(1).ok().ok_or(Stop::Row)?;
+    client.connected(1).map_err(|_| Stop::Row)?;
+    server.accept(1).map_err(|_| Stop::Row)?;
     Ok((client, server))
 }
 
@@ -146,7 +130,7 @@ pub(crate) fn driven(
     row: &str,
 ) -> Result<(Client, Server), Stop> {
     let (count, rest) = row.split_once(" ").unwrap_or((row, ""));
-    let count = count.parse().ok().ok_or(Stop::Row)?;
+    let count = count.parse().map_err(|_| Stop::Row)?;
     let (mut client, mut server) = both_ends(alloc, made, setup)?;
     drive(alloc, &mut client, &mut server, (count, rest))?;
     Ok((client, server))
