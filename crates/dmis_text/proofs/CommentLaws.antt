@@ -9,7 +9,7 @@ use Rattle.dmis_text.specs.Texts.{turned, inside_after, begins_comment, before_c
 use Rattle.dmis_text.specs.Contents.{IsContent, EachStands}
 
 -- a comment in front leaves nothing before it
-nothing_before : (inside : Bool) (line : List ℕ) → begins_comment inside line ≡ true → before_comment inside line ≡ []
+pub nothing_before : (inside : Bool) (line : List ℕ) → begins_comment inside line ≡ true → before_comment inside line ≡ []
 nothing_before inside [] e = refl
 nothing_before inside (c ∷ cs) e = rw e
 

@@ -12,3 +12,4 @@ pub mod LineLaws
 pub mod NumberLaws
 pub mod Lanes
 pub mod Skipping
+pub mod Bare

@@ -1,6 +1,6 @@
 -- Lines are read as they were written.
 use Rattle.std.proofs.Common.{◌≡◌, ℕ, zero, suc, ◌+◌, ◌-◌, Bool, true, false, not, cond, eqb, List, [], ◌∷◌, ◌++◌, length, refl, ap, ◌∙◌}
-use Rattle.std.proofs.Common.{arith, length-append, append_assoc}
+use Rattle.std.proofs.Common.{arith, inl, inr, length-append, append_assoc}
 use Rattle.std.specs.Prelude.{slice_index}
 use Rattle.std.specs.List.{list_all, slice_split, onto_first, join_with_byte, flat_map}
 use Rattle.std.specs.Str.Lines.{lines, lines_of_parts, strip_carriage_return}
@@ -9,6 +9,7 @@ use Rattle.std.proofs.lemmas.List.Folds.{list_all-append}
 use Rattle.std.proofs.lemmas.List.{take_at, get_or_at, length_push}
 use Rattle.std.proofs.lemmas.List.Splits.{length-slice_split, join_with_byte-slice_split}
 use Rattle.dmis_text.specs.Contents.{lacks, is_line}
+use Rattle.dmis_text.specs.Ends.{IsBehindEnd}
 use Rattle.dmis_text.proofs.LineEnds.{lines_of_more}
 
 -- a list free of the byte is a part of its own before it
@@ -37,8 +38,16 @@ strip_one bytes =
     let count : length (bytes ++ 13 ∷ []) - 1 ≡ length bytes = omega (arith, length-append bytes (13 ∷ [])) in
     rw (count, get_or_at bytes 13 [] 0 (length bytes) refl, take_at bytes (13 ∷ []) (length bytes) refl)
 
-lacks_more : (c : ℕ) (xs ys : List ℕ) → lacks c xs ≡ true → lacks c ys ≡ true → lacks c (xs ++ ys) ≡ true
+pub lacks_more : (c : ℕ) (xs ys : List ℕ) → lacks c xs ≡ true → lacks c ys ≡ true → lacks c (xs ++ ys) ≡ true
 lacks_more c xs ys h g = rw (list_all-append (λ b. not (eqb b c)) xs ys) (and_from (lacks c xs) (lacks c ys) h g)
+
+-- a line in front of its end
+pub line_in_front : (line rest after : List ℕ) → lacks 10 line ≡ true → lacks 13 line ≡ true → IsBehindEnd rest after
+    → lines (line ++ rest) ≡ line ∷ lines after
+line_in_front line rest after h g (inl e) = rw (e, first_line line after h, strip_none line g)
+line_in_front line rest after h g (inr e) =
+    let cut : line ++ 13 ∷ 10 ∷ after ≡ (line ++ 13 ∷ []) ++ 10 ∷ after = simp append_assoc in
+    rw (e, cut, first_line (line ++ 13 ∷ []) after (lacks_more 10 line (13 ∷ []) h refl), strip_one line)
 
 -- lines that were written with LF behind each
 pub lines_written : (ls : List (List ℕ)) → list_all is_line ls ≡ true → lines (flat_map (λ (l : List ℕ). l ++ 10 ∷ []) ls) ≡ ls

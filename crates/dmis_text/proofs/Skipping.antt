@@ -109,11 +109,11 @@ no_comment true c (d ∷ cs) e = refl
 no_comment false c (d ∷ cs) e =
     let other : eqb c 36 ≡ false = not-true _ (both_true _ _ (both_true _ _ e).1).1 in rw other
 
-copies_content : (inside : Bool) (c : ℕ) (cs : List ℕ) → is_passed inside c ≡ true
+pub copies_content : (inside : Bool) (c : ℕ) (cs : List ℕ) → is_passed inside c ≡ true
     → before_comment inside (c ∷ cs) ≡ c ∷ before_comment inside cs
 copies_content inside c cs e = rw (no_comment inside c cs e, passed_turns inside c e)
 
-drops_clean : (inside : Bool) (c : ℕ) (cs : List ℕ) → is_passed inside c ≡ true
+pub drops_clean : (inside : Bool) (c : ℕ) (cs : List ℕ) → is_passed inside c ≡ true
     → is_clean inside (c ∷ cs) ≡ is_clean inside cs
 drops_clean inside c cs e = rw (no_comment inside c cs e, passed_stands inside c e, passed_turns inside c e)
 
@@ -192,7 +192,7 @@ plain_uncut mark (c ∷ cs) behind m e = go (λ k. plain_uncut mark cs behind m 
     go rest false is h = absurd (omega arith)
 
 -- a run of bytes that are handed out as they are
-kept_byte : (inside : Bool) (c : ℕ) (cs : List ℕ) → is_kept inside c ≡ true → folded inside (c ∷ cs) ≡ c ∷ folded inside cs
+pub kept_byte : (inside : Bool) (c : ℕ) (cs : List ℕ) → is_kept inside c ≡ true → folded inside (c ∷ cs) ≡ c ∷ folded inside cs
 kept_byte true c cs e = rw (unquoted_turns true c e)
 kept_byte false c cs e =
     ap₂ (λ (d : ℕ) (i : Bool). d ∷ folded i cs) (eqb-true _ _ (both_true _ _ e).1) (stays false c (not-true _ (both_true _ _ e).0))

@@ -9,4 +9,5 @@ pub mod Numbers
 pub mod Look
 pub mod Found
 pub mod Runs
+pub mod Ends
 pub mod Lent

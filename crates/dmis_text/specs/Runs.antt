@@ -1,6 +1,6 @@
 -- Classes of bytes that are passed over in blocks: no public clause cites them. LF is 10, an apostrophe 39, `$` 36, a comma 44,
 -- a `/` 47 and a `=` 61.
-use Rattle.std.specs.Prelude.{ℕ, Bool, not, ◌&&◌, ◌==◌, true, false, if◌then◌else◌}
+use Rattle.std.specs.Prelude.{ℕ, Bool, not, ◌&&◌, ◌==◌, nat_le, true, false, if◌then◌else◌}
 use Rattle.std.specs.Char.{to_ascii_uppercase}
 use Rattle.std.specs.Int.{w64, trailing_zeros}
 use Rattle.dmis_text.specs.Texts.{may_stand}
@@ -37,6 +37,10 @@ is_unmarked c = not (c == 39) && (not (c == 44) && (not (c == 47) && not (c == 6
 -- a byte that begins no text and is no small letter
 abbrev pub is_settled : ℕ → Bool
 is_settled c = not (c == 39) && (to_ascii_uppercase c == c)
+
+-- a byte from a space to a grave accent that begins neither a text nor a comment: it is handed out as it is, and ends no line
+abbrev pub is_bare : ℕ → Bool
+is_bare c = (nat_le 32 c && nat_le c 96) && (not (c == 39) && not (c == 36))
 
 -- a byte at which no element ends
 abbrev pub is_within : Bool → ℕ → Bool

@@ -305,17 +305,20 @@ impl<'a> Statement<'a> {
         }
     }
 
-    /// The statement of a joined text that begins on this line. Its parameters take the memory that is handed in.
+    /// The statement of a joined text that begins on this line, of which the caller may have seen that no small letter stands outside texts.
+    /// Its parameters take the memory that is handed in.
     pub(crate) fn split(
         alloc: Global,
         memory: Vec<Text<'a>>,
         line: u64,
         text: &'a [u8],
+        capitals: bool,
     ) -> Result<Statement<'a>, AllocError>
-        requires { memory.items ≡ [] }
+        requires empty { memory.items ≡ [] }
+        requires capitals { IsTrue capitals → folded false text.now ≡ text.now }
         ensures { IfOk result (λ statement. statement ≡ statement_of line text.now) }
     {
-        if is_folded(text) {
+        if is_as_handed_out(text, capitals) {
             return Statement::split_as(alloc, memory, line, text, true);
         }
         Statement::split_with_small_letters(alloc, memory, line, text)
@@ -404,7 +407,8 @@ impl<'a> Statement<'a> {
         })
     }
 
-    /// The statement that begins with what stands on one line and ends with what stands on the next.
+    /// The statement that begins with what stands on one line and ends with what stands on the next, of which the caller may have seen that
+    /// no small letter stands outside texts.
     #[tactic(auto, using(crate::proofs::Continued::over_lines))]
     pub(crate) fn split_over(
         alloc: Global,
@@ -412,13 +416,15 @@ impl<'a> Statement<'a> {
         line: u64,
         front: &'a [u8],
         behind: &'a [u8],
+        capitals: bool,
     ) -> Result<Statement<'a>, AllocError>
-        requires { memory.items ≡ [] }
+        requires empty { memory.items ≡ [] }
+        requires capitals { IsTrue capitals → folded false behind.now ≡ behind.now }
         ensures { IfOk result (λ statement.
             statement ≡ statement_of line (front.now ++ behind.now)) }
     {
         if is_folded(front)
-            && is_folded(behind)
+            && is_as_handed_out(behind, capitals)
             && let Some((head, begun)) = cut_at(front, b'/')
         {
             let params = Params::split_over(alloc, memory, begun, behind)?;
@@ -439,7 +445,7 @@ impl<'a> Statement<'a> {
         requires { memory.items ≡ [] }
         ensures { IfOk result (λ statement. statement ≡ statement_of line text.now) }
     {
-        let lent = Statement::split(alloc, Vec::new(alloc), line, text)?;
+        let lent = Statement::split(alloc, Vec::new(alloc), line, text, false)?;
         lent.owned(alloc, memory)
     }
 

@@ -1,6 +1,7 @@
-ghost use Rattle.std.specs.Prelude.{◌≡◌, Bool, true, false, List, [], ◌∷◌, ◌++◌, Option, Some, None, IfOk, OnOk};
+ghost use Rattle.std.specs.Prelude.{◌≡◌, Bool, true, false, List, [], ◌∷◌, ◌++◌, Option, Some, None, IfOk, OnOk, IsTrue};
 ghost use Rattle.std.specs.Option.{option_to_list};
 ghost use Rattle.dmis_text.specs.Texts.{inside_after};
+ghost use Rattle.dmis_text.specs.Elements.{folded};
 ghost use Rattle.dmis_text.specs.Begun.{is_open, grown};
 ghost use Rattle.dmis_text.specs.Look.{part_text};
 ghost use Rattle.dmis_text.specs.Reading.{ended, finished};
@@ -101,15 +102,18 @@ impl<'a> Joined<'a> {
         })
     }
 
-    /// The statement that ends with this content on this line. Its parameters take the memory that is handed in.
+    /// The statement that ends with this content on this line, of which the caller may have seen that no small letter stands outside texts.
+    /// Its parameters take the memory that is handed in.
     pub(crate) fn finish(
         self,
         alloc: Global,
         memory: Vec<Text<'a>>,
         line: u64,
         content: &'a [u8],
+        capitals: bool,
     ) -> Result<Statement<'a>, AllocError>
-        requires { memory.items ≡ [] }
+        requires empty { memory.items ≡ [] }
+        requires capitals { IsTrue capitals → folded false content.now ≡ content.now }
         ensures { IfOk result (λ statement. statement ≡ finished (grown self.entry line content.now)) }
     {
         let Joined {
@@ -119,10 +123,10 @@ impl<'a> Joined<'a> {
             inside: _,
         } = self;
         let Some(first) = first else {
-            return Statement::split(alloc, memory, line, content);
+            return Statement::split(alloc, memory, line, content, capitals);
         };
         if text.is_empty() {
-            return Statement::split_over(alloc, memory, first, last, content);
+            return Statement::split_over(alloc, memory, first, last, content, capitals);
         }
         text.extend_from_slice(last)?;
         text.extend_from_slice(content)?;

@@ -1,14 +1,18 @@
-ghost use Rattle.std.specs.Prelude.{◌≡◌, ◌+◌, ◌≤◌, Bool, true, false, length, drop, MatchOption, IfSome};
-ghost use Rattle.std.specs.List.{prefix_len};
+ghost use Rattle.std.specs.Prelude.{◌≡◌, ◌+◌, ◌≤◌, ◌<◌, Bool, true, false, [], ◌∷◌, length, drop, MatchOption, IfSome, IsTrue};
+ghost use Rattle.std.specs.List.{prefix_len, list_all};
 ghost use Rattle.std.specs.Str.Lines.{lines};
 ghost use Rattle.dmis_text.specs.Texts.{inside_after, before_comment, is_clean};
-ghost use Rattle.dmis_text.specs.Runs.{is_passed};
+ghost use Rattle.dmis_text.specs.Elements.{folded};
+ghost use Rattle.dmis_text.specs.Runs.{is_passed, is_bare};
+ghost use Rattle.dmis_text.specs.Ends.{IsBehindEnd, IsCommentEnd};
 ghost use Rattle.dmis_text.specs.Look.{role_of, TellsFlag};
 ghost use Rattle.dmis_text.specs.Reading.{line_role, content_role};
 
-use crate::bytes::{begins_comment, may_be_comment, may_stand, split_end_blanks, turned};
+use crate::bytes::{
+    begins_comment, is_all_blank, may_be_comment, may_stand, split_end_blanks, turned,
+};
 use crate::line_ends::cut_line;
-use crate::runs::{InText, Plain, long_run_end, run_end_by_last_block};
+use crate::runs::{Bare, InComment, InText, Plain, long_run_end, run_end, run_end_by_last_block};
 
 /// The most bytes that a line may have without its end (this profile).
 const LONGEST_LINE: usize = 4096;
@@ -28,7 +32,8 @@ pub(crate) enum Look<'a> {
     Damaged,
     Dropped,
     Continued(Part<'a>),
-    Last(&'a [u8]),
+    /// The last part, and whether it is known that no small letter stands outside its texts.
+    Last(&'a [u8], bool),
 }
 
 /// The end of the bytes from this place on that neither open nor close a text, begin no comment and may stand there.
@@ -91,7 +96,7 @@ fn examine_content(content: &[u8], inside: bool) -> Look<'_>
                     inside,
                 })
             } else {
-                Look::Last(content)
+                Look::Last(content, false)
             }
         }
     }
@@ -109,6 +114,100 @@ pub(crate) fn examine(line: &[u8], inside: bool) -> Look<'_>
         Some((content, inner)) => examine_content(content, inner),
         None => Look::Damaged,
     }
+}
+
+/// What a line is to its statement, where no text is open before it and all that stands before its comment is bare.
+fn examine_bare<'a>(line: &[u8], content: &'a [u8]) -> Look<'a>
+    requires bare { list_all is_bare content.now ≡ true }
+    requires content { content.now ≡ before_comment false line.now }
+    requires clean { is_clean false line.now ≡ true }
+    ensures role { role_of result ≡ line_role false line.now }
+    ensures flag { TellsFlag false result }
+{
+    if line.len() > LONGEST_LINE {
+        return Look::TooLong;
+    }
+    if is_all_blank(content) {
+        Look::Dropped
+    } else {
+        Look::Last(content, true)
+    }
+}
+
+/// What stands behind the end of a line, LF or CR LF, which is in front of the bytes.
+#[inline(always)]
+fn behind_end(bytes: &[u8]) -> Option<&[u8]>
+    ensures { IfSome result (λ after. IsBehindEnd bytes.now after.now) }
+{
+    match bytes {
+        [b'\n', after @ ..] => Some(after),
+        [b'\r', b'\n', after @ ..] => Some(after),
+        _ => None,
+    }
+}
+
+/// The end of the comment that begins at this place, or the place where none begins.
+#[inline(always)]
+fn comment_end(bytes: &[u8], at: usize) -> usize
+    requires { at ≤ length bytes.now }
+    ensures end { IsCommentEnd bytes.now at result }
+    ensures from { at ≤ result }
+    ensures within { result ≤ length bytes.now }
+{
+    let (_, rest) = bytes.split_at(at);
+    if begins_comment(false, rest) {
+        run_end(&InComment, bytes, at)
+    } else {
+        at
+    }
+}
+
+/// The first line of a text, what stands behind its end, and what the line is to its statement.
+pub(crate) struct First<'a> {
+    pub(crate) line: &'a [u8],
+    pub(crate) after: &'a [u8],
+    pub(crate) look: Look<'a>,
+}
+
+/// The first line of a text, where no text is open before it, by one pass over bare bytes and one over a comment behind them; none where
+/// it has other bytes or no end.
+#[inline(always)]
+fn first_bare_line(bytes: &[u8]) -> Option<First<'_>>
+    ensures cut { IfSome result (λ f. lines bytes.now ≡ f.line.now ∷ lines f.after.now) }
+    ensures shorter { IfSome result (λ f. length f.after.now < length bytes.now) }
+    ensures role { IfSome result (λ f. role_of f.look ≡ line_role false f.line.now) }
+    ensures flag { IfSome result (λ f. TellsFlag false f.look) }
+{
+    let bare = run_end(&Bare, bytes, 0);
+    let end = comment_end(bytes, bare);
+    let (line, rest) = bytes.split_at(end);
+    let after = behind_end(rest)?;
+    let (content, _) = line.split_at(bare);
+    Some(First {
+        line,
+        after,
+        look: examine_bare(line, content),
+    })
+}
+
+/// The first line of a text, where a text is open before it or not; none where there is no byte.
+#[inline(always)]
+pub(crate) fn first_line(bytes: &[u8], inside: bool) -> Option<First<'_>>
+    ensures cut { MatchOption result (bytes.now ≡ [])
+        (λ f. lines bytes.now ≡ f.line.now ∷ lines f.after.now) }
+    ensures shorter { IfSome result (λ f. length f.after.now < length bytes.now) }
+    ensures role { IfSome result (λ f. role_of f.look ≡ line_role inside f.line.now) }
+    ensures flag { IfSome result (λ f. TellsFlag inside f.look) }
+{
+    if !inside && let Some(first) = first_bare_line(bytes) {
+        return Some(first);
+    }
+    let (line, after) = cut_line(bytes)?;
+    Some(First {
+        line,
+        after,
+        look: examine(line, inside),
+    })
 }
 
 /// How many lines the bytes have.

@@ -5,8 +5,7 @@ ghost use Rattle.dmis_text.specs.Found.{Leaves, Refuses};
 
 use crate::elements::{Statement, Text};
 use crate::joined::Joined;
-use crate::line_ends::cut_line;
-use crate::lines::{Look, count_lines, examine};
+use crate::lines::{First, Look, count_lines, first_line};
 use std::alloc::{AllocError, Global};
 use std::marker::Model;
 
@@ -63,14 +62,14 @@ fn read_statement<'a>(
     let mut rest = bytes;
     let mut number = first;
     let mut joined = Joined::new(alloc);
-    while let Some((line, after)) = cut_line(rest) {
-        match examine(line, joined.is_open()) {
+    while let Some(First { line: _, after, look }) = first_line(rest, joined.is_open()) {
+        match look {
             Look::TooLong => return Err(TextFault::LineTooLong(number)),
             Look::Damaged => return Err(TextFault::BadByte(number)),
             Look::Dropped => {}
             Look::Continued(part) => joined = joined.with(number, part)?,
-            Look::Last(content) => {
-                let statement = Some(joined.finish(alloc, memory, number, content)?);
+            Look::Last(content, capitals) => {
+                let statement = Some(joined.finish(alloc, memory, number, content, capitals)?);
                 return Ok(Found {
                     statement,
                     rest: after,

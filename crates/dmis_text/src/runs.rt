@@ -2,7 +2,7 @@
 
 ghost use Rattle.std.specs.Prelude.{◌≡◌, ◌+◌, ◌≤◌, ℕ, Bool, IsTrue, length, take, drop};
 ghost use Rattle.std.specs.List.{prefix_len};
-ghost use Rattle.dmis_text.specs.Runs.{lowest_set, is_in_line, is_in_comment, is_plain, is_in_text, is_unquoted, is_unmarked, is_settled};
+ghost use Rattle.dmis_text.specs.Runs.{lowest_set, is_in_line, is_in_comment, is_plain, is_bare, is_in_text, is_unquoted, is_unmarked, is_settled};
 
 use crate::bytes::may_stand;
 use std::simd::prelude::*;
@@ -218,6 +218,26 @@ impl Class for Plain {
         let marks = block.simd_eq(u8x16::splat(b'\'')) | block.simd_eq(u8x16::splat(b'$'));
         let stops = control | marks | block.simd_ge(u8x16::splat(127));
         lowest_set(stops.to_bitmask())
+    }
+}
+
+/// The bytes from a space to a grave accent that begin neither a text nor a comment. None is a small letter, and none ends a line.
+pub(crate) struct Bare;
+
+impl Class for Bare {
+    ghost holds = { λ _. is_bare };
+
+    #[inline(always)]
+    fn has(&self, byte: u8) -> bool {
+        b' ' <= byte && byte <= b'`' && byte != b'\'' && byte != b'$'
+    }
+
+    #[inline(always)]
+    fn run_in_block(&self, bytes: &[u8], at: usize) -> usize {
+        let block = u8x16::from_slice(&bytes[at..]);
+        let others = block.simd_lt(u8x16::splat(b' ')) | block.simd_ge(u8x16::splat(b'a'));
+        let marks = block.simd_eq(u8x16::splat(b'\'')) | block.simd_eq(u8x16::splat(b'$'));
+        lowest_set((others | marks).to_bitmask())
     }
 }
 

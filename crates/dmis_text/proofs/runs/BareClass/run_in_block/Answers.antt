@@ -1,0 +1,14 @@
+use Rattle.std.proofs.Common.{refl}
+use Rattle.std.proofs.lemmas.Simd.{zip2_splat, zip2_splat_left, length-chunk}
+use lib.Lanes.{chunk}
+use Rattle.dmis_text.specs.Runs.{is_bare}
+use Rattle.dmis_text.proofs.Lanes.{at_most, of_both, run_of}
+use Rattle.dmis_text.proofs.runs.BareClass.run_in_block.Goals as goal
+
+pub returns : goal.returns
+returns c =
+    let v = chunk c.args.at 16 c.args.bytes.now in
+    let long = length-chunk c.args.at 16 c.args.bytes.now c.requires in
+    run_of is_bare c.args.bytes.now c.args.at _ _ c.requires c.type_inv.bytes c.lowest_set.ensures _
+    (of_both _ _ _ v (of_both _ _ _ v (zip2_splat _ v 16 32 long) (zip2_splat_left at_most 97 16 v long))
+    (of_both _ _ _ v (zip2_splat _ v 16 39 long) (zip2_splat _ v 16 36 long))) refl
