@@ -1,12 +1,12 @@
 -- A line of bare bytes, and perhaps a comment behind them: what it is to its statement.
-use Rattle.std.proofs.Common.{◌≡◌, ℕ, suc, ◌+◌, ◌-◌, ◌<◌, ◌≤◌, Bool, true, false, not, ◌&&◌, cond, eqb, List, [], ◌∷◌, ◌++◌, take, drop, length}
-use Rattle.std.proofs.Common.{refl, sym, ap, ◌∙◌, arith, inl, inr, Fits, w8}
+use Rattle.std.proofs.Common.{◌≡◌, ℕ, suc, ◌+◌, ◌-◌, ◌≤◌, Bool, true, false, not, ◌&&◌, cond, eqb, List, [], ◌∷◌, ◌++◌, take, drop, length}
+use Rattle.std.proofs.Common.{refl, sym, ap, ◌∙◌, arith, inl, inr}
 use Rattle.std.specs.Prelude.{◌⊎◌, nat_lt, nat_le}
 use Rattle.std.specs.List.{prefix_len, list_all}
 use Rattle.std.specs.Str.Lines.{lines}
 use Rattle.std.proofs.lemmas.Bool.{agree_below, agree_below_at, and_parts, and_from, eqb-true, leb-true, true≢false}
 use Rattle.std.proofs.lemmas.List.{take-append-drop, take-take, drop-take, drop_all, length-take}
-use Rattle.dmis_text.specs.Texts.{turned, inside_after, all_blank, begins_comment, before_comment, may_stand, is_clean, is_continued}
+use Rattle.dmis_text.specs.Texts.{all_blank, begins_comment, before_comment, is_clean, is_continued}
 use Rattle.dmis_text.specs.Elements.{folded}
 use Rattle.dmis_text.specs.Contents.{lacks}
 use Rattle.dmis_text.specs.Reading.{line_role}
@@ -21,7 +21,7 @@ use Rattle.dmis_text.proofs.Skipping.{copies_content, drops_clean, kept_byte}
 bare_is : (q : ℕ → Bool) → agree_below is_bare (λ x. is_bare x && q x) 256 ≡ true → (c : ℕ) → is_bare c ≡ true → q c ≡ true
 bare_is q all c e =
     let most = leb-true c 96 (and_parts (nat_le 32 c) (nat_le c 96)
-        (and_parts (nat_le 32 c && nat_le c 96) (not (eqb c 39) && not (eqb c 36)) e).0).1 in
+    (and_parts (nat_le 32 c && nat_le c 96) (not (eqb c 39) && not (eqb c 36)) e).0).1 in
     (and_parts (is_bare c) (q c) (sym (agree_below_at is_bare (λ x. is_bare x && q x) 256 c all (omega (arith, most))) ∙ e)).1
 
 -- a byte of a comment ends no line
@@ -174,5 +174,5 @@ module _ (bytes : List ℕ) (bare end : ℕ) (run : bare ≡ prefix_len is_bare 
       let comment = drop bare (take end bytes) in
       sym (ap lines (take-append-drop end bytes))
       ∙ line_in_front (take end bytes) (drop end bytes) after
-          (sym (ap (lacks 10) parts) ∙ lacks_feed comment comment_begins comment_is_free content content_is_bare)
-          (sym (ap (lacks 13) parts) ∙ lacks_return comment comment_begins comment_is_free content content_is_bare) is
+      (sym (ap (lacks 10) parts) ∙ lacks_feed comment comment_begins comment_is_free content content_is_bare)
+      (sym (ap (lacks 13) parts) ∙ lacks_return comment comment_begins comment_is_free content content_is_bare) is

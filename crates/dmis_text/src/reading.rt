@@ -62,7 +62,14 @@ fn read_statement<'a>(
     let mut rest = bytes;
     let mut number = first;
     let mut joined = Joined::new(alloc);
-    while let Some(First { line: _, after, look }) = first_line(rest, joined.is_open()) {
+    while let Some(
+        First {
+            line: _,
+            after,
+            look,
+        },
+    ) = first_line(rest, joined.is_open())
+    {
         match look {
             Look::TooLong => return Err(TextFault::LineTooLong(number)),
             Look::Damaged => return Err(TextFault::BadByte(number)),

@@ -25,5 +25,5 @@ examine_bare-requires-clause-clean c =
 pub returns-clause-cut : goal.returns-clause-cut
 returns-clause-cut c =
     found_line c.args.bytes.now _ _ (omega (arith, c.run_end-bare.ensures.run)) c.comment_end-end.ensures.end c.comment_end-end.ensures.from
-        c.in_ok-after.after.now (rw c.split_at.ensures.back at c.in_ok-after.ensures)
+    c.in_ok-after.after.now (rw c.split_at.ensures.back at c.in_ok-after.ensures)
     ∙ ap (λ (l : List ℕ). l ∷ lines c.in_ok-after.after.now) (sym c.split_at.ensures.front)
