@@ -1,4 +1,4 @@
-ghost use Rattle.std.specs.Prelude.{◌≡◌, ◌+◌, ◌≤◌, ◌<◌, Bool, true, false, [], ◌∷◌, length, drop, MatchOption, IfSome, IsTrue};
+ghost use Rattle.std.specs.Prelude.{◌≡◌, ◌+◌, ◌≤◌, ◌<◌, Bool, true, false, [], ◌∷◌, length, drop, nat_lt, MatchOption, IfSome, IsTrue};
 ghost use Rattle.std.specs.List.{prefix_len, list_all};
 ghost use Rattle.std.specs.Str.Lines.{lines};
 ghost use Rattle.dmis_text.specs.Texts.{inside_after, before_comment, is_clean};
@@ -102,12 +102,19 @@ fn examine_content(content: &[u8], inside: bool) -> Look<'_>
     }
 }
 
+/// Whether a line has more bytes than it may.
+fn is_too_long(line: &[u8]) -> bool
+    ensures { result ≡ nat_lt 4096 (length line.now) }
+{
+    line.len() > LONGEST_LINE
+}
+
 /// What a line is to its statement, where a text is open before it or not.
 pub(crate) fn examine(line: &[u8], inside: bool) -> Look<'_>
     ensures role { role_of result ≡ line_role inside line.now }
     ensures flag { TellsFlag inside result }
 {
-    if line.len() > LONGEST_LINE {
+    if is_too_long(line) {
         return Look::TooLong;
     }
     match content_of(line, inside) {
@@ -124,10 +131,9 @@ fn examine_bare<'a>(line: &[u8], content: &'a [u8]) -> Look<'a>
     ensures role { role_of result ≡ line_role false line.now }
     ensures flag { TellsFlag false result }
 {
-    if line.len() > LONGEST_LINE {
-        return Look::TooLong;
-    }
-    if is_all_blank(content) {
+    if is_too_long(line) {
+        Look::TooLong
+    } else if is_all_blank(content) {
         Look::Dropped
     } else {
         Look::Last(content, true)
