@@ -1,10 +1,10 @@
 // A client.
 
-use crate::ledgers::features_of;
-use crate::programs::{ONE, SETUP, read_program, read_setup};
-use crate::shown::{push_lines, push_text};
+use crate::ledgers::push_features;
+use crate::programs::{ONE, read_program};
+use crate::shown::push_lines;
 use crate::stop::Stop;
-use crate::tried::{Case, asked, tried};
+use crate::tried::{Case, refused, shown, tried};
 use client_core::{Client, ClientFault};
 use contact_ledger::FeatureLedger;
 use dmis_program::Program;
@@ -13,7 +13,6 @@ use std::alloc::{AllocError, Global};
 /// A client, and a call of it.
 #[derive(Drop)]
 struct Called<'a> {
-    alloc: Global,
     client: Client,
     call: &'a str,
 }
@@ -24,15 +23,13 @@ pub(crate) fn client_of(
     program: Program,
     features: FeatureLedger,
 ) -> Result<Client, Stop> {
-    match Client::new(alloc, program, features, 1) {
-        Ok(client) => Ok(client),
-        Err(_) => Err(Stop::Row),
-    }
+    Client::new(alloc, program, features, 1)
+        .ok()
+        .ok_or(Stop::Row)
 }
 
 fn new_client(alloc: Global) -> Result<Client, Stop> {
-    let setup = read_setup(alloc, SETUP)?;
-    let program = read_program(alloc, ONE, &setup)?;
+    let program = read_program(alloc, ONE)?;
     client_of(alloc, program, FeatureLedger::new(alloc))
 }
 
@@ -60,71 +57,75 @@ fn tag_of(line: &[u8]) -> [u8; 5] {
     }
 }
 
-/// The command that is due is sent, received, told that the machine is not homed where it asks for that, and done.
+/// The replies to a command: that it is received, that the machine is not homed where it asks for that, and that it is done.
+fn hear_replies(client: &mut Client, tag: &[u8], is_asking: bool) -> Result<(), Stop> {
+    hear(client, tag, b" &")?;
+    if is_asking {
+        hear(client, tag, b" # IsHomed(0)")?;
+    }
+    hear(client, tag, b" %")
+}
+
+/// The command that is due is sent and done.
 fn end_one(client: &mut Client) -> Result<(), Stop> {
     client.send()?;
     let tag = tag_of(client.out());
     let is_asking = client.out().ends_with(b" IsHomed()\r\n");
     take_out(client);
-    hear(client, &tag, b" &")?;
-    if is_asking {
-        hear(client, &tag, b" # IsHomed(0)")?;
-    }
-    hear(client, &tag, b" %")
+    hear_replies(client, &tag, is_asking)
 }
 
-/// A client on its first connection, behind so many commands.
-fn behind(alloc: Global, count: u32) -> Result<Client, Stop> {
-    let mut client = new_client(alloc)?;
+/// The first connection, and so many commands that are done on it.
+fn end_some(client: &mut Client, count: u32) -> Result<(), Stop> {
     client.connected(1)?;
     for _ in 0..count {
-        end_one(&mut client)?;
+        end_one(client)?;
     }
-    Ok(client)
+    Ok(())
 }
 
-/// A client that has sent one more command.
-fn sending(alloc: Global, count: u32) -> Result<Client, Stop> {
-    let mut client = behind(alloc, count)?;
+/// Behind so many commands on the first connection one more is sent.
+fn send_behind(client: &mut Client, count: u32) -> Result<(), Stop> {
+    end_some(client, count)?;
     client.send()?;
-    take_out(&mut client);
-    Ok(client)
+    take_out(client);
+    Ok(())
 }
 
-/// A client that has not read yet that its touch is done.
-fn touching(alloc: Global) -> Result<Client, Stop> {
-    let mut client = sending(alloc, 9)?;
-    hear(&mut client, b"00010", b" &")?;
-    hear(&mut client, b"00010", b" # X(1.000), Y(2.000), Z(3.000)")?;
-    client.feed(b"00010 %\r\n")?;
-    Ok(client)
+/// A touch is sent and the replies to it come, of which the last is not read yet.
+fn hear_touch(client: &mut Client) -> Result<(), Stop> {
+    send_behind(client, 9)?;
+    hear(client, b"00010", b" &")?;
+    hear(client, b"00010", b" # X(1.000), Y(2.000), Z(3.000)")?;
+    Ok(client.feed(b"00010 %\r\n")?)
 }
 
-/// A client whose command failed behind an abort.
-fn halted(alloc: Global) -> Result<Client, Stop> {
-    let mut client = sending(alloc, 5)?;
+/// The replies to an abort, and to a command that failed behind it.
+fn hear_abort(client: &mut Client) -> Result<(), Stop> {
+    hear(client, b"E0001", b" &")?;
+    let failure = b" ! Error(3, 9007, \"SetCoordSystem\", \"Aborted\")";
+    hear(client, b"00006", failure)?;
+    hear(client, b"00006", b" %")?;
+    hear(client, b"E0001", b" %")
+}
+
+/// A command fails behind an abort.
+fn halt(client: &mut Client) -> Result<(), Stop> {
+    send_behind(client, 5)?;
     client.abort()?;
-    take_out(&mut client);
-    hear(&mut client, b"E0001", b" &")?;
-    hear(
-        &mut client,
-        b"00006",
-        b" ! Error(3, 9007, \"SetCoordSystem\", \"Aborted\")",
-    )?;
-    hear(&mut client, b"00006", b" %")?;
-    hear(&mut client, b"E0001", b" %")?;
-    Ok(client)
+    take_out(client);
+    hear_abort(client)
 }
 
-/// The client of a call.
-fn before(alloc: Global, call: &str) -> Result<Client, Stop> {
+/// What a client goes through before a call.
+fn go_before(client: &mut Client, call: &str) -> Result<(), Stop> {
     match call {
-        "Client::connected" => new_client(alloc),
-        "Client::send" => behind(alloc, 0),
-        "Client::feed" => sending(alloc, 0),
-        "Client::read_one" => touching(alloc),
-        "Client::abort" => sending(alloc, 5),
-        "Client::resume" => halted(alloc),
+        "Client::connected" => Ok(()),
+        "Client::send" => end_some(client, 0),
+        "Client::feed" => send_behind(client, 0),
+        "Client::read_one" => hear_touch(client),
+        "Client::abort" => send_behind(client, 5),
+        "Client::resume" => halt(client),
         _ => Err(Stop::Row),
     }
 }
@@ -132,42 +133,34 @@ fn before(alloc: Global, call: &str) -> Result<Client, Stop> {
 // ---- what is shown of it
 
 /// The command that is due, its counts, and whether a line stands at the front of its bytes.
-fn push_counts(alloc: Global, out: &mut Vec<u8>, client: &Client) -> Result<(), AllocError> {
+fn push_counts(out: &mut String, client: &Client) -> Result<(), AllocError> {
     let (due, is_line) = (client.due(), client.has_line());
     let (completed, open) = (client.completed(), client.open());
-    push_text(
-        out,
-        format!(in alloc; " {due:?} {is_line} {completed} {open}")?.as_str(),
-    )
+    write!(out, " {due:?} {is_line} {completed} {open}")
 }
 
-/// Its state and features, and what it is to send.
-pub(crate) fn push_state(
-    alloc: Global,
-    out: &mut Vec<u8>,
-    client: &Client,
-) -> Result<(), AllocError> {
-    let (state, is_on) = (client.state(), client.is_on());
-    push_text(out, format!(in alloc; "{state:?} {is_on} ")?.as_str())?;
+/// Its state, and what it is to send.
+pub(crate) fn push_state(out: &mut String, client: &Client) -> Result<(), AllocError> {
+    write!(out, "{:?} {} ", client.state(), client.is_on())?;
     push_lines(out, client.out())
 }
 
-/// The due command's kind, how many commands are open and counted, and the lines that are to be sent.
-fn told(alloc: Global, client: &Client) -> Result<Vec<u8>, AllocError> {
-    let mut out = Vec::new(alloc);
+/// Its state, how many commands are open and counted, and whether a line stands at the front of its bytes.
+fn push_told(out: &mut String, client: &Client) -> Result<(), AllocError> {
     let (state, open) = (client.state(), client.open());
     let (counted, is_line) = (client.counted().len(), client.has_line());
-    push_text(
-        &mut out,
-        format!(in alloc; "{state:?}, {open} open, {counted} acts, line {is_line}, ")?.as_str(),
-    )?;
-    if let Some(due) = client.due() {
-        let kind = due.kind();
-        push_text(&mut out, format!(in alloc; "{kind:?} due, ")?.as_str())?;
+    write!(
+        out,
+        "{state:?}, {open} open, {counted} acts, line {is_line}, "
+    )
+}
+
+/// The due command's kind.
+fn push_due(out: &mut String, client: &Client) -> Result<(), AllocError> {
+    match client.due() {
+        Some(due) => write!(out, "{:?} due, ", due.kind()),
+        None => Ok(()),
     }
-    push_lines(&mut out, client.out())?;
-    out.extend_from_slice(features_of(alloc, client.features())?.as_slice())?;
-    Ok(out)
 }
 
 fn make(client: &mut Client, call: &str) -> Result<(), ClientFault> {
@@ -184,34 +177,38 @@ fn make(client: &mut Client, call: &str) -> Result<(), ClientFault> {
     }
 }
 
+impl Called<'_> {
+    /// What the call leaves, with the lines that are to be sent.
+    fn told(&self, out: &mut String) -> Result<(), AllocError> {
+        push_told(out, &self.client)?;
+        push_due(out, &self.client)?;
+        push_lines(out, self.client.out())?;
+        push_features(out, self.client.features())
+    }
+}
+
 impl Case for Called<'_> {
-    fn readers(&self) -> Result<Vec<u8>, AllocError> {
-        let mut out = features_of(self.alloc, self.client.features())?;
-        push_state(self.alloc, &mut out, &self.client)?;
-        push_counts(self.alloc, &mut out, &self.client)?;
-        for act in self.client.counted() {
-            push_text(&mut out, format!(in self.alloc; " {act:?}")?.as_str())?;
-        }
-        Ok(out)
+    fn prepare(&mut self) -> Result<(), Stop> {
+        go_before(&mut self.client, self.call)
     }
 
-    fn call(&mut self) -> Result<Option<Vec<u8>>, Stop> {
+    fn readers(&self, out: &mut String) -> Result<(), AllocError> {
+        push_features(out, self.client.features())?;
+        push_state(out, &self.client)?;
+        push_counts(out, &self.client)?;
+        write!(out, " {:?}", self.client.counted())
+    }
+
+    fn call(&mut self, out: &mut String) -> Result<bool, Stop> {
         match make(&mut self.client, self.call) {
-            Ok(()) => Ok(Some(told(self.alloc, &self.client)?)),
-            Err(fault) => asked(Err(Stop::from(fault))),
+            Ok(()) => shown(self.told(out)),
+            Err(fault) => refused(Stop::from(fault)),
         }
     }
 }
 
 /// What a row of `client_core` shows.
-pub(crate) fn answer(alloc: Global, call: &str) -> Result<Vec<u8>, Stop> {
-    let client = before(alloc, call)?;
-    tried(
-        alloc,
-        &mut Called {
-            alloc,
-            client,
-            call,
-        },
-    )
+pub(crate) fn answer(alloc: Global, call: &str) -> Result<String, Stop> {
+    let client = new_client(alloc)?;
+    tried(alloc, Called { client, call })
 }

@@ -1,8 +1,8 @@
 // Bytes of a connection.
 
-use crate::shown::{push_lines, push_text, text_of};
+use crate::shown::push_lines;
 use crate::stop::Stop;
-use crate::tried::{Case, asked, tried};
+use crate::tried::{Case, refused, shown, tried};
 use line_framing::{ByteQueue, Lines};
 use std::alloc::{AllocError, Global};
 
@@ -12,64 +12,55 @@ const MANY: usize = 2_000;
 /// Bytes that come, and lines that are taken off their front.
 #[derive(Drop)]
 struct Framed<'a> {
-    alloc: Global,
     lines: Lines,
     call: &'a str,
 }
 
 /// The rest, whether a line stands at its front, and the fault that was met.
-fn push_framed(alloc: Global, out: &mut Vec<u8>, lines: &Lines) -> Result<(), AllocError> {
+fn push_framed(out: &mut String, lines: &Lines) -> Result<(), AllocError> {
     push_lines(out, lines.rest())?;
-    let (is_line, fault) = (lines.has_line(), lines.fault());
-    push_text(out, format!(in alloc; " {is_line} {fault:?}")?.as_str())
+    write!(out, " {} {:?}", lines.has_line(), lines.fault())
 }
 
 /// How many bytes the rest has, with what stands at its front.
-fn told_rest(alloc: Global, lines: &Lines) -> Result<Vec<u8>, AllocError> {
-    let rest = lines.rest();
-    let count = rest.len();
-    let mut out = Vec::new(alloc);
-    push_text(
-        &mut out,
-        format!(in alloc; "{count} bytes, first ")?.as_str(),
-    )?;
-    if let Some((front, _)) = rest.split_at_checked(6) {
-        push_lines(&mut out, front)?;
+fn push_rest(out: &mut String, rest: &[u8]) -> Result<(), AllocError> {
+    write!(out, "{} bytes, first ", rest.len())?;
+    match rest.split_at_checked(6) {
+        Some((front, _)) => push_lines(out, front),
+        None => Ok(()),
     }
-    Ok(out)
 }
 
-fn told_fed(alloc: Global, lines: &mut Lines) -> Result<Option<Vec<u8>>, Stop> {
+fn push_taken(out: &mut String, line: &[u8], left: &Lines) -> Result<(), AllocError> {
+    push_lines(out, line)?;
+    out.push_str(", then ")?;
+    push_framed(out, left)
+}
+
+fn feed(lines: &mut Lines, out: &mut String) -> Result<bool, Stop> {
     match lines.feed(&[b'A'; MANY]) {
-        Ok(()) => Ok(Some(told_rest(alloc, lines)?)),
-        Err(fault) => asked(Err(Stop::from(fault))),
+        Ok(()) => shown(push_rest(out, lines.rest())),
+        Err(fault) => refused(fault.into()),
     }
 }
 
-fn told_line(alloc: Global, lines: &mut Lines) -> Result<Option<Vec<u8>>, Stop> {
+fn next_line(lines: &mut Lines, out: &mut String) -> Result<bool, Stop> {
     match lines.next_line() {
-        Ok(Some(line)) => {
-            let mut out = text_of(alloc, line.as_slice())?;
-            push_text(&mut out, ", then ")?;
-            push_framed(alloc, &mut out, lines)?;
-            Ok(Some(out))
-        }
+        Ok(Some(line)) => shown(push_taken(out, line.as_slice(), lines)),
         Ok(None) => Err(Stop::Row),
-        Err(fault) => asked(Err(Stop::from(fault))),
+        Err(fault) => refused(fault.into()),
     }
 }
 
 impl Case for Framed<'_> {
-    fn readers(&self) -> Result<Vec<u8>, AllocError> {
-        let mut out = Vec::new(self.alloc);
-        push_framed(self.alloc, &mut out, &self.lines)?;
-        Ok(out)
+    fn readers(&self, out: &mut String) -> Result<(), AllocError> {
+        push_framed(out, &self.lines)
     }
 
-    fn call(&mut self) -> Result<Option<Vec<u8>>, Stop> {
+    fn call(&mut self, out: &mut String) -> Result<bool, Stop> {
         match self.call {
-            "Lines::feed" => told_fed(self.alloc, &mut self.lines),
-            "Lines::next_line" => told_line(self.alloc, &mut self.lines),
+            "Lines::feed" => feed(&mut self.lines, out),
+            "Lines::next_line" => next_line(&mut self.lines, out),
             _ => Err(Stop::Row),
         }
     }
@@ -78,40 +69,37 @@ impl Case for Framed<'_> {
 /// Bytes that wait.
 #[derive(Drop)]
 struct Queued {
-    alloc: Global,
     queue: ByteQueue,
 }
 
 impl Case for Queued {
-    fn readers(&self) -> Result<Vec<u8>, AllocError> {
-        text_of(self.alloc, self.queue.waiting())
+    fn readers(&self, out: &mut String) -> Result<(), AllocError> {
+        push_lines(out, self.queue.waiting())
     }
 
-    fn call(&mut self) -> Result<Option<Vec<u8>>, Stop> {
-        match self.queue.reserve(MANY) {
-            Ok(()) => {
-                self.queue.append(b" %");
-                Ok(Some(text_of(self.alloc, self.queue.waiting())?))
-            }
-            Err(AllocError) => Ok(None),
+    fn call(&mut self, out: &mut String) -> Result<bool, Stop> {
+        if self.queue.reserve(MANY).is_err() {
+            return Ok(false);
         }
+        self.queue.append(b" %");
+        shown(push_lines(out, self.queue.waiting()))
     }
 }
 
-fn room_answer(alloc: Global) -> Result<Vec<u8>, Stop> {
+fn queue_answer(alloc: Global) -> Result<String, Stop> {
     let mut queue = ByteQueue::new(alloc);
     queue.reserve(7)?;
     queue.append(b"0000001");
     queue.take(2);
-    tried(alloc, &mut Queued { alloc, queue })
+    tried(alloc, Queued { queue })
 }
 
 /// What a row of `line_framing` shows.
-pub(crate) fn answer(alloc: Global, call: &str) -> Result<Vec<u8>, Stop> {
+pub(crate) fn answer(alloc: Global, call: &str) -> Result<String, Stop> {
     if call == "ByteQueue::reserve" {
-        return room_answer(alloc);
+        return queue_answer(alloc);
     }
     let mut lines = Lines::new(alloc);
     lines.feed(b"00001 &\r\n00002")?;
-    tried(alloc, &mut Framed { alloc, lines, call })
+    tried(alloc, Framed { lines, call })
 }

@@ -2,10 +2,11 @@
 
 ghost use Rattle.std.specs.Prelude.{◌≡◌, IfOk, None};
 
-use crate::programs::{ONE, SETUP, along, name, read_program, read_setup};
-use crate::shown::{push_text, text_of};
+use crate::programs::{ONE, along, name, read_program};
+use crate::shown::push_lines;
 use crate::stop::Stop;
-use crate::tried::{Case, asked, tried};
+use crate::tried::{Case, refused, shown, tried};
+use crate::{made, written};
 use contact_ledger::{
     Act, Feature, FeatureLedger, Origin, Points, ServerLedger, read_contacts, read_features,
     write_contacts, write_features,
@@ -21,48 +22,69 @@ const FEATURES: &[u8] = b"DME-FEATURES 2\nFEATURE A 1 1 M\n1.000 2.000 3.000\nEN
 const CONTACTS: &[u8] = b"DME-CONTACTS 1\n1 HOMED\n\
 1 CONTACT 1.000 2.000 3.000 D 0.000000 0.000000 1.000000 P1 P 100.000 0.000 0.000 1.000 2.000 3.000\n";
 
-pub(crate) fn features_of(alloc: Global, features: &[Feature]) -> Result<Vec<u8>, AllocError> {
-    let mut out = Vec::new(alloc);
+/// The first feature of a program, with its point.
+pub(crate) fn first_feature(alloc: Global) -> Result<FeatureLedger, Stop> {
+    Ok(read_features(alloc, FEATURES)?)
+}
+
+/// Features, each with its origin and its points.
+pub(crate) fn push_features(out: &mut String, features: &[Feature]) -> Result<(), AllocError> {
     for feature in features {
-        push_feature(alloc, &mut out, feature)?;
+        push_feature(out, feature)?;
     }
-    Ok(out)
-}
-
-/// The connection and the frame that a feature comes from; `-` where they are not known.
-fn push_origin(alloc: Global, out: &mut Vec<u8>, origin: Option<Origin>) -> Result<(), AllocError> {
-    let Some(Origin { connection, frame }) = origin else {
-        return push_text(out, " -");
-    };
-    let text = match frame {
-        Frame::Machine => format!(in alloc; " {connection} M")?,
-        Frame::Part(offset) => format!(in alloc; " {connection} P {offset}")?,
-    };
-    push_text(out, text.as_str())
-}
-
-/// A feature with its origin and its points.
-fn push_feature(alloc: Global, out: &mut Vec<u8>, feature: &Feature) -> Result<(), AllocError> {
-    let label = &feature.label;
-    push_text(out, format!(in alloc; "{label}")?.as_str())?;
-    push_origin(alloc, out, feature.origin)?;
-    for point in feature.points.as_slice() {
-        push_text(out, format!(in alloc; " {point}")?.as_str())?;
-    }
-    out.push(b';')?;
     Ok(())
 }
 
-pub(crate) fn push_acts(
-    alloc: Global,
-    out: &mut Vec<u8>,
-    ledger: &ServerLedger,
-) -> Result<(), AllocError> {
-    for (connection, act) in ledger.acts() {
-        push_text(out, format!(in alloc; "{connection} {act:?};")?.as_str())?;
+/// The connection and the frame that a feature comes from; `-` where they are not known.
+fn push_origin(out: &mut String, origin: Option<Origin>) -> Result<(), AllocError> {
+    match origin {
+        Some(
+            Origin {
+                connection,
+                frame: Frame::Machine,
+            },
+        ) => write!(out, " {connection} M"),
+        Some(
+            Origin {
+                connection,
+                frame: Frame::Part(offset),
+            },
+        ) => write!(out, " {connection} P {offset}"),
+        None => out.push_str(" -"),
     }
-    let contacts = ledger.contacts();
-    push_text(out, format!(in alloc; "{contacts}")?.as_str())
+}
+
+fn push_points(out: &mut String, points: &[Point]) -> Result<(), AllocError> {
+    for point in points {
+        write!(out, " {point}")?;
+    }
+    Ok(())
+}
+
+/// A feature with its origin and its points.
+fn push_feature(out: &mut String, feature: &Feature) -> Result<(), AllocError> {
+    write!(out, "{}", feature.label)?;
+    push_origin(out, feature.origin)?;
+    push_points(out, feature.points.as_slice())?;
+    out.push(';')
+}
+
+/// Features, each with its label and its points alone.
+pub(crate) fn push_measured(out: &mut String, features: &[Feature]) -> Result<(), AllocError> {
+    for feature in features {
+        write!(out, "{}", feature.label)?;
+        push_points(out, feature.points.as_slice())?;
+        out.push(';')?;
+    }
+    Ok(())
+}
+
+/// The acts with their connections, and how many of them are contacts.
+pub(crate) fn push_acts(out: &mut String, ledger: &ServerLedger) -> Result<(), AllocError> {
+    for (connection, act) in ledger.acts() {
+        write!(out, "{connection} {act:?};")?;
+    }
+    write!(out, "{}", ledger.contacts())
 }
 
 // ---- points
@@ -70,10 +92,10 @@ pub(crate) fn push_acts(
 /// Points, to which one more is added.
 #[derive(Drop)]
 struct Pushed {
-    alloc: Global,
     points: Points,
 }
 
+/// Four points.
 fn four_points(alloc: Global) -> Result<Points, Stop> {
     let mut points = Points::new(alloc);
     for _ in 0..4u32 {
@@ -82,27 +104,28 @@ fn four_points(alloc: Global) -> Result<Points, Stop> {
     Ok(points)
 }
 
-fn points_text(alloc: Global, points: &Points) -> Result<Vec<u8>, AllocError> {
-    let mut out = Vec::new(alloc);
-    let count = points.len();
-    push_text(&mut out, format!(in alloc; "{count}:")?.as_str())?;
-    for point in points.as_slice() {
-        push_text(&mut out, format!(in alloc; " {point}")?.as_str())?;
-    }
-    Ok(out)
+/// Points with their count.
+fn push_counted(out: &mut String, points: &Points) -> Result<(), AllocError> {
+    write!(out, "{}:", points.len())?;
+    push_points(out, points.as_slice())
 }
 
 impl Case for Pushed {
-    fn readers(&self) -> Result<Vec<u8>, AllocError> {
-        points_text(self.alloc, &self.points)
+    fn readers(&self, out: &mut String) -> Result<(), AllocError> {
+        push_counted(out, &self.points)
     }
 
-    fn call(&mut self) -> Result<Option<Vec<u8>>, Stop> {
+    fn call(&mut self, out: &mut String) -> Result<bool, Stop> {
         match self.points.push(along(5)?) {
-            Ok(()) => Ok(Some(points_text(self.alloc, &self.points)?)),
-            Err(AllocError) => Ok(None),
+            Ok(()) => shown(push_counted(out, &self.points)),
+            Err(AllocError) => Ok(false),
         }
     }
+}
+
+fn pushed_answer(alloc: Global) -> Result<String, Stop> {
+    let points = four_points(alloc)?;
+    tried(alloc, Pushed { points })
 }
 
 // ---- features
@@ -110,7 +133,6 @@ impl Case for Pushed {
 /// Features, to which one more is added.
 #[derive(Drop)]
 struct Kept {
-    alloc: Global,
     ledger: FeatureLedger,
     next: Option<Feature>,
 }
@@ -140,16 +162,8 @@ fn four_features(alloc: Global) -> Result<FeatureLedger, Stop> {
 impl Kept {
     /// The feature is added; it is handed back where memory is wanting.
     fn push(&mut self) -> Result<(), Stop> {
-        let Feature {
-            label,
-            points,
-            origin: _,
-        } = self.next.take().ok_or(Stop::Row)?;
-        let next = Feature {
-            label,
-            points,
-            origin: None,
-        };
+        let mut next = self.next.take().ok_or(Stop::Row)?;
+        next.origin = None;
         match self.ledger.push(next) {
             Ok(()) => Ok(()),
             Err(AllocFailed { value }) => {
@@ -161,34 +175,26 @@ impl Kept {
 }
 
 impl Case for Kept {
-    fn readers(&self) -> Result<Vec<u8>, AllocError> {
-        let mut out = features_of(self.alloc, self.ledger.list())?;
-        if let Some(next) = &self.next {
-            push_text(&mut out, "next ")?;
-            push_feature(self.alloc, &mut out, next)?;
+    fn readers(&self, out: &mut String) -> Result<(), AllocError> {
+        push_features(out, self.ledger.list())?;
+        match &self.next {
+            Some(next) => push_feature(out, next),
+            None => Ok(()),
         }
-        Ok(out)
     }
 
-    fn call(&mut self) -> Result<Option<Vec<u8>>, Stop> {
-        match asked(self.push())? {
-            Some(()) => Ok(Some(self.readers()?)),
-            None => Ok(None),
+    fn call(&mut self, out: &mut String) -> Result<bool, Stop> {
+        match self.push() {
+            Ok(()) => shown(self.readers(out)),
+            Err(stop) => refused(stop),
         }
     }
 }
 
-fn kept_answer(alloc: Global) -> Result<Vec<u8>, Stop> {
+fn kept_answer(alloc: Global) -> Result<String, Stop> {
     let ledger = four_features(alloc)?;
     let next = Some(feature(alloc, b"b")?);
-    tried(
-        alloc,
-        &mut Kept {
-            alloc,
-            ledger,
-            next,
-        },
-    )
+    tried(alloc, Kept { ledger, next })
 }
 
 // ---- acts
@@ -196,7 +202,6 @@ fn kept_answer(alloc: Global) -> Result<Vec<u8>, Stop> {
 /// Acts, to which one more is added.
 #[derive(Drop)]
 struct Done {
-    alloc: Global,
     ledger: ServerLedger,
     next: Option<Act>,
 }
@@ -235,53 +240,95 @@ impl Done {
 }
 
 /// How many acts there are, how many of them are contacts, and the connection of the last.
-fn told_acts(alloc: Global, ledger: &ServerLedger) -> Result<Vec<u8>, Stop> {
-    let (connection, _) = ledger.acts().last().ok_or(Stop::Row)?;
+fn push_totals(out: &mut String, ledger: &ServerLedger, last: u64) -> Result<(), AllocError> {
     let (count, contacts) = (ledger.acts().len(), ledger.contacts());
-    let text = format!(in alloc; "{count} acts, {contacts} contacts, the last on {connection}")?;
-    Ok(text_of(alloc, text.as_bytes())?)
+    write!(out, "{count} acts, {contacts} contacts, the last on {last}")
+}
+
+/// The same of acts that are there.
+fn push_last(out: &mut String, ledger: &ServerLedger) -> Result<bool, Stop> {
+    match ledger.acts().last() {
+        Some((connection, _)) => shown(push_totals(out, ledger, *connection)),
+        None => Err(Stop::Row),
+    }
 }
 
 impl Case for Done {
-    fn readers(&self) -> Result<Vec<u8>, AllocError> {
-        let mut out = Vec::new(self.alloc);
-        push_acts(self.alloc, &mut out, &self.ledger)?;
-        if let Some(next) = &self.next {
-            push_text(&mut out, format!(in self.alloc; " next {next:?}")?.as_str())?;
+    fn readers(&self, out: &mut String) -> Result<(), AllocError> {
+        push_acts(out, &self.ledger)?;
+        match &self.next {
+            Some(next) => write!(out, " next {next:?}"),
+            None => Ok(()),
         }
-        Ok(out)
     }
 
-    fn call(&mut self) -> Result<Option<Vec<u8>>, Stop> {
-        match asked(self.push())? {
-            Some(()) => Ok(Some(told_acts(self.alloc, &self.ledger)?)),
-            None => Ok(None),
+    fn call(&mut self, out: &mut String) -> Result<bool, Stop> {
+        match self.push() {
+            Ok(()) => push_last(out, &self.ledger),
+            Err(stop) => refused(stop),
         }
     }
 }
 
-fn done_answer(alloc: Global) -> Result<Vec<u8>, Stop> {
+fn done_answer(alloc: Global) -> Result<String, Stop> {
     let ledger = four_acts(alloc)?;
     let next = Some(contact(alloc)?);
-    tried(
-        alloc,
-        &mut Done {
-            alloc,
-            ledger,
-            next,
-        },
-    )
+    tried(alloc, Done { ledger, next })
 }
 
-// ---- texts, copies and audits
+// ---- texts that are read
 
-/// Features and acts, and a text that they are appended to.
+/// Features that are read.
+pub(crate) fn new_features(alloc: Global, out: &mut String) -> Result<bool, Stop> {
+    match read_features(alloc, FEATURES) {
+        Ok(read) => shown(push_features(out, read.list())),
+        Err(fault) => refused(Stop::from(fault)),
+    }
+}
+
+/// Acts as files have them.
+fn push_contacts(alloc: Global, out: &mut String, ledger: &ServerLedger) -> Result<(), AllocError> {
+    let mut text = Vec::new(alloc);
+    write_contacts(&mut text, ledger)?;
+    push_lines(out, text.as_slice())
+}
+
+/// Acts that are read.
+pub(crate) fn new_contacts(alloc: Global, out: &mut String) -> Result<bool, Stop> {
+    match read_contacts(alloc, CONTACTS) {
+        Ok(read) => shown(push_contacts(alloc, out, &read)),
+        Err(fault) => refused(Stop::from(fault)),
+    }
+}
+
+// ---- texts that are written
+
+/// Features are appended to a text; it is an `Err` within where a growth of that is refused.
+pub(crate) fn append_features(
+    alloc: Global,
+    text: &mut Vec<u8>,
+) -> Result<Result<(), AllocError>, Stop> {
+    let read = read_features(alloc, FEATURES)?;
+    Ok(write_features(text, read.list()))
+}
+
+/// The same with acts.
+pub(crate) fn append_contacts(
+    alloc: Global,
+    text: &mut Vec<u8>,
+) -> Result<Result<(), AllocError>, Stop> {
+    let read = read_contacts(alloc, CONTACTS)?;
+    Ok(write_contacts(text, &read))
+}
+
+// ---- copies and audits
+
+/// Features and acts that are copied or audited.
 #[derive(Drop)]
 struct Files<'a> {
     alloc: Global,
     features: FeatureLedger,
     acts: ServerLedger,
-    out: Vec<u8>,
     call: &'a str,
 }
 
@@ -290,112 +337,68 @@ impl Files<'_> {
         self.features.list().first().ok_or(Stop::Row)
     }
 
-    fn told_features(&self) -> Result<Option<Vec<u8>>, Stop> {
-        match read_features(self.alloc, FEATURES) {
-            Ok(read) => Ok(Some(features_of(self.alloc, read.list())?)),
-            Err(fault) => asked(Err(Stop::from(fault))),
-        }
-    }
-
-    fn told_acts(&self) -> Result<Option<Vec<u8>>, Stop> {
-        let read = match read_contacts(self.alloc, CONTACTS) {
-            Ok(read) => read,
-            Err(fault) => return asked(Err(Stop::from(fault))),
-        };
-        let mut text = Vec::new(self.alloc);
-        write_contacts(&mut text, &read)?;
-        Ok(Some(text_of(self.alloc, text.as_slice())?))
-    }
-
-    fn told_copy(&self) -> Result<Option<Vec<u8>>, Stop> {
-        let mut out = Vec::new(self.alloc);
+    fn copy_feature(&self, out: &mut String) -> Result<bool, Stop> {
         match self.first()?.copy(self.alloc) {
-            Ok(copy) => push_feature(self.alloc, &mut out, &copy)?,
-            Err(AllocError) => return Ok(None),
+            Ok(copy) => shown(push_feature(out, &copy)),
+            Err(AllocError) => Ok(false),
         }
-        Ok(Some(out))
     }
 
-    fn told_points(&self) -> Result<Option<Vec<u8>>, Stop> {
+    fn copy_points(&self, out: &mut String) -> Result<bool, Stop> {
         match self.first()?.points.copy(self.alloc) {
-            Ok(copy) => Ok(Some(points_text(self.alloc, &copy)?)),
-            Err(AllocError) => Ok(None),
+            Ok(copy) => shown(push_counted(out, &copy)),
+            Err(AllocError) => Ok(false),
         }
     }
 
-    fn told_written(&self, written: Result<(), AllocError>) -> Result<Option<Vec<u8>>, Stop> {
-        match written {
-            Ok(()) => Ok(Some(text_of(self.alloc, self.out.as_slice())?)),
-            Err(AllocError) => Ok(None),
-        }
-    }
-
-    fn told_audit(&self) -> Result<Option<Vec<u8>>, Stop> {
-        let setup = read_setup(self.alloc, SETUP)?;
-        let program = read_program(self.alloc, ONE, &setup)?;
+    fn audit(&self, out: &mut String) -> Result<bool, Stop> {
+        let program = read_program(self.alloc, ONE)?;
         match audit(self.alloc, &program, self.features.list(), &self.acts) {
-            Ok(Verdict::Starts(starts)) => {
-                let numbers = starts.as_slice();
-                let text = format!(in self.alloc; "{numbers:?}")?;
-                Ok(Some(text_of(self.alloc, text.as_bytes())?))
-            }
+            Ok(Verdict::Starts(starts)) => shown(write!(out, "{:?}", starts.as_slice())),
             Ok(Verdict::NoRun(_)) => Err(Stop::Row),
-            Err(AllocError) => Ok(None),
+            Err(AllocError) => Ok(false),
         }
     }
 }
 
 impl Case for Files<'_> {
-    fn readers(&self) -> Result<Vec<u8>, AllocError> {
-        let mut out = features_of(self.alloc, self.features.list())?;
-        push_acts(self.alloc, &mut out, &self.acts)?;
-        out.extend_from_slice(self.out.as_slice())?;
-        Ok(out)
+    fn readers(&self, out: &mut String) -> Result<(), AllocError> {
+        push_features(out, self.features.list())?;
+        push_acts(out, &self.acts)
     }
 
-    fn call(&mut self) -> Result<Option<Vec<u8>>, Stop> {
+    fn call(&mut self, out: &mut String) -> Result<bool, Stop> {
         match self.call {
-            "read_features" => self.told_features(),
-            "read_contacts" => self.told_acts(),
-            "write_features" => {
-                let read = read_features(self.alloc, FEATURES)?;
-                let written = write_features(&mut self.out, read.list());
-                self.told_written(written)
-            }
-            "write_contacts" => {
-                let written = write_contacts(&mut self.out, &self.acts);
-                self.told_written(written)
-            }
-            "Feature::copy" => self.told_copy(),
-            "Points::copy" => self.told_points(),
-            "audit" => self.told_audit(),
+            "Feature::copy" => self.copy_feature(out),
+            "Points::copy" => self.copy_points(out),
+            "audit" => self.audit(out),
             _ => Err(Stop::Row),
         }
     }
 }
 
-/// What a row of `contact_ledger` or `ledger_audit` shows.
-pub(crate) fn answer(alloc: Global, call: &str) -> Result<Vec<u8>, Stop> {
-    match call {
-        "Points::push" => {
-            let points = four_points(alloc)?;
-            return tried(alloc, &mut Pushed { alloc, points });
-        }
-        "FeatureLedger::push" => return kept_answer(alloc),
-        "ServerLedger::push" => return done_answer(alloc),
-        _ => {}
-    }
+fn file_answer(alloc: Global, call: &str) -> Result<String, Stop> {
     let features = read_features(alloc, FEATURES)?;
     let acts = read_contacts(alloc, CONTACTS)?;
-    let out = Vec::from_slice(alloc, b"at ")?;
     tried(
         alloc,
-        &mut Files {
+        Files {
             alloc,
             features,
             acts,
-            out,
             call,
         },
     )
+}
+
+/// What a row of `contact_ledger` or `ledger_audit` shows.
+pub(crate) fn answer(alloc: Global, call: &str) -> Result<String, Stop> {
+    match call {
+        "Points::push" => pushed_answer(alloc),
+        "FeatureLedger::push" => kept_answer(alloc),
+        "ServerLedger::push" => done_answer(alloc),
+        "read_features" | "read_contacts" => made::answer(alloc, call),
+        "write_features" | "write_contacts" => written::answer(alloc, call),
+        _ => file_answer(alloc, call),
+    }
 }

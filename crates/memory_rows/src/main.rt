@@ -6,14 +6,15 @@
 //! in a run; where it is none of the call's own, the row is begun anew.
 //!
 //! - `tried`: a call that is made until memory is there for it
-//! - `values`, `wire`: names, lengths and lines of the wire
+//! - `made`: values before which there is none
+//! - `written`, `wire`: names, lengths and lines of the wire
 //! - `programs`: statements, programs, plans and setups
 //! - `framing`: bytes of a connection
 //! - `tags`: tags and waiting commands
 //! - `ledgers`: features, acts and audits
 //! - `client`, `server`, `world`: both ends, and both in a world
 //! - `reports`: what a world shows
-//! - `links`: both ends over ports
+//! - `links`, `ports`: both ends over ports
 //! - `shown`: what rows show
 //! - `stop`: why it ends early
 #![tactic(auto)]
@@ -22,6 +23,8 @@ mod client;
 mod framing;
 mod ledgers;
 mod links;
+mod made;
+mod ports;
 mod programs;
 mod reports;
 mod server;
@@ -29,22 +32,28 @@ mod shown;
 mod stop;
 mod tags;
 mod tried;
-mod values;
 mod wire;
 mod world;
+mod written;
 
 use byte_ports::{Reading, Writing, pull_all, push_all};
-use shown::push_text;
-use std::alloc::{AllocError, Global};
+use std::alloc::Global;
 use std::io;
 use std::process::ExitCode;
 use stop::Stop;
 
-/// What a row shows.
-fn answer(alloc: Global, row: &str) -> Result<Vec<u8>, Stop> {
-    let (name, call) = row.split_once(" ").ok_or(Stop::Row)?;
+/// What a row of a call shows.
+fn answer(alloc: Global, row: &str) -> Result<String, Stop> {
+    match row.split_once(" ") {
+        Some((name, call)) => of_crate(alloc, name, call),
+        None => Err(Stop::Row),
+    }
+}
+
+/// What a row of a crate shows.
+fn of_crate(alloc: Global, name: &str, call: &str) -> Result<String, Stop> {
     match name {
-        "fixed_um" => values::answer(alloc, call),
+        "fixed_um" | "dme_line" => of_texts(alloc, call),
         "dmis_text" => programs::statement_answer(alloc),
         "dmis_program" | "resume_plan" | "tool_rack" => programs::answer(alloc, call),
         "line_framing" => framing::answer(alloc, call),
@@ -53,58 +62,78 @@ fn answer(alloc: Global, row: &str) -> Result<Vec<u8>, Stop> {
         "contact_ledger" | "ledger_audit" => ledgers::answer(alloc, call),
         "client_core" => client::answer(alloc, call),
         "server_core" => server::answer(alloc, call),
-        "link_world" => linked(alloc, call),
-        "dme_line" => wire::answer(alloc, call),
+        "link_world" => of_both(alloc, call),
         _ => Err(Stop::Row),
     }
 }
 
+/// What a row of values and lines shows.
+fn of_texts(alloc: Global, call: &str) -> Result<String, Stop> {
+    match call {
+        "Name::new" | "Text::new" | "read_command" | "read_response" => made::answer(alloc, call),
+        _ => written::answer(alloc, call),
+    }
+}
+
 /// What a row of both ends together shows.
-fn linked(alloc: Global, call: &str) -> Result<Vec<u8>, Stop> {
+fn of_both(alloc: Global, call: &str) -> Result<String, Stop> {
     match call {
         "client_turns" | "run_link" | "watch_link" | "serve_turns" | "serve_link" | "loop_link" => {
             links::answer(alloc, call)
         }
         "World::finish"
         | "World::report"
-        | "Simulated::new"
-        | "quiet_run"
         | "report_of"
         | "write_report"
-        | "write_contact_rows" => reports::answer(alloc, call),
+        | "write_contact_rows"
+        | "World::new"
+        | "Schedule::read"
+        | "Simulated::new"
+        | "quiet_run" => { reports::answer(alloc, call) }
         _ => world::answer(alloc, call),
     }
 }
 
-fn push_row(out: &mut Vec<u8>, row: &str, shown: &[u8]) -> Result<(), AllocError> {
-    push_text(out, row)?;
-    push_text(out, " => ")?;
-    out.extend_from_slice(shown)?;
-    out.push(b'\n')?;
-    Ok(())
+/// What a row shows. One of which a growth is refused that is none of its call's own is begun anew, once.
+fn answer_again(alloc: Global, row: &str) -> Result<String, Stop> {
+    match answer(alloc, row) {
+        Err(Stop::Memory) => answer(alloc, row),
+        shown => shown,
+    }
 }
 
-/// Each row with what it shows. A row of which a growth is refused that is none of its call's own is begun anew, once.
-fn answered(alloc: Global, rows: &str) -> Result<Vec<u8>, Stop> {
-    let mut out = Vec::new(alloc);
-    for row in rows.lines() {
-        let shown = match answer(alloc, row) {
-            Err(Stop::Memory) => answer(alloc, row)?,
-            shown => shown?,
-        };
-        push_row(&mut out, row, shown.as_slice())?;
+fn push_row(alloc: Global, out: &mut String, row: &str) -> Result<(), Stop> {
+    let shown = answer_again(alloc, row)?;
+    Ok(writeln!(out, "{row} => {shown}")?)
+}
+
+/// Each row with what it shows.
+fn answered(alloc: Global, rows: &[u8]) -> Result<String, Stop> {
+    let mut out = String::new(alloc);
+    for row in str::from_utf8(rows).ok().ok_or(Stop::Row)?.lines() {
+        push_row(alloc, &mut out, row)?;
     }
     Ok(out)
 }
 
-fn run<R: Input + Print + AllocGlobal>(rt: &R) -> Result<(), Stop> {
-    let alloc = rt.alloc();
+fn read_all<R: Input + AllocGlobal>(rt: &R) -> Result<Vec<u8>, Stop> {
     let mut source = Reading::new(rt.reader());
-    let input = pull_all(alloc, &mut source, 1_000_000).map_err(|_| Stop::Port)?;
-    let text = str::from_utf8(input.as_slice()).map_err(|_| Stop::Row)?;
-    let answers = answered(alloc, text)?;
+    pull_all(rt.alloc(), &mut source, 1_000_000)
+        .ok()
+        .ok_or(Stop::Port)
+}
+
+fn print_all<R: Print>(rt: &R, answers: &str) -> Result<(), Stop> {
     let mut sink = Writing::new(io::writer(rt));
-    push_all(&mut sink, answers.as_slice()).map_err(|_| Stop::Port)
+    push_all(&mut sink, answers.as_bytes())
+        .ok()
+        .ok_or(Stop::Port)
+}
+
+fn run<R: Input + Print + AllocGlobal>(rt: &R) -> Result<(), Stop> {
+    let rows = read_all(rt)?;
+    let answers = answered(rt.alloc(), rows.as_slice())?;
+    print_all(rt, answers.as_str())
 }
 
 fn main(rt: HostRuntime) -> ExitCode {

@@ -3,11 +3,12 @@
 ghost use Rattle.std.specs.Prelude.{◌≤◌, unsigned_abs, IfOk};
 ghost use Rattle.fixed_um.specs.Points.{IsInVolume};
 
-use crate::shown::{push_text, text_of};
+use crate::made;
+use crate::shown::push_lines;
 use crate::stop::Stop;
-use crate::tried::{Case, asked, tried};
-use dmis_program::{Frames, Program};
-use dmis_text::{Statement, Statements};
+use crate::tried::{Case, Told, refused, show, shown, tried};
+use dmis_program::{Frames, Program, Touch, Wanted};
+use dmis_text::{Params, Statement, Statements};
 use fixed_um::{Name, Point, Um};
 use resume_plan::{Planned, Start, plan};
 use std::alloc::{AllocError, Global};
@@ -17,16 +18,25 @@ use tool_rack::Setup;
 pub(crate) const ONE: &[u8] = b"DMISMN/'O',05.2\nSNSLCT/S(P1)\nRECALL/D(PART)\n\
 MEAS/POINT,F(A),1\nPTMEAS/CART,1,2,3,0,0,1\nENDMES\nENDFIL\n";
 
-/// A setup with two tools, a frame and a shift.
-pub(crate) const SETUP: &[u8] = b"TOOL P1\nTOOL P2\nFRAME PART 100 0 0\nSHIFT 0.002 0 0\n";
+/// A program of two features of one touch each.
+pub(crate) const TWO: &[u8] = b"DMISMN/'T',05.2\nSNSLCT/S(P1)\nMEAS/POINT,F(A),1\n\
+PTMEAS/CART,1,2,3,0,0,1\nENDMES\nMEAS/POINT,F(B),1\nPTMEAS/CART,4,5,6,0,0,1\nENDMES\nENDFIL\n";
 
-pub(crate) fn read_setup(alloc: Global, text: &[u8]) -> Result<Setup, Stop> {
-    Ok(Setup::read(alloc, text)?)
+/// A setup with two tools, a frame and a shift.
+const SETUP: &[u8] = b"TOOL P1\nTOOL P2\nFRAME PART 100 0 0\nSHIFT 0.002 0 0\n";
+
+pub(crate) fn read_setup(alloc: Global) -> Result<Setup, Stop> {
+    Ok(Setup::read(alloc, SETUP)?)
 }
 
-/// A program that may recall the frames of this setup.
-pub(crate) fn read_program(alloc: Global, text: &[u8], setup: &Setup) -> Result<Program, Stop> {
+/// A program that may recall the frames of the setup.
+pub(crate) fn read_program(alloc: Global, text: &[u8]) -> Result<Program, Stop> {
+    let setup = read_setup(alloc)?;
     Ok(Program::read(alloc, text, setup.frames())?)
+}
+
+pub(crate) fn name(alloc: Global, text: &[u8]) -> Result<Name, Stop> {
+    Name::new(alloc, text)?.ok_or(Stop::Row)
 }
 
 // ---- statements
@@ -34,64 +44,63 @@ pub(crate) fn read_program(alloc: Global, text: &[u8], setup: &Setup) -> Result<
 /// The statements of a text, none of which was read.
 #[derive(Drop)]
 struct Texts {
-    alloc: Global,
     left: Statements<'static>,
 }
 
-/// A statement: its line, its word and its parameters.
-fn push_statement(
-    alloc: Global,
-    out: &mut Vec<u8>,
-    statement: &Statement<'_>,
-) -> Result<(), AllocError> {
-    let line = statement.line;
-    push_text(out, format!(in alloc; "{line}")?.as_str())?;
-    out.push(b' ')?;
-    out.extend_from_slice(&statement.word)?;
-    for parameter in statement.params.iter() {
-        out.push(b' ')?;
-        out.extend_from_slice(parameter)?;
+fn push_params(out: &mut String, params: &Params<'_>) -> Result<(), AllocError> {
+    for parameter in params.iter() {
+        out.push(' ')?;
+        push_lines(out, parameter)?;
     }
-    out.push(b';')?;
     Ok(())
 }
 
-/// A statement and all behind it, and how many lines the text has.
-fn told_statements(
-    alloc: Global,
-    first: &Statement<'_>,
-    left: &mut Statements<'static>,
-) -> Result<Vec<u8>, Stop> {
-    let mut out = Vec::new(alloc);
-    push_statement(alloc, &mut out, first)?;
-    for _ in 0..3u32 {
-        if let Some(statement) = left.next()? {
-            push_statement(alloc, &mut out, &statement)?;
+/// A statement: its line, its word and its parameters.
+fn push_statement(out: &mut String, statement: &Statement<'_>) -> Result<(), AllocError> {
+    write!(out, "{} ", statement.line)?;
+    push_lines(out, &statement.word)?;
+    push_params(out, &statement.params)?;
+    out.push(';')
+}
+
+/// The statement that is next, where there is one.
+fn push_next(out: &mut String, left: &mut Statements<'static>) -> Result<bool, Stop> {
+    match left.next() {
+        Ok(Some(statement)) => shown(push_statement(out, &statement)),
+        Ok(None) => Ok(true),
+        Err(fault) => refused(Stop::from(fault)),
+    }
+}
+
+/// So many of the next statements.
+fn push_some(out: &mut String, left: &mut Statements<'static>, count: u32) -> Result<(), Stop> {
+    for _ in 0..count {
+        if !push_next(out, left)? {
+            return Err(Stop::Memory);
         }
     }
-    let lines = left.lines();
-    push_text(&mut out, format!(in alloc; " {lines} lines")?.as_str())?;
-    Ok(out)
+    Ok(())
 }
 
 impl Case for Texts {
-    fn readers(&self) -> Result<Vec<u8>, AllocError> {
-        let lines = self.left.lines();
-        text_of(self.alloc, format!(in self.alloc; "{lines}")?.as_bytes())
+    fn readers(&self, out: &mut String) -> Result<(), AllocError> {
+        write!(out, "{}", self.left.lines())
     }
 
-    fn call(&mut self) -> Result<Option<Vec<u8>>, Stop> {
-        match self.left.next() {
-            Ok(Some(first)) => Ok(Some(told_statements(self.alloc, &first, &mut self.left)?)),
-            Ok(None) => Err(Stop::Row),
-            Err(fault) => asked(Err(Stop::from(fault))),
+    /// The call is the first of the statements.
+    fn call(&mut self, out: &mut String) -> Result<bool, Stop> {
+        if !push_next(out, &mut self.left)? {
+            return Ok(false);
         }
+        push_some(out, &mut self.left, 3)?;
+        shown(write!(out, " {} lines", self.left.lines()))
     }
 }
 
-pub(crate) fn statement_answer(alloc: Global) -> Result<Vec<u8>, Stop> {
+/// What a row of `dmis_text` shows.
+pub(crate) fn statement_answer(alloc: Global) -> Result<String, Stop> {
     let left = Statements::new(alloc, b"meas/point,f(a),$\n1\nENDMES\nENDFIL\n");
-    tried(alloc, &mut Texts { alloc, left })
+    tried(alloc, Texts { left })
 }
 
 // ---- frames
@@ -101,10 +110,6 @@ pub(crate) fn statement_answer(alloc: Global) -> Result<Vec<u8>, Stop> {
 struct Added {
     alloc: Global,
     frames: Frames,
-}
-
-pub(crate) fn name(alloc: Global, text: &[u8]) -> Result<Name, Stop> {
-    Name::new(alloc, text)?.ok_or(Stop::Row)
 }
 
 /// So many millimetres along the first axis.
@@ -117,148 +122,157 @@ pub(crate) fn along(millimetres: i64) -> Result<Point, Stop>
     Ok(point)
 }
 
+fn add_frame(alloc: Global, frames: &mut Frames, text: &[u8]) -> Result<(), Stop> {
+    let point = along(1)?;
+    frames.add(name(alloc, text)?, point)?;
+    Ok(())
+}
+
 /// The frames F1 to F4.
 fn four_frames(alloc: Global) -> Result<Frames, Stop> {
     let mut frames = Frames::new(alloc);
     for text in [b"F1", b"F2", b"F3", b"F4"] {
-        frames.add(name(alloc, text)?, along(1)?)?;
+        add_frame(alloc, &mut frames, text)?;
     }
     Ok(frames)
 }
 
-/// Where the frames F1 to F5 have their zero points.
-fn push_frames(alloc: Global, out: &mut Vec<u8>, frames: &Frames) -> Result<(), AllocError> {
-    for text in [b"F1", b"F2", b"F3", b"F4", b"F5"] {
-        if let Some(name) = Name::new(alloc, text)?
-            && let Some(point) = frames.get(&name)
-        {
-            push_text(out, format!(in alloc; "{name} {point};")?.as_str())?;
-        }
+/// Where a frame has its zero point, where it is one of these.
+fn push_frame(
+    alloc: Global,
+    out: &mut String,
+    frames: &Frames,
+    text: &[u8],
+) -> Result<(), AllocError> {
+    if let Some(name) = Name::new(alloc, text)?
+        && let Some(point) = frames.get(&name)
+    {
+        write!(out, "{name} {point};")?;
     }
     Ok(())
 }
 
 impl Case for Added {
-    fn readers(&self) -> Result<Vec<u8>, AllocError> {
-        let mut out = Vec::new(self.alloc);
-        push_frames(self.alloc, &mut out, &self.frames)?;
-        Ok(out)
+    fn readers(&self, out: &mut String) -> Result<(), AllocError> {
+        for text in [b"F1", b"F2", b"F3", b"F4", b"F5"] {
+            push_frame(self.alloc, out, &self.frames, text)?;
+        }
+        Ok(())
     }
 
-    fn call(&mut self) -> Result<Option<Vec<u8>>, Stop> {
-        let added = name(self.alloc, b"f5")?;
+    fn call(&mut self, out: &mut String) -> Result<bool, Stop> {
         let point = along(-5)?;
-        match self.frames.add(added, point) {
-            Ok(true) => Ok(Some(self.readers()?)),
+        match self.frames.add(name(self.alloc, b"f5")?, point) {
+            Ok(true) => shown(self.readers(out)),
             Ok(false) => Err(Stop::Row),
-            Err(AllocError) => Ok(None),
+            Err(AllocError) => Ok(false),
         }
     }
 }
 
-fn frame_answer(alloc: Global) -> Result<Vec<u8>, Stop> {
+fn frame_answer(alloc: Global) -> Result<String, Stop> {
     let frames = four_frames(alloc)?;
-    tried(alloc, &mut Added { alloc, frames })
+    tried(alloc, Added { alloc, frames })
 }
 
 // ---- programs, plans and setups
 
-/// What is made of a setup and of the text of a program.
-#[derive(Drop)]
-struct Made<'a> {
-    alloc: Global,
-    setup: Setup,
-    call: &'a str,
-}
-
-/// The features of a program with their touches, and how many steps it has.
-fn push_program(alloc: Global, out: &mut Vec<u8>, program: &Program) -> Result<(), AllocError> {
-    for feature in program.features() {
-        let label = &feature.label;
-        push_text(out, format!(in alloc; "{label}:")?.as_str())?;
-        for touch in feature.touches.as_slice() {
-            let (target, tool) = (touch.target, &touch.tool);
-            push_text(out, format!(in alloc; " {target} {tool}")?.as_str())?;
-        }
-        out.push(b';')?;
-    }
-    let steps = program.statements().len();
-    push_text(out, format!(in alloc; " {steps} steps")?.as_str())
-}
-
-fn told_program(alloc: Global, setup: &Setup) -> Result<Option<Vec<u8>>, Stop> {
-    let Some(program) = asked(read_program(alloc, ONE, setup))? else {
-        return Ok(None);
-    };
-    let mut out = Vec::new(alloc);
-    push_program(alloc, &mut out, &program)?;
-    Ok(Some(out))
-}
-
-/// The kinds of the commands of a plan.
-fn kinds_of(alloc: Global, planned: &[Planned]) -> Result<Vec<u8>, AllocError> {
-    let mut out = Vec::new(alloc);
-    for one in planned {
-        let kind = one.command.kind();
-        push_text(&mut out, format!(in alloc; "{kind:?};")?.as_str())?;
-    }
-    Ok(out)
-}
-
-fn told_plan(alloc: Global, setup: &Setup) -> Result<Option<Vec<u8>>, Stop> {
-    let program = read_program(alloc, ONE, setup)?;
-    match plan(alloc, &program, 0, Start::NewConnection) {
-        Ok(planned) => Ok(Some(kinds_of(alloc, planned.as_slice())?)),
-        Err(AllocError) => Ok(None),
-    }
-}
-
-/// The tools of a setup among two names, its frame PART and the shifts of its first contacts.
-fn push_setup(alloc: Global, out: &mut Vec<u8>, setup: &Setup) -> Result<(), Stop> {
-    for text in [b"P1", b"P2", b"P9"] {
-        let tool = name(alloc, text)?;
-        if setup.rack().has(&tool) {
-            push_text(out, format!(in alloc; "{tool} ")?.as_str())?;
-        }
-    }
-    if let Some(offset) = setup.frames().get(&name(alloc, b"PART")?) {
-        push_text(out, format!(in alloc; "PART {offset}")?.as_str())?;
-    }
-    for shift in setup.shifts() {
-        push_text(out, format!(in alloc; " SHIFT {shift}")?.as_str())?;
+fn push_touches(out: &mut String, touches: &[Touch]) -> Result<(), AllocError> {
+    for touch in touches {
+        write!(out, " {} {}", touch.target, touch.tool)?;
     }
     Ok(())
 }
 
-fn told_setup(alloc: Global) -> Result<Option<Vec<u8>>, Stop> {
-    let Some(setup) = asked(read_setup(alloc, SETUP))? else {
-        return Ok(None);
-    };
-    let mut out = Vec::new(alloc);
-    push_setup(alloc, &mut out, &setup)?;
-    Ok(Some(out))
+/// A feature of a program with its touches.
+fn push_feature(out: &mut String, feature: &Wanted) -> Result<(), AllocError> {
+    write!(out, "{}:", feature.label)?;
+    push_touches(out, feature.touches.as_slice())?;
+    out.push(';')
 }
 
-impl Case for Made<'_> {
-    fn readers(&self) -> Result<Vec<u8>, AllocError> {
-        Ok(Vec::new(self.alloc))
-    }
-
-    fn call(&mut self) -> Result<Option<Vec<u8>>, Stop> {
-        match self.call {
-            "Program::read" => told_program(self.alloc, &self.setup),
-            "plan" => told_plan(self.alloc, &self.setup),
-            "Setup::read" => told_setup(self.alloc),
-            _ => Err(Stop::Row),
+impl Told for Program {
+    /// The features of a program, and how many steps it has.
+    fn told(&self, out: &mut String) -> Result<(), Stop> {
+        for feature in self.features() {
+            push_feature(out, feature)?;
         }
+        Ok(write!(out, " {} steps", self.statements().len())?)
+    }
+}
+
+/// A program that is read.
+pub(crate) fn new_program(alloc: Global, out: &mut String) -> Result<bool, Stop> {
+    let setup = read_setup(alloc)?;
+    match Program::read(alloc, ONE, setup.frames()) {
+        Ok(program) => show(Some(program), out),
+        Err(fault) => refused(Stop::from(fault)),
+    }
+}
+
+/// The kinds of the commands of a plan.
+fn push_kinds(out: &mut String, planned: &[Planned]) -> Result<(), AllocError> {
+    for one in planned {
+        write!(out, "{:?};", one.command.kind())?;
+    }
+    Ok(())
+}
+
+/// A plan that is made.
+pub(crate) fn new_plan(alloc: Global, out: &mut String) -> Result<bool, Stop> {
+    let program = read_program(alloc, ONE)?;
+    match plan(alloc, &program, 0, Start::NewConnection) {
+        Ok(planned) => shown(push_kinds(out, planned.as_slice())),
+        Err(AllocError) => Ok(false),
+    }
+}
+
+/// The name of a tool, where a setup has it.
+fn push_tool(alloc: Global, out: &mut String, setup: &Setup, text: &[u8]) -> Result<(), Stop> {
+    let tool = name(alloc, text)?;
+    if setup.rack().has(&tool) {
+        write!(out, "{tool} ")?;
+    }
+    Ok(())
+}
+
+/// The frame PART of a setup.
+fn push_part(alloc: Global, out: &mut String, setup: &Setup) -> Result<(), Stop> {
+    let part = name(alloc, b"PART")?;
+    if let Some(offset) = setup.frames().get(&part) {
+        write!(out, "PART {offset}")?;
+    }
+    Ok(())
+}
+
+fn push_shifts(out: &mut String, shifts: &[Point]) -> Result<(), AllocError> {
+    for shift in shifts {
+        write!(out, " SHIFT {shift}")?;
+    }
+    Ok(())
+}
+
+/// The tools of a setup among three names, its frame PART and the shifts of its first contacts.
+fn push_setup(alloc: Global, out: &mut String, setup: &Setup) -> Result<bool, Stop> {
+    for text in [b"P1", b"P2", b"P9"] {
+        push_tool(alloc, out, setup, text)?;
+    }
+    push_part(alloc, out, setup)?;
+    shown(push_shifts(out, setup.shifts()))
+}
+
+/// A setup that is read.
+pub(crate) fn new_setup(alloc: Global, out: &mut String) -> Result<bool, Stop> {
+    match read_setup(alloc) {
+        Ok(setup) => push_setup(alloc, out, &setup),
+        Err(stop) => refused(stop),
     }
 }
 
 /// What a row of `dmis_program`, `resume_plan` or `tool_rack` shows.
-pub(crate) fn answer(alloc: Global, call: &str) -> Result<Vec<u8>, Stop> {
-    if call == "Frames::add" {
-        return frame_answer(alloc);
+pub(crate) fn answer(alloc: Global, call: &str) -> Result<String, Stop> {
+    match call {
+        "Frames::add" => frame_answer(alloc),
+        _ => made::answer(alloc, call),
     }
-    let setup = read_setup(alloc, SETUP)?;
-    tried(alloc, &mut Made { alloc, setup, call })
 }

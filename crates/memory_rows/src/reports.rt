@@ -1,13 +1,15 @@
 // What a world shows, and what is made of a whole run.
 
-use crate::ledgers::features_of;
-use crate::programs::{ONE, SETUP, read_program, read_setup};
-use crate::shown::{push_text, text_of};
+use crate::client::client_of;
+use crate::ledgers::{first_feature, push_acts, push_features, push_measured};
+use crate::made;
+use crate::programs::{ONE, TWO, read_program, read_setup};
+use crate::shown::push_lines;
 use crate::stop::Stop;
-use crate::tried::{Case, tried};
-use crate::world::played;
+use crate::tried::{Case, Told, show, shown, tried};
+use crate::world::{new_world, play};
 use client_core::Client;
-use contact_ledger::{FeatureLedger, ServerLedger, read_contacts, read_features};
+use contact_ledger::{ServerLedger, read_contacts};
 use fixed_um::{Point, Um};
 use link_world::{
     Machine, NewFault, Outcome, Quiet, Report, Simulated, World, WorldFault, quiet_run, report_of,
@@ -16,77 +18,77 @@ use link_world::{
 use server_core::Job;
 use std::alloc::{AllocError, Global};
 
-/// A program of two features of one touch each.
-pub(crate) const TWO: &[u8] = b"DMISMN/'T',05.2\nSNSLCT/S(P1)\nMEAS/POINT,F(A),1\n\
-PTMEAS/CART,1,2,3,0,0,1\nENDMES\nMEAS/POINT,F(B),1\nPTMEAS/CART,4,5,6,0,0,1\nENDMES\nENDFIL\n";
-
 /// A world that has measured all, and a text that its report is appended to.
 #[derive(Drop)]
 struct Shown<'a> {
     alloc: Global,
     world: World,
-    report: Report,
-    out: Vec<u8>,
+    text: Vec<u8>,
     call: &'a str,
 }
 
-fn report_text(alloc: Global, report: &Report) -> Result<Vec<u8>, AllocError> {
+/// The text of a report.
+fn push_report(alloc: Global, out: &mut String, report: &Report) -> Result<(), AllocError> {
     let mut text = Vec::new(alloc);
     write_report(&mut text, report)?;
-    text_of(alloc, text.as_slice())
+    push_lines(out, text.as_slice())
 }
 
 impl Shown<'_> {
-    fn told_report(&self, report: Result<Report, AllocError>) -> Result<Option<Vec<u8>>, Stop> {
-        match report {
-            Ok(report) => Ok(Some(report_text(self.alloc, &report)?)),
-            Err(AllocError) => Ok(None),
+    fn report(&self, out: &mut String) -> Result<bool, Stop> {
+        match self.world.report() {
+            Ok(report) => shown(push_report(self.alloc, out, &report)),
+            Err(AllocError) => Ok(false),
         }
     }
 
-    fn told_written(&self, written: Result<(), AllocError>) -> Result<Option<Vec<u8>>, Stop> {
-        match written {
-            Ok(()) => Ok(Some(text_of(self.alloc, self.out.as_slice())?)),
-            Err(AllocError) => Ok(None),
+    /// The report is appended to the text; it is an `Err` within where a growth of that is refused.
+    fn write_report(&mut self) -> Result<Result<(), AllocError>, Stop> {
+        let report = self.world.report()?;
+        Ok(write_report(&mut self.text, &report))
+    }
+
+    /// The same of the report or of the rows of contacts.
+    fn write(&mut self) -> Result<Result<(), AllocError>, Stop> {
+        match self.call {
+            "write_report" => self.write_report(),
+            "write_contact_rows" => Ok(write_contact_rows(&mut self.text, self.world.ledger())),
+            _ => Err(Stop::Row),
         }
     }
 }
 
 impl Case for Shown<'_> {
-    fn readers(&self) -> Result<Vec<u8>, AllocError> {
-        let mut out = features_of(self.alloc, self.world.features())?;
-        let report = &self.report;
-        push_text(&mut out, format!(in self.alloc; "{report:?}")?.as_str())?;
-        out.extend_from_slice(self.out.as_slice())?;
-        Ok(out)
+    fn prepare(&mut self) -> Result<(), Stop> {
+        play(self.alloc, &mut self.world, b"connect\naccept 1\nquiet\n")
     }
 
-    fn call(&mut self) -> Result<Option<Vec<u8>>, Stop> {
-        match self.call {
-            "World::report" => self.told_report(self.world.report()),
-            "write_report" => {
-                let written = write_report(&mut self.out, &self.report);
-                self.told_written(written)
-            }
-            _ => {
-                let written = write_contact_rows(&mut self.out, self.world.ledger());
-                self.told_written(written)
-            }
+    fn readers(&self, out: &mut String) -> Result<(), AllocError> {
+        push_features(out, self.world.features())?;
+        push_acts(out, self.world.ledger())?;
+        push_lines(out, self.text.as_slice())
+    }
+
+    fn call(&mut self, out: &mut String) -> Result<bool, Stop> {
+        if self.call == "World::report" {
+            return self.report(out);
+        }
+        match self.write()? {
+            Ok(()) => shown(push_lines(out, self.text.as_slice())),
+            Err(AllocError) => Ok(false),
         }
     }
 }
 
-fn shown_answer(alloc: Global, call: &str) -> Result<Vec<u8>, Stop> {
-    let world = played(alloc, ONE, b"connect\naccept 1\nquiet\n")?;
-    let report = world.report()?;
-    let out = Vec::from_slice(alloc, b"at ")?;
+fn shown_answer(alloc: Global, call: &str) -> Result<String, Stop> {
+    let text = Vec::from_slice(alloc, b"at ")?;
+    let world = new_world(alloc, ONE)?;
     tried(
         alloc,
-        &mut Shown {
+        Shown {
             alloc,
             world,
-            report,
-            out,
+            text,
             call,
         },
     )
@@ -103,37 +105,31 @@ struct Held {
 }
 
 impl Case for Held {
-    fn readers(&self) -> Result<Vec<u8>, AllocError> {
-        features_of(self.alloc, self.client.features())
+    fn readers(&self, out: &mut String) -> Result<(), AllocError> {
+        push_features(out, self.client.features())
     }
 
-    fn call(&mut self) -> Result<Option<Vec<u8>>, Stop> {
+    fn call(&mut self, out: &mut String) -> Result<bool, Stop> {
         match report_of(self.alloc, &self.client, Some(&self.ledger)) {
-            Ok(report) => Ok(Some(report_text(self.alloc, &report)?)),
-            Err(AllocError) => Ok(None),
+            Ok(report) => shown(push_report(self.alloc, out, &report)),
+            Err(AllocError) => Ok(false),
         }
     }
 }
 
-/// The first feature of the two, with its point.
-pub(crate) fn first_feature(alloc: Global) -> Result<FeatureLedger, Stop> {
-    Ok(read_features(
-        alloc,
-        b"DME-FEATURES 2\nFEATURE A 1 1 M\n1.000 2.000 3.000\nEND\n",
-    )?)
+/// A client of two features that holds the first of them.
+pub(crate) fn two_client(alloc: Global) -> Result<Client, Stop> {
+    let program = read_program(alloc, TWO)?;
+    client_of(alloc, program, first_feature(alloc)?)
 }
 
-fn held_answer(alloc: Global) -> Result<Vec<u8>, Stop> {
-    let setup = read_setup(alloc, SETUP)?;
-    let program = read_program(alloc, TWO, &setup)?;
-    let client = crate::client::client_of(alloc, program, first_feature(alloc)?)?;
-    let ledger = read_contacts(
-        alloc,
-        b"DME-CONTACTS 1\n7 CONTACT 1.000 2.000 3.000 N P1 M 1.000 2.000 3.000\n",
-    )?;
+fn held_answer(alloc: Global) -> Result<String, Stop> {
+    let contact = b"DME-CONTACTS 1\n7 CONTACT 1.000 2.000 3.000 N P1 M 1.000 2.000 3.000\n";
+    let ledger = read_contacts(alloc, contact)?;
+    let client = two_client(alloc)?;
     tried(
         alloc,
-        &mut Held {
+        Held {
             alloc,
             client,
             ledger,
@@ -143,71 +139,61 @@ fn held_answer(alloc: Global) -> Result<Vec<u8>, Stop> {
 
 // ---- a simulated machine, and whole runs
 
-/// What is made of a setup.
-#[derive(Drop)]
-struct Made<'a> {
-    alloc: Global,
-    call: &'a str,
-}
-
-/// Where the machine meets a surface beside a point.
-fn push_met<M: Machine>(alloc: Global, out: &mut Vec<u8>, machine: &mut M) -> Result<(), Stop> {
+/// A touch of a point beside which there is a surface.
+fn touch() -> Result<Job, Stop> {
     let target = Point {
         x: Um::new(1_000).ok_or(Stop::Row)?,
         y: Um::zero(),
         z: Um::zero(),
     };
-    match machine.answer(&Job::Touch(target, None), 0) {
-        Outcome::Touched(at) => Ok(push_text(out, format!(in alloc; "{at}")?.as_str())?),
+    Ok(Job::Touch(target, None))
+}
+
+/// Where the machine meets a surface beside a point.
+fn push_met<M: Machine>(out: &mut String, machine: &mut M) -> Result<bool, Stop> {
+    match machine.answer(&touch()?, 0) {
+        Outcome::Touched(at) => shown(write!(out, "{at}")),
         _ => Err(Stop::Row),
     }
 }
 
-fn told_machine(alloc: Global) -> Result<Option<Vec<u8>>, Stop> {
-    let setup = read_setup(alloc, SETUP)?;
+/// A machine that is made.
+pub(crate) fn new_machine(alloc: Global, out: &mut String) -> Result<bool, Stop> {
+    let setup = read_setup(alloc)?;
     match Simulated::new(alloc, &setup) {
-        Ok(mut machine) => {
-            let mut out = Vec::new(alloc);
-            push_met(alloc, &mut out, &mut machine)?;
-            Ok(Some(out))
-        }
-        Err(AllocError) => Ok(None),
+        Ok(mut machine) => push_met(out, &mut machine),
+        Err(AllocError) => Ok(false),
     }
 }
 
-/// The state that a run has reached, its features and its turns.
-fn told_quiet(alloc: Global, quiet: &Quiet) -> Result<Vec<u8>, AllocError> {
-    let (state, turns) = (quiet.state, quiet.turns);
-    let mut out = features_of(alloc, quiet.features.list())?;
-    push_text(
-        &mut out,
-        format!(in alloc; " {state:?}, {turns} turns")?.as_str(),
-    )?;
-    Ok(out)
+impl Told for Quiet {
+    /// The state that a run has reached, its features and its turns.
+    fn told(&self, out: &mut String) -> Result<(), Stop> {
+        push_features(out, self.features.list())?;
+        Ok(write!(out, " {:?}, {} turns", self.state, self.turns)?)
+    }
 }
 
-fn told_run(alloc: Global) -> Result<Option<Vec<u8>>, Stop> {
-    let setup = read_setup(alloc, SETUP)?;
-    let program = read_program(alloc, TWO, &setup)?;
-    let mut machine = Simulated::new(alloc, &setup)?;
-    match quiet_run(alloc, program, setup, 1, &mut machine) {
-        Ok(quiet) => Ok(Some(told_quiet(alloc, &quiet)?)),
+/// The machine of the setup.
+pub(crate) fn simulated(alloc: Global) -> Result<Simulated, Stop> {
+    let setup = read_setup(alloc)?;
+    Ok(Simulated::new(alloc, &setup)?)
+}
+
+/// A whole run with a machine; none where a growth of it was refused.
+fn run_with(alloc: Global, machine: &mut Simulated) -> Result<Option<Quiet>, Stop> {
+    let program = read_program(alloc, TWO)?;
+    match quiet_run(alloc, program, read_setup(alloc)?, 1, machine) {
+        Ok(quiet) => Ok(Some(quiet)),
         Err(NewFault::Memory) => Ok(None),
         Err(NewFault::BadWindow(_, _)) => Err(Stop::Row),
     }
 }
 
-impl Case for Made<'_> {
-    fn readers(&self) -> Result<Vec<u8>, AllocError> {
-        Ok(Vec::new(self.alloc))
-    }
-
-    fn call(&mut self) -> Result<Option<Vec<u8>>, Stop> {
-        match self.call {
-            "Simulated::new" => told_machine(self.alloc),
-            _ => told_run(self.alloc),
-        }
-    }
+/// A whole run that is made.
+pub(crate) fn new_run(alloc: Global, out: &mut String) -> Result<bool, Stop> {
+    let mut machine = simulated(alloc)?;
+    show(run_with(alloc, &mut machine)?, out)
 }
 
 // ---- a world that is brought to its end
@@ -222,43 +208,39 @@ struct Finished {
 }
 
 /// The state, and the features with their points.
-fn told_points(alloc: Global, world: &World) -> Result<Vec<u8>, AllocError> {
-    let mut out = Vec::new(alloc);
-    let state = world.state();
-    push_text(&mut out, format!(in alloc; "{state:?};")?.as_str())?;
-    for feature in world.features() {
-        let label = &feature.label;
-        push_text(&mut out, format!(in alloc; "{label}")?.as_str())?;
-        for point in feature.points.as_slice() {
-            push_text(&mut out, format!(in alloc; " {point};")?.as_str())?;
-        }
-    }
-    Ok(out)
+fn push_finished(out: &mut String, world: &World) -> Result<(), AllocError> {
+    write!(out, "{:?};", world.state())?;
+    push_measured(out, world.features())
 }
 
 impl Case for Finished {
-    fn readers(&self) -> Result<Vec<u8>, AllocError> {
-        match self.world.features() {
-            [first, ..] => features_of(self.alloc, std::slice::from_ref(first)),
-            [] => Ok(Vec::new(self.alloc)),
+    fn prepare(&mut self) -> Result<(), Stop> {
+        let schedule = b"connect\naccept 1\nquiet 8\nclientleaves\n";
+        play(self.alloc, &mut self.world, schedule)
+    }
+
+    fn readers(&self, out: &mut String) -> Result<(), AllocError> {
+        match self.world.features().split_at_checked(1) {
+            Some((first, _)) => push_features(out, first),
+            None => Ok(()),
         }
     }
 
-    fn call(&mut self) -> Result<Option<Vec<u8>>, Stop> {
+    fn call(&mut self, out: &mut String) -> Result<bool, Stop> {
         match self.world.finish(&mut self.machine) {
-            Ok(_) => Ok(Some(told_points(self.alloc, &self.world)?)),
-            Err(WorldFault::Memory) => Ok(None),
+            Ok(_) => shown(push_finished(out, &self.world)),
+            Err(WorldFault::Memory) => Ok(false),
             Err(WorldFault::NotNow) => Err(Stop::Row),
         }
     }
 }
 
-fn finish_answer(alloc: Global) -> Result<Vec<u8>, Stop> {
-    let world = played(alloc, TWO, b"connect\naccept 1\nquiet 8\nclientleaves\n")?;
-    let machine = Simulated::new(alloc, world.setup())?;
+fn finish_answer(alloc: Global) -> Result<String, Stop> {
+    let machine = simulated(alloc)?;
+    let world = new_world(alloc, TWO)?;
     tried(
         alloc,
-        &mut Finished {
+        Finished {
             alloc,
             world,
             machine,
@@ -266,12 +248,12 @@ fn finish_answer(alloc: Global) -> Result<Vec<u8>, Stop> {
     )
 }
 
-/// What a row of a report, of a machine or of a whole run shows.
-pub(crate) fn answer(alloc: Global, call: &str) -> Result<Vec<u8>, Stop> {
+/// What a row of a report or of a whole run shows.
+pub(crate) fn answer(alloc: Global, call: &str) -> Result<String, Stop> {
     match call {
         "World::finish" => finish_answer(alloc),
         "report_of" => held_answer(alloc),
-        "Simulated::new" | "quiet_run" => tried(alloc, &mut Made { alloc, call }),
-        _ => shown_answer(alloc, call),
+        "World::report" | "write_report" | "write_contact_rows" => shown_answer(alloc, call),
+        _ => made::answer(alloc, call),
     }
 }

@@ -1,97 +1,95 @@
 // A server.
 
 use crate::ledgers::push_acts;
-use crate::programs::{SETUP, read_setup};
-use crate::shown::{push_lines, push_text};
+use crate::made;
+use crate::programs::read_setup;
+use crate::shown::push_lines;
 use crate::stop::Stop;
-use crate::tried::{Case, asked, tried};
+use crate::tried::{Case, Told, refused, show, shown, tried};
 use server_core::{Outcome, Server, ServerFault};
 use std::alloc::{AllocError, Global};
 
 /// A server, and a call of it.
 #[derive(Drop)]
 struct Called<'a> {
-    alloc: Global,
     server: Server,
     call: &'a str,
 }
 
 pub(crate) fn new_server(alloc: Global) -> Result<Server, Stop> {
-    let setup = read_setup(alloc, SETUP)?;
-    Ok(Server::new(alloc, setup)?)
+    Ok(Server::new(alloc, read_setup(alloc)?)?)
 }
 
 // ---- what went before the call
 
-/// A server on its first connection, which was fed these lines.
-fn fed(alloc: Global, lines: &[u8]) -> Result<Server, Stop> {
-    let mut server = new_server(alloc)?;
+/// It comes to its first connection, and these lines come in.
+fn begin(server: &mut Server, lines: &[u8]) -> Result<(), Stop> {
     server.accept(1)?;
-    server.feed(lines)?;
-    Ok(server)
+    Ok(server.feed(lines)?)
 }
 
-/// A server with a command that waits.
-fn waiting(alloc: Global) -> Result<Server, Stop> {
-    let mut server = fed(alloc, b"00001 StartSession()\r\n")?;
+/// A command comes in that waits.
+fn wait(server: &mut Server) -> Result<(), Stop> {
+    begin(server, b"00001 StartSession()\r\n")?;
     server.read_one()?;
-    Ok(server)
+    Ok(())
 }
 
-/// A server whose machine goes home.
-pub(crate) fn homing(alloc: Global) -> Result<Server, Stop> {
-    let mut server = fed(alloc, b"00001 StartSession()\r\n00002 Home()\r\n")?;
+/// A line is read, and the command that waits has its turn.
+fn turn_one(server: &mut Server) -> Result<(), Stop> {
     server.read_one()?;
-    server.turn()?;
-    server.read_one()?;
-    server.turn()?;
-    Ok(server)
+    Ok(server.turn()?)
 }
 
-/// The server of a call.
-fn before(alloc: Global, call: &str) -> Result<Server, Stop> {
+/// Its machine begins to go home.
+pub(crate) fn home(server: &mut Server) -> Result<(), Stop> {
+    begin(server, b"00001 StartSession()\r\n00002 Home()\r\n")?;
+    turn_one(server)?;
+    turn_one(server)
+}
+
+/// What a server goes through before a call.
+fn go_before(server: &mut Server, call: &str) -> Result<(), Stop> {
     match call {
-        "Server::feed" => fed(alloc, b""),
-        "Server::read_one" => fed(alloc, b"00001 StartSession()\r\n"),
-        "Server::turn" => waiting(alloc),
-        "Server::machine" => homing(alloc),
+        "Server::feed" => begin(server, b""),
+        "Server::read_one" => begin(server, b"00001 StartSession()\r\n"),
+        "Server::turn" => wait(server),
+        "Server::machine" => home(server),
         _ => Err(Stop::Row),
     }
 }
 
 // ---- what is shown of it
 
-/// Its state, what it may do, and what it is to send.
-pub(crate) fn push_state(
-    alloc: Global,
-    out: &mut Vec<u8>,
-    server: &Server,
-) -> Result<(), AllocError> {
-    let (view, running) = (server.view(), server.running());
-    push_text(out, format!(in alloc; "{view:?} {running:?} ")?.as_str())?;
+/// What it may do.
+fn push_may(out: &mut String, server: &Server) -> Result<(), AllocError> {
     let (is_line, may_turn) = (server.has_line(), server.may_turn());
     let may_end = server.may_end(&Outcome::Done);
-    push_text(
-        out,
-        format!(in alloc; "{is_line} {may_turn} {may_end} ")?.as_str(),
-    )?;
+    write!(out, "{is_line} {may_turn} {may_end} ")
+}
+
+/// Its state, what it may do, and what it is to send.
+pub(crate) fn push_state(out: &mut String, server: &Server) -> Result<(), AllocError> {
+    write!(out, "{:?} {:?} ", server.view(), server.running())?;
+    push_may(out, server)?;
     push_lines(out, server.out())
 }
 
-/// Whether a line stands at the front of its bytes, whether something waits or runs, and what it is to send.
-fn told(alloc: Global, server: &Server) -> Result<Vec<u8>, AllocError> {
-    let mut out = Vec::new(alloc);
+/// Whether a line stands at the front of its bytes, whether something waits or runs, and whether the machine is homed.
+fn push_told(out: &mut String, server: &Server) -> Result<(), AllocError> {
     let (is_line, may_turn) = (server.has_line(), server.may_turn());
     let (running, homed) = (server.running().is_some(), server.view().homed);
-    push_text(
-        &mut out,
-        format!(in alloc;
-            "line {is_line}, waits {may_turn}, runs {running}, homed {homed}, "
-        )?.as_str(),
-    )?;
-    push_lines(&mut out, server.out())?;
-    push_acts(alloc, &mut out, server.ledger())?;
-    Ok(out)
+    write!(
+        out,
+        "line {is_line}, waits {may_turn}, runs {running}, homed {homed}, "
+    )
+}
+
+/// What a call leaves, with the lines that are to be sent and the acts.
+fn told(out: &mut String, server: &Server) -> Result<(), AllocError> {
+    push_told(out, server)?;
+    push_lines(out, server.out())?;
+    push_acts(out, server.ledger())
 }
 
 fn make(server: &mut Server, call: &str) -> Result<(), ServerFault> {
@@ -107,55 +105,45 @@ fn make(server: &mut Server, call: &str) -> Result<(), ServerFault> {
 }
 
 impl Case for Called<'_> {
-    fn readers(&self) -> Result<Vec<u8>, AllocError> {
-        let mut out = Vec::new(self.alloc);
-        push_state(self.alloc, &mut out, &self.server)?;
-        push_acts(self.alloc, &mut out, self.server.ledger())?;
-        let setup = self.server.setup();
-        push_text(&mut out, format!(in self.alloc; " {setup:?}")?.as_str())?;
-        Ok(out)
+    fn prepare(&mut self) -> Result<(), Stop> {
+        go_before(&mut self.server, self.call)
     }
 
-    fn call(&mut self) -> Result<Option<Vec<u8>>, Stop> {
+    fn readers(&self, out: &mut String) -> Result<(), AllocError> {
+        push_state(out, &self.server)?;
+        push_acts(out, self.server.ledger())?;
+        write!(out, " {:?}", self.server.setup())
+    }
+
+    fn call(&mut self, out: &mut String) -> Result<bool, Stop> {
         match make(&mut self.server, self.call) {
-            Ok(()) => Ok(Some(told(self.alloc, &self.server)?)),
-            Err(fault) => asked(Err(Stop::from(fault))),
+            Ok(()) => shown(told(out, &self.server)),
+            Err(fault) => refused(Stop::from(fault)),
         }
+    }
+}
+
+impl Told for Server {
+    fn told(&self, out: &mut String) -> Result<(), Stop> {
+        Ok(told(out, self)?)
     }
 }
 
 /// A server that is made.
-#[derive(Drop)]
-struct Made {
-    alloc: Global,
+pub(crate) fn new_shown(alloc: Global, out: &mut String) -> Result<bool, Stop> {
+    let setup = read_setup(alloc)?;
+    show(Server::new(alloc, setup).ok(), out)
 }
 
-impl Case for Made {
-    fn readers(&self) -> Result<Vec<u8>, AllocError> {
-        Ok(Vec::new(self.alloc))
-    }
-
-    fn call(&mut self) -> Result<Option<Vec<u8>>, Stop> {
-        let setup = read_setup(self.alloc, SETUP)?;
-        match Server::new(self.alloc, setup) {
-            Ok(server) => Ok(Some(told(self.alloc, &server)?)),
-            Err(AllocError) => Ok(None),
-        }
-    }
+fn called_answer(alloc: Global, call: &str) -> Result<String, Stop> {
+    let server = new_server(alloc)?;
+    tried(alloc, Called { server, call })
 }
 
 /// What a row of `server_core` shows.
-pub(crate) fn answer(alloc: Global, call: &str) -> Result<Vec<u8>, Stop> {
-    if call == "Server::new" {
-        return tried(alloc, &mut Made { alloc });
+pub(crate) fn answer(alloc: Global, call: &str) -> Result<String, Stop> {
+    match call {
+        "Server::new" => made::answer(alloc, call),
+        _ => called_answer(alloc, call),
     }
-    let server = before(alloc, call)?;
-    tried(
-        alloc,
-        &mut Called {
-            alloc,
-            server,
-            call,
-        },
-    )
 }

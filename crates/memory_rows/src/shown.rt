@@ -1,26 +1,20 @@
 // What rows show.
 
-use std::alloc::{AllocError, Global};
+use std::alloc::AllocError;
 
-pub(crate) fn push_text(out: &mut Vec<u8>, text: &str) -> Result<(), AllocError> {
-    out.extend_from_slice(text.as_bytes())
+/// A byte of a line: `;` for LF, and `|` for CR.
+fn char_of(byte: u8) -> char {
+    match byte {
+        b'\r' => '|',
+        b'\n' => ';',
+        content => content as char,
+    }
 }
 
-/// Lines, each with `;` for its end. A CR that is no part of an end is shown as `|`.
-pub(crate) fn push_lines(out: &mut Vec<u8>, lines: &[u8]) -> Result<(), AllocError> {
+/// Appends lines, each with `;` for its end. A CR that is no part of an end is shown as `|`.
+pub(crate) fn push_lines(out: &mut String, lines: &[u8]) -> Result<(), AllocError> {
     for byte in lines {
-        match *byte {
-            b'\r' => out.push(b'|')?,
-            b'\n' => out.push(b';')?,
-            content => out.push(content)?,
-        }
+        out.push(char_of(*byte))?;
     }
     Ok(())
-}
-
-/// A text of a row.
-pub(crate) fn text_of(alloc: Global, bytes: &[u8]) -> Result<Vec<u8>, AllocError> {
-    let mut text = Vec::new(alloc);
-    push_lines(&mut text, bytes)?;
-    Ok(text)
 }

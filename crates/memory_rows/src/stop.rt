@@ -11,7 +11,7 @@ use std::alloc::{AllocError, AllocFailed};
 use tool_rack::SetupFault;
 
 /// Why the program ends before the last row, or a call gives no answer.
-#[derive(Clone, Copy, Debug, PartialEq, Eq)]
+#[derive(Clone, Copy)]
 pub(crate) enum Stop {
     /// A row names no call, or a call that is to succeed is refused for another reason than want of memory.
     Row,

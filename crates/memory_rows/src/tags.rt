@@ -1,8 +1,8 @@
 // Tags that a client draws, and commands that wait at a server.
 
-use crate::shown::push_text;
+use crate::made;
 use crate::stop::Stop;
-use crate::tried::{Case, asked, tried};
+use crate::tried::{Case, refused, shown, tried};
 use command_queue::{Queue, Waiting};
 use dme_line::{Command, Kind, Tag};
 use dme_tags::Open;
@@ -11,136 +11,137 @@ use std::alloc::{AllocError, Global};
 /// Open commands, to which one more is added.
 #[derive(Drop)]
 struct Drawn {
-    alloc: Global,
     open: Open,
 }
 
 /// The kinds of the commands under the first tags.
-fn push_kinds(alloc: Global, out: &mut Vec<u8>, open: &Open) -> Result<(), AllocError> {
+fn push_kinds(out: &mut String, open: &Open) -> Result<(), AllocError> {
     for number in 1..9u32 {
         if let Some(kind) = open.kind_of(Tag::Std(number)) {
-            push_text(out, format!(in alloc; " {number} {kind:?}")?.as_str())?;
+            write!(out, " {number} {kind:?}")?;
         }
     }
     Ok(())
 }
 
-/// The commands under their tags, the counts and marks of all of them, and the tags that would be drawn next.
-fn push_open(alloc: Global, out: &mut Vec<u8>, open: &Open) -> Result<(), AllocError> {
-    push_kinds(alloc, out, open)?;
-    let (count, asking) = (open.count(), open.is_asking());
+/// The counts and marks of all commands.
+fn push_marks(out: &mut String, open: &Open) -> Result<(), AllocError> {
+    let (count, is_asking) = (open.count(), open.is_asking());
     let (event, failed) = (open.event_open(), open.has_failed());
+    write!(out, " {count} {is_asking} {event} {failed}")
+}
+
+/// The tags that would be drawn next.
+fn push_next(out: &mut String, open: &Open) -> Result<(), AllocError> {
     let (next, next_event) = (open.next_tag(Kind::Home), open.next_tag(Kind::AbortE));
-    push_text(
-        out,
-        format!(in alloc; " {count} {asking} {event} {failed} {next:?} {next_event:?}")?.as_str(),
-    )
+    write!(out, " {next:?} {next_event:?}")
 }
 
 impl Case for Drawn {
-    fn readers(&self) -> Result<Vec<u8>, AllocError> {
-        let mut out = Vec::new(self.alloc);
-        push_open(self.alloc, &mut out, &self.open)?;
-        Ok(out)
+    fn readers(&self, out: &mut String) -> Result<(), AllocError> {
+        push_kinds(out, &self.open)?;
+        push_marks(out, &self.open)?;
+        push_next(out, &self.open)
     }
 
-    fn call(&mut self) -> Result<Option<Vec<u8>>, Stop> {
+    fn call(&mut self, out: &mut String) -> Result<bool, Stop> {
         match self.open.draw(Kind::IsHomed) {
-            Ok(tag) => {
-                let mut out = Vec::new(self.alloc);
-                push_text(&mut out, format!(in self.alloc; "{tag:?}")?.as_str())?;
-                push_kinds(self.alloc, &mut out, &self.open)?;
-                Ok(Some(out))
-            }
-            Err(fault) => asked(Err(Stop::from(fault))),
+            Ok(tag) => write!(out, "{tag:?}")?,
+            Err(fault) => return refused(Stop::from(fault)),
         }
+        shown(push_kinds(out, &self.open))
     }
 }
 
 /// What a row of `dme_tags` shows.
-pub(crate) fn tag_answer(alloc: Global) -> Result<Vec<u8>, Stop> {
+pub(crate) fn tag_answer(alloc: Global) -> Result<String, Stop> {
     let mut open = Open::new(alloc);
     for _ in 0..4u32 {
         open.draw(Kind::GoTo)?;
     }
-    tried(alloc, &mut Drawn { alloc, open })
+    tried(alloc, Drawn { open })
 }
 
 // ---- waiting commands
 
-/// Commands that wait.
+/// Commands that wait, all of which are taken.
 #[derive(Drop)]
-struct Queued<'a> {
-    alloc: Global,
+struct Queued {
     queue: Queue,
-    call: &'a str,
 }
 
-/// How many commands wait, the first of them, and under which of the first tags one does.
-fn push_queue(alloc: Global, out: &mut Vec<u8>, queue: &Queue) -> Result<(), AllocError> {
-    let (count, is_empty) = (queue.len(), queue.is_empty());
-    push_text(out, format!(in alloc; "{count} {is_empty}")?.as_str())?;
-    if let Some(first) = queue.first() {
-        push_text(out, format!(in alloc; " {first:?}")?.as_str())?;
-    }
+/// Under which of the first tags a command waits.
+fn push_held(out: &mut String, queue: &Queue) -> Result<(), AllocError> {
     for number in 1..4u32 {
-        let holds = queue.holds(Tag::Std(number));
-        push_text(out, format!(in alloc; " {holds}")?.as_str())?;
+        write!(out, " {}", queue.holds(Tag::Std(number)))?;
     }
     Ok(())
 }
 
-fn told_new(alloc: Global) -> Result<Option<Vec<u8>>, Stop> {
+/// How many commands wait, the first of them, and under which of the first tags one does.
+fn push_queue(out: &mut String, queue: &Queue) -> Result<(), AllocError> {
+    write!(out, "{} {}", queue.len(), queue.is_empty())?;
+    if let Some(first) = queue.first() {
+        write!(out, " {first:?}")?;
+    }
+    push_held(out, queue)
+}
+
+/// A queue that is made.
+pub(crate) fn new_queue(alloc: Global, out: &mut String) -> Result<bool, Stop> {
     match Queue::new(alloc) {
-        Ok(queue) => {
-            let mut out = Vec::new(alloc);
-            push_queue(alloc, &mut out, &queue)?;
-            Ok(Some(out))
-        }
-        Err(AllocError) => Ok(None),
+        Ok(queue) => shown(push_queue(out, &queue)),
+        Err(AllocError) => Ok(false),
     }
 }
 
-fn told_drained(alloc: Global, queue: &mut Queue) -> Result<Option<Vec<u8>>, Stop> {
-    match queue.drain_all() {
-        Ok(commands) => {
-            let mut out = Vec::new(alloc);
-            for command in commands.as_slice() {
-                let tag = command.tag;
-                push_text(&mut out, format!(in alloc; "{tag:?};")?.as_str())?;
-            }
-            push_queue(alloc, &mut out, queue)?;
-            Ok(Some(out))
+/// The tags of commands.
+fn push_tags(out: &mut String, commands: &[Waiting]) -> Result<(), AllocError> {
+    for command in commands {
+        write!(out, "{:?};", command.tag)?;
+    }
+    Ok(())
+}
+
+/// The commands that were taken, and what is left.
+fn push_drained(out: &mut String, commands: &[Waiting], left: &Queue) -> Result<(), AllocError> {
+    push_tags(out, commands)?;
+    push_queue(out, left)
+}
+
+impl Case for Queued {
+    fn readers(&self, out: &mut String) -> Result<(), AllocError> {
+        push_queue(out, &self.queue)
+    }
+
+    fn call(&mut self, out: &mut String) -> Result<bool, Stop> {
+        match self.queue.drain_all() {
+            Ok(commands) => shown(push_drained(out, commands.as_slice(), &self.queue)),
+            Err(AllocError) => Ok(false),
         }
-        Err(AllocError) => Ok(None),
     }
 }
 
-impl Case for Queued<'_> {
-    fn readers(&self) -> Result<Vec<u8>, AllocError> {
-        let mut out = Vec::new(self.alloc);
-        push_queue(self.alloc, &mut out, &self.queue)?;
-        Ok(out)
-    }
+fn put(queue: &mut Queue, number: u32) -> Result<(), Stop> {
+    let waiting = Waiting {
+        tag: Tag::Std(number),
+        reading: Ok(Command::Home),
+    };
+    queue.put(waiting).ok().ok_or(Stop::Row)
+}
 
-    fn call(&mut self) -> Result<Option<Vec<u8>>, Stop> {
-        match self.call {
-            "Queue::new" => told_new(self.alloc),
-            "Queue::drain_all" => told_drained(self.alloc, &mut self.queue),
-            _ => Err(Stop::Row),
-        }
+fn drained_answer(alloc: Global) -> Result<String, Stop> {
+    let mut queue = Queue::new(alloc)?;
+    for number in 1..3u32 {
+        put(&mut queue, number)?;
     }
+    tried(alloc, Queued { queue })
 }
 
 /// What a row of `command_queue` shows.
-pub(crate) fn queue_answer(alloc: Global, call: &str) -> Result<Vec<u8>, Stop> {
-    let mut queue = Queue::new(alloc)?;
-    for number in 1..3u32 {
-        let waiting = Waiting {
-            tag: Tag::Std(number),
-            reading: Ok(Command::Home),
-        };
-        queue.put(waiting).map_err(|_| Stop::Row)?;
+pub(crate) fn queue_answer(alloc: Global, call: &str) -> Result<String, Stop> {
+    match call {
+        "Queue::drain_all" => drained_answer(alloc),
+        _ => made::answer(alloc, call),
     }
-    tried(alloc, &mut Queued { alloc, queue, call })
 }

@@ -1,11 +1,11 @@
 // Both ends in a world.
 
-use crate::ledgers::{features_of, push_acts};
-use crate::programs::{ONE, SETUP, read_program, read_setup};
-use crate::shown::{push_lines, push_text};
+use crate::ledgers::{push_acts, push_features};
+use crate::programs::{ONE, read_program, read_setup};
+use crate::shown::push_lines;
 use crate::stop::Stop;
-use crate::tried::{Case, asked, tried};
-use link_world::{Event, NewFault, Outcome, RunCount, Schedule, World};
+use crate::tried::{Case, Told, refused, show, shown, tried};
+use link_world::{Event, Instruction, NewFault, Outcome, RunCount, Schedule, World};
 use std::alloc::{AllocError, Global};
 
 /// A world, and a call of it.
@@ -18,22 +18,24 @@ struct Called<'a> {
 
 // ---- what went before the call
 
-/// A new world of a program.
-fn new_world(alloc: Global, program: &[u8]) -> Result<World, Stop> {
-    let setup = read_setup(alloc, SETUP)?;
-    let program = read_program(alloc, program, &setup)?;
-    match World::new(alloc, program, setup, 1) {
-        Ok(world) => Ok(world),
-        Err(NewFault::Memory) => Err(Stop::Memory),
+/// A world of a program; none where a growth of it was refused.
+fn make_world(alloc: Global, program: &[u8]) -> Result<Option<World>, Stop> {
+    let program = read_program(alloc, program)?;
+    match World::new(alloc, program, read_setup(alloc)?, 1) {
+        Ok(world) => Ok(Some(world)),
+        Err(NewFault::Memory) => Ok(None),
         Err(NewFault::BadWindow(_, _)) => Err(Stop::Row),
     }
 }
 
-/// A world of a program behind a schedule.
-pub(crate) fn played(alloc: Global, program: &[u8], schedule: &[u8]) -> Result<World, Stop> {
-    let mut world = new_world(alloc, program)?;
-    Schedule::read(alloc, schedule)?.play(&mut world)?;
-    Ok(world)
+/// A schedule is played in a world.
+pub(crate) fn play(alloc: Global, world: &mut World, schedule: &[u8]) -> Result<(), Stop> {
+    Ok(Schedule::read(alloc, schedule)?.play(world)?)
+}
+
+/// A new world of a program.
+pub(crate) fn new_world(alloc: Global, program: &[u8]) -> Result<World, Stop> {
+    make_world(alloc, program)?.ok_or(Stop::Memory)
 }
 
 /// The schedule in front of a call, behind which its event can happen.
@@ -125,115 +127,89 @@ fn make(world: &mut World, schedule: &Schedule, call: &str) -> Result<(), Stop> 
 // ---- what is shown of it
 
 /// All but the acts.
-fn push_world(alloc: Global, out: &mut Vec<u8>, world: &World) -> Result<(), AllocError> {
-    let (state, running) = (world.state(), world.running());
-    push_text(out, format!(in alloc; "{state:?} {running:?} ")?.as_str())?;
+fn push_world(out: &mut String, world: &World) -> Result<(), AllocError> {
+    write!(out, "{:?} {:?} ", world.state(), world.running())?;
     push_lines(out, world.written())?;
-    out.extend_from_slice(features_of(alloc, world.features())?.as_slice())
+    push_features(out, world.features())
 }
 
 /// The state, the count of bytes written on the connection, and those of the acts on either side.
-pub(crate) fn told(alloc: Global, world: &World) -> Result<Vec<u8>, AllocError> {
-    let mut out = Vec::new(alloc);
+fn push_told(out: &mut String, world: &World) -> Result<(), AllocError> {
     let (state, written) = (world.state(), world.written().len());
     let (done, counted) = (world.ledger().acts().len(), world.counted().len());
-    push_text(
-        &mut out,
-        format!(in alloc; "{state:?}, {written} written, {done} done, {counted} counted")?.as_str(),
-    )?;
-    Ok(out)
+    write!(
+        out,
+        "{state:?}, {written} written, {done} done, {counted} counted"
+    )
 }
 
-impl Called<'_> {
-    /// What the call leaves, and that the next event can happen.
-    fn told(&mut self) -> Result<Vec<u8>, Stop> {
-        let mut out = told(self.alloc, &self.world)?;
-        if let Some(event) = event_of(self.call) {
-            let next = next_of(event);
-            self.world.step(next)?;
-            push_text(
-                &mut out,
-                format!(in self.alloc; ", then {next:?}")?.as_str(),
-            )?;
-        }
-        Ok(out)
-    }
+/// That the next event can happen, behind that of a call.
+fn push_next(out: &mut String, world: &mut World, call: &str) -> Result<(), Stop> {
+    let Some(event) = event_of(call) else {
+        return Ok(());
+    };
+    let next = next_of(event);
+    world.step(next)?;
+    Ok(write!(out, ", then {next:?}")?)
+}
+
+fn push_both(out: &mut String, world: &mut World, call: &str) -> Result<bool, Stop> {
+    push_told(out, world)?;
+    push_next(out, world, call)?;
+    Ok(true)
 }
 
 impl Case for Called<'_> {
-    fn readers(&self) -> Result<Vec<u8>, AllocError> {
-        let mut out = Vec::new(self.alloc);
-        push_world(self.alloc, &mut out, &self.world)?;
-        push_acts(self.alloc, &mut out, self.world.ledger())?;
-        for act in self.world.counted() {
-            push_text(&mut out, format!(in self.alloc; " {act:?}")?.as_str())?;
-        }
-        let setup = self.world.setup();
-        push_text(&mut out, format!(in self.alloc; " {setup:?}")?.as_str())?;
-        Ok(out)
+    fn prepare(&mut self) -> Result<(), Stop> {
+        play(self.alloc, &mut self.world, schedule_of(self.call))
     }
 
-    fn call(&mut self) -> Result<Option<Vec<u8>>, Stop> {
+    fn readers(&self, out: &mut String) -> Result<(), AllocError> {
+        push_world(out, &self.world)?;
+        push_acts(out, self.world.ledger())?;
+        write!(out, " {:?} {:?}", self.world.counted(), self.world.setup())
+    }
+
+    fn call(&mut self, out: &mut String) -> Result<bool, Stop> {
         let schedule = Schedule::read(self.alloc, b"connect\n")?;
-        match asked(make(&mut self.world, &schedule, self.call))? {
-            Some(()) => Ok(Some(self.told()?)),
-            None => Ok(None),
+        match make(&mut self.world, &schedule, self.call) {
+            Ok(()) => push_both(out, &mut self.world, self.call),
+            Err(stop) => refused(stop),
         }
     }
 }
 
 // ---- what is made
 
-/// A world or a schedule that is made.
-#[derive(Drop)]
-struct Made<'a> {
-    alloc: Global,
-    call: &'a str,
-}
-
-fn told_world(alloc: Global) -> Result<Option<Vec<u8>>, Stop> {
-    let setup = read_setup(alloc, SETUP)?;
-    let program = read_program(alloc, ONE, &setup)?;
-    match World::new(alloc, program, setup, 1) {
-        Ok(world) => Ok(Some(told(alloc, &world)?)),
-        Err(NewFault::Memory) => Ok(None),
-        Err(NewFault::BadWindow(_, _)) => Err(Stop::Row),
+impl Told for World {
+    fn told(&self, out: &mut String) -> Result<(), Stop> {
+        Ok(push_told(out, self)?)
     }
 }
 
-fn told_schedule(alloc: Global) -> Result<Option<Vec<u8>>, Stop> {
-    let schedule = match Schedule::read(
-        alloc,
-        b"connect\naccept 1\nup all\ndown 5\nquiet 3\nquiet",
-    ) {
-        Ok(schedule) => schedule,
-        Err(fault) => return asked(Err(Stop::from(fault))),
-    };
-    let mut out = Vec::new(alloc);
-    for instruction in schedule.instructions() {
-        push_text(&mut out, format!(in alloc; "{instruction:?};")?.as_str())?;
-    }
-    Ok(Some(out))
+/// A world that is made.
+pub(crate) fn new_shown(alloc: Global, out: &mut String) -> Result<bool, Stop> {
+    show(make_world(alloc, ONE)?, out)
 }
 
-impl Case for Made<'_> {
-    fn readers(&self) -> Result<Vec<u8>, AllocError> {
-        Ok(Vec::new(self.alloc))
+fn push_instructions(out: &mut String, instructions: &[Instruction]) -> Result<(), AllocError> {
+    for instruction in instructions {
+        write!(out, "{instruction:?};")?;
     }
+    Ok(())
+}
 
-    fn call(&mut self) -> Result<Option<Vec<u8>>, Stop> {
-        match self.call {
-            "World::new" => told_world(self.alloc),
-            _ => told_schedule(self.alloc),
-        }
+/// A schedule that is read.
+pub(crate) fn new_schedule(alloc: Global, out: &mut String) -> Result<bool, Stop> {
+    let text = b"connect\naccept 1\nup all\ndown 5\nquiet 3\nquiet";
+    match Schedule::read(alloc, text) {
+        Ok(schedule) => shown(push_instructions(out, schedule.instructions())),
+        Err(fault) => refused(Stop::from(fault)),
     }
 }
 
-/// What a row of a world or of a schedule shows.
-pub(crate) fn answer(alloc: Global, call: &str) -> Result<Vec<u8>, Stop> {
-    if matches!(call, "World::new" | "Schedule::read") {
-        return tried(alloc, &mut Made { alloc, call });
-    }
-    let world = played(alloc, ONE, schedule_of(call))?;
-    tried(alloc, &mut Called { alloc, world, call })
+/// What a row of a world shows.
+pub(crate) fn answer(alloc: Global, call: &str) -> Result<String, Stop> {
+    let world = new_world(alloc, ONE)?;
+    tried(alloc, Called { alloc, world, call })
 }
