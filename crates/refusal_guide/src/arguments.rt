@@ -2,11 +2,10 @@
 
 ghost use Rattle.std.specs.Prelude.{◌≤◌, length};
 
-use crate::names::name_sentence;
+use crate::names::name_reason;
 use crate::statements::Found;
 use crate::words::{Reason, Word};
 use dmis_text::Text;
-use fixed_um::Name;
 use std::alloc::{AllocError, Global};
 
 /// Whether a parameter is `CART`.
@@ -34,8 +33,6 @@ pub(crate) fn within<'a>(front: &[u8], text: &'a [u8]) -> Option<&'a [u8]> {
 
 /// How many parameters a statement has behind a first `CART`, and how many it takes.
 fn count_reason(alloc: Global, found: Found, wanted: &str) -> Result<Reason, AllocError> {
-    let word = found.word();
-    let major = word.shown(alloc)?;
     let params: &[Text] = &found.statement.params;
     let before = count_before(params);
     let count = params.len() - before;
@@ -45,37 +42,30 @@ fn count_reason(alloc: Global, found: Found, wanted: &str) -> Result<Reason, All
     } else {
         "parameters"
     };
-    let said = format!(in alloc; "{major} has {count} {parameters}{behind}, and takes {wanted}.")?;
-    Ok(Reason::of_word(said, word))
+    let said = format!(in alloc; " has {count} {parameters}{behind}, and takes {wanted}.")?;
+    found.word().reason(alloc, "", &said)
 }
 
-/// That a parameter is none of what stands in its place.
-fn form_reason(alloc: Global, word: Word, wanted: &str) -> Result<Reason, AllocError> {
-    let shown = word.shown(alloc)?;
-    let said = format!(in alloc; "{shown} is no {wanted}.")?;
-    Ok(Reason::of_word(said, word))
-}
-
-/// Why a parameter is no name in parentheses behind these bytes; none where it is one.
+/// Why a parameter is no name in parentheses behind these bytes, as this says behind it; none where it is one.
 fn parenthesis_reason(
     alloc: Global,
     found: Found,
     index: usize,
     front: &[u8],
-    wanted: &str,
+    behind: &str,
 ) -> Result<Option<Reason>, AllocError> {
     let Some(param) = found.statement.params.get(index) else {
         return Ok(None);
     };
-    let Some(name) = within(front, param) else {
-        return Ok(Some(form_reason(alloc, found.in_param(index, param), wanted)?));
-    };
-    if Name::new(alloc, name)?.is_some() {
-        return Ok(None);
+    match within(front, param) {
+        Some(name) => name_reason(alloc, name, found.in_param(index, name)),
+        None => Reason::given(found.in_param(index, param).reason(alloc, "", behind)),
     }
-    let word = found.in_param(index, name);
-    let said = name_sentence(alloc, word)?;
-    Ok(Some(Reason::of_word(said, word)))
+}
+
+/// Whether a parameter is a word of letters.
+fn is_letters(param: &[u8]) -> bool {
+    !param.is_empty() && param.iter().all(|b| b.is_ascii_alphabetic())
 }
 
 /// Why the parameters of `MEAS` do not fit.
@@ -84,31 +74,26 @@ fn meas_reason(alloc: Global, found: Found) -> Result<Reason, AllocError> {
     let [kind, _, count] = params else {
         return count_reason(alloc, found, "3, a kind, F(name) and a count of touches");
     };
-    if kind.is_empty() || !kind.iter().all(|b| b.is_ascii_alphabetic()) {
-        return form_reason(
-            alloc,
-            found.in_param(0, kind),
-            "kind, which is a word of letters",
-        );
+    if !is_letters(kind) {
+        let kind = found.in_param(0, kind);
+        return kind.reason(alloc, "", " is no kind, which is a word of letters.");
     }
-    if let Some(reason) = parenthesis_reason(alloc, found, 1, b"F(", "F(name)")? {
-        return Ok(reason);
+    match parenthesis_reason(alloc, found, 1, b"F(", " is no F(name).")? {
+        Some(reason) => Ok(reason),
+        None => {
+            let count = found.in_param(2, count);
+            count.reason(alloc, "", " is no count of touches from 1 to 10000.")
+        }
     }
-    form_reason(
-        alloc,
-        found.in_param(2, count),
-        "count of touches from 1 to 10000",
-    )
 }
 
 /// Why the parameters of `PTMEAS` do not fit.
 fn ptmeas_reason(alloc: Global, found: Found) -> Result<Reason, AllocError> {
     match found.statement.params.split_first() {
-        Some((first, _)) if !is_cart(first) => form_reason(
-            alloc,
-            found.in_param(0, first),
-            "CART, which stands first in PTMEAS",
-        ),
+        Some((first, _)) if !is_cart(first) => {
+            let first = found.in_param(0, first);
+            first.reason(alloc, "", " is no CART, which stands first in PTMEAS.")
+        }
         Some(_) => count_reason(alloc, found, "3, or 6 with a direction"),
         None => count_reason(alloc, found, "CART and 3 or 6 numerals"),
     }
@@ -118,25 +103,23 @@ fn ptmeas_reason(alloc: Global, found: Found) -> Result<Reason, AllocError> {
 fn snslct_reason(alloc: Global, found: Found) -> Result<Option<Reason>, AllocError> {
     let params: &[Text] = &found.statement.params;
     let [first] = params else {
-        let reason = count_reason(alloc, found, "1, S(name) or SA(name)")?;
-        return Ok(Some(reason));
+        return Reason::given(count_reason(alloc, found, "1, S(name) or SA(name)"));
     };
     let front = if first.starts_with(b"SA(") {
         b"SA(".as_slice()
     } else {
         b"S(".as_slice()
     };
-    parenthesis_reason(alloc, found, 0, front, "S(name) and no SA(name)")
+    parenthesis_reason(alloc, found, 0, front, " is no S(name) and no SA(name).")
 }
 
 /// Why the one parameter of `RECALL/D(name)` does not fit.
 fn recall_reason(alloc: Global, found: Found) -> Result<Option<Reason>, AllocError> {
     let params: &[Text] = &found.statement.params;
     let [_] = params else {
-        let reason = count_reason(alloc, found, "1, D(name), or more behind S( and SA(")?;
-        return Ok(Some(reason));
+        return Reason::given(count_reason(alloc, found, "1, D(name), or more behind S( and SA("));
     };
-    parenthesis_reason(alloc, found, 0, b"D(", "D(name)")
+    parenthesis_reason(alloc, found, 0, b"D(", " is no D(name).")
 }
 
 /// Where the last apostrophe stands.
@@ -152,40 +135,83 @@ fn last_apostrophe(text: &[u8]) -> usize
     last
 }
 
-/// Which text is not closed.
-fn open_text(alloc: Global, found: Found) -> Result<Reason, AllocError> {
-    let (index, element): (Option<usize>, &[u8]) = match found.statement.params.split_last() {
-        Some((last, front)) => (Some(front.len()), last),
-        None => (None, &found.statement.word),
-    };
+/// What stands from the last apostrophe of these bytes on.
+fn last_text(element: &[u8]) -> &[u8] {
     let (_, text) = element.split_at(last_apostrophe(element));
-    let word = match index {
-        Some(index) => found.in_param(index, text),
-        None => found.in_word(text),
-    };
-    let shown = word.shown(alloc)?;
-    let said = format!(in alloc; "The text {shown} is not closed by an apostrophe.")?;
-    Ok(Reason::of_word(said, word))
+    text
+}
+
+/// The text that is not closed.
+fn open_text<'s>(found: Found<'s, '_>) -> Word<'s> {
+    match found.statement.params.split_last() {
+        Some((last, front)) => {
+            let text = last_text(last);
+            found.in_param(front.len(), text)
+        }
+        None => {
+            let text = last_text(&found.statement.word);
+            found.in_word(text)
+        }
+    }
+}
+
+/// That a statement may have no label.
+fn label_reason(alloc: Global, found: Found, label: Word) -> Result<Reason, AllocError> {
+    let behind = found.word().between(
+        alloc,
+        " stands before ",
+        ": of the statements that are read FEAT, TOL and SNSDEF have labels.",
+    )?;
+    label.reason(alloc, "The label ", &behind)
+}
+
+/// Whether a statement is a definition.
+fn is_definition(found: Found) -> bool {
+    found.is(b"FEAT") || found.is(b"TOL") || found.is(b"SNSDEF")
 }
 
 /// That a statement may have no label, or that one of its texts is not closed; none where neither is so.
 fn head_reason(alloc: Global, found: Found) -> Result<Option<Reason>, AllocError> {
-    let is_definition = found.is(b"FEAT") || found.is(b"TOL") || found.is(b"SNSDEF");
-    if let Some(label) = &found.statement.label
-        && !is_definition
-    {
-        let word = found.label(label);
-        let shown = word.shown(alloc)?;
-        let major = found.word().shown(alloc)?;
-        let said = format!(in alloc;
-            "The label {shown} stands before {major}: of the statements that are read FEAT, TOL and SNSDEF have labels."
-        )?;
-        return Ok(Some(Reason::of_word(said, word)));
+    match &found.statement.label {
+        Some(label) if !is_definition(found) => {
+            Reason::given(label_reason(alloc, found, found.label(label)))
+        }
+        _ if found.statement.is_open() => {
+            let text = open_text(found);
+            Reason::given(text.reason(alloc, "The text ", " is not closed by an apostrophe."))
+        }
+        _ => Ok(None),
     }
-    if found.statement.is_open() {
-        return Ok(Some(open_text(alloc, found)?));
+}
+
+/// How many parameters a statement takes whose parameters are only counted; none of another.
+fn counted(found: Found) -> Option<&'static str> {
+    if found.is(b"GOTO") {
+        Some("3")
+    } else if found.is(b"ENDMES") || found.is(b"ENDFIL") {
+        Some("none")
+    } else if found.is(b"UNITS") {
+        Some("1 or more, MM first")
+    } else if found.is(b"MODE") {
+        Some("1 or more, PROG among them")
+    } else {
+        None
     }
-    Ok(None)
+}
+
+/// Why the parameters of a statement that are more than counted do not fit; none of one that takes any.
+fn formed_reason(alloc: Global, found: Found) -> Result<Option<Reason>, AllocError> {
+    if found.is(b"MEAS") {
+        Reason::given(meas_reason(alloc, found))
+    } else if found.is(b"PTMEAS") {
+        Reason::given(ptmeas_reason(alloc, found))
+    } else if found.is(b"SNSLCT") {
+        snslct_reason(alloc, found)
+    } else if found.is(b"RECALL") {
+        recall_reason(alloc, found)
+    } else {
+        Ok(None)
+    }
 }
 
 /// Why the parameters of a statement do not fit; none of one that takes any.
@@ -193,23 +219,8 @@ pub(crate) fn argument_reason(alloc: Global, found: Found) -> Result<Option<Reas
     if let Some(reason) = head_reason(alloc, found)? {
         return Ok(Some(reason));
     }
-    if found.is(b"GOTO") {
-        Ok(Some(count_reason(alloc, found, "3")?))
-    } else if found.is(b"MEAS") {
-        Ok(Some(meas_reason(alloc, found)?))
-    } else if found.is(b"PTMEAS") {
-        Ok(Some(ptmeas_reason(alloc, found)?))
-    } else if found.is(b"ENDMES") || found.is(b"ENDFIL") {
-        Ok(Some(count_reason(alloc, found, "none")?))
-    } else if found.is(b"SNSLCT") {
-        snslct_reason(alloc, found)
-    } else if found.is(b"RECALL") {
-        recall_reason(alloc, found)
-    } else if found.is(b"UNITS") {
-        Ok(Some(count_reason(alloc, found, "1 or more, MM first")?))
-    } else if found.is(b"MODE") {
-        Ok(Some(count_reason(alloc, found, "1 or more, PROG among them")?))
-    } else {
-        Ok(None)
+    match counted(found) {
+        Some(wanted) => Reason::given(count_reason(alloc, found, wanted)),
+        None => formed_reason(alloc, found),
     }
 }

@@ -1,17 +1,25 @@
 // Which byte of a line may not stand in its place. The reader of statements tells the line, so it reads the text cut behind more and more
 // bytes of that line.
 
+ghost use Rattle.std.specs.Prelude.{◌≤◌, ◌+◌, length};
+
 use crate::lines::{Place, first_line, from_line};
 use crate::statements::next_statement;
 use dmis_text::{Statements, TextFault};
 use std::alloc::{AllocError, Global};
 
-/// Whether a text has a byte that may not stand in its place.
-fn has_bad_byte(alloc: Global, text: &[u8]) -> Result<bool, AllocError> {
-    let mut statements = Statements::new(alloc, text);
-    while let Some(statement) = next_statement(&mut statements)? {
+/// Passes the statements that can be read, and gives the line of the last one; 1 where there is none.
+fn last_line(statements: &mut Statements) -> Result<u64, AllocError> {
+    let mut line = 1;
+    while let Some(statement) = next_statement(statements)? {
+        line = statement.line;
         statements.take_back(statement);
     }
+    Ok(line)
+}
+
+/// Whether the next statement has a byte that may not stand in its place.
+fn is_next_bad(statements: &mut Statements) -> Result<bool, AllocError> {
     match statements.next() {
         Err(TextFault::BadByte(_)) => Ok(true),
         Err(TextFault::LineTooLong(_)) => Ok(false),
@@ -20,15 +28,36 @@ fn has_bad_byte(alloc: Global, text: &[u8]) -> Result<bool, AllocError> {
     }
 }
 
+/// Whether a text has a byte that may not stand in its place.
+fn has_bad_byte(alloc: Global, text: &[u8]) -> Result<bool, AllocError> {
+    let mut statements = Statements::new(alloc, text);
+    last_line(&mut statements)?;
+    is_next_bad(&mut statements)
+}
+
 /// The text from the last statement on that ends before the line: what stands above it is no part of the line's statement.
 fn near(alloc: Global, text: &[u8]) -> Result<&[u8], AllocError> {
-    let mut statements = Statements::new(alloc, text);
-    let mut line = 1;
-    while let Some(statement) = next_statement(&mut statements)? {
-        line = statement.line;
-        statements.take_back(statement);
-    }
+    let line = last_line(&mut Statements::new(alloc, text))?;
     Ok(from_line(text, line))
+}
+
+/// How many bytes stand before the leftmost of so many bytes, from this place of a text on, that may not stand in its place; before the last
+/// one where all may.
+fn count_good(alloc: Global, text: &[u8], start: usize, count: usize) -> Result<usize, AllocError>
+    requires { start + count ≤ length text.now }
+{
+    let mut before = 0;
+    let mut behind = count;
+    while behind - before > 1 {
+        let middle = before + (behind - before) / 2;
+        let (front, _) = text.split_at(start + middle);
+        if has_bad_byte(alloc, front)? {
+            behind = middle;
+        } else {
+            before = middle;
+        }
+    }
+    Ok(before)
 }
 
 /// The leftmost byte of a line that may not stand in its place, and how many bytes of the line stand before it; none where all may.
@@ -40,18 +69,7 @@ pub(crate) fn bad_byte(alloc: Global, place: Place) -> Result<Option<(usize, u8)
     if place.rest.len() > text.len() {
         return Ok(None);
     }
-    let start = text.len() - place.rest.len();
-    let mut before = 0;
-    let mut behind = line.len();
-    while behind - before > 1 {
-        let middle = before + (behind - before) / 2;
-        let (front, _) = text.split_at(start + middle);
-        if has_bad_byte(alloc, front)? {
-            behind = middle;
-        } else {
-            before = middle;
-        }
-    }
+    let before = count_good(alloc, text, text.len() - place.rest.len(), line.len())?;
     match line.get(before) {
         Some(byte) => Ok(Some((before, *byte))),
         None => Ok(None),

@@ -1,5 +1,7 @@
 // What stands above a statement that is refused.
 
+ghost use Rattle.std.specs.Prelude.{◌≡◌, ◌∷◌, IfOk, IfSome};
+
 use crate::lines::Place;
 use crate::statements::next_statement;
 use crate::words::Word;
@@ -30,6 +32,16 @@ fn begun(alloc: Global, statement: &Statement) -> Result<Option<Block>, AllocErr
     }))
 }
 
+/// The open block behind a touch, where this one is open before it.
+fn touched(block: Option<Block>) -> Option<Block> {
+    let block = block?;
+    Some(Block {
+        line: block.line,
+        wanted: block.wanted,
+        touches: block.touches.saturating_add(1),
+    })
+}
+
 /// The open block behind a statement, where this one is open before it.
 fn followed(
     alloc: Global,
@@ -38,18 +50,27 @@ fn followed(
 ) -> Result<Option<Block>, AllocError> {
     let word: &[u8] = &statement.word;
     if word == b"MEAS".as_slice() {
-        return begun(alloc, statement);
+        begun(alloc, statement)
+    } else if word == b"ENDMES".as_slice() {
+        Ok(None)
+    } else if word == b"PTMEAS".as_slice() {
+        Ok(touched(block))
+    } else {
+        Ok(block)
     }
-    if word == b"ENDMES".as_slice() {
-        return Ok(None);
-    }
-    match block {
-        Some(block) if word == b"PTMEAS".as_slice() => Ok(Some(Block {
-            line: block.line,
-            wanted: block.wanted,
-            touches: block.touches.saturating_add(1),
-        })),
-        other => Ok(other),
+}
+
+/// The next statement that begins above a line.
+fn next_above<'a>(
+    statements: &mut Statements<'a>,
+    number: u64,
+) -> Result<Option<Statement<'a>>, AllocError>
+    ensures { IfOk result (λ given. IfSome given
+        (λ s. statements.old.left ≡ s ∷ statements.new.left)) }
+{
+    match next_statement(statements)? {
+        Some(statement) if statement.line < number => Ok(Some(statement)),
+        _ => Ok(None),
     }
 }
 
@@ -57,39 +78,34 @@ fn followed(
 pub(crate) fn open_block(alloc: Global, place: Place) -> Result<Option<Block>, AllocError> {
     let mut statements = Statements::new(alloc, place.text);
     let mut block = None;
-    while let Some(statement) = next_statement(&mut statements)? {
-        if statement.line >= place.number {
-            return Ok(block);
-        }
+    while let Some(statement) = next_above(&mut statements, place.number)? {
         block = followed(alloc, block, &statement)?;
         statements.take_back(statement);
     }
     Ok(block)
 }
 
-/// A statement's word, and the line on which it begins.
-#[derive(Drop)]
-pub(crate) struct Last {
-    pub(crate) word: String,
-    pub(crate) line: u64,
+/// The line of the block that is open before a line.
+pub(crate) fn open_line(alloc: Global, place: Place) -> Result<Option<u64>, AllocError> {
+    match open_block(alloc, place)? {
+        Some(block) => Ok(Some(block.line)),
+        None => Ok(None),
+    }
+}
+
+/// The last of the statements that can be read.
+fn last_of<'a>(statements: &mut Statements<'a>) -> Result<Option<Statement<'a>>, AllocError> {
+    let mut last = None;
+    while let Some(statement) = next_statement(statements)? {
+        last = Some(statement);
+    }
+    Ok(last)
 }
 
 /// The last statement of a text.
-pub(crate) fn last_statement(alloc: Global, text: &[u8]) -> Result<Option<Last>, AllocError> {
-    let mut statements = Statements::new(alloc, text);
-    let mut last = None;
-    while let Some(statement) = next_statement(&mut statements)? {
-        last = Some(statement);
-    }
-    let Some(statement) = last else {
-        return Ok(None);
-    };
-    let word = Word {
-        bytes: &statement.word,
-        at: None,
-    };
-    Ok(Some(Last {
-        word: word.shown(alloc)?,
-        line: statement.line,
-    }))
+pub(crate) fn last_statement(
+    alloc: Global,
+    text: &[u8],
+) -> Result<Option<Statement<'_>>, AllocError> {
+    last_of(&mut Statements::new(alloc, text))
 }

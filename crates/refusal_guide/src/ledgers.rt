@@ -65,34 +65,43 @@ fn is_act_word(word: &[u8]) -> bool {
         || word == b"CONTACT".as_slice()
 }
 
+/// The first field of a line, and what stands behind it; nothing where there is none.
+fn cut_first(line: &[u8]) -> (&[u8], &[u8]) {
+    match cut_field(line) {
+        Some((first, rest)) => (first, rest),
+        None => line.split_at(0),
+    }
+}
+
+/// Why what stands behind the number of a connection is no act.
+fn fields_reason(alloc: Global, act: Word) -> Result<Reason, AllocError> {
+    let (before, behind) = if is_act_word(act.bytes) {
+        (
+            "The fields of ",
+            " do not stand in the one form in which they are written, with one space before each.",
+        )
+    } else {
+        (
+            "",
+            " is none of HOMEDIS, HOMED, MOVED, CHANGED, FRAMED and CONTACT.",
+        )
+    };
+    act.reason(alloc, before, behind)
+}
+
 /// Why a line of contacts is no act.
 fn act_reason(alloc: Global, line: &[u8]) -> Result<Reason, AllocError> {
-    let (connection, rest) = match cut_field(line) {
-        Some((connection, rest)) => (connection, rest),
-        None => line.split_at(0),
-    };
+    let (connection, rest) = cut_first(line);
     let connection = Word::found(line, 0, connection);
     if !is_act(alloc, connection.bytes, b" HOMED\n")? {
-        let shown = connection.shown(alloc)?;
-        let said = format!(in alloc;
-            "An act begins with the number of its connection, from 1 to 4000000000 and without a zero in front, and not with {shown}."
-        )?;
-        return Ok(Reason::of_word(said, connection));
+        return connection.reason(
+            alloc,
+            "An act begins with the number of its connection, from 1 to 4000000000 and without a zero in front, and not with ",
+            ".",
+        );
     }
-    let (act, _) = match cut_field(rest) {
-        Some((act, behind)) => (act, behind),
-        None => rest.split_at(0),
-    };
-    let act = Word::found(line, connection.bytes.len(), act);
-    let shown = act.shown(alloc)?;
-    let said = if is_act_word(act.bytes) {
-        format!(in alloc;
-            "The fields of {shown} do not stand in the one form in which they are written, with one space before each."
-        )?
-    } else {
-        format!(in alloc; "{shown} is none of HOMEDIS, HOMED, MOVED, CHANGED, FRAMED and CONTACT.")?
-    };
-    Ok(Reason::of_word(said, act))
+    let (act, _) = cut_first(rest);
+    fields_reason(alloc, Word::found(line, connection.bytes.len(), act))
 }
 
 /// Whether a line ends with CR LF.
@@ -109,7 +118,7 @@ fn feature_reason(alloc: Global, place: Place) -> Result<Reason, AllocError> {
         return Ok(Reason::of_line(String::new(alloc)));
     }
     let (above, _) = place.text.split_at(place.text.len() - place.rest.len());
-    Ok(Reason::of_line(String::from_str(alloc, wanted(alloc, above)?)?))
+    Reason::of_text(alloc, wanted(alloc, above)?)
 }
 
 /// Why a line of this ledger cannot stand in its place.
@@ -119,21 +128,20 @@ pub(crate) fn ledger_reason(
     place: Place,
 ) -> Result<Reason, AllocError> {
     if has_return(place.rest) {
-        let said = String::from_str(
+        return Reason::of_text(
             alloc,
             "The line ends with CR LF, and the lines of this file end with LF alone.",
-        )?;
-        return Ok(Reason::of_line(said));
+        );
     }
     match ledger {
-        Ledger::Features if place.number == 1 => Ok(Reason::of_line(String::from_str(
+        Ledger::Features if place.number == 1 => Reason::of_text(
             alloc,
             "A file of features begins with the line DME-FEATURES 2, or DME-FEATURES 1.",
-        )?)),
-        Ledger::Contacts if place.number == 1 => Ok(Reason::of_line(String::from_str(
+        ),
+        Ledger::Contacts if place.number == 1 => Reason::of_text(
             alloc,
             "A file of contacts begins with the line DME-CONTACTS 1.",
-        )?)),
+        ),
         Ledger::Features => feature_reason(alloc, place),
         Ledger::Contacts => act_reason(alloc, first_line(place.rest)),
     }

@@ -1,41 +1,68 @@
 // Why a text is no name.
 
 use crate::lines::visible;
-use crate::words::Word;
+use crate::words::{Reason, Word};
 use fixed_um::Name;
 use std::alloc::{AllocError, Global};
 
 /// The most bytes that a name has (this profile).
 const LONGEST_NAME: usize = 64;
 
+/// Whether a text is a name.
+fn is_name(alloc: Global, text: &[u8]) -> Result<bool, AllocError> {
+    Ok(Name::new(alloc, text)?.is_some())
+}
+
 /// The leftmost byte that may stand in no name.
 fn leftmost_byte(alloc: Global, text: &[u8]) -> Result<Option<u8>, AllocError> {
     for byte in text {
-        if Name::new(alloc, &[*byte])?.is_none() {
+        if !is_name(alloc, &[*byte])? {
             return Ok(Some(*byte));
         }
     }
     Ok(None)
 }
 
-/// Why a text is no name, in a sentence that names it.
-pub(crate) fn name_sentence(alloc: Global, name: Word) -> Result<String, AllocError> {
-    let word = name.shown(alloc)?;
+/// That a text has too many bytes for a name.
+fn length_sentence(alloc: Global, name: Word) -> Result<String, AllocError> {
     let count = name.bytes.len();
-    if count == 0 {
+    let behind = format!(in alloc;
+        " is no name: it has {count} bytes, and a name has at most 64."
+    )?;
+    name.between(alloc, "", &behind)
+}
+
+/// That a text has a byte that may stand in no name.
+fn byte_sentence(alloc: Global, name: Word, byte: u8) -> Result<String, AllocError> {
+    let byte = visible(alloc, &[byte])?;
+    let behind = format!(in alloc; " is no name: {byte} may not stand in one.")?;
+    name.between(alloc, "", &behind)
+}
+
+/// Why a text is no name, in a sentence that names it.
+fn name_sentence(alloc: Global, name: Word) -> Result<String, AllocError> {
+    if name.bytes.is_empty() {
         return String::from_str(alloc, "No name stands between the parentheses.");
     }
-    if count > LONGEST_NAME {
-        return format!(in alloc;
-            "{word} is no name: it has {count} bytes, and a name has at most 64."
-        );
+    if name.bytes.len() > LONGEST_NAME {
+        return length_sentence(alloc, name);
     }
     match leftmost_byte(alloc, name.bytes)? {
-        Some(b' ') => format!(in alloc; "{word} is no name: a blank may not stand in one."),
-        Some(byte) => {
-            let byte = visible(alloc, &[byte])?;
-            format!(in alloc; "{word} is no name: {byte} may not stand in one.")
-        }
-        None => format!(in alloc; "{word} does not stand where a name stands."),
+        Some(b' ') => name.between(alloc, "", " is no name: a blank may not stand in one."),
+        Some(byte) => byte_sentence(alloc, name, byte),
+        None => name.between(alloc, "", " does not stand where a name stands."),
     }
+}
+
+/// Why a text that stands as this word is no name; none where it is one.
+pub(crate) fn name_reason(
+    alloc: Global,
+    text: &[u8],
+    word: Word,
+) -> Result<Option<Reason>, AllocError> {
+    if is_name(alloc, text)? {
+        return Ok(None);
+    }
+    let said = name_sentence(alloc, word)?;
+    Ok(Some(Reason::of_word(said, word)))
 }

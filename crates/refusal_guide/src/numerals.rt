@@ -5,7 +5,7 @@ ghost use Rattle.std.specs.List.{position, find};
 ghost use Rattle.std.specs.Option.{option_map};
 ghost use Rattle.refusal_guide.specs.Lengths.{length_fault, is_no_length};
 
-use crate::words::Word;
+use crate::words::{Reason, Word};
 use dmis_text::Text;
 use fixed_um::{NumeralFault, Um, read_dir, read_um};
 use std::alloc::{AllocError, Global};
@@ -58,7 +58,7 @@ pub(crate) fn leftmost_component(params: &[Text]) -> Option<usize>
 }
 
 /// The leftmost of three fields that is not read as a length; none where all are.
-pub(crate) fn leftmost_field<'a>(x: &'a [u8], y: &'a [u8], z: &'a [u8]) -> Option<&'a [u8]>
+fn leftmost_field<'a>(x: &'a [u8], y: &'a [u8], z: &'a [u8]) -> Option<&'a [u8]>
     ensures { option_map (λ t. t.now) result
         ≡ find is_no_length (x.now ∷ y.now ∷ z.now ∷ []) }
 {
@@ -88,35 +88,70 @@ fn count_digits(numeral: &[u8]) -> usize {
         .count()
 }
 
+/// That a numeral has too many digits.
+fn digits_sentence(alloc: Global, numeral: Word) -> Result<String, AllocError> {
+    let count = count_digits(numeral.bytes);
+    let behind = format!(in alloc;
+        " has {count} digits before its exponent, and at most 30 are read."
+    )?;
+    numeral.between(alloc, "The numeral ", &behind)
+}
+
 /// Why a numeral does not read, in a sentence that names it.
-pub(crate) fn numeral_sentence(
+fn numeral_sentence(
     alloc: Global,
     numeral: Word,
     fault: NumeralFault,
     measure: Measure,
 ) -> Result<String, AllocError> {
-    let word = numeral.shown(alloc)?;
     match (fault, measure) {
-        (NumeralFault::NotNumeral, _) => {
-            format!(in alloc;
-                "{word} is no numeral: a numeral has digits with at most one point, and if wanted a sign and an exponent of one to three digits."
-            )
-        }
-        (NumeralFault::TooManyDigits, _) => {
-            let count = count_digits(numeral.bytes);
-            format!(in alloc;
-                "The numeral {word} has {count} digits before its exponent, and at most 30 are read."
-            )
-        }
-        (NumeralFault::TooLarge, Measure::Length) => {
-            format!(in alloc;
-                "The numeral {word}, rounded to micrometres, is past the limit of 1000000 millimetres."
-            )
-        }
-        (NumeralFault::TooLarge, Measure::Component) => {
-            format!(in alloc;
-                "The numeral {word}, rounded to millionths, is past the limit of 1000 for a component of a direction."
-            )
-        }
+        (NumeralFault::NotNumeral, _) => numeral.between(
+            alloc,
+            "",
+            " is no numeral: a numeral has digits with at most one point, and if wanted a sign and an exponent of one to three digits.",
+        ),
+        (NumeralFault::TooManyDigits, _) => digits_sentence(alloc, numeral),
+        (NumeralFault::TooLarge, Measure::Length) => numeral.between(
+            alloc,
+            "The numeral ",
+            ", rounded to micrometres, is past the limit of 1000000 millimetres.",
+        ),
+        (NumeralFault::TooLarge, Measure::Component) => numeral.between(
+            alloc,
+            "The numeral ",
+            ", rounded to millionths, is past the limit of 1000 for a component of a direction.",
+        ),
+    }
+}
+
+/// Why a numeral does not read.
+pub(crate) fn numeral_reason(
+    alloc: Global,
+    numeral: Word,
+    fault: NumeralFault,
+    measure: Measure,
+) -> Result<Reason, AllocError> {
+    let said = numeral_sentence(alloc, numeral, fault, measure)?;
+    Ok(Reason::of_word(said, numeral))
+}
+
+/// Which of three fields at the end of a line, behind so many bytes, is not read as a length, and why; none where all are.
+pub(crate) fn field_reason(
+    alloc: Global,
+    line: &[u8],
+    from: usize,
+    (x, y, z): (&[u8], &[u8], &[u8]),
+) -> Result<Option<Reason>, AllocError> {
+    let Some(numeral) = leftmost_field(x, y, z) else {
+        return Ok(None);
+    };
+    match length_fault(numeral) {
+        Some(fault) => Reason::given(numeral_reason(
+            alloc,
+            Word::found(line, from, numeral),
+            fault,
+            Measure::Length,
+        )),
+        None => Ok(None),
     }
 }

@@ -2,48 +2,58 @@
 
 use crate::arguments::{argument_reason, count_before, within};
 use crate::bad_bytes::bad_byte;
-use crate::blocks::{last_statement, open_block};
+use crate::blocks::{Block, last_statement, open_block, open_line};
 use crate::lines::{Place, first_line, visible};
 use crate::numerals::{
-    Measure, component_fault, leftmost_component, leftmost_length, length_fault, numeral_sentence,
+    Measure, component_fault, leftmost_component, leftmost_length, length_fault, numeral_reason,
 };
 use crate::statements::{Found, first_statement};
 use crate::topics::Topic;
-use crate::words::Reason;
+use crate::words::{Reason, Word};
 use dmis_program::Refusal;
-use dmis_text::Text;
+use dmis_text::{Statement, Text};
+use fixed_um::NumeralFault;
 use std::alloc::{AllocError, Global};
 
 /// Why no program begins with this statement.
 fn not_dmis(alloc: Global, found: Found) -> Result<Reason, AllocError> {
     let word = found.word();
-    let shown = word.shown(alloc)?;
-    let said = format!(in alloc;
-        "The first statement is {shown}, and a program begins with DMISMN."
-    )?;
-    Ok(Reason::of_word(said, word))
+    word.reason(
+        alloc,
+        "The first statement is ",
+        ", and a program begins with DMISMN.",
+    )
 }
 
 /// Why no program begins in a text without a statement.
 fn no_statement(alloc: Global) -> Result<Reason, AllocError> {
-    let said = String::from_str(
+    Reason::of_text(
         alloc,
         "The file has no statement, and a program begins with DMISMN.",
-    )?;
-    Ok(Reason::of_line(said))
+    )
+}
+
+/// That the end is missing behind this statement.
+fn ended_reason(alloc: Global, last: &Statement) -> Result<Reason, AllocError> {
+    let word = Word {
+        bytes: &last.word,
+        at: None,
+    };
+    let line = last.line;
+    let behind = format!(in alloc; " at line {line}.")?;
+    word.reason(
+        alloc,
+        "The file ends behind this line without ENDFIL: its last statement is ",
+        &behind,
+    )
 }
 
 /// That the end is missing.
 fn truncated(alloc: Global, place: Place) -> Result<Option<Reason>, AllocError> {
-    let Some(last) = last_statement(alloc, place.text)? else {
-        return Ok(None);
-    };
-    let word = last.word;
-    let line = last.line;
-    let said = format!(in alloc;
-        "The file ends behind this line without ENDFIL: its last statement is {word} at line {line}."
-    )?;
-    Ok(Some(Reason::of_line(said)))
+    match last_statement(alloc, place.text)? {
+        Some(last) => Reason::given(ended_reason(alloc, &last)),
+        None => Ok(None),
+    }
 }
 
 /// How long a line is that is too long.
@@ -55,56 +65,62 @@ fn too_long(alloc: Global, place: Place) -> Result<Reason, AllocError> {
     Ok(Reason::of_line(said))
 }
 
+/// That this byte may not stand in this column.
+fn column_reason(alloc: Global, at: usize, byte: u8) -> Result<Reason, AllocError> {
+    let column = at.saturating_add(1);
+    let why = if byte >= 128 {
+        "may stand in texts and in comments alone."
+    } else {
+        "is a control character, of which a program may have tabs alone."
+    };
+    let shown = visible(alloc, &[byte])?;
+    let said = format!(in alloc; "The byte {shown} in column {column} {why}")?;
+    Ok(Reason { said, at, len: 1 })
+}
+
 /// Which byte may not stand in its place.
 fn byte_reason(alloc: Global, place: Place) -> Result<Option<Reason>, AllocError> {
-    let Some((at, byte)) = bad_byte(alloc, place)? else {
-        return Ok(None);
-    };
-    let column = at.saturating_add(1);
-    let shown = visible(alloc, &[byte])?;
-    let said = if byte >= 128 {
-        format!(in alloc;
-            "The byte {shown} in column {column} may stand in texts and in comments alone."
-        )?
-    } else {
-        format!(in alloc;
-            "The byte {shown} in column {column} is a control character, of which a program may have tabs alone."
-        )?
-    };
-    Ok(Some(Reason { said, at, len: 1 }))
+    match bad_byte(alloc, place)? {
+        Some((at, byte)) => Reason::given(column_reason(alloc, at, byte)),
+        None => Ok(None),
+    }
 }
 
 /// What is not carried out: a major word with its minor word.
 fn unsupported_minor(alloc: Global, found: Found, minor: &[u8]) -> Result<Reason, AllocError> {
-    let major = found.word().shown(alloc)?;
-    let word = found.in_param(0, minor);
-    let shown = word.shown(alloc)?;
-    let said = if found.is(b"RECALL") {
-        format!(in alloc;
-            "{major}/{shown} is not carried out: RECALL/D(name) selects a stored frame."
-        )?
+    let behind = if found.is(b"RECALL") {
+        " is not carried out: RECALL/D(name) selects a stored frame."
     } else {
-        format!(in alloc; "{major}/{shown} is not carried out: of coordinates only CART is.")?
+        " is not carried out: of coordinates only CART is."
     };
-    Ok(Reason::of_word(said, word))
+    let major = found.word().between(alloc, "", "/")?;
+    found.in_param(0, minor).reason(alloc, &major, behind)
+}
+
+/// What is not carried out: a major word.
+fn unsupported_major(alloc: Global, found: Found) -> Result<Reason, AllocError> {
+    let (before, behind) = if found.is(b"DMISMN") {
+        (
+            "A second ",
+            " stands here, and a program has one, its first statement.",
+        )
+    } else {
+        ("", " is not carried out.")
+    };
+    found.word().reason(alloc, before, behind)
+}
+
+/// Whether a minor word may stand behind the major word.
+fn has_minor(found: Found) -> bool {
+    found.is(b"GOTO") || found.is(b"PTMEAS") || found.is(b"RECALL")
 }
 
 /// What is not carried out: a major word, or its minor word.
 fn unsupported(alloc: Global, found: Found) -> Result<Reason, AllocError> {
-    let has_minor = found.is(b"GOTO") || found.is(b"PTMEAS") || found.is(b"RECALL");
-    if has_minor && let Some((minor, _)) = found.statement.params.split_first() {
-        return unsupported_minor(alloc, found, minor);
+    match found.statement.params.split_first() {
+        Some((minor, _)) if has_minor(found) => unsupported_minor(alloc, found, minor),
+        _ => unsupported_major(alloc, found),
     }
-    let word = found.word();
-    let major = word.shown(alloc)?;
-    let said = if found.is(b"DMISMN") {
-        format!(in alloc;
-            "A second {major} stands here, and a program has one, its first statement."
-        )?
-    } else {
-        format!(in alloc; "{major} is not carried out.")?
-    };
-    Ok(Reason::of_word(said, word))
 }
 
 /// The number of the leftmost numeral that does not read, among the parameters behind `CART`, and what it is to be.
@@ -117,6 +133,46 @@ fn leftmost(numerals: &[Text]) -> Option<(usize, Measure)> {
     Some((index + 3, Measure::Component))
 }
 
+/// Why a numeral does not read as what it is to be; none where it does.
+fn fault_of(numeral: &[u8], measure: Measure) -> Option<NumeralFault> {
+    match measure {
+        Measure::Length => length_fault(numeral),
+        Measure::Component => component_fault(numeral),
+    }
+}
+
+/// That a parameter is empty where a numeral stands; `number` counts them from 1.
+fn empty_reason(
+    alloc: Global,
+    found: Found,
+    number: usize,
+    word: Word,
+) -> Result<Reason, AllocError> {
+    let before = format!(in alloc; "Parameter {number} of ")?;
+    let said = found
+        .word()
+        .between(alloc, &before, " is empty, and a numeral stands there.")?;
+    Ok(Reason::of_word(said, word))
+}
+
+/// Why the parameter of this number, counted from 0, is no numeral; none where it is one.
+fn parameter_reason(
+    alloc: Global,
+    found: Found,
+    index: usize,
+    numeral: &[u8],
+    measure: Measure,
+) -> Result<Option<Reason>, AllocError> {
+    let Some(fault) = fault_of(numeral, measure) else {
+        return Ok(None);
+    };
+    let word = found.in_param(index, numeral);
+    if word.bytes.is_empty() {
+        return Reason::given(empty_reason(alloc, found, index.saturating_add(1), word));
+    }
+    Reason::given(numeral_reason(alloc, word, fault, measure))
+}
+
 /// Which numeral does not read, and why.
 fn bad_numeral(alloc: Global, found: Found) -> Result<Option<Reason>, AllocError> {
     let params: &[Text] = &found.statement.params;
@@ -125,27 +181,21 @@ fn bad_numeral(alloc: Global, found: Found) -> Result<Option<Reason>, AllocError
     let Some((index, measure)) = leftmost(numerals) else {
         return Ok(None);
     };
-    let Some(numeral) = numerals.get(index) else {
-        return Ok(None);
-    };
-    let fault = match measure {
-        Measure::Length => length_fault(numeral),
-        Measure::Component => component_fault(numeral),
-    };
-    let Some(fault) = fault else {
-        return Ok(None);
-    };
-    let word = found.in_param(before + index, numeral);
-    if word.bytes.is_empty() {
-        let number = before + index + 1;
-        let major = found.word().shown(alloc)?;
-        let said = format!(in alloc;
-            "Parameter {number} of {major} is empty, and a numeral stands there."
-        )?;
-        return Ok(Some(Reason::of_word(said, word)));
+    match numerals.get(index) {
+        Some(numeral) => parameter_reason(alloc, found, before + index, numeral, measure),
+        None => Ok(None),
     }
-    let said = numeral_sentence(alloc, word, fault, measure)?;
-    Ok(Some(Reason::of_word(said, word)))
+}
+
+/// That a direction of these components is zero.
+fn direction_reason(alloc: Global, i: Word, j: Word, k: Word) -> Result<Reason, AllocError> {
+    let second = j.between(alloc, ",", ",")?;
+    let behind = k.between(
+        alloc,
+        &second,
+        " is zero in all components, rounded to millionths.",
+    )?;
+    i.reason(alloc, "The direction ", &behind)
 }
 
 /// Why a direction is none.
@@ -154,38 +204,51 @@ fn zero_vector(alloc: Global, found: Found) -> Result<Option<Reason>, AllocError
     let [_, _, _, _, i, j, k] = params else {
         return Ok(None);
     };
-    let first = found.in_param(4, i);
-    let shown_i = first.shown(alloc)?;
-    let shown_j = found.in_param(5, j).shown(alloc)?;
-    let shown_k = found.in_param(6, k).shown(alloc)?;
-    let said = format!(in alloc;
-        "The direction {shown_i},{shown_j},{shown_k} is zero in all components, rounded to millionths."
-    )?;
-    Ok(Some(Reason::of_word(said, first)))
+    Reason::given(direction_reason(
+        alloc,
+        found.in_param(4, i),
+        found.in_param(5, j),
+        found.in_param(6, k),
+    ))
 }
 
 /// Why a statement may not stand outside of a block.
 fn outside_block(alloc: Global, found: Found) -> Result<Reason, AllocError> {
     let word = found.word();
-    let shown = word.shown(alloc)?;
-    let said = format!(in alloc;
-        "{shown} stands outside of a measurement block: no MEAS above it is open."
+    word.reason(
+        alloc,
+        "",
+        " stands outside of a measurement block: no MEAS above it is open.",
+    )
+}
+
+/// That a statement may not stand inside of the block that begins at this line.
+fn inside_reason(alloc: Global, found: Found, line: u64) -> Result<Reason, AllocError> {
+    let behind = format!(in alloc;
+        " stands inside of the measurement block that begins at line {line}: it has no ENDMES yet."
     )?;
-    Ok(Reason::of_word(said, word))
+    found.word().reason(alloc, "", &behind)
 }
 
 /// Why a statement may not stand inside of a block.
 fn inside_block(alloc: Global, place: Place, found: Found) -> Result<Option<Reason>, AllocError> {
-    let Some(block) = open_block(alloc, place)? else {
-        return Ok(None);
-    };
-    let word = found.word();
-    let shown = word.shown(alloc)?;
+    match open_line(alloc, place)? {
+        Some(line) => Reason::given(inside_reason(alloc, found, line)),
+        None => Ok(None),
+    }
+}
+
+/// How many touches this block lacks, in a sentence.
+fn touches_sentence(alloc: Global, block: &Block) -> Result<String, AllocError> {
     let line = block.line;
-    let said = format!(in alloc;
-        "{shown} stands inside of the measurement block that begins at line {line}: it has no ENDMES yet."
-    )?;
-    Ok(Some(Reason::of_word(said, word)))
+    let wanted: &str = &block.wanted;
+    let touches = block.touches;
+    if touches == 0 {
+        return format!(in alloc;
+            "The program asks for automatic measuring: MEAS at line {line} names {wanted} touches and its block has none, and only programmed touches are measured."
+        );
+    }
+    format!(in alloc; "MEAS at line {line} names {wanted} touches, and its block has {touches}.")
 }
 
 /// How many touches a block lacks. Where it has none, automatic measuring is asked for.
@@ -193,19 +256,18 @@ fn too_few(alloc: Global, place: Place, found: Found) -> Result<Option<Reason>, 
     let Some(block) = open_block(alloc, place)? else {
         return Ok(None);
     };
-    let line = block.line;
-    let wanted = block.wanted;
-    let touches = block.touches;
-    let said = if touches == 0 {
-        format!(in alloc;
-            "The program asks for automatic measuring: MEAS at line {line} names {wanted} touches and its block has none, and only programmed touches are measured."
-        )?
-    } else {
-        format!(in alloc;
-            "MEAS at line {line} names {wanted} touches, and its block has {touches}."
-        )?
-    };
+    let said = touches_sentence(alloc, &block)?;
     Ok(Some(Reason::of_word(said, found.word())))
+}
+
+/// That a frame of this name is not stored.
+fn frame_reason(alloc: Global, name: Word) -> Result<Reason, AllocError> {
+    let behind = name.between(
+        alloc,
+        " is stored: --setup names no setup, or none with a line FRAME ",
+        ".",
+    )?;
+    name.reason(alloc, "No frame ", &behind)
 }
 
 /// Which frame is not stored.
@@ -213,59 +275,63 @@ fn unknown_frame(alloc: Global, found: Found) -> Result<Option<Reason>, AllocErr
     let Some((first, _)) = found.statement.params.split_first() else {
         return Ok(None);
     };
-    let Some(name) = within(b"D(", first) else {
-        return Ok(None);
-    };
-    let word = found.in_param(0, name);
-    let shown = word.shown(alloc)?;
-    let said = format!(in alloc;
-        "No frame {shown} is stored: --setup names no setup, or none with a line FRAME {shown}."
-    )?;
-    Ok(Some(Reason::of_word(said, word)))
+    match within(b"D(", first) {
+        Some(name) => Reason::given(frame_reason(alloc, found.in_param(0, name))),
+        None => Ok(None),
+    }
+}
+
+/// Why the first parameter is none of those that stand there, in a sentence that has it between these texts; none where there is none.
+fn first_reason(
+    alloc: Global,
+    found: Found,
+    before: &str,
+    behind: &str,
+) -> Result<Option<Reason>, AllocError> {
+    match found.statement.params.split_first() {
+        Some((first, _)) => Reason::given(found.in_param(0, first).reason(alloc, before, behind)),
+        None => Ok(None),
+    }
 }
 
 /// Which unit is not the millimetre.
 fn not_millimetres(alloc: Global, found: Found) -> Result<Option<Reason>, AllocError> {
-    let Some((first, _)) = found.statement.params.split_first() else {
-        return Ok(None);
-    };
-    let word = found.in_param(0, first);
-    let shown = word.shown(alloc)?;
-    let said = format!(in alloc; "The unit {shown} is not read: lengths are in MM.")?;
-    Ok(Some(Reason::of_word(said, word)))
+    first_reason(
+        alloc,
+        found,
+        "The unit ",
+        " is not read: lengths are in MM.",
+    )
 }
 
 /// Which mode is not the programmed one.
 fn no_prog_mode(alloc: Global, found: Found) -> Result<Option<Reason>, AllocError> {
-    let Some((first, _)) = found.statement.params.split_first() else {
-        return Ok(None);
-    };
-    let word = found.in_param(0, first);
-    let shown = word.shown(alloc)?;
-    let said = format!(in alloc;
-        "The mode {shown} is not carried out, and PROG is not among the words of MODE."
-    )?;
-    Ok(Some(Reason::of_word(said, word)))
+    first_reason(
+        alloc,
+        found,
+        "The mode ",
+        " is not carried out, and PROG is not among the words of MODE.",
+    )
 }
 
 /// Which touch has no tool.
 fn no_tool(alloc: Global, found: Found) -> Result<Reason, AllocError> {
     let word = found.word();
-    let shown = word.shown(alloc)?;
-    let said = format!(in alloc;
-        "This {shown} is a touch before any SNSLCT: no tool is selected."
-    )?;
-    Ok(Reason::of_word(said, word))
+    word.reason(
+        alloc,
+        "This ",
+        " is a touch before any SNSLCT: no tool is selected.",
+    )
 }
 
 /// Which statement is one too many.
 fn too_large(alloc: Global, found: Found) -> Result<Reason, AllocError> {
     let word = found.word();
-    let shown = word.shown(alloc)?;
-    let said = format!(in alloc;
-        "This {shown} is statement 10001, and a program has at most 10000."
-    )?;
-    Ok(Reason::of_word(said, word))
+    word.reason(
+        alloc,
+        "This ",
+        " is statement 10001, and a program has at most 10000.",
+    )
 }
 
 /// Why a statement is refused; none where no statement in this place is refused so.
@@ -276,22 +342,22 @@ fn statement_reason(
     found: Found,
 ) -> Result<Option<Reason>, AllocError> {
     match refusal {
-        Refusal::NotDmis => Ok(Some(not_dmis(alloc, found)?)),
+        Refusal::NotDmis => Reason::given(not_dmis(alloc, found)),
         Refusal::Truncated => truncated(alloc, place),
-        Refusal::LineTooLong => Ok(Some(too_long(alloc, place)?)),
+        Refusal::LineTooLong => Reason::given(too_long(alloc, place)),
         Refusal::BadByte => byte_reason(alloc, place),
-        Refusal::Unsupported => Ok(Some(unsupported(alloc, found)?)),
+        Refusal::Unsupported => Reason::given(unsupported(alloc, found)),
         Refusal::BadArguments => argument_reason(alloc, found),
         Refusal::BadNumeral(_) => bad_numeral(alloc, found),
-        Refusal::OutsideBlock => Ok(Some(outside_block(alloc, found)?)),
+        Refusal::OutsideBlock => Reason::given(outside_block(alloc, found)),
         Refusal::InsideBlock => inside_block(alloc, place, found),
         Refusal::TooFewPoints => too_few(alloc, place, found),
         Refusal::UnknownFrame => unknown_frame(alloc, found),
         Refusal::NotMillimetres => not_millimetres(alloc, found),
         Refusal::NoProgMode => no_prog_mode(alloc, found),
         Refusal::ZeroVector => zero_vector(alloc, found),
-        Refusal::NoTool => Ok(Some(no_tool(alloc, found)?)),
-        Refusal::TooLarge => Ok(Some(too_large(alloc, found)?)),
+        Refusal::NoTool => Reason::given(no_tool(alloc, found)),
+        Refusal::TooLarge => Reason::given(too_large(alloc, found)),
     }
 }
 
@@ -302,9 +368,9 @@ fn line_reason(
     place: Place,
 ) -> Result<Option<Reason>, AllocError> {
     match refusal {
-        Refusal::NotDmis => Ok(Some(no_statement(alloc)?)),
+        Refusal::NotDmis => Reason::given(no_statement(alloc)),
         Refusal::Truncated => truncated(alloc, place),
-        Refusal::LineTooLong => Ok(Some(too_long(alloc, place)?)),
+        Refusal::LineTooLong => Reason::given(too_long(alloc, place)),
         Refusal::BadByte => byte_reason(alloc, place),
         Refusal::Unsupported
         | Refusal::BadArguments
@@ -321,24 +387,30 @@ fn line_reason(
     }
 }
 
+/// Why a program is refused in this place; none where no text in this place is refused so.
+fn place_reason(
+    alloc: Global,
+    refusal: Refusal,
+    place: Place,
+) -> Result<Option<Reason>, AllocError> {
+    match first_statement(alloc, place.rest)? {
+        Some(statement) => {
+            let found = Found {
+                rest: place.rest,
+                statement: &statement,
+            };
+            statement_reason(alloc, refusal, place, found)
+        }
+        None => line_reason(alloc, refusal, place),
+    }
+}
+
 /// Why a program is refused in this place. Where the text is none that is refused so, what the refusal means.
 pub(crate) fn program_reason(
     alloc: Global,
     refusal: Refusal,
     place: Place,
 ) -> Result<Reason, AllocError> {
-    let reason = match first_statement(alloc, place.rest)? {
-        Some(statement) => {
-            let found = Found {
-                rest: place.rest,
-                statement: &statement,
-            };
-            statement_reason(alloc, refusal, place, found)?
-        }
-        None => line_reason(alloc, refusal, place)?,
-    };
-    match reason {
-        Some(reason) => Ok(reason),
-        None => Reason::of_topic(alloc, Topic::of_refusal(refusal)),
-    }
+    let topic = Topic::of_refusal(refusal);
+    Reason::or_topic(alloc, place_reason(alloc, refusal, place), topic)
 }

@@ -1,7 +1,7 @@
 // Why a line of a schedule asks for nothing, in a sentence. What a word asks for is told by the reader of schedules.
 
 use crate::lines::{Place, first_line};
-use crate::numerals::{Measure, leftmost_field, length_fault, numeral_sentence};
+use crate::numerals::field_reason as numeral_reason;
 use crate::setups::{count_fields, space_reason};
 use crate::topics::Topic;
 use crate::words::{Reason, Word};
@@ -45,25 +45,29 @@ fn takes(alloc: Global, word: &[u8]) -> Result<Option<&'static str>, AllocError>
     })
 }
 
+/// That a touch has not three coordinates.
+fn count_reason(alloc: Global, values: &[u8]) -> Result<Reason, AllocError> {
+    let count = count_fields(values);
+    let said = format!(in alloc;
+        "machine touched takes 3 numerals, x, y and z, and {count} fields stand behind it."
+    )?;
+    Ok(Reason::of_line(said))
+}
+
 /// Why the coordinates of a touch do not read; none where they do.
 fn touched_reason(alloc: Global, line: &[u8], values: &[u8]) -> Result<Option<Reason>, AllocError> {
-    let Some((x, y, z)) = three_fields(values) else {
-        let count = count_fields(values);
-        let said = format!(in alloc;
-            "machine touched takes 3 numerals, x, y and z, and {count} fields stand behind it."
-        )?;
-        return Ok(Some(Reason::of_line(said)));
-    };
-    let Some(numeral) = leftmost_field(x, y, z) else {
-        return Ok(None);
-    };
-    let Some(fault) = length_fault(numeral) else {
-        return Ok(None);
-    };
-    let from = line.len().saturating_sub(values.len());
-    let numeral = Word::found(line, from, numeral);
-    let said = numeral_sentence(alloc, numeral, fault, Measure::Length)?;
-    Ok(Some(Reason::of_word(said, numeral)))
+    match three_fields(values) {
+        Some(fields) => {
+            numeral_reason(alloc, line, line.len().saturating_sub(values.len()), fields)
+        }
+        None => Reason::given(count_reason(alloc, values)),
+    }
+}
+
+/// What this word takes, in a sentence's end that begins so.
+fn which_takes(alloc: Global, before: &str, word: Word, taken: &str) -> Result<String, AllocError> {
+    let behind = format!(in alloc; ", which takes {taken}.")?;
+    word.between(alloc, before, &behind)
 }
 
 /// That a field asks for nothing behind a word that takes this.
@@ -75,10 +79,25 @@ fn field_reason(
     taken: &str,
 ) -> Result<Reason, AllocError> {
     let field = Word::found(line, word.len(), field);
-    let shown = field.shown(alloc)?;
-    let word = Word::found(line, 0, word).shown(alloc)?;
-    let said = format!(in alloc; "{shown} asks for nothing behind {word}, which takes {taken}.")?;
-    Ok(Reason::of_word(said, field))
+    let word = Word::found(line, 0, word);
+    let behind = which_takes(alloc, " asks for nothing behind ", word, taken)?;
+    field.reason(alloc, "", &behind)
+}
+
+/// That nothing stands behind a word that takes this.
+fn nothing_reason(alloc: Global, word: Word, taken: &str) -> Result<Reason, AllocError> {
+    let said = which_takes(alloc, "Nothing stands behind ", word, taken)?;
+    Ok(Reason::of_word(said, word))
+}
+
+/// That a field stands behind those that are read, where one stands there.
+fn third_reason(alloc: Global, line: &[u8], rest: &[u8]) -> Result<Option<Reason>, AllocError> {
+    let Some((third, _)) = cut_field(rest) else {
+        return Ok(None);
+    };
+    let from = line.len().saturating_sub(rest.len());
+    let third = Word::found(line, from, third);
+    Reason::given(third.reason(alloc, "", " is one field too many."))
 }
 
 /// Why what stands behind a word asks for nothing, where the word takes this.
@@ -90,31 +109,21 @@ fn behind_word(
     taken: &str,
 ) -> Result<Option<Reason>, AllocError> {
     let Some((field, rest)) = cut_field(rest) else {
-        let word = Word::found(line, 0, word);
-        let shown = word.shown(alloc)?;
-        let said = format!(in alloc; "Nothing stands behind {shown}, which takes {taken}.")?;
-        return Ok(Some(Reason::of_word(said, word)));
+        return Reason::given(nothing_reason(alloc, Word::found(line, 0, word), taken));
     };
     if is_word(b"machine", word) && is_word(b"touched", field) {
         return touched_reason(alloc, line, rest);
     }
     if !asks(alloc, word, field)? {
-        return Ok(Some(field_reason(alloc, line, word, field, taken)?));
+        return Reason::given(field_reason(alloc, line, word, field, taken));
     }
-    let Some((third, _)) = cut_field(rest) else {
-        return Ok(None);
-    };
-    let from = line.len().saturating_sub(rest.len());
-    let third = Word::found(line, from, third);
-    let shown = third.shown(alloc)?;
-    let said = format!(in alloc; "{shown} is one field too many.")?;
-    Ok(Some(Reason::of_word(said, third)))
+    third_reason(alloc, line, rest)
 }
 
 /// Why a line asks for nothing; none where it asks for something.
 fn bad_line(alloc: Global, line: &[u8]) -> Result<Option<Reason>, AllocError> {
     if has_outer_space(line) {
-        return Ok(Some(space_reason(alloc, line)?));
+        return Reason::given(space_reason(alloc, line));
     }
     let Some((field, rest)) = cut_field(line) else {
         return Ok(None);
@@ -123,15 +132,11 @@ fn bad_line(alloc: Global, line: &[u8]) -> Result<Option<Reason>, AllocError> {
         return behind_word(alloc, line, field, rest, taken);
     }
     let word = Word::found(line, 0, field);
-    let shown = word.shown(alloc)?;
-    let said = format!(in alloc; "{shown} is no word of a schedule.")?;
-    Ok(Some(Reason::of_word(said, word)))
+    Reason::given(word.reason(alloc, "", " is no word of a schedule."))
 }
 
 /// Why a line of a schedule asks for nothing. Where the text is none that is refused so, what the refusal means.
 pub(crate) fn schedule_reason(alloc: Global, place: Place) -> Result<Reason, AllocError> {
-    match bad_line(alloc, first_line(place.rest))? {
-        Some(reason) => Ok(reason),
-        None => Reason::of_topic(alloc, Topic::ScheduleLine),
-    }
+    let reason = bad_line(alloc, first_line(place.rest));
+    Reason::or_topic(alloc, reason, Topic::ScheduleLine)
 }

@@ -1,12 +1,11 @@
 // Why a setup is refused, in a sentence.
 
 use crate::lines::{Place, first_line};
-use crate::names::name_sentence;
-use crate::numerals::{Measure, leftmost_field, length_fault, numeral_sentence};
+use crate::names::name_reason;
+use crate::numerals::field_reason;
 use crate::topics::Topic;
 use crate::words::{Reason, Word};
 use dmis_text::cut_line;
-use fixed_um::Name;
 use std::alloc::{AllocError, Global};
 use tool_rack::fields::{cut_field, has_outer_space, is_word, three_fields};
 
@@ -38,21 +37,23 @@ fn count_reason(
     values: &[u8],
     wanted: &str,
 ) -> Result<Reason, AllocError> {
-    let shown = word.shown(alloc)?;
     let count = count_fields(values);
     let fields = if count == 1 { "field" } else { "fields" };
-    let said = format!(in alloc; "{shown} has {count} {fields} behind it, and takes {wanted}.")?;
-    Ok(Reason::of_word(said, word))
+    let behind = format!(in alloc; " has {count} {fields} behind it, and takes {wanted}.")?;
+    word.reason(alloc, "", &behind)
 }
 
-/// Why a field is no name; none where it is one.
-fn name_reason(alloc: Global, line: &[u8], name: &[u8]) -> Result<Option<Reason>, AllocError> {
-    if Name::new(alloc, name)?.is_some() {
-        return Ok(None);
+/// How many fields this word takes, where there are so many behind it; none where it takes so many.
+fn wanted(word: &[u8], count: usize) -> Option<&'static str> {
+    if is_word(b"SHIFT", word) {
+        Some("3, dx, dy and dz")
+    } else if is_word(b"TOOL", word) && count != 1 {
+        Some("1, a name")
+    } else if is_word(b"FRAME", word) && count != 4 {
+        Some("4, a name and x, y and z")
+    } else {
+        None
     }
-    let word = Word::found(line, 1, name);
-    let said = name_sentence(alloc, word)?;
-    Ok(Some(Reason::of_word(said, word)))
 }
 
 /// Why the fields behind the word of a line do not fit; none where they do.
@@ -62,20 +63,11 @@ fn values_reason(
     word: Word,
     values: &[u8],
 ) -> Result<Option<Reason>, AllocError> {
-    let count = count_fields(values);
-    if is_word(b"SHIFT", word.bytes) {
-        let reason = count_reason(alloc, word, values, "3, dx, dy and dz")?;
-        return Ok(Some(reason));
-    }
-    if is_word(b"TOOL", word.bytes) && count != 1 {
-        return Ok(Some(count_reason(alloc, word, values, "1, a name")?));
-    }
-    if is_word(b"FRAME", word.bytes) && count != 4 {
-        let reason = count_reason(alloc, word, values, "4, a name and x, y and z")?;
-        return Ok(Some(reason));
+    if let Some(wanted) = wanted(word.bytes, count_fields(values)) {
+        return Reason::given(count_reason(alloc, word, values, wanted));
     }
     match cut_field(values) {
-        Some((name, _)) => name_reason(alloc, line, name),
+        Some((name, _)) => name_reason(alloc, name, Word::found(line, 1, name)),
         None => Ok(None),
     }
 }
@@ -88,7 +80,7 @@ fn is_known(word: &[u8]) -> bool {
 /// Why a line is none of a setup; none where it is one.
 fn bad_line(alloc: Global, line: &[u8]) -> Result<Option<Reason>, AllocError> {
     if has_outer_space(line) {
-        return Ok(Some(space_reason(alloc, line)?));
+        return Reason::given(space_reason(alloc, line));
     }
     let Some((field, values)) = cut_field(line) else {
         return Ok(None);
@@ -97,11 +89,11 @@ fn bad_line(alloc: Global, line: &[u8]) -> Result<Option<Reason>, AllocError> {
     if is_known(field) {
         return values_reason(alloc, line, word, values);
     }
-    let shown = word.shown(alloc)?;
-    let said = format!(in alloc;
-        "{shown} is none of TOOL, FRAME and SHIFT, of which one begins a line, with spaces behind it."
-    )?;
-    Ok(Some(Reason::of_word(said, word)))
+    Reason::given(word.reason(
+        alloc,
+        "",
+        " is none of TOOL, FRAME and SHIFT, of which one begins a line, with spaces behind it.",
+    ))
 }
 
 /// What the name of a line is that a line above it may have: the word of both, and the name.
@@ -128,6 +120,12 @@ fn first_named(text: &[u8], word: &[u8], name: &[u8]) -> Option<u64> {
     None
 }
 
+/// That a name is there already, at this line.
+fn twice_at(alloc: Global, before: &str, name: Word, number: u64) -> Result<Reason, AllocError> {
+    let behind = format!(in alloc; " is there already, at line {number}.")?;
+    name.reason(alloc, before, &behind)
+}
+
 /// Which name is given twice, and where it stood first.
 fn twice(alloc: Global, place: Place) -> Result<Option<Reason>, AllocError> {
     let line = first_line(place.rest);
@@ -137,61 +135,55 @@ fn twice(alloc: Global, place: Place) -> Result<Option<Reason>, AllocError> {
     let Some(first) = first_named(place.text, word, name) else {
         return Ok(None);
     };
-    let kind = if is_word(b"TOOL", word) {
-        "tool"
+    let before = if is_word(b"TOOL", word) {
+        "The tool "
     } else {
-        "frame"
+        "The frame "
     };
     let name = Word::found(line, word.len(), name);
-    let shown = name.shown(alloc)?;
-    let said = format!(in alloc; "The {kind} {shown} is there already, at line {first}.")?;
-    Ok(Some(Reason::of_word(said, name)))
+    Reason::given(twice_at(alloc, before, name, first))
+}
+
+/// What of a line stands where its numerals stand.
+fn numerals_of(line: &[u8]) -> Option<&[u8]> {
+    let (word, values) = cut_field(line)?;
+    match cut_field(values) {
+        Some((_, behind)) if is_word(b"FRAME", word) => Some(behind),
+        _ => Some(values),
+    }
 }
 
 /// Which numeral of a line does not read, and why.
 fn bad_numeral(alloc: Global, line: &[u8]) -> Result<Option<Reason>, AllocError> {
-    let Some((word, values)) = cut_field(line) else {
+    let Some(numerals) = numerals_of(line) else {
         return Ok(None);
     };
-    let numerals = match cut_field(values) {
-        Some((_, behind)) if is_word(b"FRAME", word) => behind,
-        _ => values,
-    };
-    let Some((x, y, z)) = three_fields(numerals) else {
-        return Ok(None);
-    };
-    let Some(numeral) = leftmost_field(x, y, z) else {
-        return Ok(None);
-    };
-    let Some(fault) = length_fault(numeral) else {
-        return Ok(None);
-    };
-    let from = line.len().saturating_sub(numerals.len());
-    let numeral = Word::found(line, from, numeral);
-    let said = numeral_sentence(alloc, numeral, fault, Measure::Length)?;
-    Ok(Some(Reason::of_word(said, numeral)))
+    match three_fields(numerals) {
+        Some(fields) => {
+            field_reason(
+                alloc,
+                line,
+                line.len().saturating_sub(numerals.len()),
+                fields,
+            )
+        }
+        None => Ok(None),
+    }
 }
 
 /// Why a line of a setup is none. Where the text is none that is refused so, what the refusal means.
 pub(crate) fn setup_line_reason(alloc: Global, place: Place) -> Result<Reason, AllocError> {
-    match bad_line(alloc, first_line(place.rest))? {
-        Some(reason) => Ok(reason),
-        None => Reason::of_topic(alloc, Topic::SetupLine),
-    }
+    let reason = bad_line(alloc, first_line(place.rest));
+    Reason::or_topic(alloc, reason, Topic::SetupLine)
 }
 
 /// Which name of a setup is given twice, and where it stood first.
 pub(crate) fn setup_twice_reason(alloc: Global, place: Place) -> Result<Reason, AllocError> {
-    match twice(alloc, place)? {
-        Some(reason) => Ok(reason),
-        None => Reason::of_topic(alloc, Topic::SetupTwice),
-    }
+    Reason::or_topic(alloc, twice(alloc, place), Topic::SetupTwice)
 }
 
 /// Which numeral of a setup does not read, and why.
 pub(crate) fn setup_numeral_reason(alloc: Global, place: Place) -> Result<Reason, AllocError> {
-    match bad_numeral(alloc, first_line(place.rest))? {
-        Some(reason) => Ok(reason),
-        None => Reason::of_topic(alloc, Topic::SetupNumeral),
-    }
+    let reason = bad_numeral(alloc, first_line(place.rest));
+    Reason::or_topic(alloc, reason, Topic::SetupNumeral)
 }

@@ -51,6 +51,28 @@ impl<'a> Word<'a> {
         let front = visible(alloc, front)?;
         format!(in alloc; "{front} ..")
     }
+
+    /// The word between these texts.
+    pub(crate) fn between(
+        &self,
+        alloc: Global,
+        before: &str,
+        behind: &str,
+    ) -> Result<String, AllocError> {
+        let shown = self.shown(alloc)?;
+        format!(in alloc; "{before}{shown}{behind}")
+    }
+
+    /// The sentence that has the word between these texts.
+    pub(crate) fn reason(
+        &self,
+        alloc: Global,
+        before: &str,
+        behind: &str,
+    ) -> Result<Reason, AllocError> {
+        let said = self.between(alloc, before, behind)?;
+        Ok(Reason::of_word(said, *self))
+    }
 }
 
 /// The first place from this one on at which these bytes stand, letters in any case.
@@ -92,10 +114,31 @@ impl Reason {
         }
     }
 
+    /// A sentence of these words, which names no word of its line.
+    pub(crate) fn of_text(alloc: Global, text: &str) -> Result<Reason, AllocError> {
+        Ok(Reason::of_line(String::from_str(alloc, text)?))
+    }
+
     /// What the refusal of a topic means.
     pub(crate) fn of_topic(alloc: Global, topic: Topic) -> Result<Reason, AllocError> {
-        let said = String::from_str(alloc, topic.meaning())?;
-        Ok(Reason::of_line(said))
+        Reason::of_text(alloc, topic.meaning())
+    }
+
+    /// This reason, or what the refusal of a topic means where there is none.
+    pub(crate) fn or_topic(
+        alloc: Global,
+        reason: Result<Option<Reason>, AllocError>,
+        topic: Topic,
+    ) -> Result<Reason, AllocError> {
+        match reason? {
+            Some(reason) => Ok(reason),
+            None => Reason::of_topic(alloc, topic),
+        }
+    }
+
+    /// A reason, where there always is one.
+    pub(crate) fn given(reason: Result<Reason, AllocError>) -> Result<Option<Reason>, AllocError> {
+        Ok(Some(reason?))
     }
 
     /// A sentence that names no word of its line.

@@ -39,16 +39,11 @@ impl Topic {
 fn page_text(alloc: Global, page: &Page) -> Result<String, AllocError>
     ensures { IfOk result (λ text. string_bytes text ≡ page_text page.now) }
 {
-    let mut text = String::new(alloc);
-    text.push_str(page.title)?;
-    text.push_str("\nMeaning: ")?;
-    text.push_str(page.meaning)?;
-    text.push_str("\nRemedy: ")?;
-    text.push_str(page.remedy)?;
-    text.push_str("\nExample: ")?;
-    text.push_str(page.example)?;
-    text.push_str("\n")?;
-    Ok(text)
+    let title = page.title;
+    let meaning = page.meaning;
+    let remedy = page.remedy;
+    let example = page.example;
+    format!(in alloc; "{title}\nMeaning: {meaning}\nRemedy: {remedy}\nExample: {example}\n")
 }
 
 /// Appends a page, four lines: its title, what it means, what to do about it, and a line as it should be. Only want of memory is an `Err`,

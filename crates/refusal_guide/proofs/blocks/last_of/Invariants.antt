@@ -1,5 +1,5 @@
 use Rattle.std.proofs.Common.{length}
-use Rattle.refusal_guide.proofs.blocks.last_statement.Given as goal
+use Rattle.refusal_guide.proofs.blocks.last_of.Given as goal
 
 abbrev pub decreases-loop-last : goal.decreases-loop-last
 decreases-loop-last l = length l.statements.left

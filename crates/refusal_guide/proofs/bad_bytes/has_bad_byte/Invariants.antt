@@ -1,5 +1,0 @@
-use Rattle.std.proofs.Common.{length}
-use Rattle.refusal_guide.proofs.bad_bytes.has_bad_byte.Given as goal
-
-abbrev pub decreases-loop-statements : goal.decreases-loop-statements
-decreases-loop-statements l = length l.statements.left
