@@ -1,17 +1,82 @@
 // The command line of `dme`, as the crate `clap` is told it.
 
-ghost use Rattle.std.specs.Prelude.{◌≡◌, IfOk, false, codes};
+ghost use Rattle.std.specs.Prelude.{◌≡◌, IfOk, false, codes, fold};
 ghost use Rattle.clap.specs.declared.builder.command.Command.TheViews.{out-Command};
 ghost use Rattle.clap.specs.Words.{app_of, rule_of, shape_of, with_rule, with_subcommand};
 ghost use Rattle.dme_words.specs.CommandLine.{text_rule, needed_rule, window_rule, port_rule, connections_rule, flag_rule};
 ghost use Rattle.dme_words.specs.CommandLine.{program_rule, check_line, simulate_line, audit_line, loop_line, serve_line, run_line};
 ghost use Rattle.dme_words.specs.CommandLine.{code_rule, explain_line, export_line, bare_line, whole_line};
+ghost use Rattle.dme_words.specs.Arguments.{argument_rule, kind_line, with_kind, with_next};
 
 use clap::{Arg, ArgAction, Command};
 use std::alloc::{AllocError, Global};
 
 /// The window, and the count of connections, where none is named.
 const ONE: &str = "1";
+
+/// An argument of a command.
+#[derive(Clone, Copy)]
+enum Argument {
+    /// `--setup FILE`.
+    Setup,
+    /// `--setup FILE`, which must be named.
+    NeededSetup,
+    /// `--schedule FILE`, which must be named.
+    Schedule,
+    /// `--features FILE`, which must be named: those that the client holds.
+    HeldFeatures,
+    /// `--contacts FILE`, which must be named: those that the server made.
+    MadeContacts,
+    /// `--features FILE`, which must be named: those that were measured.
+    MeasuredFeatures,
+    /// `--features FILE`, to which they are written.
+    WrittenFeatures,
+    /// `--contacts FILE`, to which they are written.
+    WrittenContacts,
+    /// `--window W`.
+    Window,
+    /// `--host H`.
+    Host,
+    /// `--port N` of a server itself.
+    OwnPort,
+    /// `--port N` of the server that is called.
+    ServersPort,
+    /// `--connections K`.
+    Connections,
+    /// `--as FORM`.
+    Form,
+    /// `CODE`.
+    Code,
+    /// `--progress`.
+    Progress,
+    /// `--trace`.
+    Trace,
+    /// `--explain`.
+    Explain,
+    /// `PROGRAM`.
+    Program,
+}
+
+/// What a subcommand does.
+#[derive(Clone, Copy)]
+enum Kind {
+    /// `check ..`.
+    Check,
+    /// `simulate ..`.
+    Simulate,
+    /// `audit ..`.
+    Audit,
+    /// `loop ..`.
+    Loop,
+    /// `serve ..`.
+    Serve,
+    /// `run ..`.
+    Run,
+    /// `explain CODE`.
+    Explain,
+    /// `export ..`.
+    Export,
+}
 
 /// `--NAME FILE`.
 fn file_option<'a>(alloc: Global, name: &'a str, help: &'a str) -> Arg<'a>
@@ -144,6 +209,80 @@ fn program_argument<'a>(alloc: Global) -> Arg<'a>
         .default_value("-")
 }
 
+/// `CODE`.
+fn code_argument<'a>(alloc: Global) -> Arg<'a>
+    ensures rule { rule_of result ≡ code_rule }
+    ensures local { result.global ≡ false }
+{
+    Arg::new(alloc, "CODE")
+        .help(
+            "The code of a refusal, as P5, or the number of a server's error, as 9012; in any letter case",
+        )
+        .required(true)
+}
+
+/// `--as FORM`.
+fn form_option<'a>(alloc: Global) -> Arg<'a>
+    ensures rule { rule_of result ≡ needed_rule (codes "as") }
+    ensures local { result.global ≡ false }
+{
+    Arg::new(alloc, "as")
+        .long("as")
+        .value_name("FORM")
+        .help("The form that is printed: csv, comma-separated values; json; or svg, a drawing")
+        .required(true)
+}
+
+/// The argument of a command, as `clap` is told it.
+fn made_argument<'a>(alloc: Global, argument: Argument) -> Arg<'a>
+    ensures rule { rule_of result ≡ argument_rule argument }
+    ensures local { result.global ≡ false }
+{
+    match argument {
+        Argument::Setup => setup_option(alloc),
+        Argument::NeededSetup => setup_option(alloc).required(true),
+        Argument::Schedule => {
+            let schedule = "The schedule of the link's events; - is standard input";
+            needed_option(alloc, "schedule", schedule)
+        }
+        Argument::HeldFeatures => {
+            let features = "The features that the client holds; - is standard input";
+            needed_option(alloc, "features", features)
+        }
+        Argument::MadeContacts => {
+            let contacts = "The contacts that the server made; - is standard input";
+            needed_option(alloc, "contacts", contacts)
+        }
+        Argument::MeasuredFeatures => {
+            let measured = "The features that were measured; - is standard input";
+            needed_option(alloc, "features", measured)
+        }
+        Argument::WrittenFeatures => {
+            let written =
+                "The features that are there already, and the file that they are written to";
+            file_option(alloc, "features", written)
+        }
+        Argument::WrittenContacts => {
+            let written = "The file that the contacts are written to";
+            file_option(alloc, "contacts", written)
+        }
+        Argument::Window => window_option(alloc),
+        Argument::Host => host_option(alloc),
+        Argument::OwnPort => {
+            let port = "The port of 127.0.0.1 that is listened on, from 1 to 65535";
+            port_option(alloc, port)
+        }
+        Argument::ServersPort => port_option(alloc, "The server's port, from 1 to 65535"),
+        Argument::Connections => connections_option(alloc),
+        Argument::Form => form_option(alloc),
+        Argument::Code => code_argument(alloc),
+        Argument::Progress => progress_flag(alloc),
+        Argument::Trace => trace_flag(alloc),
+        Argument::Explain => explain_flag(alloc),
+        Argument::Program => program_argument(alloc),
+    }
+}
+
 /// A command that takes an argument more.
 fn with_argument<'a>(command: Command<'a>, argument: Arg<'a>) -> Result<Command<'a>, AllocError>
     requires command { (out-Command command).has_globals ≡ false }
@@ -153,6 +292,37 @@ fn with_argument<'a>(command: Command<'a>, argument: Arg<'a>) -> Result<Command<
     ensures local { IfOk result (λ made. (out-Command made).has_globals ≡ false) }
 {
     command.arg(argument)
+}
+
+/// A command that takes this argument more.
+fn with_next<'a>(
+    alloc: Global,
+    command: Command<'a>,
+    argument: Argument,
+) -> Result<Command<'a>, AllocError>
+    requires command { (out-Command command).has_globals ≡ false }
+    ensures shape { IfOk result (λ made. app_of made ≡ with_next (app_of command.entry) argument) }
+    ensures local { IfOk result (λ made. (out-Command made).has_globals ≡ false) }
+{
+    with_argument(command, made_argument(alloc, argument))
+}
+
+/// A command that takes these arguments more, in their order.
+fn with_arguments<'a>(
+    alloc: Global,
+    command: Command<'a>,
+    arguments: &[Argument],
+) -> Result<Command<'a>, AllocError>
+    requires command { (out-Command command).has_globals ≡ false }
+    ensures shape { IfOk result (λ made. app_of made
+        ≡ fold with_next (app_of command.entry) arguments.now) }
+    ensures local { IfOk result (λ made. (out-Command made).has_globals ≡ false) }
+{
+    let mut command = command;
+    for argument in arguments {
+        command = with_next(alloc, command, *argument)?;
+    }
+    Ok(command)
 }
 
 /// A command that has a subcommand more.
@@ -174,9 +344,11 @@ fn check_command<'a>(alloc: Global) -> Result<Command<'a>, AllocError>
     let command = Command::new(alloc, "check").about(
         "Prints the I++ DME command lines of a DMIS program",
     );
-    let command = with_argument(command, setup_option(alloc))?;
-    let command = with_argument(command, explain_flag(alloc))?;
-    with_argument(command, program_argument(alloc))
+    with_arguments(
+        alloc,
+        command,
+        &[Argument::Setup, Argument::Explain, Argument::Program],
+    )
 }
 
 /// `simulate --setup FILE --schedule FILE [--window W] [--trace] [--explain] [PROGRAM]`.
@@ -184,16 +356,21 @@ fn simulate_command<'a>(alloc: Global) -> Result<Command<'a>, AllocError>
     ensures shape { IfOk result (λ command. app_of command ≡ simulate_line) }
     ensures local { IfOk result (λ command. (out-Command command).has_globals ≡ false) }
 {
-    let schedule = "The schedule of the link's events; - is standard input";
     let command = Command::new(alloc, "simulate").about(
         "Runs a DMIS program on a simulated machine, event by event, and prints the report",
     );
-    let command = with_argument(command, setup_option(alloc).required(true))?;
-    let command = with_argument(command, needed_option(alloc, "schedule", schedule))?;
-    let command = with_argument(command, window_option(alloc))?;
-    let command = with_argument(command, trace_flag(alloc))?;
-    let command = with_argument(command, explain_flag(alloc))?;
-    with_argument(command, program_argument(alloc))
+    with_arguments(
+        alloc,
+        command,
+        &[
+            Argument::NeededSetup,
+            Argument::Schedule,
+            Argument::Window,
+            Argument::Trace,
+            Argument::Explain,
+            Argument::Program,
+        ],
+    )
 }
 
 /// `audit --setup FILE --features FILE --contacts FILE [--explain] [PROGRAM]`.
@@ -201,16 +378,20 @@ fn audit_command<'a>(alloc: Global) -> Result<Command<'a>, AllocError>
     ensures shape { IfOk result (λ command. app_of command ≡ audit_line) }
     ensures local { IfOk result (λ command. (out-Command command).has_globals ≡ false) }
 {
-    let features = "The features that the client holds; - is standard input";
-    let contacts = "The contacts that the server made; - is standard input";
     let command = Command::new(alloc, "audit").about(
         "Says in which runs of the server's contacts the client's features were measured",
     );
-    let command = with_argument(command, setup_option(alloc).required(true))?;
-    let command = with_argument(command, needed_option(alloc, "features", features))?;
-    let command = with_argument(command, needed_option(alloc, "contacts", contacts))?;
-    let command = with_argument(command, explain_flag(alloc))?;
-    with_argument(command, program_argument(alloc))
+    with_arguments(
+        alloc,
+        command,
+        &[
+            Argument::NeededSetup,
+            Argument::HeldFeatures,
+            Argument::MadeContacts,
+            Argument::Explain,
+            Argument::Program,
+        ],
+    )
 }
 
 /// `loop --setup FILE [--window W] [--progress] [--trace] [--explain] [PROGRAM]`.
@@ -221,12 +402,18 @@ fn loop_command<'a>(alloc: Global) -> Result<Command<'a>, AllocError>
     let command = Command::new(alloc, "loop").about(
         "Runs a DMIS program on a simulated machine over a connection to itself, and prints the report",
     );
-    let command = with_argument(command, setup_option(alloc).required(true))?;
-    let command = with_argument(command, window_option(alloc))?;
-    let command = with_argument(command, progress_flag(alloc))?;
-    let command = with_argument(command, trace_flag(alloc))?;
-    let command = with_argument(command, explain_flag(alloc))?;
-    with_argument(command, program_argument(alloc))
+    with_arguments(
+        alloc,
+        command,
+        &[
+            Argument::NeededSetup,
+            Argument::Window,
+            Argument::Progress,
+            Argument::Trace,
+            Argument::Explain,
+            Argument::Program,
+        ],
+    )
 }
 
 /// `serve --setup FILE --port N [--connections K] [--contacts FILE] [--progress] [--explain]`.
@@ -234,17 +421,21 @@ fn serve_command<'a>(alloc: Global) -> Result<Command<'a>, AllocError>
     ensures shape { IfOk result (λ command. app_of command ≡ serve_line) }
     ensures local { IfOk result (λ command. (out-Command command).has_globals ≡ false) }
 {
-    let port = "The port of 127.0.0.1 that is listened on, from 1 to 65535";
-    let contacts = "The file that the contacts are written to";
     let command = Command::new(alloc, "serve").about(
         "Is the server of a simulated machine, and prints the contacts that it made",
     );
-    let command = with_argument(command, setup_option(alloc).required(true))?;
-    let command = with_argument(command, port_option(alloc, port))?;
-    let command = with_argument(command, connections_option(alloc))?;
-    let command = with_argument(command, file_option(alloc, "contacts", contacts))?;
-    let command = with_argument(command, progress_flag(alloc))?;
-    with_argument(command, explain_flag(alloc))
+    with_arguments(
+        alloc,
+        command,
+        &[
+            Argument::NeededSetup,
+            Argument::OwnPort,
+            Argument::Connections,
+            Argument::WrittenContacts,
+            Argument::Progress,
+            Argument::Explain,
+        ],
+    )
 }
 
 /// `run --setup FILE --host H --port N [--window W] [--features FILE] [--progress] [--explain] [PROGRAM]`.
@@ -252,31 +443,23 @@ fn run_command<'a>(alloc: Global) -> Result<Command<'a>, AllocError>
     ensures shape { IfOk result (λ command. app_of command ≡ run_line) }
     ensures local { IfOk result (λ command. (out-Command command).has_globals ≡ false) }
 {
-    let port = "The server's port, from 1 to 65535";
-    let features = "The features that are there already, and the file that they are written to";
     let command = Command::new(alloc, "run").about(
         "Runs a DMIS program on the machine of a server, and prints the report",
     );
-    let command = with_argument(command, setup_option(alloc).required(true))?;
-    let command = with_argument(command, host_option(alloc))?;
-    let command = with_argument(command, port_option(alloc, port))?;
-    let command = with_argument(command, window_option(alloc))?;
-    let command = with_argument(command, file_option(alloc, "features", features))?;
-    let command = with_argument(command, progress_flag(alloc))?;
-    let command = with_argument(command, explain_flag(alloc))?;
-    with_argument(command, program_argument(alloc))
-}
-
-/// `CODE`.
-fn code_argument<'a>(alloc: Global) -> Arg<'a>
-    ensures rule { rule_of result ≡ code_rule }
-    ensures local { result.global ≡ false }
-{
-    Arg::new(alloc, "CODE")
-        .help(
-            "The code of a refusal, as P5, or the number of a server's error, as 9012; in any letter case",
-        )
-        .required(true)
+    with_arguments(
+        alloc,
+        command,
+        &[
+            Argument::NeededSetup,
+            Argument::Host,
+            Argument::ServersPort,
+            Argument::Window,
+            Argument::WrittenFeatures,
+            Argument::Progress,
+            Argument::Explain,
+            Argument::Program,
+        ],
+    )
 }
 
 /// `explain CODE`.
@@ -290,32 +473,25 @@ fn explain_command<'a>(alloc: Global) -> Result<Command<'a>, AllocError>
     with_argument(command, code_argument(alloc))
 }
 
-/// `--as FORM`.
-fn form_option<'a>(alloc: Global) -> Arg<'a>
-    ensures rule { rule_of result ≡ needed_rule (codes "as") }
-    ensures local { result.global ≡ false }
-{
-    Arg::new(alloc, "as")
-        .long("as")
-        .value_name("FORM")
-        .help("The form that is printed: csv, comma-separated values; json; or svg, a drawing")
-        .required(true)
-}
-
 /// `export --as FORM [--setup FILE] --features FILE [--explain] [PROGRAM]`.
 fn export_command<'a>(alloc: Global) -> Result<Command<'a>, AllocError>
     ensures shape { IfOk result (λ command. app_of command ≡ export_line) }
     ensures local { IfOk result (λ command. (out-Command command).has_globals ≡ false) }
 {
-    let measured = "The features that were measured; - is standard input";
     let command = Command::new(alloc, "export").about(
         "Prints how far the measured points of features lie from their nominal points",
     );
-    let command = with_argument(command, form_option(alloc))?;
-    let command = with_argument(command, setup_option(alloc))?;
-    let command = with_argument(command, needed_option(alloc, "features", measured))?;
-    let command = with_argument(command, explain_flag(alloc))?;
-    with_argument(command, program_argument(alloc))
+    with_arguments(
+        alloc,
+        command,
+        &[
+            Argument::Form,
+            Argument::Setup,
+            Argument::MeasuredFeatures,
+            Argument::Explain,
+            Argument::Program,
+        ],
+    )
 }
 
 /// `dme`, without its subcommands.
@@ -328,17 +504,67 @@ fn bare_command<'a>(alloc: Global) -> Command<'a>
         .subcommand_required(true)
 }
 
+/// The subcommand of this kind.
+fn order_command<'a>(alloc: Global, kind: Kind) -> Result<Command<'a>, AllocError>
+    ensures shape { IfOk result (λ command. app_of command ≡ kind_line kind) }
+    ensures local { IfOk result (λ command. (out-Command command).has_globals ≡ false) }
+{
+    match kind {
+        Kind::Check => check_command(alloc),
+        Kind::Simulate => simulate_command(alloc),
+        Kind::Audit => audit_command(alloc),
+        Kind::Loop => loop_command(alloc),
+        Kind::Serve => serve_command(alloc),
+        Kind::Run => run_command(alloc),
+        Kind::Explain => explain_command(alloc),
+        Kind::Export => export_command(alloc),
+    }
+}
+
+/// A command that has the subcommand of this kind more.
+fn with_kind<'a>(alloc: Global, command: Command<'a>, kind: Kind) -> Result<Command<'a>, AllocError>
+    requires command { (out-Command command).has_globals ≡ false }
+    ensures shape { IfOk result (λ made. app_of made ≡ with_kind (app_of command.entry) kind) }
+    ensures local { IfOk result (λ made. (out-Command made).has_globals ≡ false) }
+{
+    with_order(command, order_command(alloc, kind)?)
+}
+
+/// A command that has the subcommands of these kinds more, in their order.
+fn with_kinds<'a>(
+    alloc: Global,
+    command: Command<'a>,
+    kinds: &[Kind],
+) -> Result<Command<'a>, AllocError>
+    requires command { (out-Command command).has_globals ≡ false }
+    ensures shape { IfOk result (λ made. app_of made
+        ≡ fold with_kind (app_of command.entry) kinds.now) }
+    ensures local { IfOk result (λ made. (out-Command made).has_globals ≡ false) }
+{
+    let mut command = command;
+    for kind in kinds {
+        command = with_kind(alloc, command, *kind)?;
+    }
+    Ok(command)
+}
+
 /// `dme COMMAND ..`.
 pub(crate) fn whole_command<'a>(alloc: Global) -> Result<Command<'a>, AllocError>
     ensures shape { IfOk result (λ command. app_of command ≡ whole_line) }
     ensures local { IfOk result (λ command. (out-Command command).has_globals ≡ false) }
 {
-    let command = with_order(bare_command(alloc), check_command(alloc)?)?;
-    let command = with_order(command, simulate_command(alloc)?)?;
-    let command = with_order(command, audit_command(alloc)?)?;
-    let command = with_order(command, loop_command(alloc)?)?;
-    let command = with_order(command, serve_command(alloc)?)?;
-    let command = with_order(command, run_command(alloc)?)?;
-    let command = with_order(command, explain_command(alloc)?)?;
-    with_order(command, export_command(alloc)?)
+    with_kinds(
+        alloc,
+        bare_command(alloc),
+        &[
+            Kind::Check,
+            Kind::Simulate,
+            Kind::Audit,
+            Kind::Loop,
+            Kind::Serve,
+            Kind::Run,
+            Kind::Explain,
+            Kind::Export,
+        ],
+    )
 }

@@ -252,11 +252,12 @@ fn flag_of(values: &ArgMatches, id: &str) -> bool
     values.get_flag(id)
 }
 
-/// The order of `check` with these values.
-fn check_order(alloc: Global, values: &ArgMatches) -> Result<Order, AllocError>
+/// The order of `check` with these values. Only want of memory is an `Err`.
+fn check_order(alloc: Global, values: &ArgMatches) -> Result<Order, WordsFault>
     requires { HasExplained (rows_of (found_of values.now)) }
     ensures named { IfOk result (IsCheckOf (rows_of (found_of values.now))) }
     ensures ready { IfOk result IsReady }
+    ensures short { IfErr result (λ fault. fault ≡ WordsFault.Memory) }
 {
     let setup = copied_maybe(alloc, values, "setup")?;
     let explain = flag_of(values, "explain");
@@ -268,11 +269,12 @@ fn check_order(alloc: Global, values: &ArgMatches) -> Result<Order, AllocError>
     })
 }
 
-/// The order of `simulate` with these values.
-fn simulate_order(alloc: Global, values: &ArgMatches) -> Result<Order, AllocError>
+/// The order of `simulate` with these values. Only want of memory is an `Err`.
+fn simulate_order(alloc: Global, values: &ArgMatches) -> Result<Order, WordsFault>
     requires { HasSimulation (rows_of (found_of values.now)) }
     ensures named { IfOk result (IsSimulateOf (rows_of (found_of values.now))) }
     ensures ready { IfOk result IsReady }
+    ensures short { IfErr result (λ fault. fault ≡ WordsFault.Memory) }
 {
     let setup = copied_value(alloc, values, "setup")?;
     let schedule = copied_value(alloc, values, "schedule")?;
@@ -290,11 +292,12 @@ fn simulate_order(alloc: Global, values: &ArgMatches) -> Result<Order, AllocErro
     })
 }
 
-/// The order of `audit` with these values.
-fn audit_order(alloc: Global, values: &ArgMatches) -> Result<Order, AllocError>
+/// The order of `audit` with these values. Only want of memory is an `Err`.
+fn audit_order(alloc: Global, values: &ArgMatches) -> Result<Order, WordsFault>
     requires { HasAudit (rows_of (found_of values.now)) }
     ensures named { IfOk result (IsAuditOf (rows_of (found_of values.now))) }
     ensures ready { IfOk result IsReady }
+    ensures short { IfErr result (λ fault. fault ≡ WordsFault.Memory) }
 {
     let setup = copied_value(alloc, values, "setup")?;
     let features = copied_value(alloc, values, "features")?;
@@ -310,11 +313,12 @@ fn audit_order(alloc: Global, values: &ArgMatches) -> Result<Order, AllocError>
     })
 }
 
-/// The order of `loop` with these values.
-fn loop_order(alloc: Global, values: &ArgMatches) -> Result<Order, AllocError>
+/// The order of `loop` with these values. Only want of memory is an `Err`.
+fn loop_order(alloc: Global, values: &ArgMatches) -> Result<Order, WordsFault>
     requires { HasLoop (rows_of (found_of values.now)) }
     ensures named { IfOk result (IsLoopOf (rows_of (found_of values.now))) }
     ensures ready { IfOk result IsReady }
+    ensures short { IfErr result (λ fault. fault ≡ WordsFault.Memory) }
 {
     let setup = copied_value(alloc, values, "setup")?;
     let window = window_of(values);
@@ -332,11 +336,12 @@ fn loop_order(alloc: Global, values: &ArgMatches) -> Result<Order, AllocError>
     })
 }
 
-/// The order of `serve` with these values.
-fn serve_order(alloc: Global, values: &ArgMatches) -> Result<Order, AllocError>
+/// The order of `serve` with these values. Only want of memory is an `Err`.
+fn serve_order(alloc: Global, values: &ArgMatches) -> Result<Order, WordsFault>
     requires { HasService (rows_of (found_of values.now)) }
     ensures named { IfOk result (IsServeOf (rows_of (found_of values.now))) }
     ensures ready { IfOk result IsReady }
+    ensures short { IfErr result (λ fault. fault ≡ WordsFault.Memory) }
 {
     let setup = copied_value(alloc, values, "setup")?;
     let port = port_of(values);
@@ -354,11 +359,12 @@ fn serve_order(alloc: Global, values: &ArgMatches) -> Result<Order, AllocError>
     })
 }
 
-/// The order of `run` with these values.
-fn run_order(alloc: Global, values: &ArgMatches) -> Result<Order, AllocError>
+/// The order of `run` with these values. Only want of memory is an `Err`.
+fn run_order(alloc: Global, values: &ArgMatches) -> Result<Order, WordsFault>
     requires { HasRun (rows_of (found_of values.now)) }
     ensures named { IfOk result (IsRunOf (rows_of (found_of values.now))) }
     ensures ready { IfOk result IsReady }
+    ensures short { IfErr result (λ fault. fault ≡ WordsFault.Memory) }
 {
     let setup = copied_value(alloc, values, "setup")?;
     let host = copied_value(alloc, values, "host")?;
@@ -444,12 +450,12 @@ fn order_of(alloc: Global, matches: &ArgMatches) -> Result<Order, WordsFault>
     ensures none { IfErr result (AsksForNothing (subcommand_rows_of matches.now)) }
 {
     match matches.subcommand() {
-        Some(("check", values)) => Ok(check_order(alloc, values)?),
-        Some(("simulate", values)) => Ok(simulate_order(alloc, values)?),
-        Some(("audit", values)) => Ok(audit_order(alloc, values)?),
-        Some(("loop", values)) => Ok(loop_order(alloc, values)?),
-        Some(("serve", values)) => Ok(serve_order(alloc, values)?),
-        Some(("run", values)) => Ok(run_order(alloc, values)?),
+        Some(("check", values)) => check_order(alloc, values),
+        Some(("simulate", values)) => simulate_order(alloc, values),
+        Some(("audit", values)) => audit_order(alloc, values),
+        Some(("loop", values)) => loop_order(alloc, values),
+        Some(("serve", values)) => serve_order(alloc, values),
+        Some(("run", values)) => run_order(alloc, values),
         Some(("explain", values)) => explain_order(alloc, values),
         Some(("export", values)) => export_order(alloc, values),
         _ => unreachable!(),

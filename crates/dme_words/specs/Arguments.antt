@@ -1,0 +1,50 @@
+-- The arguments of the commands of `dme` and the commands themselves, as the program names them.
+use Rattle.std.specs.Prelude.{codes}
+use Rattle.clap.specs.Words.{App, Rule, with_rule, with_subcommand}
+use Rattle.dme_words.specs.CommandLine.{text_rule, needed_rule, window_rule, port_rule, connections_rule, flag_rule, program_rule, code_rule}
+use Rattle.dme_words.specs.CommandLine.{check_line, simulate_line, audit_line, loop_line, serve_line, run_line, explain_line, export_line}
+use Rattle.dme_words.specs.declared.line.Argument.{Argument}
+use Rattle.dme_words.specs.declared.line.Argument.TheVariants as argument
+use Rattle.dme_words.specs.declared.line.Kind.{Kind}
+use Rattle.dme_words.specs.declared.line.Kind.TheVariants as kind
+
+-- what `clap` is told of an argument
+abbrev pub argument_rule : Argument → Rule
+argument_rule argument.Setup = text_rule (codes "setup")
+argument_rule argument.NeededSetup = needed_rule (codes "setup")
+argument_rule argument.Schedule = needed_rule (codes "schedule")
+argument_rule argument.HeldFeatures = needed_rule (codes "features")
+argument_rule argument.MadeContacts = needed_rule (codes "contacts")
+argument_rule argument.MeasuredFeatures = needed_rule (codes "features")
+argument_rule argument.WrittenFeatures = text_rule (codes "features")
+argument_rule argument.WrittenContacts = text_rule (codes "contacts")
+argument_rule argument.Window = window_rule
+argument_rule argument.Host = needed_rule (codes "host")
+argument_rule argument.OwnPort = port_rule
+argument_rule argument.ServersPort = port_rule
+argument_rule argument.Connections = connections_rule
+argument_rule argument.Form = needed_rule (codes "as")
+argument_rule argument.Code = code_rule
+argument_rule argument.Progress = flag_rule (codes "progress")
+argument_rule argument.Trace = flag_rule (codes "trace")
+argument_rule argument.Explain = flag_rule (codes "explain")
+argument_rule argument.Program = program_rule
+
+-- a command that takes this argument more
+abbrev pub with_next : App → Argument → App
+with_next line argument = with_rule line (argument_rule argument)
+
+-- what `clap` is told of a subcommand
+abbrev pub kind_line : Kind → App
+kind_line kind.Check = check_line
+kind_line kind.Simulate = simulate_line
+kind_line kind.Audit = audit_line
+kind_line kind.Loop = loop_line
+kind_line kind.Serve = serve_line
+kind_line kind.Run = run_line
+kind_line kind.Explain = explain_line
+kind_line kind.Export = export_line
+
+-- a command that has the subcommand of this kind more
+abbrev pub with_kind : App → Kind → App
+with_kind line kind = with_subcommand line (kind_line kind).top
