@@ -6,10 +6,11 @@
 // those bytes the server works and the client hears what it has written; then both leave, and are driven to the end on another connection.
 
 use crate::audited::has_runs;
-use crate::client::{self, Made};
-use crate::shown::{push_features, push_lines, push_text};
+use crate::client::{self, ClientTask, Made};
+use crate::server::{self, BothTask, ServerTask};
+use crate::shown::{push_debug, push_display, push_features, push_lines, push_text};
 use crate::stop::Stop;
-use crate::{server, worlds};
+use crate::worlds;
 use client_core::{Client, ClientFault, State};
 use link_world::{Machine, Simulated};
 use server_core::{Server, ServerFault};
@@ -22,6 +23,14 @@ struct Given<'a> {
     before: &'a str,
     bytes: Vec<u8>,
     others: Vec<u8>,
+}
+
+/// What a row gives to a client, a server or both, in pieces of this size.
+#[derive(Clone, Copy)]
+struct Cut<'a> {
+    made: Made<'a>,
+    given: &'a Given<'a>,
+    size: usize,
 }
 
 /// A client takes a piece and reads all lines; they are counted. Each ends with a byte of the piece.
@@ -48,6 +57,11 @@ fn read(server: &mut Server, piece: &[u8], lines: &mut u64) -> Result<(), Server
     Ok(())
 }
 
+fn push_fault<F: Debug>(alloc: Global, out: &mut Vec<u8>, fault: &F) -> Result<(), AllocError> {
+    push_debug(alloc, out, fault)?;
+    push_text(out, " ")
+}
+
 /// How many lines were read, and why no more.
 fn push_read<F: Debug>(
     alloc: Global,
@@ -55,10 +69,11 @@ fn push_read<F: Debug>(
     lines: u64,
     answer: &Result<(), F>,
 ) -> Result<(), AllocError> {
-    push_text(out, format!(in alloc; "{lines} lines ")?.as_str())?;
+    push_display(alloc, out, &lines)?;
+    push_text(out, " lines ")?;
     match answer {
         Ok(()) => Ok(()),
-        Err(fault) => push_text(out, format!(in alloc; "{fault:?} ")?.as_str()),
+        Err(fault) => push_fault(alloc, out, fault),
     }
 }
 
@@ -96,19 +111,23 @@ fn read_all(
     push_read(alloc, out, lines, &answer)
 }
 
+/// Where a client stands.
+fn push_state(alloc: Global, out: &mut Vec<u8>, client: &Client) -> Result<(), AllocError> {
+    push_debug(alloc, out, &client.state())?;
+    push_text(out, " ")?;
+    push_display(alloc, out, &client.open())?;
+    push_text(out, " open ")?;
+    push_display(alloc, out, &client.completed())?;
+    push_text(out, " completed: ")
+}
+
 /// Where a client stands, what it has written, and what it keeps.
 pub(crate) fn push_client(
     alloc: Global,
     out: &mut Vec<u8>,
     client: &Client,
 ) -> Result<(), AllocError> {
-    let state = client.state();
-    let open = client.open();
-    let completed = client.completed();
-    push_text(
-        out,
-        format!(in alloc; "{state:?} {open} open {completed} completed: ")?.as_str(),
-    )?;
+    push_state(alloc, out, client)?;
     push_lines(out, client.out())?;
     client::push_acts(out, client.counted())?;
     push_features(alloc, out, client.features())
@@ -129,21 +148,43 @@ pub(crate) fn push_server(
 
 // ---- both ends
 
+/// The machine ends what runs, or what waits has its turn.
+fn work_once<M: Machine>(server: &mut Server, machine: &mut M) -> Result<(), Stop> {
+    let number = server.ledger().contacts();
+    if let Some(job) = server.running() {
+        let outcome = machine.answer(job, number);
+        server.machine(outcome).ok().ok_or(Stop::Row)?;
+    } else if server.may_turn() {
+        server.turn().ok().ok_or(Stop::Row)?;
+    }
+    Ok(())
+}
+
 /// The server works until nothing runs and nothing waits: at most 64 turns and as many ends.
 fn work<M: Machine>(server: &mut Server, machine: &mut M) -> Result<(), Stop> {
     for _ in 0..130u32 {
-        let number = server.ledger().contacts();
-        if let Some(job) = server.running() {
-            let outcome = machine.answer(job, number);
-            server.machine(outcome).map_err(|_| Stop::Row)?;
-        } else if server.may_turn() {
-            server.turn().map_err(|_| Stop::Row)?;
+        work_once(server, machine)?;
+    }
+    Ok(())
+}
+
+/// Both ends are driven on connection 2 until no command is due.
+fn meet_again<M: Machine>(
+    client: &mut Client,
+    server: &mut Server,
+    machine: &mut M,
+) -> Result<(), Stop> {
+    client.connected(2).ok().ok_or(Stop::Row)?;
+    server.accept(2).ok().ok_or(Stop::Row)?;
+    for _ in 0..100u32 {
+        if client.due().is_some() {
+            worlds::end_next(client, server, machine)?;
         }
     }
     Ok(())
 }
 
-/// Both leave, and are driven to the end on connection 2.
+/// Both leave, and are driven to the end.
 fn run_on<M: Machine>(
     client: &mut Client,
     server: &mut Server,
@@ -154,117 +195,124 @@ fn run_on<M: Machine>(
     if client.state() == State::Done {
         return Ok(());
     }
-    client.connected(2).map_err(|_| Stop::Row)?;
-    server.accept(2).map_err(|_| Stop::Row)?;
-    for _ in 0..100u32 {
-        if client.due().is_some() {
-            worlds::serve_next(client, server, machine)?;
-            worlds::hear_all(client, server)?;
-        }
-    }
-    Ok(())
+    meet_again(client, server, machine)
 }
 
-/// A client, a server and its machine.
-#[derive(Drop)]
-struct Both {
-    client: Client,
-    server: Server,
-    machine: Simulated,
-}
-
-impl Both {
-    fn new(alloc: Global, (made, setup): (Made<'_>, &str), before: &str) -> Result<Both, Stop> {
-        let (client, server) = worlds::driven(alloc, made, setup, before)?;
-        let machine = Simulated::new(alloc, server.setup())?;
-        Ok(Both {
-            client,
-            server,
-            machine,
-        })
-    }
-
-    fn push(&self, alloc: Global, out: &mut Vec<u8>) -> Result<(), AllocError> {
-        push_client(alloc, out, &self.client)?;
-        push_server(alloc, out, &self.server)
-    }
-
-    /// Both take their bytes, the server works, and the client hears what it has written.
-    fn take(
-        &mut self,
-        alloc: Global,
-        out: &mut Vec<u8>,
-        (given, size): (&Given<'_>, usize),
-    ) -> Result<(), Stop> {
-        hear_all(alloc, out, &mut self.client, (given.bytes.as_slice(), size))?;
-        read_all(
-            alloc,
-            out,
-            &mut self.server,
-            (given.others.as_slice(), size),
-        )?;
-        work(&mut self.server, &mut self.machine)?;
-        hear_all(alloc, out, &mut self.client, (self.server.out(), size))?;
-        Ok(self.push(alloc, out)?)
-    }
-
-    /// Both are driven to the end, and audited.
-    fn end(&mut self, alloc: Global, out: &mut Vec<u8>, made: Made<'_>) -> Result<(), Stop> {
-        run_on(&mut self.client, &mut self.server, &mut self.machine)?;
-        self.push(alloc, out)?;
-        let has_runs = has_runs(alloc, made, self.client.features(), self.server.ledger())?;
-        Ok(push_text(out, if has_runs { "RUNS" } else { "NONE" })?)
-    }
-}
-
-fn push_both_cut(
+fn push_both(
     alloc: Global,
     out: &mut Vec<u8>,
-    (made, setup): (Made<'_>, &str),
-    (given, size): (&Given<'_>, usize),
+    client: &Client,
+    server: &Server,
+) -> Result<(), AllocError> {
+    push_client(alloc, out, client)?;
+    push_server(alloc, out, server)
+}
+
+/// Both take their bytes, each apart.
+fn take_both(
+    alloc: Global,
+    out: &mut Vec<u8>,
+    client: &mut Client,
+    server: &mut Server,
+    cut: Cut<'_>,
+) -> Result<(), AllocError> {
+    hear_all(alloc, out, client, (cut.given.bytes.as_slice(), cut.size))?;
+    read_all(alloc, out, server, (cut.given.others.as_slice(), cut.size))
+}
+
+/// The server works, and the client hears what it has written.
+fn work_and_hear<M: Machine>(
+    alloc: Global,
+    out: &mut Vec<u8>,
+    client: &mut Client,
+    server: &mut Server,
+    (machine, size): (&mut M, usize),
 ) -> Result<(), Stop> {
-    let mut both = Both::new(alloc, (made, setup), given.before)?;
-    both.take(alloc, out, (given, size))?;
-    both.end(alloc, out, made)
+    work(server, machine)?;
+    hear_all(alloc, out, client, (server.out(), size))?;
+    Ok(push_both(alloc, out, client, server)?)
+}
+
+/// Where both stand, and whether the audit of what they keep answers RUNS.
+fn push_audited(
+    alloc: Global,
+    out: &mut Vec<u8>,
+    client: &Client,
+    server: &Server,
+    made: Made<'_>,
+) -> Result<(), Stop> {
+    push_both(alloc, out, client, server)?;
+    let has_runs = has_runs(alloc, made, client.features(), server.ledger())?;
+    Ok(push_text(out, if has_runs { "RUNS" } else { "NONE" })?)
+}
+
+/// The server works and the client hears it; then both are driven to the end.
+fn go_on(
+    alloc: Global,
+    out: &mut Vec<u8>,
+    client: &mut Client,
+    server: &mut Server,
+    size: usize,
+) -> Result<(), Stop> {
+    let mut machine = Simulated::new(alloc, server.setup())?;
+    work_and_hear(alloc, out, client, server, (&mut machine, size))?;
+    run_on(client, server, &mut machine)
+}
+
+/// Both behind a count of commands.
+impl BothTask for Cut<'_> {
+    fn push(
+        &self,
+        alloc: Global,
+        out: &mut Vec<u8>,
+        client: &mut Client,
+        server: &mut Server,
+    ) -> Result<(), Stop> {
+        worlds::drive(alloc, client, server, self.given.before)?;
+        take_both(alloc, out, client, server, *self)?;
+        go_on(alloc, out, client, server, self.size)?;
+        push_audited(alloc, out, client, server, self.made)
+    }
 }
 
 // ---- rows
 
-fn push_client_cut(
-    alloc: Global,
-    out: &mut Vec<u8>,
-    made: Made<'_>,
-    (given, size): (&Given<'_>, usize),
-) -> Result<(), Stop> {
-    let mut client = client::behind(alloc, made, given.before)?;
-    hear_all(alloc, out, &mut client, (given.bytes.as_slice(), size))?;
-    Ok(push_client(alloc, out, &client)?)
+/// A client behind actions.
+impl ClientTask for Cut<'_> {
+    fn push(&self, alloc: Global, out: &mut Vec<u8>, client: &mut Client) -> Result<(), Stop> {
+        client::call_all(client, self.given.before)?;
+        hear_all(alloc, out, client, (self.given.bytes.as_slice(), self.size))?;
+        Ok(push_client(alloc, out, client)?)
+    }
 }
 
-fn push_server_cut(
+/// A server behind actions.
+impl ServerTask for Cut<'_> {
+    fn push(&self, alloc: Global, out: &mut Vec<u8>, server: &mut Server) -> Result<(), Stop> {
+        server::call_all(server, self.given.before)?;
+        read_all(alloc, out, server, (self.given.bytes.as_slice(), self.size))?;
+        Ok(push_server(alloc, out, server)?)
+    }
+}
+
+fn push_cut(
     alloc: Global,
     out: &mut Vec<u8>,
     setup: &str,
-    (given, size): (&Given<'_>, usize),
+    word: &str,
+    cut: Cut<'_>,
 ) -> Result<(), Stop> {
-    let mut server = server::behind(alloc, setup, given.before)?;
-    read_all(alloc, out, &mut server, (given.bytes.as_slice(), size))?;
-    Ok(push_server(alloc, out, &server)?)
+    match word {
+        "client_cuts" => client::push_task(alloc, out, cut.made, &cut),
+        "server_cuts" => server::push_task(alloc, out, setup, &cut),
+        _ => server::push_both_task(alloc, out, (cut.made, setup), &cut),
+    }
 }
 
 /// What one cut shows.
-fn cut(
-    alloc: Global,
-    (made, setup): (Made<'_>, &str),
-    word: &str,
-    given: (&Given<'_>, usize),
-) -> Result<Vec<u8>, Stop> {
+fn shown_cut(alloc: Global, setup: &str, word: &str, cut: Cut<'_>) -> Result<Vec<u8>, Stop> {
     let mut out = Vec::new(alloc);
-    match word {
-        "client_cuts" => push_client_cut(alloc, &mut out, made, given)?,
-        "server_cuts" => push_server_cut(alloc, &mut out, setup, given)?,
-        _ => push_both_cut(alloc, &mut out, (made, setup), given)?,
-    }
+    push_cut(alloc, &mut out, setup, word, cut)?;
     Ok(out)
 }
 
@@ -292,19 +340,34 @@ fn push_other(all: &mut Vec<u8>, other: &[u8]) -> Result<(), AllocError> {
     if other == all.as_slice() {
         return Ok(());
     }
-    push_text(all, " differs from ")?;
+    if !all.is_empty() {
+        push_text(all, " differs from ")?;
+    }
     all.extend_from_slice(other)
 }
 
 /// What all three cuts show, or those that differ.
-pub(crate) fn answer(
+fn push_cuts<'a>(
     alloc: Global,
+    out: &mut Vec<u8>,
+    (made, setup): (Made<'a>, &str),
+    word: &str,
+    given: &'a Given<'a>,
+) -> Result<(), Stop> {
+    for size in [1, 7, 200] {
+        let shown = shown_cut(alloc, setup, word, Cut { made, given, size })?;
+        push_other(out, shown.as_slice())?;
+    }
+    Ok(())
+}
+
+/// What the bytes of a row show.
+pub(crate) fn push_cuts_row(
+    alloc: Global,
+    out: &mut Vec<u8>,
     ends: (Made<'_>, &str),
     (word, row): (&str, &str),
-) -> Result<Vec<u8>, Stop> {
+) -> Result<(), Stop> {
     let given = given_of(alloc, row)?;
-    let mut all = cut(alloc, ends, word, (&given, 1))?;
-    push_other(&mut all, cut(alloc, ends, word, (&given, 7))?.as_slice())?;
-    push_other(&mut all, cut(alloc, ends, word, (&given, 200))?.as_slice())?;
-    Ok(all)
+    push_cuts(alloc, out, ends, word, &given)
 }

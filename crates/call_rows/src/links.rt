@@ -5,9 +5,9 @@
 // comes in is one piece, or `all` pieces that the program's part has: `replies NAME` for a client and `commands NAME` for a server. It shows
 // what the call answers, where the side then stands, the lines that went out, and the features.
 
-use crate::client::{Made, new_client};
-use crate::server::{is_on, new_server};
-use crate::shown::{lined, push_features, push_lines, push_text};
+use crate::client::{self, ClientTask, Made, connect};
+use crate::server::{self, BothTask, ServerTask, accept, is_on, push_both_task};
+use crate::shown::{lined, push_answer, push_features, push_lines, push_text};
 use crate::stop::Stop;
 use byte_ports::{Pieces, Takes};
 use client_core::Client;
@@ -18,7 +18,6 @@ use link_world::{
 };
 use server_core::Server;
 use std::alloc::{AllocError, Global};
-use std::fmt::Debug;
 
 /// What comes in by the parts of a program, one piece a line.
 #[derive(Clone, Copy)]
@@ -37,25 +36,36 @@ struct Asked {
     takes: u32,
 }
 
-fn words_of(words: &str) -> Result<Asked, Stop> {
-    let mut asked = Asked {
+/// What a row asks for that has no words: all at once, and no call that fails.
+fn plain() -> Asked {
+    Asked {
         least: 1,
         bound: 1_000,
         read: 0,
         write: 0,
         takes: 1_000,
-    };
+    }
+}
+
+/// A word with its number.
+fn ask(asked: &mut Asked, pair: &str) -> Result<(), Stop> {
+    let (word, number) = pair.split_once(" ").ok_or(Stop::Row)?;
+    let number: u32 = number.parse().ok().ok_or(Stop::Row)?;
+    match word {
+        "least" => asked.least = number as usize,
+        "bound" => asked.bound = number,
+        "read" => asked.read = number,
+        "write" => asked.write = number,
+        "takes" => asked.takes = number,
+        _ => return Err(Stop::Row),
+    }
+    Ok(())
+}
+
+fn words_of(words: &str) -> Result<Asked, Stop> {
+    let mut asked = plain();
     for pair in words.split(", ") {
-        let (word, number) = pair.split_once(" ").ok_or(Stop::Row)?;
-        let number: u32 = number.parse().map_err(|_| Stop::Row)?;
-        match word {
-            "least" => asked.least = number as usize,
-            "bound" => asked.bound = number,
-            "read" => asked.read = number,
-            "write" => asked.write = number,
-            "takes" => asked.takes = number,
-            _ => return Err(Stop::Row),
-        }
+        ask(&mut asked, pair)?;
     }
     Ok(asked)
 }
@@ -88,57 +98,16 @@ fn parted<'a>(row: &'a str, all: &'a str) -> Result<(Asked, &'a str), Stop> {
 
 // ---- either side
 
-/// A client on connection 1, and its ports.
+/// What comes in on a side, and what goes out.
 #[derive(Drop)]
-struct ClientSide {
-    client: Client,
+struct Ports {
     input: Pieces,
     output: Takes,
 }
 
-/// A server on connection 1 with its machine, and its ports.
-#[derive(Drop)]
-struct ServerSide {
-    server: Server,
-    machine: Simulated,
-    input: Pieces,
-    output: Takes,
-}
-
-fn connected(alloc: Global, made: Made<'_>) -> Result<Client, Stop> {
-    let mut client = new_client(alloc, made)?;
-    client.connected(1).map_err(|_| Stop::Row)?;
-    Ok(client)
-}
-
-fn accepted(alloc: Global, setup: &str) -> Result<Server, Stop> {
-    let mut server = new_server(alloc, setup)?;
-    server.accept(1).map_err(|_| Stop::Row)?;
-    Ok(server)
-}
-
-fn client_side(
-    alloc: Global,
-    made: Made<'_>,
-    asked: Asked,
-    pieces: &str,
-) -> Result<ClientSide, Stop> {
+fn new_ports(alloc: Global, asked: Asked, pieces: &str) -> Result<Ports, Stop> {
     let input = source(alloc, asked, pieces)?;
-    let client = connected(alloc, made)?;
-    Ok(ClientSide {
-        client,
-        input,
-        output: sink(alloc, asked),
-    })
-}
-
-fn server_side(alloc: Global, setup: &str, asked: Asked, pieces: &str) -> Result<ServerSide, Stop> {
-    let input = source(alloc, asked, pieces)?;
-    let server = accepted(alloc, setup)?;
-    let machine = Simulated::new(alloc, server.setup())?;
-    Ok(ServerSide {
-        server,
-        machine,
+    Ok(Ports {
         input,
         output: sink(alloc, asked),
     })
@@ -146,65 +115,32 @@ fn server_side(alloc: Global, setup: &str, asked: Asked, pieces: &str) -> Result
 
 // ---- what is shown
 
-/// What a call answers.
-fn push_answer<T: Debug, F: Debug>(
-    alloc: Global,
-    out: &mut Vec<u8>,
-    answer: &Result<T, F>,
-) -> Result<(), AllocError> {
-    match answer {
-        Ok(done) => push_text(out, format!(in alloc; "{done:?}")?.as_str()),
-        Err(fault) => push_text(out, format!(in alloc; "{fault:?}")?.as_str()),
-    }
-}
-
-/// Where a client stands, what went out, and its features.
-fn push_client(alloc: Global, out: &mut Vec<u8>, side: &ClientSide) -> Result<(), AllocError> {
-    let state = side.client.state();
-    let connection = if side.client.is_on() { "on" } else { "off" };
+/// Where a client stands.
+fn push_state(alloc: Global, out: &mut Vec<u8>, client: &Client) -> Result<(), AllocError> {
+    let state = client.state();
+    let connection = if client.is_on() { "on" } else { "off" };
     push_text(
         out,
         format!(in alloc; " {state:?} {connection}: ")?.as_str(),
-    )?;
-    push_lines(out, side.output.taken())?;
-    push_features(alloc, out, side.client.features())
+    )
+}
+
+/// Where a client stands, what went out, and its features.
+fn push_client(
+    alloc: Global,
+    out: &mut Vec<u8>,
+    client: &Client,
+    output: &Takes,
+) -> Result<(), AllocError> {
+    push_state(alloc, out, client)?;
+    push_lines(out, output.taken())?;
+    push_features(alloc, out, client.features())
 }
 
 /// Where a server stands, and what went out.
-fn push_server(out: &mut Vec<u8>, side: &mut ServerSide) -> Result<(), AllocError> {
-    push_text(
-        out,
-        if is_on(&mut side.server) {
-            " on: "
-        } else {
-            " off: "
-        },
-    )?;
-    push_lines(out, side.output.taken())
-}
-
-/// What a call of a client answers, and what it leaves.
-fn client_answer<T: Debug, F: Debug>(
-    alloc: Global,
-    answer: &Result<T, F>,
-    side: &ClientSide,
-) -> Result<Vec<u8>, Stop> {
-    let mut out = Vec::new(alloc);
-    push_answer(alloc, &mut out, answer)?;
-    push_client(alloc, &mut out, side)?;
-    Ok(out)
-}
-
-/// What a call of a server answers, and what it leaves.
-fn server_answer<T: Debug, F: Debug>(
-    alloc: Global,
-    answer: &Result<T, F>,
-    side: &mut ServerSide,
-) -> Result<Vec<u8>, Stop> {
-    let mut out = Vec::new(alloc);
-    push_answer(alloc, &mut out, answer)?;
-    push_server(&mut out, side)?;
-    Ok(out)
+fn push_server(out: &mut Vec<u8>, server: &mut Server, output: &Takes) -> Result<(), AllocError> {
+    push_text(out, if is_on(server) { " on: " } else { " off: " })?;
+    push_lines(out, output.taken())
 }
 
 /// A watcher that keeps the number and the label of each feature.
@@ -230,8 +166,16 @@ impl Told {
             format!(in self.alloc; "{number} ")?.as_str(),
         )?;
         self.text.extend_from_slice(feature.label.as_bytes())?;
-        self.text.push(b';')?;
-        Ok(())
+        push_text(&mut self.text, ";")
+    }
+
+    /// What it was told, where memory sufficed.
+    fn push_to(&self, out: &mut Vec<u8>) -> Result<(), AllocError> {
+        if self.is_short {
+            return Err(AllocError);
+        }
+        push_text(out, " ")?;
+        out.extend_from_slice(self.text.as_slice())
     }
 }
 
@@ -243,147 +187,290 @@ impl Watcher for Told {
     }
 }
 
-/// What a call answers, and what the watcher was told.
-fn told_answer<T: Debug, F: Debug>(
-    alloc: Global,
-    answer: &Result<T, F>,
-    told: &Told,
-) -> Result<Vec<u8>, Stop> {
-    if told.is_short {
-        return Err(Stop::Memory);
-    }
-    let mut out = Vec::new(alloc);
-    push_answer(alloc, &mut out, answer)?;
-    out.push(b' ')?;
-    out.extend_from_slice(told.text.as_slice())?;
-    Ok(out)
-}
-
-// ---- rows
+// ---- a client
 
 /// One turn of a client.
-fn turned(alloc: Global, made: Made<'_>, script: Script<'_>, row: &str) -> Result<Vec<u8>, Stop> {
-    let (asked, pieces) = parted(row, script.replies)?;
-    let mut side = client_side(alloc, made, asked, pieces)?;
+fn push_turned(
+    alloc: Global,
+    out: &mut Vec<u8>,
+    client: &mut Client,
+    ports: &mut Ports,
+    asked: Asked,
+) -> Result<(), AllocError> {
     let answer = client_turns(
-        &mut side.client,
-        &mut side.input,
-        &mut side.output,
+        client,
+        &mut ports.input,
+        &mut ports.output,
         asked.least,
         asked.bound as u64,
     );
-    client_answer(alloc, &answer, &side)
+    push_answer(alloc, out, &answer)?;
+    push_client(alloc, out, client, &ports.output)
 }
 
 /// A whole run of a client.
-fn ran(alloc: Global, made: Made<'_>, script: Script<'_>, row: &str) -> Result<Vec<u8>, Stop> {
-    let (asked, pieces) = parted(row, script.replies)?;
-    let mut side = client_side(alloc, made, asked, pieces)?;
-    let answer = run_link(&mut side.client, &mut side.input, &mut side.output);
-    client_answer(alloc, &answer, &side)
+fn push_ran(
+    alloc: Global,
+    out: &mut Vec<u8>,
+    client: &mut Client,
+    ports: &mut Ports,
+) -> Result<(), AllocError> {
+    let answer = run_link(client, &mut ports.input, &mut ports.output);
+    push_answer(alloc, out, &answer)?;
+    push_client(alloc, out, client, &ports.output)
 }
 
 /// What the watcher of a whole run is told.
-fn watched(alloc: Global, made: Made<'_>, script: Script<'_>, row: &str) -> Result<Vec<u8>, Stop> {
-    let (asked, pieces) = parted(row, script.replies)?;
-    let mut side = client_side(alloc, made, asked, pieces)?;
+fn push_watched(
+    alloc: Global,
+    out: &mut Vec<u8>,
+    client: &mut Client,
+    ports: &mut Ports,
+) -> Result<(), AllocError> {
     let mut told = Told::new(alloc);
-    let answer = watch_link(
-        &mut side.client,
-        &mut side.input,
-        &mut side.output,
-        &mut told,
-    );
-    told_answer(alloc, &answer, &told)
+    let answer = watch_link(client, &mut ports.input, &mut ports.output, &mut told);
+    push_answer(alloc, out, &answer)?;
+    told.push_to(out)
 }
+
+/// What a client's call of this word answers, and what it leaves.
+fn push_called(
+    alloc: Global,
+    out: &mut Vec<u8>,
+    client: &mut Client,
+    ports: &mut Ports,
+    (asked, word): (Asked, &str),
+) -> Result<(), AllocError> {
+    match word {
+        "turns" => push_turned(alloc, out, client, ports, asked),
+        "runs" => push_ran(alloc, out, client, ports),
+        _ => push_watched(alloc, out, client, ports),
+    }
+}
+
+/// A call of this word of a client or a server over new ports, into which these pieces come.
+#[derive(Drop)]
+struct Call<'a> {
+    asked: Asked,
+    pieces: &'a str,
+    word: &'a str,
+}
+
+impl ClientTask for Call<'_> {
+    fn push(&self, alloc: Global, out: &mut Vec<u8>, client: &mut Client) -> Result<(), Stop> {
+        connect(client)?;
+        let mut ports = new_ports(alloc, self.asked, self.pieces)?;
+        let asked = (self.asked, self.word);
+        Ok(push_called(alloc, out, client, &mut ports, asked)?)
+    }
+}
+
+// ---- a server
+
+/// One turn of a server.
+fn push_served(
+    alloc: Global,
+    out: &mut Vec<u8>,
+    server: &mut Server,
+    machine: &mut Simulated,
+    ports: &mut Ports,
+    asked: Asked,
+) -> Result<(), AllocError> {
+    let answer = serve_turns(
+        server,
+        machine,
+        &mut ports.input,
+        &mut ports.output,
+        asked.least,
+        asked.bound as u64,
+    );
+    push_answer(alloc, out, &answer)?;
+    push_server(out, server, &ports.output)
+}
+
+/// A whole run of a server.
+fn push_connection(
+    alloc: Global,
+    out: &mut Vec<u8>,
+    server: &mut Server,
+    machine: &mut Simulated,
+    ports: &mut Ports,
+) -> Result<(), AllocError> {
+    let answer = serve_link(server, machine, &mut ports.input, &mut ports.output);
+    push_answer(alloc, out, &answer)?;
+    push_server(out, server, &ports.output)
+}
+
+/// What a server's call of this word answers, and what it leaves.
+fn push_server_called(
+    alloc: Global,
+    out: &mut Vec<u8>,
+    server: &mut Server,
+    ports: &mut Ports,
+    (asked, word): (Asked, &str),
+) -> Result<(), AllocError> {
+    let mut machine = Simulated::new(alloc, server.setup())?;
+    match word {
+        "serves" => push_served(alloc, out, server, &mut machine, ports, asked),
+        _ => push_connection(alloc, out, server, &mut machine, ports),
+    }
+}
+
+impl ServerTask for Call<'_> {
+    fn push(&self, alloc: Global, out: &mut Vec<u8>, server: &mut Server) -> Result<(), Stop> {
+        accept(server)?;
+        let mut ports = new_ports(alloc, self.asked, self.pieces)?;
+        let asked = (self.asked, self.word);
+        Ok(push_server_called(alloc, out, server, &mut ports, asked)?)
+    }
+}
+
+// ---- both
 
 /// A whole run of both sides in turn.
 fn loop_both(
-    client: &mut ClientSide,
-    server: &mut ServerSide,
+    client: &mut Client,
+    client_ports: &mut Ports,
+    server: &mut Server,
+    machine: &mut Simulated,
+    server_ports: &mut Ports,
     told: &mut Told,
 ) -> Result<(), LoopFault> {
     loop_link(
-        &mut client.client,
-        &mut client.input,
-        &mut client.output,
-        &mut server.server,
-        &mut server.machine,
-        &mut server.input,
-        &mut server.output,
+        client,
+        &mut client_ports.input,
+        &mut client_ports.output,
+        server,
+        machine,
+        &mut server_ports.input,
+        &mut server_ports.output,
         told,
     )
 }
 
-/// What such a run leaves on both sides.
-fn loop_answer(
+/// What such a run answers on the simulated machine; its watcher tells nobody.
+fn push_looped(
     alloc: Global,
-    answer: &Result<(), LoopFault>,
-    client: &ClientSide,
-    server: &mut ServerSide,
-) -> Result<Vec<u8>, Stop> {
-    let mut out = Vec::new(alloc);
-    push_answer(alloc, &mut out, answer)?;
-    push_client(alloc, &mut out, client)?;
-    push_server(&mut out, server)?;
-    Ok(out)
+    out: &mut Vec<u8>,
+    client: &mut Client,
+    client_ports: &mut Ports,
+    server: &mut Server,
+    server_ports: &mut Ports,
+) -> Result<(), AllocError> {
+    let mut machine = Simulated::new(alloc, server.setup())?;
+    let mut told = Told::new(alloc);
+    let answer = loop_both(
+        client,
+        client_ports,
+        server,
+        &mut machine,
+        server_ports,
+        &mut told,
+    );
+    push_answer(alloc, out, &answer)
 }
 
-fn looped(
+/// The same, and what it leaves on both sides.
+fn push_both(
     alloc: Global,
-    (made, setup): (Made<'_>, &str),
+    out: &mut Vec<u8>,
+    client: &mut Client,
+    client_ports: &mut Ports,
+    server: &mut Server,
+    server_ports: &mut Ports,
+) -> Result<(), AllocError> {
+    push_looped(alloc, out, client, client_ports, server, server_ports)?;
+    push_client(alloc, out, client, &client_ports.output)?;
+    push_server(out, server, &server_ports.output)
+}
+
+/// A run of both sides over new ports, of which the server's take and give all at once.
+#[derive(Drop)]
+struct Loop<'a> {
+    asked: Asked,
+    replies: &'a str,
+    commands: &'a str,
+}
+
+impl Loop<'_> {
+    fn push_run(
+        &self,
+        alloc: Global,
+        out: &mut Vec<u8>,
+        client: &mut Client,
+        server: &mut Server,
+    ) -> Result<(), Stop> {
+        let mut ports = new_ports(alloc, self.asked, self.replies)?;
+        let mut others = new_ports(alloc, plain(), self.commands)?;
+        Ok(push_both(alloc, out, client, &mut ports, server, &mut others)?)
+    }
+}
+
+impl BothTask for Loop<'_> {
+    fn push(
+        &self,
+        alloc: Global,
+        out: &mut Vec<u8>,
+        client: &mut Client,
+        server: &mut Server,
+    ) -> Result<(), Stop> {
+        connect(client)?;
+        accept(server)?;
+        self.push_run(alloc, out, client, server)
+    }
+}
+
+// ---- rows
+
+/// What a row of a server's ports shows: a turn or a run.
+pub(crate) fn push_server_row(
+    alloc: Global,
+    out: &mut Vec<u8>,
+    setup: &str,
+    (word, row): (&str, &str),
+) -> Result<(), Stop> {
+    let (asked, pieces) = parted(row, "")?;
+    let call = Call {
+        asked,
+        pieces,
+        word,
+    };
+    server::push_task(alloc, out, setup, &call)
+}
+
+/// What a row of a loop shows.
+fn push_loop_row(
+    alloc: Global,
+    out: &mut Vec<u8>,
+    ends: (Made<'_>, &str),
     script: Script<'_>,
     row: &str,
-) -> Result<Vec<u8>, Stop> {
-    let (asked, pieces) = parted(row, script.replies)?;
-    let plain = words_of("read 0")?;
-    let mut client = client_side(alloc, made, asked, pieces)?;
-    let mut server = server_side(alloc, setup, plain, script.commands)?;
-    let mut told = Told::new(alloc);
-    let answer = loop_both(&mut client, &mut server, &mut told);
-    loop_answer(alloc, &answer, &client, &mut server)
+) -> Result<(), Stop> {
+    let (asked, replies) = parted(row, script.replies)?;
+    let task = Loop {
+        asked,
+        replies,
+        commands: script.commands,
+    };
+    push_both_task(alloc, out, ends, &task)
 }
 
-/// One turn of a server.
-pub(crate) fn served(alloc: Global, setup: &str, row: &str) -> Result<Vec<u8>, Stop> {
-    let (asked, pieces) = parted(row, "")?;
-    let mut side = server_side(alloc, setup, asked, pieces)?;
-    let answer = serve_turns(
-        &mut side.server,
-        &mut side.machine,
-        &mut side.input,
-        &mut side.output,
-        asked.least,
-        asked.bound as u64,
-    );
-    server_answer(alloc, &answer, &mut side)
-}
-
-/// A whole run of a server.
-pub(crate) fn connection(alloc: Global, setup: &str, row: &str) -> Result<Vec<u8>, Stop> {
-    let (asked, pieces) = parted(row, "")?;
-    let mut side = server_side(alloc, setup, asked, pieces)?;
-    let answer = serve_link(
-        &mut side.server,
-        &mut side.machine,
-        &mut side.input,
-        &mut side.output,
-    );
-    server_answer(alloc, &answer, &mut side)
-}
-
-/// What a row of a client's ports shows: a turn, a run, what a watcher is told, or a loop.
-pub(crate) fn answer(
+/// What a row of a client's ports shows: a loop, a turn, a run, or what a watcher is told.
+pub(crate) fn push_client_row(
     alloc: Global,
+    out: &mut Vec<u8>,
     (made, setup): (Made<'_>, &str),
     script: Script<'_>,
     (word, row): (&str, &str),
-) -> Result<Vec<u8>, Stop> {
-    match word {
-        "turns" => turned(alloc, made, script, row),
-        "runs" => ran(alloc, made, script, row),
-        "watches" => watched(alloc, made, script, row),
-        "loops" => looped(alloc, (made, setup), script, row),
-        _ => Err(Stop::Row),
+) -> Result<(), Stop> {
+    if word == "loops" {
+        return push_loop_row(alloc, out, (made, setup), script, row);
     }
+    let (asked, pieces) = parted(row, script.replies)?;
+    let call = Call {
+        asked,
+        pieces,
+        word,
+    };
+    client::push_task(alloc, out, made, &call)
 }

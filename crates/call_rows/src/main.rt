@@ -42,14 +42,23 @@ use std::io;
 use std::process::ExitCode;
 use stop::Stop;
 
-fn run<R: Input + Print + AllocGlobal>(rt: &R) -> Result<(), Stop> {
-    let alloc = rt.alloc();
+fn read<R: Input + AllocGlobal>(rt: &R) -> Result<Vec<u8>, Stop> {
     let mut source = Reading::new(rt.reader());
-    let input = pull_all(alloc, &mut source, 1_000_000).map_err(|_| Stop::Port)?;
-    let text = str::from_utf8(input.as_slice()).map_err(|_| Stop::Row)?;
-    let answers = parts::answered(alloc, text)?;
+    pull_all(rt.alloc(), &mut source, 1_000_000)
+        .ok()
+        .ok_or(Stop::Port)
+}
+
+fn write<R: Print>(rt: &R, answers: &[u8]) -> Result<(), Stop> {
     let mut sink = Writing::new(io::writer(rt));
-    push_all(&mut sink, answers.as_slice()).map_err(|_| Stop::Port)
+    push_all(&mut sink, answers).ok().ok_or(Stop::Port)
+}
+
+fn run<R: Input + Print + AllocGlobal>(rt: &R) -> Result<(), Stop> {
+    let input = read(rt)?;
+    let text = str::from_utf8(input.as_slice()).ok().ok_or(Stop::Row)?;
+    let answers = parts::answered(rt.alloc(), text)?;
+    write(rt, answers.as_slice())
 }
 
 fn main(rt: HostRuntime) -> ExitCode {

@@ -1,12 +1,11 @@
 // Undisturbed runs, and worlds that are brought to their end behind each event of a schedule.
 
 use crate::client::Made;
-use crate::shown::{lined, push_features, push_text};
+use crate::shown::{lined, push_debug, push_display, push_features, push_text};
 use crate::stop::Stop;
-use crate::worlds::played;
-use client_core::State;
+use crate::worlds::{Shown, push_new_played};
 use dmis_program::Program;
-use link_world::{NewFault, Quiet, Simulated, World, WorldFault, quiet_run};
+use link_world::{NewFault, Quiet, Simulated, quiet_run};
 use std::alloc::{AllocError, Global};
 use tool_rack::Setup;
 
@@ -16,11 +15,10 @@ fn read_setup(alloc: Global, text: &str) -> Result<Setup, Stop> {
 
 /// The state, the turns and the features of a run.
 fn push_quiet(alloc: Global, answer: &mut Vec<u8>, quiet: &Quiet) -> Result<(), AllocError> {
-    let (state, turns) = (quiet.state, quiet.turns);
-    push_text(
-        answer,
-        format!(in alloc; "{state:?} {turns} turns;")?.as_str(),
-    )?;
+    push_debug(alloc, answer, &quiet.state)?;
+    push_text(answer, " ")?;
+    push_display(alloc, answer, &quiet.turns)?;
+    push_text(answer, " turns;")?;
     push_features(alloc, answer, quiet.features.list())
 }
 
@@ -53,25 +51,23 @@ fn ran(
     }
 }
 
-fn shown_quiet(alloc: Global, quiet: Option<Quiet>) -> Result<Vec<u8>, Stop> {
-    let mut answer = Vec::new(alloc);
+fn push_ran(alloc: Global, out: &mut Vec<u8>, quiet: Option<Quiet>) -> Result<(), AllocError> {
     match quiet {
-        Some(quiet) => push_quiet(alloc, &mut answer, &quiet)?,
-        None => push_text(&mut answer, "BadWindow")?,
+        Some(quiet) => push_quiet(alloc, out, &quiet),
+        None => push_text(out, "BadWindow"),
     }
-    Ok(answer)
 }
 
 /// What the undisturbed run leaves, on a machine whose deviations are the shifts of a row.
-pub(crate) fn quiet_answer(
+pub(crate) fn push_quiet_row(
     alloc: Global,
-    made: Made<'_>,
-    setup: &str,
+    out: &mut Vec<u8>,
+    (made, setup): (Made<'_>, &str),
     row: &str,
-) -> Result<Vec<u8>, Stop> {
+) -> Result<(), Stop> {
     let mut machine = new_machine(alloc, row)?;
     let quiet = ran(alloc, made, setup, &mut machine)?;
-    shown_quiet(alloc, quiet)
+    Ok(push_ran(alloc, out, quiet)?)
 }
 
 /// How many worlds were brought to their end, how many could not be, since all was measured, and how many were not Done behind it.
@@ -83,70 +79,62 @@ struct Ends {
 }
 
 impl Ends {
-    /// A world is brought to its end.
-    fn count(&mut self, alloc: Global, world: &mut World) -> Result<(), Stop> {
-        let mut machine = Simulated::new(alloc, world.setup())?;
-        match world.finish(&mut machine) {
-            Ok(_) if matches!(world.state(), State::Done) => {
-                self.finished = self.finished.saturating_add(1);
-            }
-            Ok(_) => self.failed = self.failed.saturating_add(1),
-            Err(WorldFault::NotNow) => self.done = self.done.saturating_add(1),
-            Err(WorldFault::Memory) => return Err(Stop::Memory),
+    fn count(&mut self, end: &[u8]) {
+        match end {
+            b"finished" => self.finished = self.finished.saturating_add(1),
+            b"done" => self.done = self.done.saturating_add(1),
+            _ => self.failed = self.failed.saturating_add(1),
         }
-        Ok(())
     }
 
     /// The world behind the front of a schedule is brought to its end.
     fn count_front(
         &mut self,
         alloc: Global,
-        made: Made<'_>,
-        setup: &str,
+        ends: (Made<'_>, &str),
         front: &[u8],
     ) -> Result<(), Stop> {
-        let mut world = played(alloc, made, setup, front)?;
-        self.count(alloc, &mut world)
+        let mut end = Vec::new(alloc);
+        push_new_played(alloc, &mut end, ends, front, Shown::End)?;
+        self.count(end.as_slice());
+        Ok(())
     }
 
     /// The worlds behind each front of a schedule are brought to their end.
     fn count_fronts(
         &mut self,
         alloc: Global,
-        made: Made<'_>,
-        setup: &str,
+        ends: (Made<'_>, &str),
         schedule: &[u8],
     ) -> Result<(), Stop> {
         for at in 0..schedule.len() {
             if schedule[at] == b'\n' {
-                self.count_front(alloc, made, setup, &schedule[..at])?;
+                self.count_front(alloc, ends, &schedule[..at])?;
             }
         }
         Ok(())
     }
 
-    fn shown(&self, alloc: Global) -> Result<Vec<u8>, AllocError> {
+    fn push(&self, alloc: Global, out: &mut Vec<u8>) -> Result<(), AllocError> {
         let (finished, done, failed) = (self.finished, self.done, self.failed);
         let text = format!(in alloc; "{finished} finished, {done} were done, {failed} failed")?;
-        let mut answer = Vec::new(alloc);
-        push_text(&mut answer, text.as_str())?;
-        Ok(answer)
+        push_text(out, text.as_str())
     }
 }
 
 /// The counts of the worlds behind each front of a schedule.
-pub(crate) fn finish_answer(
+pub(crate) fn push_finish_row(
     alloc: Global,
-    made: Made<'_>,
-    setup: &str,
+    out: &mut Vec<u8>,
+    of: (Made<'_>, &str),
     row: &str,
-) -> Result<Vec<u8>, Stop> {
+) -> Result<(), Stop> {
     let schedule = lined(alloc, row)?;
     let mut ends = Ends {
         finished: 0,
         done: 0,
         failed: 0,
     };
-    ends.count_fronts(alloc, made, setup, schedule.as_slice())?;
-    Ok(ends.shown(alloc)?)
+    ends.count_fronts(alloc, of, schedule.as_slice())?;
+    Ok(ends.push(alloc, out)?)
 }

@@ -1,35 +1,47 @@
 // Texts of features and of acts that are read and written again.
 
-use crate::shown::{lined, push_lines, push_text};
+use crate::shown::{lined, push_display, push_lines};
 use contact_ledger::{read_contacts, read_features, write_contacts, write_features};
 use std::alloc::{AllocError, Global};
 
-/// What is written of the features that a text says, or why it is refused.
-pub(crate) fn features_answer(alloc: Global, row: &str) -> Result<Vec<u8>, AllocError> {
-    let text = lined(alloc, row)?;
-    let mut answer = Vec::new(alloc);
-    match read_features(alloc, text.as_slice()) {
+fn push_features(alloc: Global, out: &mut Vec<u8>, text: &[u8]) -> Result<(), AllocError> {
+    match read_features(alloc, text) {
         Ok(features) => {
             let mut written = Vec::new(alloc);
             write_features(&mut written, features.list())?;
-            push_lines(&mut answer, written.as_slice())?;
+            push_lines(out, written.as_slice())
         }
-        Err(fault) => push_text(&mut answer, format!(in alloc; "{fault}")?.as_str())?,
+        Err(fault) => push_display(alloc, out, &fault),
     }
-    Ok(answer)
 }
 
-/// The same of acts.
-pub(crate) fn contacts_answer(alloc: Global, row: &str) -> Result<Vec<u8>, AllocError> {
+/// What is written of the features that a text says, or why it is refused.
+pub(crate) fn push_features_row(
+    alloc: Global,
+    out: &mut Vec<u8>,
+    row: &str,
+) -> Result<(), AllocError> {
     let text = lined(alloc, row)?;
-    let mut answer = Vec::new(alloc);
-    match read_contacts(alloc, text.as_slice()) {
+    push_features(alloc, out, text.as_slice())
+}
+
+fn push_contacts(alloc: Global, out: &mut Vec<u8>, text: &[u8]) -> Result<(), AllocError> {
+    match read_contacts(alloc, text) {
         Ok(ledger) => {
             let mut written = Vec::new(alloc);
             write_contacts(&mut written, &ledger)?;
-            push_lines(&mut answer, written.as_slice())?;
+            push_lines(out, written.as_slice())
         }
-        Err(fault) => push_text(&mut answer, format!(in alloc; "{fault}")?.as_str())?,
+        Err(fault) => push_display(alloc, out, &fault),
     }
-    Ok(answer)
+}
+
+/// The same of acts.
+pub(crate) fn push_contacts_row(
+    alloc: Global,
+    out: &mut Vec<u8>,
+    row: &str,
+) -> Result<(), AllocError> {
+    let text = lined(alloc, row)?;
+    push_contacts(alloc, out, text.as_slice())
 }

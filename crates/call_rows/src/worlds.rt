@@ -1,36 +1,34 @@
 // Worlds behind schedules, and both ends that are driven by hand.
 
-use crate::client::{Made, new_client};
-use crate::server::new_server;
-use crate::shown::{lined, push_lines, push_text};
+use crate::client::{Made, connect};
+use crate::server::{BothTask, accept, push_both_task};
+use crate::shown::{lined, push_debug, push_display, push_lines, push_text};
 use crate::stop::Stop;
-use client_core::Client;
+use client_core::{Client, State};
 use contact_ledger::{ServerLedger, write_contacts, write_features};
 use dmis_program::Program;
 use link_world::{
-    Machine, Schedule, Simulated, World, report_of, write_contact_rows, write_report,
+    Machine, Schedule, Simulated, World, WorldFault, report_of, write_contact_rows, write_report,
 };
 use server_core::Server;
 use std::alloc::{AllocError, Global};
 use tool_rack::Setup;
 
-/// A world of a program and a setup behind a schedule.
-pub(crate) fn played(
-    alloc: Global,
-    made: Made<'_>,
-    setup: &str,
-    schedule: &[u8],
-) -> Result<World, Stop> {
+/// A new world of a program and a setup.
+fn new_world(alloc: Global, made: Made<'_>, setup: &str) -> Result<World, Stop> {
     let setup = Setup::read(alloc, setup.as_bytes()).ok().ok_or(Stop::Row)?;
     let program = Program::read(alloc, made.program.as_bytes(), setup.frames())
         .ok()
         .ok_or(Stop::Row)?;
+    World::new(alloc, program, setup, made.window)
+        .ok()
+        .ok_or(Stop::Row)
+}
+
+/// What a schedule says happens to a world.
+fn play(alloc: Global, world: &mut World, schedule: &[u8]) -> Result<(), Stop> {
     let schedule = Schedule::read(alloc, schedule).ok().ok_or(Stop::Row)?;
-    let Ok(mut world) = World::new(alloc, program, setup, made.window) else {
-        return Err(Stop::Row);
-    };
-    schedule.play(&mut world)?;
-    Ok(world)
+    Ok(schedule.play(world)?)
 }
 
 /// How many lines of a text home the machine.
@@ -41,154 +39,256 @@ fn homings(text: &[u8]) -> usize {
 }
 
 /// The client's state in a world, and how many lines that it wrote on its last connection home the machine.
-fn state_and_homings(alloc: Global, world: &World) -> Result<Vec<u8>, AllocError> {
-    let count = homings(world.written());
-    let state = world.state();
-    let mut answer = Vec::new(alloc);
-    push_text(
-        &mut answer,
-        format!(in alloc; "{state:?} {count}")?.as_str(),
-    )?;
-    Ok(answer)
+fn push_homings(alloc: Global, out: &mut Vec<u8>, world: &World) -> Result<(), AllocError> {
+    push_debug(alloc, out, &world.state())?;
+    push_text(out, " ")?;
+    push_display(alloc, out, &homings(world.written()))
 }
 
-/// The same behind the schedule of a row.
-pub(crate) fn homings_answer(
+/// A world is brought to its end: `finished`, `done` where it could not be, since all was measured, and `failed` where it is not Done behind it.
+fn push_end(alloc: Global, out: &mut Vec<u8>, world: &mut World) -> Result<(), Stop> {
+    let mut machine = Simulated::new(alloc, world.setup())?;
+    let end = match world.finish(&mut machine) {
+        Ok(_) if matches!(world.state(), State::Done) => "finished",
+        Ok(_) => "failed",
+        Err(WorldFault::NotNow) => "done",
+        Err(WorldFault::Memory) => return Err(Stop::Memory),
+    };
+    Ok(push_text(out, end)?)
+}
+
+/// What is shown of a world behind a schedule.
+#[derive(Clone, Copy)]
+pub(crate) enum Shown {
+    Homings,
+    Files,
+    End,
+}
+
+fn push_played(
     alloc: Global,
-    made: Made<'_>,
-    setup: &str,
+    out: &mut Vec<u8>,
+    world: &mut World,
+    schedule: &[u8],
+    shown: Shown,
+) -> Result<(), Stop> {
+    play(alloc, world, schedule)?;
+    match shown {
+        Shown::Homings => Ok(push_homings(alloc, out, world)?),
+        Shown::Files => Ok(push_world_files(alloc, out, world)?),
+        Shown::End => push_end(alloc, out, world),
+    }
+}
+
+/// The same of a new world.
+pub(crate) fn push_new_played(
+    alloc: Global,
+    out: &mut Vec<u8>,
+    (made, setup): (Made<'_>, &str),
+    schedule: &[u8],
+    shown: Shown,
+) -> Result<(), Stop> {
+    let mut world = new_world(alloc, made, setup)?;
+    push_played(alloc, out, &mut world, schedule, shown)
+}
+
+/// The client's state and its homings behind the schedule of a row.
+pub(crate) fn push_homings_row(
+    alloc: Global,
+    out: &mut Vec<u8>,
+    ends: (Made<'_>, &str),
     row: &str,
-) -> Result<Vec<u8>, Stop> {
+) -> Result<(), Stop> {
     let schedule = lined(alloc, row)?;
-    let world = played(alloc, made, setup, schedule.as_slice())?;
-    Ok(state_and_homings(alloc, &world)?)
+    push_new_played(alloc, out, ends, schedule.as_slice(), Shown::Homings)
+}
+
+/// The server is fed what the client has written, and reads a line.
+fn hear_command(client: &mut Client, server: &mut Server) -> Result<(), Stop> {
+    server.feed(client.out()).ok().ok_or(Stop::Row)?;
+    let count = client.out().len();
+    client.sent(count);
+    server.read_one().ok().ok_or(Stop::Row)?;
+    Ok(())
+}
+
+/// What waits has its turn, and the machine ends what then runs.
+fn serve_one<M: Machine>(server: &mut Server, machine: &mut M) -> Result<(), Stop> {
+    server.turn().ok().ok_or(Stop::Row)?;
+    let number = server.ledger().contacts();
+    if let Some(job) = server.running() {
+        let outcome = machine.answer(job, number);
+        server.machine(outcome).ok().ok_or(Stop::Row)?;
+    }
+    Ok(())
 }
 
 /// The command that is due is sent, and the server and its machine do it.
-pub(crate) fn serve_next<M: Machine>(
+fn serve_next<M: Machine>(
     client: &mut Client,
     server: &mut Server,
     machine: &mut M,
 ) -> Result<(), Stop> {
-    client.send().map_err(|_| Stop::Row)?;
-    server.feed(client.out()).map_err(|_| Stop::Row)?;
-    let count = client.out().len();
-    client.sent(count);
-    server.read_one().map_err(|_| Stop::Row)?;
-    server.turn().map_err(|_| Stop::Row)?;
-    let number = server.ledger().contacts();
-    if let Some(job) = server.running() {
-        let outcome = machine.answer(job, number);
-        server.machine(outcome).map_err(|_| Stop::Row)?;
-    }
-    Ok(())
+    client.send().ok().ok_or(Stop::Row)?;
+    hear_command(client, server)?;
+    serve_one(server, machine)
 }
 
 /// The client reads all that was answered, at most ten lines.
-pub(crate) fn hear_all(client: &mut Client, server: &mut Server) -> Result<(), Stop> {
-    client.feed(server.out()).map_err(|_| Stop::Row)?;
+fn hear_all(client: &mut Client, server: &mut Server) -> Result<(), Stop> {
+    client.feed(server.out()).ok().ok_or(Stop::Row)?;
     let count = server.out().len();
     server.sent(count);
     for _ in 0..10u32 {
-        client.read_one().map_err(|_| Stop::Row)?;
+        client.read_one().ok().ok_or(Stop::Row)?;
     }
     Ok(())
 }
 
-/// A client and a server on connection 1.
-fn both_ends(alloc: Global, made: Made<'_>, setup: &str) -> Result<(Client, Server), Stop> {
-    let mut client = new_client(alloc, made)?;
-    let mut server = new_server(alloc, setup)?;
-    client.connected(1).map_err(|_| Stop::Row)?;
-    server.accept(1).map_err(|_| Stop::Row)?;
-    Ok((client, server))
+/// Both ends are through with the command that is due.
+pub(crate) fn end_next<M: Machine>(
+    client: &mut Client,
+    server: &mut Server,
+    machine: &mut M,
+) -> Result<(), Stop> {
+    serve_next(client, server, machine)?;
+    hear_all(client, server)
 }
 
 /// Both ends are through with so many commands; the server has done one more where the row says `more`.
-fn drive(
-    alloc: Global,
+fn end_all<M: Machine>(
     client: &mut Client,
     server: &mut Server,
+    machine: &mut M,
     (count, rest): (u32, &str),
 ) -> Result<(), Stop> {
-    let mut machine = Simulated::new(alloc, server.setup())?;
     for _ in 0..count {
-        serve_next(client, server, &mut machine)?;
-        hear_all(client, server)?;
+        end_next(client, server, machine)?;
     }
     if rest == "more" {
-        serve_next(client, server, &mut machine)?;
+        serve_next(client, server, machine)?;
     }
     Ok(())
 }
 
-/// Both ends behind the commands of a row.
-pub(crate) fn driven(
+/// A new client and a new server on connection 1, behind the commands of a row.
+pub(crate) fn drive(
     alloc: Global,
-    made: Made<'_>,
-    setup: &str,
+    client: &mut Client,
+    server: &mut Server,
     row: &str,
-) -> Result<(Client, Server), Stop> {
+) -> Result<(), Stop> {
     let (count, rest) = row.split_once(" ").unwrap_or((row, ""));
-    let count = count.parse().map_err(|_| Stop::Row)?;
-    let (mut client, mut server) = both_ends(alloc, made, setup)?;
-    drive(alloc, &mut client, &mut server, (count, rest))?;
-    Ok((client, server))
+    let count = count.parse().ok().ok_or(Stop::Row)?;
+    connect(client)?;
+    accept(server)?;
+    let mut machine = Simulated::new(alloc, server.setup())?;
+    end_all(client, server, &mut machine, (count, rest))
+}
+
+/// The report of a client, with a server's ledger where one is given, and `|` behind it.
+fn push_report(
+    alloc: Global,
+    text: &mut Vec<u8>,
+    client: &Client,
+    ledger: Option<&ServerLedger>,
+) -> Result<(), AllocError> {
+    let report = report_of(alloc, client, ledger)?;
+    write_report(text, &report)?;
+    push_text(text, "|")
 }
 
 /// The report of a client with a server's ledger, the report without it, and the rows of the contacts, `|` between them.
-fn reports(alloc: Global, client: &Client, ledger: &ServerLedger) -> Result<Vec<u8>, AllocError> {
+fn push_reports(
+    alloc: Global,
+    text: &mut Vec<u8>,
+    client: &Client,
+    ledger: &ServerLedger,
+) -> Result<(), AllocError> {
+    push_report(alloc, text, client, Some(ledger))?;
+    push_report(alloc, text, client, None)?;
+    write_contact_rows(text, ledger)
+}
+
+/// The lines of these reports.
+fn push_report_lines(
+    alloc: Global,
+    out: &mut Vec<u8>,
+    client: &Client,
+    ledger: &ServerLedger,
+) -> Result<(), AllocError> {
     let mut text = Vec::new(alloc);
-    write_report(&mut text, &report_of(alloc, client, Some(ledger))?)?;
-    text.push(b'|')?;
-    write_report(&mut text, &report_of(alloc, client, None)?)?;
-    text.push(b'|')?;
-    write_contact_rows(&mut text, ledger)?;
-    let mut answer = Vec::new(alloc);
-    push_lines(&mut answer, text.as_slice())?;
-    Ok(answer)
+    push_reports(alloc, &mut text, client, ledger)?;
+    push_lines(out, text.as_slice())
 }
 
 /// These reports of both ends that are driven as a row says.
-pub(crate) fn reports_answer(
+#[derive(Drop)]
+struct Reports<'a> {
+    row: &'a str,
+}
+
+impl BothTask for Reports<'_> {
+    fn push(
+        &self,
+        alloc: Global,
+        out: &mut Vec<u8>,
+        client: &mut Client,
+        server: &mut Server,
+    ) -> Result<(), Stop> {
+        drive(alloc, client, server, self.row)?;
+        Ok(push_report_lines(alloc, out, client, server.ledger())?)
+    }
+}
+
+pub(crate) fn push_reports_row(
     alloc: Global,
-    made: Made<'_>,
-    setup: &str,
+    out: &mut Vec<u8>,
+    ends: (Made<'_>, &str),
     row: &str,
-) -> Result<Vec<u8>, Stop> {
-    let (client, server) = driven(alloc, made, setup, row)?;
-    Ok(reports(alloc, &client, server.ledger())?)
+) -> Result<(), Stop> {
+    push_both_task(alloc, out, ends, &Reports { row })
+}
+
+fn push_schedule(alloc: Global, out: &mut Vec<u8>, schedule: &Schedule) -> Result<(), AllocError> {
+    for instruction in schedule.instructions() {
+        push_debug(alloc, out, instruction)?;
+        push_text(out, ";")?;
+    }
+    Ok(())
+}
+
+fn push_read_schedule(alloc: Global, out: &mut Vec<u8>, text: &[u8]) -> Result<(), AllocError> {
+    match Schedule::read(alloc, text) {
+        Ok(schedule) => push_schedule(alloc, out, &schedule),
+        Err(fault) => push_display(alloc, out, &fault),
+    }
 }
 
 /// The instructions of a schedule, or why it is refused.
-pub(crate) fn schedule_answer(alloc: Global, row: &str) -> Result<Vec<u8>, Stop> {
-    let mut answer = Vec::new(alloc);
-    match Schedule::read(alloc, lined(alloc, row)?.as_slice()) {
-        Ok(schedule) => {
-            for instruction in schedule.instructions() {
-                push_text(&mut answer, format!(in alloc; "{instruction:?};")?.as_str())?;
-            }
-        }
-        Err(fault) => push_text(&mut answer, format!(in alloc; "{fault}")?.as_str())?,
-    }
-    Ok(answer)
+pub(crate) fn push_schedule_row(
+    alloc: Global,
+    out: &mut Vec<u8>,
+    row: &str,
+) -> Result<(), AllocError> {
+    let text = lined(alloc, row)?;
+    push_read_schedule(alloc, out, text.as_slice())
 }
 
 /// The texts of the features and of the contacts of a world.
-fn files_of(alloc: Global, world: &World) -> Result<Vec<u8>, Stop> {
+fn push_world_files(alloc: Global, out: &mut Vec<u8>, world: &World) -> Result<(), AllocError> {
     let mut files = Vec::new(alloc);
     write_features(&mut files, world.features())?;
     write_contacts(&mut files, world.ledger())?;
-    Ok(files)
+    out.extend_from_slice(files.as_slice())
 }
 
 /// The texts of the features and of the contacts behind a schedule.
-pub(crate) fn files(
+pub(crate) fn push_files(
     alloc: Global,
-    made: Made<'_>,
-    setup: &str,
+    out: &mut Vec<u8>,
+    ends: (Made<'_>, &str),
     schedule: &str,
-) -> Result<Vec<u8>, Stop> {
-    let world = played(alloc, made, setup, schedule.as_bytes())?;
-    files_of(alloc, &world)
+) -> Result<(), Stop> {
+    push_new_played(alloc, out, ends, schedule.as_bytes(), Shown::Files)
 }
