@@ -1,6 +1,6 @@
 // A world through many events.
 
-use crate::made::{Made, new_world};
+use crate::made::{Made, WorldTask, do_task};
 use crate::shown::{push_files, push_text, push_world};
 use crate::stop::Stop;
 use dmis_program::Program;
@@ -138,14 +138,32 @@ fn push_rows<M: Machine>(
     Ok(())
 }
 
-/// The rows of a new world.
+/// The rows of a new world are written.
+#[derive(Drop)]
+struct Rows<'a> {
+    out: &'a mut Vec<u8>,
+    program: &'a Program,
+    rows: &'a str,
+}
+
+impl WorldTask for Rows<'_> {
+    fn done(&mut self, alloc: Global, world: &mut World) -> Result<(), Stop> {
+        let mut machine = Simulated::new(alloc, world.setup())?;
+        push_rows(
+            alloc,
+            (self.out, self.program),
+            (world, &mut machine),
+            self.rows,
+        )
+    }
+}
+
 pub(crate) fn push_events(
     alloc: Global,
     out: &mut Vec<u8>,
     (made, program): (Made<'_>, &Program),
     rows: &str,
 ) -> Result<(), Stop> {
-    let mut world = new_world(alloc, made)?;
-    let mut machine = Simulated::new(alloc, world.setup())?;
-    push_rows(alloc, (out, program), (&mut world, &mut machine), rows)
+    let mut task = Rows { out, program, rows };
+    do_task(alloc, made, &mut task)
 }

@@ -1,6 +1,6 @@
 // The worlds behind each front of a schedule.
 
-use crate::made::{Made, world_behind};
+use crate::made::{Made, WorldTask, do_task, play};
 use crate::shown::{push_number, push_text, push_world};
 use crate::stop::Stop;
 use dmis_program::Program;
@@ -46,14 +46,34 @@ fn numbers(world: &mut World, word: &str) -> Result<(u64, u64), Stop> {
 }
 
 /// The same of the world behind a front.
+#[derive(Drop)]
+struct NumbersBehind<'a> {
+    front: &'a [u8],
+    word: &'a str,
+    found: (u64, u64),
+}
+
+impl WorldTask for NumbersBehind<'_> {
+    fn done(&mut self, alloc: Global, world: &mut World) -> Result<(), Stop> {
+        play(alloc, world, self.front)?;
+        self.found = numbers(world, self.word)?;
+        Ok(())
+    }
+}
+
 fn numbers_behind(
     alloc: Global,
     made: Made<'_>,
     front: &[u8],
     word: &str,
 ) -> Result<(u64, u64), Stop> {
-    let mut world = world_behind(alloc, made, front)?;
-    numbers(&mut world, word)
+    let mut task = NumbersBehind {
+        front,
+        word,
+        found: (0, 0),
+    };
+    do_task(alloc, made, &mut task)?;
+    Ok(task.found)
 }
 
 /// Instructions with `;` behind each, as lines; each `*` is this number.
@@ -97,15 +117,29 @@ fn push_end(
     push_behind(alloc, out, (made, program), text)
 }
 
-/// A world behind a text of instructions.
+/// A world behind a text of instructions is written.
+#[derive(Drop)]
+struct Behind<'a> {
+    out: &'a mut Vec<u8>,
+    program: &'a Program,
+    text: &'a [u8],
+}
+
+impl WorldTask for Behind<'_> {
+    fn done(&mut self, alloc: Global, world: &mut World) -> Result<(), Stop> {
+        play(alloc, world, self.text)?;
+        push_world(alloc, self.out, self.program, world)
+    }
+}
+
 fn push_behind(
     alloc: Global,
     out: &mut Vec<u8>,
     (made, program): (Made<'_>, &Program),
     text: &[u8],
 ) -> Result<(), Stop> {
-    let world = world_behind(alloc, made, text)?;
-    push_world(alloc, out, program, &world)
+    let mut task = Behind { out, program, text };
+    do_task(alloc, made, &mut task)
 }
 
 /// A world that is stopped behind a front, at its end.

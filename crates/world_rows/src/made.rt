@@ -1,4 +1,4 @@
-// What worlds are made of, and a world behind a text of instructions.
+// What worlds are made of, and what is done with them.
 
 use crate::stop::Stop;
 use dmis_program::Program;
@@ -27,7 +27,7 @@ fn read_program(alloc: Global, made: Made<'_>, setup: &Setup) -> Result<Program,
 }
 
 /// A world in which nothing has happened.
-pub(crate) fn new_world(alloc: Global, made: Made<'_>) -> Result<World, Stop> {
+fn new_world(alloc: Global, made: Made<'_>) -> Result<World, Stop> {
     let setup = read_setup(alloc, made)?;
     let program = read_program(alloc, made, &setup)?;
     match World::new(alloc, program, setup, made.window) {
@@ -42,11 +42,20 @@ pub(crate) fn play(alloc: Global, world: &mut World, text: &[u8]) -> Result<(), 
     Ok(schedule.play(world)?)
 }
 
-/// A new world behind the instructions of a text.
-pub(crate) fn world_behind(alloc: Global, made: Made<'_>, text: &[u8]) -> Result<World, Stop> {
+/// What a new world is made for.
+pub(crate) trait WorldTask {
+    /// What is done with it.
+    fn done(&mut self, alloc: Global, world: &mut World) -> Result<(), Stop>;
+}
+
+/// A task of a new world is done. A world is owned here alone, since a function that owns one takes the prover as long as ten others.
+pub(crate) fn do_task<T: WorldTask>(
+    alloc: Global,
+    made: Made<'_>,
+    task: &mut T,
+) -> Result<(), Stop> {
     let mut world = new_world(alloc, made)?;
-    play(alloc, &mut world, text)?;
-    Ok(world)
+    task.done(alloc, &mut world)
 }
 
 /// The program that worlds are made of.

@@ -13,7 +13,7 @@
 //! of at most 2,000 bytes; or `show`; or `files`.
 //!
 //! - `parts`: the parts of the input, and what is written of them
-//! - `made`: what worlds are made of, and a world behind a text of instructions
+//! - `made`: what worlds are made of, and what is done with them
 //! - `fronts`: the worlds behind each front of a schedule
 //! - `events`: a world through many events
 //! - `shown`: worlds as they are written
