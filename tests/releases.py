@@ -93,17 +93,39 @@ def growths_of(run, most):
     return whole, [run(number, None) for number in range(1, min(growths, most) + 1)]
 
 
+def wants(whole, run):
+    """An end for want of memory behind what was told by then, with nothing printed or the report of what was done."""
+    told = run[2].removesuffix(WANT[1])
+    return (run[0] == WANT[0] and run[2].endswith(WANT[1]) and whole[2].startswith(told)
+            and (run[1] == "" or "FEATURE" in run[1] or run[1].startswith("STATE ")))
+
+
+def is_unexplained(whole, run):
+    """The refusal by itself, where memory was wanting for what is shown of its file."""
+    told = whole[2].splitlines(keepends=True)
+    return whole[0] != 0 and len(told) > 1 and run == (*whole[:2], told[0])
+
+
+def is_untraced(whole, run):
+    """The lines of one side end with the word that memory was wanting for them; all else is as with all memory."""
+    for mark in ("1 > ", "1 < "):
+        own = [[it for it in told[2].splitlines() if it.startswith(mark)] for told in (whole, run)]
+        others = [[it for it in told[2].splitlines() if not it.startswith(mark)] for told in (whole, run)]
+        if run[:2] == whole[:2] and others[0] == others[1] and own[1] == own[0][:len(own[1]) - 1] + [f"{mark}out of memory"]:
+            return True
+    return False
+
+
 def must_want(whole, runs):
-    """Each run ends as with all memory, or for want of memory with nothing else said, or prints a front."""
+    """Each run ends as with all memory, or for want of memory, or tells less beside what it prints."""
     for number, run in enumerate(runs, 1):
-        if run != whole:
-            must((run[0], run[2]) == WANT, "growth", number, "another end", run)
-            must(run[1] == "" or "FEATURE" in run[1] or run[1].startswith("STATE "), "growth", number, "something is printed", run)
+        must(run == whole or wants(whole, run) or is_unexplained(whole, run) or is_untraced(whole, run), "growth", number, "another end", run)
     return len(runs)
 
 
 def must_want_rows(whole, runs):
-    """The program of rows: as with all memory, or an end for want of memory, or rows that say so."""
+    """The program of rows: as with all memory, or an end for want of memory, or a row that says so, behind which the end that the rows
+    are about stands elsewhere."""
     must(whole[0] == 0, "with all memory", whole)
     rows = whole[1].splitlines()
     for number, (status, output, errors) in enumerate(runs, 1):
@@ -112,9 +134,10 @@ def must_want_rows(whole, runs):
             continue
         lines = output.splitlines()
         must(status == 0 and len(lines) == len(rows), "growth", number, "another end", status)
+        has_wanted = False
         for line, row in zip(lines, rows):
-            wants = "emory" in line or "WriteFailed" in line
-            must(line == row or wants and line.split(" => ")[0] == row.split(" => ")[0], "growth", number, line, "not", row)
+            has_wanted = has_wanted or line != row and ("emory" in line or "WriteFailed" in line)
+            must(line == row or has_wanted and line.split(" => ")[0] == row.split(" => ")[0], "growth", number, line, "not", row)
     return len(runs)
 
 
