@@ -1,11 +1,11 @@
 // Small audits, made by a fixed generator. A touch wants one of two targets and one of two tools, contacts are on two connections and
 // report one of two points.
 
+use crate::made::name;
 use contact_ledger::{Act, Feature, Points, ServerLedger};
 use dmis_program::{Frames, Program};
-use fixed_um::{Dir, Frame, Name, Point, Um};
+use fixed_um::{Dir, Frame, Point, Um};
 use std::alloc::{AllocError, Global};
-use std::test::Fail;
 
 /// No case has more features than this, nor more acts than this.
 pub(crate) const FEATURES: usize = 3;
@@ -73,8 +73,8 @@ impl Numbers {
     }
 }
 
-fn new_acts(alloc: Global, numbers: &mut Numbers) -> Result<Vec<Option<Shot>>, AllocError> {
-    let mut acts = Vec::new(alloc);
+/// Draws what is done: shots, and moves between them.
+fn draw_acts(acts: &mut Vec<Option<Shot>>, numbers: &mut Numbers) -> Result<(), AllocError> {
     let mut connection = 1;
     for _ in 0..numbers.below(ACTS + 1) {
         if numbers.below(6) == 0 {
@@ -90,61 +90,92 @@ fn new_acts(alloc: Global, numbers: &mut Numbers) -> Result<Vec<Option<Shot>>, A
             })
         })?;
     }
-    Ok(acts)
+    Ok(())
 }
 
-pub(crate) fn shots_of(alloc: Global, acts: &[Option<Shot>]) -> Result<Vec<Shot>, AllocError> {
-    let mut shots = Vec::new(alloc);
+/// Appends what acts have of shots.
+fn push_shots(shots: &mut Vec<Shot>, acts: &[Option<Shot>]) -> Result<(), AllocError> {
     for act in acts {
         if let Some(shot) = act {
             shots.push(*shot)?;
         }
     }
-    Ok(shots)
+    Ok(())
 }
 
-/// Adds a wanted feature and a held one: mostly what a row of shots would give, else any.
-fn push_feature(
-    alloc: Global,
-    case: &mut Case,
+/// Adds a touch to a wanted feature, and its point to a held one.
+fn push_touch(
+    block: &mut Block,
+    held: &mut Held,
+    asked: Asked,
+    point: usize,
+) -> Result<(), AllocError> {
+    block.touches.push(asked)?;
+    held.points.push(point)?;
+    Ok(())
+}
+
+/// Gives a wanted feature and a held one their touches: mostly what a row of shots would give, else any.
+fn draw_touches(
+    block: &mut Block,
+    held: &mut Held,
     shots: &[Shot],
     numbers: &mut Numbers,
-    from: usize,
 ) -> Result<(), AllocError> {
-    let label = case.held.len();
-    let mut touches = Vec::new(alloc);
-    let mut points = Vec::new(alloc);
     let any = numbers.below(5) == 0;
-    for shot in shots
-        .iter()
-        .skip(from)
-        .take(numbers.below(3).saturating_add(1))
-    {
-        touches.push(if any { numbers.asked() } else { shot.asked })?;
-        points.push(shot.point)?;
+    let count = numbers.below(3).saturating_add(1);
+    for shot in shots.iter().take(count) {
+        let asked = if any { numbers.asked() } else { shot.asked };
+        push_touch(block, held, asked, shot.point)?;
     }
-    if touches.is_empty() {
-        touches.push(numbers.asked())?;
-        points.push(numbers.below(2))?;
+    if shots.is_empty() {
+        let asked = numbers.asked();
+        push_touch(block, held, asked, numbers.below(2))?;
     }
+    Ok(())
+}
+
+/// Adds a wanted feature and a held one, without touches.
+fn push_empty(alloc: Global, case: &mut Case) -> Result<(), AllocError> {
+    let label = case.held.len();
+    let touches = Vec::new(alloc);
     case.blocks.push(Block { label, touches })?;
+    let points = Vec::new(alloc);
     case.held.push(Held { label, points })?;
     Ok(())
 }
 
-pub(crate) fn new_case(alloc: Global, numbers: &mut Numbers) -> Result<Case, AllocError> {
-    let acts = new_acts(alloc, numbers)?;
-    let shots = shots_of(alloc, &acts)?;
-    let mut case = Case {
-        blocks: Vec::new(alloc),
-        held: Vec::new(alloc),
-        acts,
-    };
+/// Adds a wanted feature and a held one for the shots that are left.
+fn draw_feature(
+    alloc: Global,
+    case: &mut Case,
+    shots: &[Shot],
+    numbers: &mut Numbers,
+) -> Result<(), AllocError> {
+    push_empty(alloc, case)?;
+    match (case.blocks.last_mut(), case.held.last_mut()) {
+        (Some(block), Some(held)) => draw_touches(block, held, shots, numbers),
+        _ => Ok(()),
+    }
+}
+
+/// Draws what is wanted and held.
+fn draw_features(
+    alloc: Global,
+    case: &mut Case,
+    shots: &[Shot],
+    numbers: &mut Numbers,
+) -> Result<(), AllocError> {
     let mut from = 0usize;
     for _ in 0..numbers.below(FEATURES + 1) {
-        push_feature(alloc, &mut case, &shots, numbers, from)?;
+        draw_feature(alloc, case, shots.get(from..).unwrap_or(&[]), numbers)?;
         from = from.saturating_add(numbers.below(4));
     }
+    Ok(())
+}
+
+/// Takes something from some cases, behind which they have mostly no run.
+fn spoil(case: &mut Case, numbers: &mut Numbers) {
     match numbers.below(16) {
         0 => {
             // More features than the program has.
@@ -163,102 +194,148 @@ pub(crate) fn new_case(alloc: Global, numbers: &mut Numbers) -> Result<Case, All
         }
         _ => {}
     }
-    Ok(case)
+}
+
+impl Case {
+    pub(crate) fn new(alloc: Global) -> Case {
+        Case {
+            blocks: Vec::new(alloc),
+            held: Vec::new(alloc),
+            acts: Vec::new(alloc),
+        }
+    }
+
+    /// Draws a case into this one, which is empty, and its shots into others.
+    pub(crate) fn draw(
+        &mut self,
+        alloc: Global,
+        shots: &mut Vec<Shot>,
+        numbers: &mut Numbers,
+    ) -> Result<(), AllocError> {
+        draw_acts(&mut self.acts, numbers)?;
+        push_shots(shots, &self.acts)?;
+        draw_features(alloc, self, shots.as_slice(), numbers)?;
+        spoil(self, numbers);
+        Ok(())
+    }
 }
 
 // ---- cases as programs, features and ledgers
 
-const LABELS: [&[u8]; 8] = [b"A", b"B", b"C", b"D", b"E", b"F", b"G", b"H"];
+const LABELS: [&str; 8] = ["A", "B", "C", "D", "E", "F", "G", "H"];
 
-fn name(alloc: Global, text: &[u8]) -> Result<Name, Fail> {
-    let name = Name::new(alloc, text)?.ok_or("a name")?;
-    Ok(name)
-}
-
-fn label(index: usize) -> &'static [u8] {
+fn label(index: usize) -> &'static str {
     match LABELS.get(index) {
         Some(label) => label,
-        None => b"Z",
+        None => "Z",
     }
 }
 
-fn along_x(first: i64, index: usize) -> Result<Point, Fail> {
-    let x = Um::new(if index == 0 { first } else { 20_000 }).ok_or("a length")?;
-    Ok(Point {
-        x,
+fn along_x(first: i64, index: usize) -> Option<Point> {
+    Some(Point {
+        x: Um::new(if index == 0 { first } else { 20_000 })?,
         y: Um::zero(),
         z: Um::zero(),
     })
 }
 
+/// Appends the statements of a touch.
+fn push_asked(text: &mut Vec<u8>, asked: Asked) -> Result<(), AllocError> {
+    text.extend_from_slice(if asked.tool == 0 {
+        b"SNSLCT/S(P1)\n"
+    } else {
+        b"SNSLCT/S(P2)\n"
+    })?;
+    text.extend_from_slice(if asked.target == 0 {
+        b"PTMEAS/CART,10,0,0,0,0,1\n"
+    } else {
+        b"PTMEAS/CART,20,0,0,0,0,1\n"
+    })
+}
+
 fn push_block(text: &mut Vec<u8>, block: &Block) -> Result<(), AllocError> {
     text.extend_from_slice(b"MEAS/POINT,F(")?;
-    text.extend_from_slice(label(block.label))?;
+    text.extend_from_slice(label(block.label).as_bytes())?;
     text.extend_from_slice(b"),1\n")?;
     for asked in &block.touches {
-        text.extend_from_slice(if asked.tool == 0 {
-            b"SNSLCT/S(P1)\n"
-        } else {
-            b"SNSLCT/S(P2)\n"
-        })?;
-        text.extend_from_slice(if asked.target == 0 {
-            b"PTMEAS/CART,10,0,0,0,0,1\n"
-        } else {
-            b"PTMEAS/CART,20,0,0,0,0,1\n"
-        })?;
+        push_asked(text, *asked)?;
     }
     text.extend_from_slice(b"ENDMES\n")
 }
 
-pub(crate) fn program(alloc: Global, case: &Case) -> Result<Program, Fail> {
-    let mut text = Vec::new(alloc);
+fn push_program(text: &mut Vec<u8>, case: &Case) -> Result<(), AllocError> {
     text.extend_from_slice(b"DMISMN/'CASE',05.2\n")?;
     for block in &case.blocks {
-        push_block(&mut text, block)?;
+        push_block(text, block)?;
     }
-    text.extend_from_slice(b"ENDFIL\n")?;
-    let program = Program::read(alloc, &text, &Frames::new(alloc))
-        .ok()
-        .ok_or("a program")?;
-    Ok(program)
+    text.extend_from_slice(b"ENDFIL\n")
 }
 
-pub(crate) fn features(alloc: Global, case: &Case) -> Result<Vec<Feature>, Fail> {
-    let mut features = Vec::new(alloc);
+pub(crate) fn program(alloc: Global, case: &Case) -> Option<Program> {
+    let mut text = Vec::new(alloc);
+    push_program(&mut text, case).ok()?;
+    Program::read(alloc, &text, &Frames::new(alloc)).ok()
+}
+
+/// Appends the points of these numbers.
+fn push_points(points: &mut Points, numbers: &[usize]) -> Option<()> {
+    for number in numbers {
+        points.push(along_x(10_002, *number)?).ok()?;
+    }
+    Some(())
+}
+
+fn push_feature(alloc: Global, features: &mut Vec<Feature>, held: &Held) -> Option<()> {
+    let mut feature = Feature {
+        label: name(alloc, label(held.label))?,
+        points: Points::new(alloc),
+        origin: None,
+    };
+    push_points(&mut feature.points, &held.points)?;
+    features.push(feature).ok()
+}
+
+pub(crate) fn push_features(alloc: Global, features: &mut Vec<Feature>, case: &Case) -> Option<()> {
     for held in &case.held {
-        let mut points = Points::new(alloc);
-        for point in &held.points {
-            points.push(along_x(10_002, *point)?)?;
-        }
-        features.push(Feature {
-            label: name(alloc, label(held.label))?,
-            points,
-            origin: None,
-        })?;
+        push_feature(alloc, features, held)?;
     }
-    Ok(features)
+    Some(())
 }
 
-pub(crate) fn ledger(alloc: Global, acts: &[Option<Shot>]) -> Result<ServerLedger, Fail> {
-    let mut ledger = ServerLedger::new(alloc);
-    for act in acts {
-        let Some(shot) = act else {
-            ledger.push(1, Act::Moved(along_x(10_000, 0)?, Frame::Machine))?;
-            continue;
-        };
-        let tool = name(alloc, if shot.asked.tool == 0 { b"P1" } else { b"P2" })?;
-        let made = Act::Contact {
-            target: along_x(10_000, shot.asked.target)?,
-            dir: Some(Dir {
-                i: 0,
-                j: 0,
-                k: 1_000_000,
-            }),
-            tool,
-            frame: Frame::Machine,
-            point: along_x(10_002, shot.point)?,
-        };
-        ledger.push(if shot.connection == 1 { 1 } else { 2 }, made)?;
+/// The contact of a shot.
+fn contact(alloc: Global, shot: &Shot) -> Option<Act> {
+    let target = along_x(10_000, shot.asked.target)?;
+    let point = along_x(10_002, shot.point)?;
+    Some(Act::Contact {
+        target,
+        dir: Some(Dir {
+            i: 0,
+            j: 0,
+            k: 1_000_000,
+        }),
+        tool: name(alloc, if shot.asked.tool == 0 { "P1" } else { "P2" })?,
+        frame: Frame::Machine,
+        point,
+    })
+}
+
+fn push_act(alloc: Global, ledger: &mut ServerLedger, act: &Option<Shot>) -> Option<()> {
+    match act {
+        Some(shot) => {
+            let made = contact(alloc, shot)?;
+            let connection = if shot.connection == 1 { 1 } else { 2 };
+            ledger.push(connection, made).ok()
+        }
+        None => {
+            let target = along_x(10_000, 0)?;
+            ledger.push(1, Act::Moved(target, Frame::Machine)).ok()
+        }
     }
-    Ok(ledger)
+}
+
+pub(crate) fn push_acts(alloc: Global, ledger: &mut ServerLedger, case: &Case) -> Option<()> {
+    for act in &case.acts {
+        push_act(alloc, ledger, act)?;
+    }
+    Some(())
 }

@@ -2,9 +2,12 @@
 // place.
 
 use crate::audit_cases::{
-    Block, Case, FEATURES, Held, Numbers, Shot, features, ledger, new_case, program, shots_of,
+    Block, Case, FEATURES, Held, Numbers, Shot, program, push_acts, push_features,
 };
+use contact_ledger::{Feature, ServerLedger};
+use dmis_program::Program;
 use ledger_audit::{Verdict, audit};
+use std::alloc::Global;
 use std::test::Fail;
 
 const CASES: usize = 400;
@@ -79,6 +82,45 @@ fn is_right(case: &Case, shots: &[Shot], verdict: &Verdict) -> bool {
     }
 }
 
+/// The verdict on a case, whose features and acts are added to lists that are empty.
+fn audited(
+    alloc: Global,
+    case: &Case,
+    program: &Program,
+    features: &mut Vec<Feature>,
+    ledger: &mut ServerLedger,
+) -> Option<Verdict> {
+    push_features(alloc, features, case)?;
+    push_acts(alloc, ledger, case)?;
+    audit(alloc, program, features.as_slice(), ledger).ok()
+}
+
+/// The verdict on a case.
+fn verdict(alloc: Global, case: &Case) -> Option<Verdict> {
+    let program = program(alloc, case)?;
+    let features = &mut Vec::new(alloc);
+    audited(
+        alloc,
+        case,
+        &program,
+        features,
+        &mut ServerLedger::new(alloc),
+    )
+}
+
+/// Draws a case; whether the verdict on it is that of the plain search, and whether it has runs.
+fn drawn(
+    alloc: Global,
+    case: &mut Case,
+    shots: &mut Vec<Shot>,
+    numbers: &mut Numbers,
+) -> Option<(bool, bool)> {
+    case.draw(alloc, shots, numbers).ok()?;
+    let verdict = verdict(alloc, case)?;
+    let has_runs = matches!(verdict, Verdict::Starts(_));
+    Some((is_right(case, shots.as_slice(), &verdict), has_runs))
+}
+
 #[test]
 fn small_cases_agree_with_a_plain_search(rt: HostRuntime) -> Result<(), Fail> {
     let alloc = rt.alloc();
@@ -86,19 +128,14 @@ fn small_cases_agree_with_a_plain_search(rt: HostRuntime) -> Result<(), Fail> {
     let mut with_runs = 0u32;
     let mut without = 0u32;
     for _ in 0..CASES {
-        let case = new_case(alloc, &mut numbers)?;
-        let shots = shots_of(alloc, &case.acts)?;
-        let held = features(alloc, &case)?;
-        let verdict = audit(
-            alloc,
-            &program(alloc, &case)?,
-            &held,
-            &ledger(alloc, &case.acts)?,
-        )?;
-        assert!(rt; is_right(&case, &shots, &verdict));
-        match verdict {
-            Verdict::Starts(_) => with_runs = with_runs.saturating_add(1),
-            Verdict::NoRun(_) => without = without.saturating_add(1),
+        let shots = &mut Vec::new(alloc);
+        let case = drawn(alloc, &mut Case::new(alloc), shots, &mut numbers);
+        let (is_right, has_runs) = case.ok_or("a case")?;
+        assert!(rt; is_right);
+        if has_runs {
+            with_runs = with_runs.saturating_add(1);
+        } else {
+            without = without.saturating_add(1);
         }
     }
     assert!(rt; with_runs >= 100);

@@ -1,83 +1,72 @@
 // What a client hands back where it is not made. The rows of its calls are those of `call_rows`.
 
+use crate::made::{TWO, name, program};
 use client_core::{Client, NewFault};
 use contact_ledger::{Feature, FeatureLedger, Points};
-use dmis_program::{Frames, Program};
-use fixed_um::{Name, Point, Um};
-use std::alloc::Global;
-use std::test::Fail;
+use dmis_program::Program;
+use fixed_um::Point;
+use std::alloc::{AllocError, Global};
 
-const TWO: &[u8] = b"\
-DMISMN/'TWO',05.2
-SNSLCT/S(P1)
-MEAS/POINT,F(A),1
-PTMEAS/CART,1,2,3,0,0,1
-ENDMES
-MEAS/POINT,F(B),1
-PTMEAS/CART,4,5,6,0,0,1
-ENDMES
-ENDFIL
-";
-
-fn program(alloc: Global) -> Result<Program, Fail> {
-    let frames = Frames::new(alloc);
-    let program = Program::read(alloc, TWO, &frames).ok().ok_or("a program")?;
-    Ok(program)
+/// So many points.
+fn zeros(alloc: Global, count: u32) -> Result<Points, AllocError> {
+    let mut points = Points::new(alloc);
+    for _ in 0..count {
+        points.push(Point::zero())?;
+    }
+    Ok(points)
 }
 
-/// Features of one label, with one point or more.
-fn kept(alloc: Global, label: &[u8], points: u32) -> Result<FeatureLedger, Fail> {
-    let label = Name::new(alloc, label)?.ok_or("a name")?;
-    let mut all = Points::new(alloc);
-    for _ in 0..points {
-        all.push(Point {
-            x: Um::zero(),
-            y: Um::zero(),
-            z: Um::zero(),
-        })?;
-    }
-    let mut features = FeatureLedger::new(alloc);
-    features.push(Feature {
-        label,
-        points: all,
+/// Appends a feature of a label, with one point or more.
+fn push_kept(alloc: Global, features: &mut FeatureLedger, label: &str, count: u32) -> Option<()> {
+    let points = zeros(alloc, count).ok()?;
+    let feature = Feature {
+        label: name(alloc, label)?,
+        points,
         origin: None,
-    })?;
-    Ok(features)
+    };
+    features.push(feature).ok()
+}
+
+/// Features that are kept, of that one.
+fn kept(alloc: Global, label: &str, count: u32) -> Option<FeatureLedger> {
+    let mut features = FeatureLedger::new(alloc);
+    push_kept(alloc, &mut features, label, count)?;
+    Some(features)
 }
 
 /// Why no client is made, and the counts of features of the program and of those that are kept, which are handed back.
+fn told(refused: &Option<(NewFault, Program, FeatureLedger)>) -> Option<(NewFault, usize, usize)> {
+    let (fault, program, features) = refused.as_ref()?;
+    Some((*fault, program.features().len(), features.list().len()))
+}
+
+/// The same of a client of two features, where one with these points is kept.
 fn refusal(
     alloc: Global,
-    label: &[u8],
+    label: &str,
     points: u32,
     window: u8,
-) -> Result<Option<(NewFault, usize, usize)>, Fail> {
-    let program = program(alloc)?;
-    match Client::new(alloc, program, kept(alloc, label, points)?, window) {
-        Ok(_) => Ok(None),
-        Err((fault, program, features)) => Ok(Some((
-            fault,
-            program.features().len(),
-            features.list().len(),
-        ))),
-    }
+) -> Option<Option<(NewFault, usize, usize)>> {
+    let kept = kept(alloc, label, points)?;
+    let program = program(alloc, TWO)?;
+    let refused = Client::new(alloc, program, kept, window).err();
+    Some(told(&refused))
 }
 
 #[test]
-fn only_the_first_features_of_a_program_are_kept(rt: HostRuntime) -> Result<(), Fail> {
+fn only_the_first_features_of_a_program_are_kept(rt: HostRuntime) {
     let alloc = rt.alloc();
     let rows = [
-        (b"A", 1u32, 0u8, Some((NewFault::BadWindow, 2usize, 1usize))),
-        (b"A", 1, 1, None),
-        (b"A", 1, 16, None),
-        (b"A", 1, 17, Some((NewFault::BadWindow, 2, 1))),
-        (b"A", 1, 255, Some((NewFault::BadWindow, 2, 1))),
-        (b"B", 1, 1, Some((NewFault::NotOurs, 2, 1))),
-        (b"A", 2, 1, Some((NewFault::NotOurs, 2, 1))),
-        (b"B", 1, 17, Some((NewFault::BadWindow, 2, 1))),
+        ("A", 1u32, 0u8, Some((NewFault::BadWindow, 2usize, 1usize))),
+        ("A", 1, 1, None),
+        ("A", 1, 16, None),
+        ("A", 1, 17, Some((NewFault::BadWindow, 2, 1))),
+        ("A", 1, 255, Some((NewFault::BadWindow, 2, 1))),
+        ("B", 1, 1, Some((NewFault::NotOurs, 2, 1))),
+        ("A", 2, 1, Some((NewFault::NotOurs, 2, 1))),
+        ("B", 1, 17, Some((NewFault::BadWindow, 2, 1))),
     ];
     for (label, points, window, wanted) in rows {
-        assert_eq!(rt; refusal(alloc, label, points, window)?, wanted);
+        assert_eq!(rt; refusal(alloc, label, points, window), Some(wanted));
     }
-    Ok(())
 }

@@ -1,9 +1,10 @@
 // What no clause says: that the calls which want memory succeed with it.
 
+ghost use Rattle.contact_ledger.specs.Ledgers.{IsOrigin};
+
 use contact_ledger::{Act, Feature, FeatureLedger, Origin, Points, ServerLedger};
 use fixed_um::{Frame, Name, Point, Um};
 use std::alloc::{AllocError, Global};
-use std::test::Fail;
 
 fn point(x: Um) -> Point {
     Point {
@@ -13,17 +14,15 @@ fn point(x: Um) -> Point {
     }
 }
 
-fn contact(alloc: Global, target: Point, point: Point) -> Result<Option<Act>, AllocError> {
-    let Some(tool) = Name::new(alloc, b"P1")? else {
-        return Ok(None);
-    };
-    Ok(Some(Act::Contact {
-        target,
+/// A contact at the limit of the volume.
+fn contact(tool: Name) -> Act {
+    Act::Contact {
+        target: point(Um::zero()),
         dir: None,
         tool,
         frame: Frame::Machine,
-        point,
-    }))
+        point: point(Um::volume_limit()),
+    }
 }
 
 /// How many of the features have these two points.
@@ -39,10 +38,39 @@ fn with_points(features: &[Feature], first: Point, last: Point) -> usize {
 
 /// Appends a contact and the choice of a frame.
 fn push_two(alloc: Global, ledger: &mut ServerLedger) -> Result<(), AllocError> {
-    if let Some(act) = contact(alloc, point(Um::zero()), point(Um::volume_limit()))? {
-        ledger.push(4_000_000_000, act)?;
+    if let Some(tool) = Name::new(alloc, b"P1")? {
+        ledger.push(4_000_000_000, contact(tool))?;
     }
     ledger.push(2, Act::Framed(Frame::Machine))?;
+    Ok(())
+}
+
+/// Appends eight acts, three of which are contacts.
+fn push_acts(alloc: Global, ledger: &mut ServerLedger) -> Result<(), AllocError> {
+    ledger.push(1, Act::HomedIs(false))?;
+    ledger.push(1, Act::Homed)?;
+    for _ in 0..3 {
+        push_two(alloc, ledger)?;
+    }
+    Ok(())
+}
+
+/// Appends the two points of a feature.
+fn push_points(points: &mut Points) -> Result<(), AllocError> {
+    points.push(point(Um::zero()))?;
+    points.push(point(Um::volume_limit()))
+}
+
+/// Gives a feature two points and appends a copy of it.
+fn push_copy(
+    alloc: Global,
+    features: &mut FeatureLedger,
+    feature: &mut Feature,
+) -> Result<(), AllocError>
+    requires { IsOrigin feature.old.origin }
+{
+    push_points(&mut feature.points)?;
+    features.push(feature.copy(alloc)?)?;
     Ok(())
 }
 
@@ -51,43 +79,43 @@ fn push_feature(alloc: Global, features: &mut FeatureLedger) -> Result<(), Alloc
     let Some(label) = Name::new(alloc, b"A")? else {
         return Ok(());
     };
-    let mut points = Points::new(alloc);
-    points.push(point(Um::zero()))?;
-    points.push(point(Um::volume_limit()))?;
-    let origin = Some(Origin {
-        connection: 4_000_000_000,
-        frame: Frame::Part(point(Um::volume_limit())),
-    });
-    let feature = Feature {
+    let mut feature = Feature {
         label,
-        points,
-        origin,
+        points: Points::new(alloc),
+        origin: Some(Origin {
+            connection: 4_000_000_000,
+            frame: Frame::Part(point(Um::volume_limit())),
+        }),
     };
-    features.push(feature.copy(alloc)?)?;
+    push_copy(alloc, features, &mut feature)
+}
+
+/// Appends so many of them.
+fn push_features(
+    alloc: Global,
+    features: &mut FeatureLedger,
+    count: u32,
+) -> Result<(), AllocError> {
+    for _ in 0..count {
+        push_feature(alloc, features)?;
+    }
     Ok(())
 }
 
 #[test]
-fn ledgers_grow_and_are_counted(rt: HostRuntime) -> Result<(), Fail> {
+fn ledgers_grow_and_are_counted(rt: HostRuntime) {
     let alloc = rt.alloc();
     let mut ledger = ServerLedger::new(alloc);
-    ledger.push(1, Act::HomedIs(false))?;
-    ledger.push(1, Act::Homed)?;
-    for _ in 0..3 {
-        push_two(alloc, &mut ledger)?;
-    }
+    assert_eq!(rt; push_acts(alloc, &mut ledger), Ok(()));
     assert_eq!(rt; ledger.acts().len(), 8);
     assert_eq!(rt; ledger.contacts(), 3);
 
     let mut features = FeatureLedger::new(alloc);
-    for _ in 0..6 {
-        push_feature(alloc, &mut features)?;
-    }
+    assert_eq!(rt; push_features(alloc, &mut features, 6), Ok(()));
     let whole = with_points(
         features.list(),
         point(Um::zero()),
         point(Um::volume_limit()),
     );
     assert_eq!(rt; whole, 6);
-    Ok(())
 }

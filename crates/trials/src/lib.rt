@@ -3,6 +3,7 @@
 //!
 //! - `ledgers`, `queue`, `tags`, `plans`: the values and lists that both ends stand on
 //! - `client`, `world`: a client that is not made, and both ends with their connections
+//! - `made`: the programs and names that several of them stand on
 //! - `audits`, `audit_cases`, `audit_search`: audits of small ledgers beside a plain search that tries all choices of starts
 #![tactic(auto)]
 
@@ -16,6 +17,8 @@ mod audits;
 mod client;
 #[cfg(test)]
 mod ledgers;
+#[cfg(test)]
+mod made;
 #[cfg(test)]
 mod plans;
 #[cfg(test)]

@@ -1,24 +1,14 @@
 // What no clause says: that the definition means the lines that a client sends, and that the call succeeds with memory.
-// In the programs `;` stands for the end of a line.
 
 ghost use Rattle.std.specs.Prelude.{All};
 ghost use Rattle.resume_plan.specs.Sendable.{IsSendable};
 
+use crate::made::{FRAMES, ONE, TWO, program};
 use dme_line::{Tag, write_command, write_point};
-use dmis_program::{Frames, Program};
-use fixed_um::{Frame, Name, Point, Um};
+use dmis_program::{Program, Touch};
+use fixed_um::Frame;
 use resume_plan::{Does, Planned, Start, plan};
 use std::alloc::{AllocError, Global};
-use std::test::Fail;
-
-const ONE: &str =
-    "DMISMN/'ONE',05.2;SNSLCT/S(P1);MEAS/POINT,F(A),1;GOTO/10,20,30;PTMEAS/CART,10,20,25,0,0,1;ENDMES;ENDFIL";
-
-const TWO: &str =
-    "DMISMN/'TWO',05.2;SNSLCT/S(P1);MEAS/POINT,F(A),1;PTMEAS/CART,1,2,3,0,0,1;ENDMES;MEAS/POINT,F(B),1;PTMEAS/CART,4,5,6,0,0,1;ENDMES;ENDFIL";
-
-const FRAMES: &str =
-    "DMISMN/'FRAMES',05.2;SNSLCT/S(P1);MEAS/POINT,F(A),1;PTMEAS/CART,10,0,0,0,0,1;ENDMES;MEAS/LINE,F(B),2;PTMEAS/CART,20,0,0,0,0,1;RECALL/D(PART);PTMEAS/CART,30,0,0,0,0,1;ENDMES;ENDFIL";
 
 /// Nothing is completed: all is measured, and the tool is selected where the program selects it.
 const ONE_FROM_ITS_START: &str = "\
@@ -83,6 +73,15 @@ fn push_frame(out: &mut Vec<u8>, frame: Frame) -> Result<(), AllocError> {
     }
 }
 
+/// Appends what a touch is, but for its being the last.
+fn push_touch(out: &mut Vec<u8>, touch: &Touch) -> Result<(), AllocError> {
+    out.extend_from_slice(b" touches ")?;
+    out.extend_from_slice(touch.tool.as_bytes())?;
+    push_frame(out, touch.frame)?;
+    out.push(b' ')?;
+    write_point(out, touch.target)
+}
+
 fn push_does(out: &mut Vec<u8>, does: &Does) -> Result<(), AllocError> {
     match does {
         Does::Nothing => Ok(()),
@@ -101,85 +100,79 @@ fn push_does(out: &mut Vec<u8>, does: &Does) -> Result<(), AllocError> {
             push_frame(out, *frame)
         }
         Does::Touches { touch, last } => {
-            out.extend_from_slice(b" touches ")?;
-            out.extend_from_slice(touch.tool.as_bytes())?;
-            push_frame(out, touch.frame)?;
-            out.push(b' ')?;
-            write_point(out, touch.target)?;
-            if *last {
-                out.extend_from_slice(b" last")?;
-            }
-            Ok(())
+            push_touch(out, touch)?;
+            out.extend_from_slice(if *last { b" last" } else { b"" })
         }
     }
 }
 
-/// The commands as lines under tags from one on, each with what it stands for.
-fn described(alloc: Global, commands: &[Planned], first: usize) -> Result<Vec<u8>, AllocError>
+/// Appends the commands as lines under tags from one on, each with what it stands for.
+fn push_commands(out: &mut Vec<u8>, commands: &[Planned], first: usize) -> Result<(), AllocError>
     requires { All IsSendable commands.now }
 {
-    let mut out = Vec::new(alloc);
     for (index, planned) in commands.iter().enumerate() {
         let number = (first.saturating_add(index) % 9999) as u32 + 1;
-        write_command(&mut out, Tag::Std(number), &planned.command)?;
-        push_does(&mut out, &planned.does)?;
+        write_command(out, Tag::Std(number), &planned.command)?;
+        push_does(out, &planned.does)?;
         out.push(b'\n')?;
     }
-    Ok(out)
+    Ok(())
 }
 
-/// A program with the frame PART, whose zero point stands at x = 100 mm.
-fn program(alloc: Global, text: &str) -> Result<Program, Fail> {
-    let mut frames = Frames::new(alloc);
-    let name = Name::new(alloc, b"PART")?.ok_or("a name")?;
-    let offset = Point {
-        x: Um::new(100_000).ok_or("a length")?,
-        y: Um::zero(),
-        z: Um::zero(),
-    };
-    frames.add(name, offset)?;
-    let mut bytes = Vec::new(alloc);
-    for byte in text.as_bytes() {
-        bytes.push(if *byte == b';' { b'\n' } else { *byte })?;
+/// Appends the plan of a program that has so many features completed, under tags from one on.
+fn push_plan(
+    alloc: Global,
+    out: &mut Vec<u8>,
+    program: &Program,
+    (completed, start): (usize, Start),
+    first: usize,
+) -> Option<()> {
+    if completed > program.features().len() {
+        return None;
     }
-    let program = Program::read(alloc, bytes.as_slice(), &frames)
-        .ok()
-        .ok_or("a program")?;
-    Ok(program)
+    let commands = plan(alloc, program, completed, start).ok()?;
+    push_commands(out, commands.as_slice(), first).ok()
+}
+
+/// The same of a program's text.
+fn push_planned(
+    alloc: Global,
+    out: &mut Vec<u8>,
+    text: &str,
+    behind: (usize, Start),
+    first: usize,
+) -> Option<()> {
+    let program = program(alloc, text)?;
+    push_plan(alloc, out, &program, behind, first)
+}
+
+/// Whether these lines are that plan.
+fn is_planned(
+    alloc: Global,
+    text: &str,
+    behind: (usize, Start),
+    first: usize,
+    lines: &str,
+) -> Option<bool> {
+    let mut out = Vec::new(alloc);
+    push_planned(alloc, &mut out, text, behind, first)?;
+    Some(out.as_slice() == lines.as_bytes())
 }
 
 #[test]
-fn plans_begin_behind_what_is_completed(rt: HostRuntime) -> Result<(), Fail> {
+fn plans_begin_behind_what_is_completed(rt: HostRuntime) {
     // On the same connection the session is begun already, and all else is as on a new one.
-    let (_, two_resumed) = TWO_BEHIND_A.split_once("\n").ok_or("lines")?;
+    let (_, two_resumed) = TWO_BEHIND_A.split_once("\n").unwrap_or(("", ""));
+    let (on_new, on_same) = (Start::NewConnection, Start::SameConnection);
     let cases = [
-        (
-            ONE,
-            0usize,
-            Start::NewConnection,
-            0usize,
-            ONE_FROM_ITS_START,
-        ),
-        (TWO, 1, Start::NewConnection, 0, TWO_BEHIND_A),
-        (TWO, 1, Start::SameConnection, 1, two_resumed),
-        (
-            FRAMES,
-            1,
-            Start::SameConnection,
-            12,
-            FRAMES_RESUMED_BEHIND_A,
-        ),
-        (FRAMES, 2, Start::NewConnection, 0, FRAMES_BEHIND_B),
+        (ONE, (0usize, on_new), 0usize, ONE_FROM_ITS_START),
+        (TWO, (1, on_new), 0, TWO_BEHIND_A),
+        (TWO, (1, on_same), 1, two_resumed),
+        (FRAMES, (1, on_same), 12, FRAMES_RESUMED_BEHIND_A),
+        (FRAMES, (2, on_new), 0, FRAMES_BEHIND_B),
     ];
-    for (text, completed, start, before, lines) in cases {
-        let alloc = rt.alloc();
-        let program = program(alloc, text)?;
-        if completed > program.features().len() {
-            return Err("too many features".into());
-        }
-        let commands = plan(alloc, &program, completed, start)?;
-        let described = described(alloc, commands.as_slice(), before)?;
-        assert_eq!(rt; described.as_slice(), lines.as_bytes(), "{text}");
+    for (text, behind, first, lines) in cases {
+        let is_planned = is_planned(rt.alloc(), text, behind, first, lines);
+        assert_eq!(rt; is_planned, Some(true), "{text}");
     }
-    Ok(())
 }

@@ -4,7 +4,6 @@ use dme_line::{Kind, Tag};
 use dme_tags::{Datum, Ended, Open, TagFault};
 use fixed_um::{Point, Um};
 use std::alloc::Global;
-use std::test::Fail;
 
 fn point() -> Point {
     Point {
@@ -15,12 +14,11 @@ fn point() -> Point {
 }
 
 /// Draws 9,999 standard tags and completes none.
-fn with_all_drawn(alloc: Global) -> Result<Open, TagFault> {
-    let mut open = Open::new(alloc);
+fn draw_all(open: &mut Open) -> Result<(), TagFault> {
     for _ in 0..9_999 {
         let _ = open.draw(Kind::GoTo)?;
     }
-    Ok(open)
+    Ok(())
 }
 
 /// Gives data under a tag: whether the machine is homed where that is asked for, and a point to any other command.
@@ -49,43 +47,54 @@ fn touch_often(open: &mut Open, count: u32) -> Result<(), TagFault> {
     Ok(())
 }
 
-/// Behind 9,999 touches the next tag.
-fn drawn_behind_all(alloc: Global) -> Result<Tag, TagFault> {
-    let mut open = Open::new(alloc);
-    touch_often(&mut open, 9_999)?;
+/// How many commands are open behind 9,999 draws; what is drawn then for a touch and for an abort, and for a touch where all are cleared.
+fn draw_on(open: &mut Open) -> Result<(usize, [Result<Tag, TagFault>; 3]), TagFault> {
+    draw_all(open)?;
+    let count = open.count();
+    let touch = open.draw(Kind::PtMeas);
+    let abort = open.draw(Kind::AbortE);
+    open.clear();
+    Ok((count, [touch, abort, open.draw(Kind::PtMeas)]))
+}
+
+/// The same from no command on.
+fn drawn_on(alloc: Global) -> Result<(usize, [Result<Tag, TagFault>; 3]), TagFault> {
+    draw_on(&mut Open::new(alloc))
+}
+
+/// The next tag behind so many touches.
+fn draw_behind(open: &mut Open, count: u32) -> Result<Tag, TagFault> {
+    touch_often(open, count)?;
     open.draw(Kind::PtMeas)
 }
 
+/// The next tag behind 9,999 touches.
+fn drawn_behind_all(alloc: Global) -> Result<Tag, TagFault> {
+    draw_behind(&mut Open::new(alloc), 9_999)
+}
+
 /// 00001 has failed, and its `%` is on the way; the next tag behind 9,998 touches of another plan.
-fn drawn_past_a_held_one(alloc: Global) -> Result<Tag, TagFault> {
-    let mut open = Open::new(alloc);
+fn draw_past_a_held_one(open: &mut Open) -> Result<Tag, TagFault> {
     let first = open.draw(Kind::PtMeas)?;
     open.failed(first)?;
     if open.count() == 0 {
         open.begin_plan();
     }
-    touch_often(&mut open, 9_998)?;
-    open.draw(Kind::PtMeas)
+    draw_behind(open, 9_998)
+}
+
+/// The same from no command on.
+fn drawn_past_a_held_one(alloc: Global) -> Result<Tag, TagFault> {
+    draw_past_a_held_one(&mut Open::new(alloc))
 }
 
 #[test]
-fn tags_come_round(rt: HostRuntime) -> Result<(), Fail> {
+fn tags_come_round(rt: HostRuntime) {
     let alloc = rt.alloc();
-    match with_all_drawn(alloc) {
-        Ok(mut open) => {
-            assert_eq!(rt; open.count(), 9_999);
-            assert_eq!(rt; open.draw(Kind::PtMeas), Err(TagFault::TagsSpent));
-            assert_eq!(rt; open.draw(Kind::AbortE), Ok(Tag::Event(1)));
-            open.clear();
-            assert_eq!(rt; open.draw(Kind::PtMeas), Ok(Tag::Std(1)));
-        }
-        Err(_) => {
-            assert!(rt; false, "a tag was not drawn");
-        }
-    }
+    let drawn = [Err(TagFault::TagsSpent), Ok(Tag::Event(1)), Ok(Tag::Std(1))];
+    assert_eq!(rt; drawn_on(alloc), Ok((9_999, drawn)));
     assert_eq!(rt; drawn_behind_all(alloc), Ok(Tag::Std(1)));
     assert_eq!(rt; drawn_past_a_held_one(alloc), Ok(Tag::Std(2)));
-    Ok(())
 }
 
 /// Where a command stands.
@@ -108,26 +117,43 @@ enum Read {
 }
 
 /// A command of a kind at a place for which so much was read.
-fn standing(alloc: Global, kind: Kind, place: Place, read: Read) -> Result<(Open, Tag), TagFault> {
-    let mut open = Open::new(alloc);
-    if place == Place::BehindOpen {
+#[derive(Clone, Copy)]
+struct Standing {
+    kind: Kind,
+    place: Place,
+    read: Read,
+}
+
+/// So much is read for a command.
+fn take_in(open: &mut Open, tag: Tag, read: Read) -> Result<(), TagFault> {
+    match read {
+        Read::Nothing => Ok(()),
+        Read::Received => open.received(tag),
+        Read::Given => {
+            open.received(tag)?;
+            give(open, tag, true)
+        }
+        Read::Failed => open.failed(tag),
+    }
+}
+
+/// A command that is sent behind another fails.
+fn fail_later(open: &mut Open) -> Result<(), TagFault> {
+    let later = open.draw(Kind::GoTo)?;
+    open.failed(later)
+}
+
+/// Draws the tag of a command that then stands so.
+fn draw_standing(open: &mut Open, standing: Standing) -> Result<Tag, TagFault> {
+    if standing.place == Place::BehindOpen {
         let _ = open.draw(Kind::GoTo)?;
     }
-    let tag = open.draw(kind)?;
-    if read == Read::Received || read == Read::Given {
-        open.received(tag)?;
+    let tag = open.draw(standing.kind)?;
+    take_in(open, tag, standing.read)?;
+    if standing.place == Place::BesideFailed {
+        fail_later(open)?;
     }
-    if read == Read::Given {
-        give(&mut open, tag, true)?;
-    }
-    if read == Read::Failed {
-        open.failed(tag)?;
-    }
-    if place == Place::BesideFailed {
-        let later = open.draw(Kind::GoTo)?;
-        open.failed(later)?;
-    }
-    Ok((open, tag))
+    Ok(tag)
 }
 
 /// `G2` to `G4` by their digits.
@@ -161,23 +187,30 @@ fn ending(answer: Result<Ended, TagFault>) -> u8 {
     }
 }
 
-/// What `&`, `#`, `!` and `%` are answered, each for a command that stands so.
-fn answers(alloc: Global, kind: Kind, place: Place, read: Read) -> Result<[u8; 4], TagFault> {
-    let (mut open, tag) = standing(alloc, kind, place, read)?;
-    let received = taking(open.received(tag));
-    let (mut open, tag) = standing(alloc, kind, place, read)?;
-    let data = taking(give(&mut open, tag, true));
-    let (mut open, tag) = standing(alloc, kind, place, read)?;
-    let failed = taking(open.failed(tag));
-    let (mut open, tag) = standing(alloc, kind, place, read)?;
-    let complete = ending(open.complete(tag));
-    Ok([received, data, failed, complete])
+/// What a mark is answered for a command that stands so.
+fn mark_answer(open: &mut Open, standing: Standing, mark: u8) -> Result<u8, TagFault> {
+    let tag = draw_standing(open, standing)?;
+    Ok(match mark {
+        b'&' => taking(open.received(tag)),
+        b'#' => taking(give(open, tag, true)),
+        b'!' => taking(open.failed(tag)),
+        _ => ending(open.complete(tag)),
+    })
 }
 
-#[test]
-fn marks_have_their_places(rt: HostRuntime) -> Result<(), Fail> {
-    let alloc = rt.alloc();
-    let rows = [
+/// What `&`, `#`, `!` and `%` are answered, each for a command that stands so.
+fn answers(alloc: Global, standing: Standing) -> Result<[u8; 4], TagFault> {
+    let mut answers = *b"&#!%";
+    for mark in answers.iter_mut() {
+        let answer = mark_answer(&mut Open::new(alloc), standing, *mark);
+        *mark = answer?;
+    }
+    Ok(answers)
+}
+
+/// Where a command stands, and its answers.
+fn mark_rows() -> [(Kind, Place, Read, [u8; 4]); 29] {
+    [
         (Kind::PtMeas, Place::Front, Read::Nothing, *b".2.2"),
         (Kind::PtMeas, Place::Front, Read::Received, *b"2..3"),
         (Kind::PtMeas, Place::Front, Read::Given, *b"24.t"),
@@ -207,40 +240,60 @@ fn marks_have_their_places(rt: HostRuntime) -> Result<(), Fail> {
         (Kind::IsHomed, Place::BesideFailed, Read::Received, *b"22.2"),
         (Kind::IsHomed, Place::BesideFailed, Read::Given, *b"22.2"),
         (Kind::IsHomed, Place::BesideFailed, Read::Failed, *b"22.."),
-    ];
-    for (kind, place, read, expected) in rows.iter() {
-        assert_eq!(rt; answers(alloc, *kind, *place, *read), Ok(*expected));
-    }
-    Ok(())
+    ]
 }
 
-/// Asks whether the machine is homed and is told so; how many commands are open, and whether that is asked, before each mark and behind the
-/// last.
-fn asked(alloc: Global, homed: bool) -> Result<([(usize, bool); 4], Ended), TagFault> {
-    let mut open = Open::new(alloc);
+#[test]
+fn marks_have_their_places(rt: HostRuntime) {
+    for (kind, place, read, expected) in mark_rows().iter() {
+        let standing = Standing {
+            kind: *kind,
+            place: *place,
+            read: *read,
+        };
+        assert_eq!(rt; answers(rt.alloc(), standing), Ok(*expected));
+    }
+}
+
+/// How many commands are open, and whether it is asked if the machine is homed.
+fn open_now(open: &Open) -> (usize, bool) {
+    (open.count(), open.is_asking())
+}
+
+/// What is open before each mark and behind the last, and how the question ends.
+type Asked = ([(usize, bool); 4], Ended);
+
+/// Asks whether the machine is homed and is told so.
+fn ask(open: &mut Open, homed: bool) -> Result<Asked, TagFault> {
     let tag = open.draw(Kind::IsHomed)?;
-    let sent = (open.count(), open.is_asking());
+    let sent = open_now(open);
     open.received(tag)?;
-    let received = (open.count(), open.is_asking());
-    give(&mut open, tag, homed)?;
-    let given = (open.count(), open.is_asking());
+    let received = open_now(open);
+    give(open, tag, homed)?;
+    let given = open_now(open);
     let ended = open.complete(tag)?;
-    Ok((
-        [sent, received, given, (open.count(), open.is_asking())],
-        ended,
-    ))
+    Ok(([sent, received, given, open_now(open)], ended))
+}
+
+/// The same from no command on.
+fn asked(alloc: Global, homed: bool) -> Result<Asked, TagFault> {
+    ask(&mut Open::new(alloc), homed)
 }
 
 /// Whether it is asked if the machine is homed where that question has failed and its `%` is on the way.
-fn asks_behind_failure(alloc: Global) -> Result<bool, TagFault> {
-    let mut open = Open::new(alloc);
+fn asks_failed(open: &mut Open) -> Result<bool, TagFault> {
     let tag = open.draw(Kind::IsHomed)?;
     open.failed(tag)?;
     Ok(open.is_asking())
 }
 
+/// The same from no command on.
+fn asks_behind_failure(alloc: Global) -> Result<bool, TagFault> {
+    asks_failed(&mut Open::new(alloc))
+}
+
 #[test]
-fn a_question_is_open_until_it_is_answered(rt: HostRuntime) -> Result<(), Fail> {
+fn a_question_is_open_until_it_is_answered(rt: HostRuntime) {
     let alloc = rt.alloc();
     let open = [(1usize, true), (1, true), (1, true), (0, false)];
     for homed in [false, true] {
@@ -248,5 +301,4 @@ fn a_question_is_open_until_it_is_answered(rt: HostRuntime) -> Result<(), Fail> 
         assert_eq!(rt; asked(alloc, homed), Ok((open, ended)));
     }
     assert_eq!(rt; asks_behind_failure(alloc), Ok(false));
-    Ok(())
 }

@@ -1,47 +1,29 @@
-// What no clause says: that a world is made and driven where memory is there. In the programs `;` stands for the end of a line.
+// What no clause says: that a world is made and driven where memory is there.
 
+use crate::made::{ONE, TWO, program_with};
 use dmis_program::Program;
 use link_world::{Event, NewFault, Outcome, RunCount, World};
 use std::alloc::Global;
-use std::test::Fail;
 use tool_rack::Setup;
 
 const SETUP: &[u8] =
     b"TOOL P1\nTOOL P2\nFRAME PART 100 0 0\nSHIFT 0.002 0 0\nSHIFT 0 0 0.004\nSHIFT -0.001 0.001 0\n";
 
-const ONE: &str =
-    "DMISMN/'ONE',05.2;SNSLCT/S(P1);MEAS/POINT,F(A),1;GOTO/10,20,30;PTMEAS/CART,10,20,25,0,0,1;ENDMES;ENDFIL";
-
-const TWO: &str = "\
-DMISMN/'TWO',05.2;SNSLCT/S(P1);MEAS/POINT,F(A),1;PTMEAS/CART,1,2,3,0,0,1;ENDMES;\
-MEAS/POINT,F(B),1;PTMEAS/CART,4,5,6,0,0,1;ENDMES;ENDFIL";
-
-fn program(alloc: Global, text: &str, setup: &Setup) -> Result<Program, Fail> {
-    let mut bytes = Vec::new(alloc);
-    for byte in text.as_bytes() {
-        bytes.push(if *byte == b';' { b'\n' } else { *byte })?;
-    }
-    let program = Program::read(alloc, bytes.as_slice(), setup.frames())
-        .ok()
-        .ok_or("a program")?;
-    Ok(program)
+/// A program and the setup whose frames it recalls.
+fn read(alloc: Global, text: &str) -> Option<(Program, Setup)> {
+    let setup = Setup::read(alloc, SETUP).ok()?;
+    let program = program_with(alloc, text, setup.frames())?;
+    Some((program, setup))
 }
 
-fn new_world(alloc: Global, text: &str, window: u8) -> Result<World, Fail> {
-    let setup = Setup::read(alloc, SETUP).ok().ok_or("a setup")?;
-    let program = program(alloc, text, &setup)?;
-    match World::new(alloc, program, setup, window) {
-        Ok(world) => Ok(world),
-        Err(_) => Err("a world".into()),
-    }
+fn new_world(alloc: Global) -> Option<World> {
+    let (program, setup) = read(alloc, ONE)?;
+    World::new(alloc, program, setup, 1).ok()
 }
 
-/// Before any connection only these events can happen.
-#[test]
-fn events_that_cannot_happen_are_counted(rt: HostRuntime) -> Result<(), Fail> {
-    let alloc = rt.alloc();
-    let mut world = new_world(alloc, ONE, 1)?;
-    let events = [
+/// Of these events nine can happen in a new world.
+fn run(world: &mut World) -> RunCount {
+    world.run(&[
         Event::Accept(0),
         Event::Accept(1),
         Event::ClientSends,
@@ -75,33 +57,53 @@ fn events_that_cannot_happen_are_counted(rt: HostRuntime) -> Result<(), Fail> {
         Event::Down(9),
         Event::ClientReads,
         Event::ClientReads,
-    ];
-    let count = world.run(&events);
+    ])
+}
+
+/// How many of them happen, and whether the client writes its first line alone.
+fn run_told(world: &mut World) -> (RunCount, bool) {
+    let count = run(world);
+    (
+        count,
+        world.written() == b"00001 StartSession()\r\n".as_slice(),
+    )
+}
+
+/// The same of a new world. It is owned here alone, since a function that owns one takes the prover as long as ten others.
+fn ran(alloc: Global) -> Option<(RunCount, bool)> {
+    let mut world = new_world(alloc)?;
+    Some(run_told(&mut world))
+}
+
+/// Before any connection only these events can happen.
+#[test]
+fn events_that_cannot_happen_are_counted(rt: HostRuntime) {
     let wanted = RunCount {
         done: 9,
         not_now: 24,
         memory: 0,
     };
-    assert_eq!(rt; count, wanted);
-    assert_eq!(rt; world.written(), b"00001 StartSession()\r\n".as_slice());
-    Ok(())
+    assert_eq!(rt; ran(rt.alloc()), Some((wanted, true)));
 }
 
-/// Whether the program and the setup are handed back.
-fn is_refused(alloc: Global, window: u8) -> Result<bool, Fail> {
-    let setup = Setup::read(alloc, SETUP).ok().ok_or("a setup")?;
-    let program = program(alloc, TWO, &setup)?;
-    match World::new(alloc, program, setup, window) {
-        Err(NewFault::BadWindow(program, _)) => Ok(program.features().len() == 2),
-        _ => Ok(false),
+/// How many features the program has that is handed back; none where it is not.
+fn handed_back(fault: &NewFault) -> Option<usize> {
+    match fault {
+        NewFault::BadWindow(program, _) => Some(program.features().len()),
+        NewFault::Memory => None,
     }
+}
+
+/// The same of a world of two features, which is not made.
+fn refusal(alloc: Global, window: u8) -> Option<usize> {
+    let (program, setup) = read(alloc, TWO)?;
+    let fault = World::new(alloc, program, setup, window).err()?;
+    handed_back(&fault)
 }
 
 #[test]
-fn a_window_outside_its_range_is_refused(rt: HostRuntime) -> Result<(), Fail> {
-    let alloc = rt.alloc();
+fn a_window_outside_its_range_is_refused(rt: HostRuntime) {
     for window in [0u8, 17] {
-        assert!(rt; is_refused(alloc, window)?, "{window}");
+        assert_eq!(rt; refusal(rt.alloc(), window), Some(2), "{window}");
     }
-    Ok(())
 }
