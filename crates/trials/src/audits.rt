@@ -170,12 +170,17 @@ impl Listed for Vec<Feature> {
     }
 }
 
+/// Adds what a line stands for.
+fn push_line<L: Listed>(alloc: Global, list: &mut L, line: &str) -> Option<()> {
+    let words: Vec<&str> = line.split(" ").collect(alloc).ok()?;
+    list.push_words(alloc, words.as_slice())
+}
+
 /// Adds what each line of a text stands for.
 fn push_all<L: Listed>(alloc: Global, list: &mut L, text: &str) -> Option<()> {
     for line in text.split(";") {
         if !line.is_empty() {
-            let words: Vec<&str> = line.split(" ").collect(alloc).ok()?;
-            list.push_words(alloc, words.as_slice())?;
+            push_line(alloc, list, line)?;
         }
     }
     Some(())

@@ -55,6 +55,12 @@ fn push_acts(alloc: Global, ledger: &mut ServerLedger) -> Result<(), AllocError>
     Ok(())
 }
 
+/// How many acts a ledger counts with them, and how many contacts.
+fn counts(alloc: Global, ledger: &mut ServerLedger) -> Result<(usize, u64), AllocError> {
+    push_acts(alloc, ledger)?;
+    Ok((ledger.acts().len(), ledger.contacts()))
+}
+
 /// Appends the two points of a feature.
 fn push_points(points: &mut Points) -> Result<(), AllocError> {
     points.push(point(Um::zero()))?;
@@ -90,32 +96,24 @@ fn push_feature(alloc: Global, features: &mut FeatureLedger) -> Result<(), Alloc
     push_copy(alloc, features, &mut feature)
 }
 
-/// Appends so many of them.
-fn push_features(
-    alloc: Global,
-    features: &mut FeatureLedger,
-    count: u32,
-) -> Result<(), AllocError> {
-    for _ in 0..count {
+/// Appends six of them; how many features have the two points then.
+fn whole(alloc: Global, features: &mut FeatureLedger) -> Result<usize, AllocError> {
+    for _ in 0..6 {
         push_feature(alloc, features)?;
     }
-    Ok(())
+    Ok(with_points(
+        features.list(),
+        point(Um::zero()),
+        point(Um::volume_limit()),
+    ))
 }
 
 #[test]
 fn ledgers_grow_and_are_counted(rt: HostRuntime) {
     let alloc = rt.alloc();
     let mut ledger = ServerLedger::new(alloc);
-    assert_eq!(rt; push_acts(alloc, &mut ledger), Ok(()));
-    assert_eq!(rt; ledger.acts().len(), 8);
-    assert_eq!(rt; ledger.contacts(), 3);
+    assert_eq!(rt; counts(alloc, &mut ledger), Ok((8, 3)));
 
     let mut features = FeatureLedger::new(alloc);
-    assert_eq!(rt; push_features(alloc, &mut features, 6), Ok(()));
-    let whole = with_points(
-        features.list(),
-        point(Um::zero()),
-        point(Um::volume_limit()),
-    );
-    assert_eq!(rt; whole, 6);
+    assert_eq!(rt; whole(alloc, &mut features), Ok(6));
 }

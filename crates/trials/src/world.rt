@@ -69,10 +69,12 @@ fn run_told(world: &mut World) -> (RunCount, bool) {
     )
 }
 
-/// The same of a new world. It is owned here alone, since a function that owns one takes the prover as long as ten others.
+/// The same of a new world. It is handed to `drop`, since a function at whose end a world goes takes the prover as long as ten others.
 fn ran(alloc: Global) -> Option<(RunCount, bool)> {
     let mut world = new_world(alloc)?;
-    Some(run_told(&mut world))
+    let told = run_told(&mut world);
+    drop(world);
+    Some(told)
 }
 
 /// Before any connection only these events can happen.
