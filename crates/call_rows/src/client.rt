@@ -46,7 +46,9 @@ pub(crate) fn push_task<T: ClientTask>(
     task: &T,
 ) -> Result<(), Stop> {
     let mut client = new_client(alloc, made)?;
-    task.push(alloc, out, &mut client)
+    let done = task.push(alloc, out, &mut client);
+    drop(client);
+    done
 }
 
 /// A new client is connected, by connection 1.

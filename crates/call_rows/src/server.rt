@@ -34,7 +34,9 @@ pub(crate) fn push_task<T: ServerTask>(
     task: &T,
 ) -> Result<(), Stop> {
     let mut server = new_server(alloc, setup)?;
-    task.push(alloc, out, &mut server)
+    let done = task.push(alloc, out, &mut server);
+    drop(server);
+    done
 }
 
 /// What a new client and a new server are made for.
@@ -59,7 +61,9 @@ struct WithServer<'a, T> {
 impl<T: BothTask> ClientTask for WithServer<'_, T> {
     fn push(&self, alloc: Global, out: &mut Vec<u8>, client: &mut Client) -> Result<(), Stop> {
         let mut server = new_server(alloc, self.setup)?;
-        self.task.push(alloc, out, client, &mut server)
+        let done = self.task.push(alloc, out, client, &mut server);
+        drop(server);
+        done
     }
 }
 

@@ -89,7 +89,9 @@ pub(crate) fn push_new_played(
     shown: Shown,
 ) -> Result<(), Stop> {
     let mut world = new_world(alloc, made, setup)?;
-    push_played(alloc, out, &mut world, schedule, shown)
+    let done = push_played(alloc, out, &mut world, schedule, shown);
+    drop(world);
+    done
 }
 
 /// The client's state and its homings behind the schedule of a row.

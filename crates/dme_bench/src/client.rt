@@ -50,18 +50,22 @@ fn push_touch(
     Ok(())
 }
 
+/// The text of a program of so many touches.
+fn push_program(alloc: Global, text: &mut Vec<u8>, touches: u64) -> Result<(), AllocError> {
+    text.extend_from_slice(b"DMISMN/'TOUCHES',05.2\nSNSLCT/S(P1)\n")?;
+    for number in 0..touches {
+        push_touch(alloc, text, number, touches)?;
+    }
+    text.extend_from_slice(b"ENDFIL\n")
+}
+
 /// A program of so many touches.
 pub(crate) fn new_program(alloc: Global, touches: u64) -> Result<Program, Stop> {
     let mut text = Vec::new(alloc);
-    text.extend_from_slice(b"DMISMN/'TOUCHES',05.2\nSNSLCT/S(P1)\n")?;
-    for number in 0..touches {
-        push_touch(alloc, &mut text, number, touches)?;
-    }
-    text.extend_from_slice(b"ENDFIL\n")?;
-    match Program::read(alloc, text.as_slice(), &Frames::new(alloc)) {
-        Ok(program) => Ok(program),
-        Err(_) => Err(Stop::Refused),
-    }
+    push_program(alloc, &mut text, touches)?;
+    Program::read(alloc, text.as_slice(), &Frames::new(alloc))
+        .ok()
+        .ok_or(Stop::Refused)
 }
 
 fn new_client(alloc: Global, touches: u64, window: u8) -> Result<Client, Stop> {
@@ -130,12 +134,12 @@ fn read_all(client: &mut Client, peer: &mut Peer) -> Result<(), Stop> {
     Ok(())
 }
 
-/// Runs the program to its end.
-fn run_all(client: &mut Client, peer: &mut Peer) -> Result<(), Stop> {
+/// Runs the program to its end, and answers what `touches` does.
+fn run_all(client: &mut Client, peer: &mut Peer) -> Result<(u64, u64), Stop> {
     client.connected(1)?;
     for _ in 0..ROUNDS {
         if client.state() == State::Done {
-            return Ok(());
+            return Ok(points(client.features(), peer.sum));
         }
         send_all(client, peer)?;
         read_all(client, peer)?;
@@ -170,6 +174,7 @@ pub(crate) fn touches(alloc: Global, wanted: u64, window: u8) -> Result<(u64, u6
         touches: 0,
         sum: 0,
     };
-    run_all(&mut client, &mut peer)?;
-    Ok(points(client.features(), peer.sum))
+    let ran = run_all(&mut client, &mut peer);
+    drop(client);
+    ran
 }

@@ -66,13 +66,8 @@ fn samples<R: Print>(rt: &R, alloc: Global) -> Result<(), Stop> {
     print_quiet(rt, alloc, 700, 16)
 }
 
-fn run<R: Env + Print + AllocGlobal>(rt: &R) -> Result<(), Stop> {
-    let alloc = rt.alloc();
-    let Ok(given) = env::args(rt) else {
-        return Err(Stop::Memory);
-    };
-    let words: Vec<String> = given.collect(alloc)?;
-    let [_, what, values @ ..] = words.as_slice() else {
+fn print_words<R: Print>(rt: &R, alloc: Global, words: &[String]) -> Result<(), Stop> {
+    let [_, what, values @ ..] = words else {
         return Err(Stop::Words);
     };
     match (what.as_str(), values) {
@@ -86,6 +81,12 @@ fn run<R: Env + Print + AllocGlobal>(rt: &R) -> Result<(), Stop> {
         ("samples", []) => samples(rt, alloc),
         _ => Err(Stop::Words),
     }
+}
+
+fn run<R: Env + Print + AllocGlobal>(rt: &R) -> Result<(), Stop> {
+    let given = env::args(rt).ok().ok_or(Stop::Memory)?;
+    let words: Vec<String> = given.collect(rt.alloc())?;
+    print_words(rt, rt.alloc(), words.as_slice())
 }
 
 fn main(rt: HostRuntime) -> ExitCode {

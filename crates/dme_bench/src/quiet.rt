@@ -13,9 +13,9 @@ fn new_setup(alloc: Global) -> Result<Setup, Stop> {
 }
 
 fn ran(alloc: Global, touches: u64, window: u8) -> Result<Quiet, Stop> {
-    let program = new_program(alloc, touches)?;
     let setup = new_setup(alloc)?;
     let mut machine = Simulated::new(alloc, &setup)?;
+    let program = new_program(alloc, touches)?;
     match quiet_run(alloc, program, setup, window, &mut machine) {
         Ok(quiet) => Ok(quiet),
         Err(NewFault::BadWindow(_program, _setup)) => Err(Stop::Refused),

@@ -70,16 +70,25 @@ fn round(alloc: Global, server: &mut Server, number: u64, sum: u64) -> Result<u6
     Ok(take_answers(server, sum))
 }
 
-/// Makes so many rounds, and answers the count of contacts and the sum over all bytes that were answered.
-pub(crate) fn rounds(alloc: Global, wanted: u64) -> Result<(u64, u64), Stop> {
-    let Ok(setup) = Setup::read(alloc, b"TOOL P1") else {
-        return Err(Stop::Memory);
-    };
-    let mut server = Server::new(alloc, setup)?;
-    make_ready(&mut server)?;
-    let mut sum = take_answers(&mut server, 0);
+/// So many rounds on a server that is ready for them, and what `rounds` answers.
+fn run_all(alloc: Global, server: &mut Server, wanted: u64) -> Result<(u64, u64), Stop> {
+    make_ready(server)?;
+    let mut sum = take_answers(server, 0);
     for number in 0..wanted {
-        sum = round(alloc, &mut server, number, sum)?;
+        sum = round(alloc, server, number, sum)?;
     }
     Ok((server.ledger().contacts(), sum))
+}
+
+fn new_server(alloc: Global) -> Result<Server, Stop> {
+    let setup = Setup::read(alloc, b"TOOL P1").ok().ok_or(Stop::Memory)?;
+    Ok(Server::new(alloc, setup)?)
+}
+
+/// Makes so many rounds, and answers the count of contacts and the sum over all bytes that were answered.
+pub(crate) fn rounds(alloc: Global, wanted: u64) -> Result<(u64, u64), Stop> {
+    let mut server = new_server(alloc)?;
+    let ran = run_all(alloc, &mut server, wanted);
+    drop(server);
+    ran
 }

@@ -84,6 +84,28 @@ fn read_lines(alloc: Global, side: Side, lines: &mut Lines) -> Result<u64, Stop>
     Err(Stop::Refused)
 }
 
+/// Feeds bytes in pieces of so many, and answers how many lines were read.
+fn read_pieces(
+    alloc: Global,
+    side: Side,
+    lines: &mut Lines,
+    pieces: (&[u8], usize),
+) -> Result<u64, Stop> {
+    let mut count = 0u64;
+    for part in pieces.0.chunks(pieces.1.max(1)) {
+        lines.feed(part)?;
+        count = count.saturating_add(read_lines(alloc, side, lines)?);
+    }
+    Ok(count)
+}
+
+fn push_lines(out: &mut Vec<u8>, side: Side, wanted: u64) -> Result<(), Stop> {
+    for number in 0..wanted {
+        push_line(out, side, number)?;
+    }
+    Ok(())
+}
+
 /// Writes so many lines, feeds them in pieces of so many bytes, and answers how many were read.
 pub(crate) fn count_lines(
     alloc: Global,
@@ -92,14 +114,7 @@ pub(crate) fn count_lines(
     piece: usize,
 ) -> Result<u64, Stop> {
     let mut bytes = Vec::new(alloc);
-    for number in 0..wanted {
-        push_line(&mut bytes, side, number)?;
-    }
+    push_lines(&mut bytes, side, wanted)?;
     let mut lines = Lines::new(alloc);
-    let mut count = 0u64;
-    for part in bytes.as_slice().chunks(piece.max(1)) {
-        lines.feed(part)?;
-        count = count.saturating_add(read_lines(alloc, side, &mut lines)?);
-    }
-    Ok(count)
+    read_pieces(alloc, side, &mut lines, (bytes.as_slice(), piece))
 }

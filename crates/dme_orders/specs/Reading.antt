@@ -138,6 +138,12 @@ IsOfRead with_features (fault.Features cause) = with_features ≡ true
 IsOfRead with_features (fault.Unread role.Features) = with_features ≡ true
 IsOfRead with_features _ = ⊥
 
+-- a fault of a setup, of features, contacts or a program that are read, or want of memory
+abbrev pub IsOfAudit : FilesFault → Type 0
+IsOfAudit (fault.Contacts cause) = Unit {0}
+IsOfAudit (fault.Unread role.Contacts) = Unit {0}
+IsOfAudit given = IsOfRead true given
+
 -- a fault of a setup, a schedule or a program that is read, or want of memory
 abbrev pub IsOfSimulation : FilesFault → Type 0
 IsOfSimulation (fault.Schedule cause) = Unit {0}

@@ -4,21 +4,21 @@ ghost use Rattle.std.specs.Prelude.{◌≡◌, ◌<◌, ℕ, List, length, true,
 ghost use Rattle.contact_ledger.specs.declared.acts.Act.{Act};
 ghost use Rattle.contact_ledger.specs.declared.features.Feature.{Feature as OneFeature};
 ghost use Rattle.tool_rack.specs.Setups.{SetupValue};
-ghost use Rattle.dme_orders.specs.Reading.{ReadsSetup, WhyNoSetup, ReadsFeatures, WhyNoFeatures, ReadsContacts, WhyNoContacts, WhyNoProgram};
-ghost use Rattle.dme_orders.specs.Reading.{On, IsNotOf, UnlessUnwritten};
+ghost use Rattle.dme_orders.specs.Reading.{ReadsSetup, WhyNoSetup, ReadsFeatures, WhyNoFeatures, ReadsContacts, WhyNoContacts, ReadsProgram, WhyNoProgram};
+ghost use Rattle.dme_orders.specs.Reading.{On, IsNotOf, IsOfAudit, UnlessUnwritten};
 ghost use Rattle.dme_orders.specs.Auditing.{LeavesVerdict, OfFour, PrintsVerdict, PrintsVerdictFront};
 
 use crate::reading::{FilesFault, Role, contacts_from, features_from, read_program, read_setup};
 use crate::simulating::write_text;
 use crate::verdicts::write_verdict;
 use byte_ports::{Sink, Source};
-use contact_ledger::{Feature, ServerLedger};
+use contact_ledger::{Feature, FeatureLedger, ServerLedger};
 use dmis_program::Program;
 use ledger_audit::audit;
 use std::alloc::{AllocError, Global};
 
 /// The exit status of an audit, and its line. Only want of memory is an `Err`.
-fn audited(
+fn verdict_line(
     alloc: Global,
     program: &Program,
     features: &[Feature],
@@ -32,6 +32,76 @@ fn audited(
     let mut text = Vec::new(alloc);
     let status = write_verdict(&mut text, features, &verdict)?;
     Ok((status, text))
+}
+
+/// The same of features, a ledger and a program that are given up.
+fn audited(
+    alloc: Global,
+    features: FeatureLedger,
+    ledger: ServerLedger,
+    program: Program,
+) -> Result<(u8, Vec<u8>), AllocError>
+    ensures leaves { IfOk result (λ end. LeavesVerdict program features ledger
+        end.0 end.1.items) }
+    ensures some { IfOk result (λ end. 0 < length end.1.items) }
+{
+    let end = verdict_line(alloc, &program, features.list(), &ledger);
+    drop(program);
+    drop(ledger);
+    drop(features);
+    end
+}
+
+/// Reads a setup, then features, then contacts, then a program under the setup's frames, each to the end of its text and understood before
+/// the next is read. No file is blamed but for its own first refusal, or where it was not read.
+fn audit_input<S: Source, F: Source, C: Source, R: Source>(
+    alloc: Global,
+    setup: &mut S,
+    features: &mut F,
+    contacts: &mut C,
+    program: &mut R,
+) -> Result<(FeatureLedger, ServerLedger, Program), FilesFault>
+    ensures features { IfOk result (λ read. ReadsFeatures F.left F.has_failed
+        features.old features.new read.0) }
+    ensures contacts { IfOk result (λ read. ReadsContacts C.left C.has_failed
+        contacts.old contacts.new read.1) }
+    ensures program { IfOk result (λ read. (said : SetupValue)
+        × ReadsSetup S.left S.has_failed setup.old setup.new said
+        × ReadsProgram R.left R.has_failed program.old program.new said.frames read.2) }
+    ensures no_setup { IfErr result (On Role.Setup (WhyNoSetup S.left S.has_failed
+        setup.old setup.new)) }
+    ensures setup_first { IfErr result (On Role.Setup (λ _. (features.new ≡ features.old)
+        × (contacts.new ≡ contacts.old) × (program.new ≡ program.old))) }
+    ensures no_features { IfErr result (On Role.Features (WhyNoFeatures F.left F.has_failed
+        features.old features.new)) }
+    ensures features_second { IfErr result (On Role.Features (λ _. (contacts.new ≡ contacts.old)
+        × (program.new ≡ program.old)
+        × ((said : SetupValue) × ReadsSetup S.left S.has_failed setup.old setup.new said))) }
+    ensures no_contacts { IfErr result (On Role.Contacts (WhyNoContacts C.left C.has_failed
+        contacts.old contacts.new)) }
+    ensures contacts_third { IfErr result (On Role.Contacts (λ _. (program.new ≡ program.old)
+        × ((held : List OneFeature)
+        × ReadsFeatures F.left F.has_failed features.old features.new held))) }
+    ensures no_program { IfErr result (On Role.Program (λ fault. (said : SetupValue)
+        × ReadsSetup S.left S.has_failed setup.old setup.new said
+        × WhyNoProgram R.left R.has_failed program.old program.new said.frames fault)) }
+    ensures program_last { IfErr result (On Role.Program (λ _. (made : List (ℕ × Act))
+        × ReadsContacts C.left C.has_failed contacts.old contacts.new made)) }
+    ensures others { IfErr result IsOfAudit }
+    ensures setup_unread { S.has_failed setup.old ≡ false → S.has_failed setup.new ≡ true
+        → IsErrOf result (FilesFault.Unread Role.Setup) }
+    ensures features_unread { F.has_failed features.old ≡ false → F.has_failed features.new ≡ true
+        → IsErrOf result (FilesFault.Unread Role.Features) }
+    ensures contacts_unread { C.has_failed contacts.old ≡ false → C.has_failed contacts.new ≡ true
+        → IsErrOf result (FilesFault.Unread Role.Contacts) }
+    ensures program_unread { R.has_failed program.old ≡ false → R.has_failed program.new ≡ true
+        → IsErrOf result (FilesFault.Unread Role.Program) }
+{
+    let setup = read_setup(alloc, setup)?;
+    let features = features_from(alloc, features)?;
+    let ledger = contacts_from(alloc, contacts)?;
+    let program = read_program(alloc, setup.frames(), program)?;
+    Ok((features, ledger, program))
 }
 
 /// Reads a setup, then features, then contacts, then a program under the setup's frames, each to the end of its text and understood before
@@ -104,11 +174,8 @@ pub fn audit_files<S: Source, F: Source, C: Source, R: Source, W: Sink>(
         (PrintsVerdictFront (W.taken sink.old) (W.taken sink.new)) }
     ensures silent { IfErr result (UnlessUnwritten (sink.new ≡ sink.old)) }
 {
-    let setup = read_setup(alloc, setup)?;
-    let features = features_from(alloc, features)?;
-    let ledger = contacts_from(alloc, contacts)?;
-    let program = read_program(alloc, setup.frames(), program)?;
-    let (status, text) = audited(alloc, &program, features.list(), &ledger)?;
+    let (features, ledger, program) = audit_input(alloc, setup, features, contacts, program)?;
+    let (status, text) = audited(alloc, features, ledger, program)?;
     write_text(sink, text.as_slice())?;
     Ok(status)
 }

@@ -90,6 +90,35 @@ fn keep_features<F: TextFile>(
 
 /// A client has its turns, and its features are put in their file; how that has ended, and the report of it. Only want of memory is an
 /// `Err`.
+fn turned_lent<R: Source, W: Sink, N: Watcher, F: TextFile>(
+    alloc: Global,
+    client: &mut Client,
+    source: &mut R,
+    sink: &mut W,
+    watcher: &mut N,
+    file: &mut F,
+) -> Result<(Driven, Vec<u8>), AllocError>
+    requires { may_connect 1 client.old.client ≡ true }
+    ensures leaves { IfOk result (λ end. LeavesRun client.old
+        (run_told (R.left source.old) (W.taken sink.old) (F.kept file.old))
+        (run_told (R.left source.new) (W.taken sink.new) (F.kept file.new))
+        end.0 end.1.items) }
+    ensures some { IfOk result (λ end. 0 < length end.1.items) }
+    ensures read { IfOk result (λ end. Blames (LoopFault.Client PumpFault.ReadFailed)
+        end.0.ended.broken (R.has_failed source.old) (R.has_failed source.new)) }
+    ensures written { IfOk result (λ end. Blames (LoopFault.Client PumpFault.WriteFailed)
+        end.0.ended.broken (W.has_failed sink.old) (W.has_failed sink.new)) }
+{
+    come(client)?;
+    let broken = turns_of_client(client, source, sink, watcher);
+    let is_kept = keep_features(alloc, client, file)?;
+    let text = end_report(alloc, client)?;
+    let state = client.state();
+    let ended = Ended { state, broken };
+    Ok((Driven { ended, is_kept }, text))
+}
+
+/// The same of a client that is given up.
 fn turned<R: Source, W: Sink, N: Watcher, F: TextFile>(
     alloc: Global,
     client: Client,
@@ -110,13 +139,9 @@ fn turned<R: Source, W: Sink, N: Watcher, F: TextFile>(
         end.0.ended.broken (W.has_failed sink.old) (W.has_failed sink.new)) }
 {
     let mut client = client;
-    come(&mut client)?;
-    let broken = turns_of_client(&mut client, source, sink, watcher);
-    let is_kept = keep_features(alloc, &client, file)?;
-    let text = end_report(alloc, &client)?;
-    let state = client.state();
-    let ended = Ended { state, broken };
-    Ok((Driven { ended, is_kept }, text))
+    let end = turned_lent(alloc, &mut client, source, sink, watcher, file);
+    drop(client);
+    end
 }
 
 /// Runs a program on a server: a client that may come to connection 1 comes to it and has its turns, its features are put in their file,

@@ -30,7 +30,10 @@ pub(crate) fn first_client(
     };
     match client.connected(1) {
         Ok(()) => Ok(client),
-        Err(ClientFault::Memory) => Err(AllocError),
+        Err(ClientFault::Memory) => {
+            drop(client);
+            Err(AllocError)
+        }
         Err(_) => unreachable!(),
     }
 }

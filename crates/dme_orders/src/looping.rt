@@ -1,8 +1,10 @@
 // A program is run over one connection between both ends, over ports.
 
-ghost use Rattle.std.specs.Prelude.{◌≡◌, ◌<◌, length, true, false, OnOk, OnErr, IfOk, IfErr, IsErrOf};
+ghost use Rattle.std.specs.Prelude.{◌≡◌, ◌<◌, [], length, true, false, OnOk, OnErr, IfOk, IfErr, IsErrOf};
 ghost use Rattle.client_core.specs.Clients.{is_window};
 ghost use Rattle.link_world.specs.LinkRuns.{client_side, server_side};
+ghost use Rattle.link_world.specs.Reports.{report_text};
+ghost use Rattle.dme_orders.specs.Ends.{first_client, first_server, ends_shown};
 ghost use Rattle.dme_orders.specs.Reading.{UnlessUnwritten, IsOfOutput};
 ghost use Rattle.dme_orders.specs.Broken.{Blames};
 ghost use Rattle.dme_orders.specs.Looping.{four_told, LoopCame, LeavesLoop, PrintsLoop, PrintsLoopFront};
@@ -61,6 +63,77 @@ fn turns_of_both<M: Machine, CR: Source, CW: Sink, SR: Source, SW: Sink, N: Watc
 }
 
 /// Both ends have their turns; how that has ended, and the report of them. Only want of memory is an `Err`.
+fn turns_reported<M: Machine, CR: Source, CW: Sink, SR: Source, SW: Sink, N: Watcher>(
+    alloc: Global,
+    client: &mut Client,
+    client_source: &mut CR,
+    client_sink: &mut CW,
+    server: &mut Server,
+    machine: &mut M,
+    server_source: &mut SR,
+    server_sink: &mut SW,
+    watcher: &mut N,
+) -> Result<(Ended, Vec<u8>), AllocError>
+    ensures came { IfOk result (λ end. LoopCame (M.answers machine.old)
+        (client_side client.old (CR.left client_source.old) (CW.taken client_sink.old))
+        (client_side client.new (CR.left client_source.new) (CW.taken client_sink.new))
+        (server_side server.old.end (SR.left server_source.old) (SW.taken server_sink.old))
+        (server_side server.new.end (SR.left server_source.new) (SW.taken server_sink.new))
+        end.0.broken) }
+    ensures stands { IfOk result (λ end. end.0.state ≡ client.new.client.state) }
+    ensures told { IfOk result (λ end. end.1.items
+        ≡ report_text (ends_shown client.new server.new.end.server.ledger)) }
+    ensures some { IfOk result (λ end. 0 < length end.1.items) }
+    ensures client_read { IfOk result (λ end. Blames (LoopFault.Client PumpFault.ReadFailed)
+        end.0.broken (CR.has_failed client_source.old) (CR.has_failed client_source.new)) }
+    ensures client_write { IfOk result (λ end. Blames (LoopFault.Client PumpFault.WriteFailed)
+        end.0.broken (CW.has_failed client_sink.old) (CW.has_failed client_sink.new)) }
+    ensures server_read { IfOk result (λ end. Blames (LoopFault.Server PumpFault.ReadFailed)
+        end.0.broken (SR.has_failed server_source.old) (SR.has_failed server_source.new)) }
+    ensures server_write { IfOk result (λ end. Blames (LoopFault.Server PumpFault.WriteFailed)
+        end.0.broken (SW.has_failed server_sink.old) (SW.has_failed server_sink.new)) }
+{
+    let broken = turns_of_both(
+        client,
+        client_source,
+        client_sink,
+        server,
+        machine,
+        server_source,
+        server_sink,
+        watcher,
+    );
+    let text = ends_report(alloc, client, server.ledger())?;
+    let state = client.state();
+    Ok((Ended { state, broken }, text))
+}
+
+/// The simulated machine and the server of a setup, and a new client of a program, both on connection 1. Only want of memory is an `Err`.
+fn new_ends(
+    alloc: Global,
+    setup: Setup,
+    program: Program,
+    window: u8,
+) -> Result<(Simulated, Server, Client), AllocError>
+    requires { is_window window ≡ true }
+    ensures machine { IfOk result (λ ends. ends.0 ≡ setup.shifts) }
+    ensures server { IfOk result (λ ends. ends.1
+        ≡ record { setup = setup; end = first_server setup }) }
+    ensures client { IfOk result (λ ends. ends.2 ≡ first_client program [] window) }
+{
+    let machine = Simulated::new(alloc, &setup)?;
+    let server = first_server(alloc, setup)?;
+    match first_client(alloc, program, window) {
+        Ok(client) => Ok((machine, server, client)),
+        Err(error) => {
+            drop(server);
+            drop(machine);
+            Err(error)
+        }
+    }
+}
+
+/// The same of the ends of a program and a setup.
 fn looped<CR: Source, CW: Sink, SR: Source, SW: Sink, N: Watcher>(
     alloc: Global,
     setup: Setup,
@@ -89,10 +162,9 @@ fn looped<CR: Source, CW: Sink, SR: Source, SW: Sink, N: Watcher>(
     ensures server_write { IfOk result (λ end. Blames (LoopFault.Server PumpFault.WriteFailed)
         end.0.broken (SW.has_failed server_sink.old) (SW.has_failed server_sink.new)) }
 {
-    let mut machine = Simulated::new(alloc, &setup)?;
-    let mut server = first_server(alloc, setup)?;
-    let mut client = first_client(alloc, program, window)?;
-    let broken = turns_of_both(
+    let (mut machine, mut server, mut client) = new_ends(alloc, setup, program, window)?;
+    let end = turns_reported(
+        alloc,
         &mut client,
         client_source,
         client_sink,
@@ -102,9 +174,10 @@ fn looped<CR: Source, CW: Sink, SR: Source, SW: Sink, N: Watcher>(
         server_sink,
         watcher,
     );
-    let text = ends_report(alloc, &client, server.ledger())?;
-    let state = client.state();
-    Ok((Ended { state, broken }, text))
+    drop(client);
+    drop(server);
+    drop(machine);
+    end
 }
 
 /// Runs a program of both ends: a new client of the program, with this window, and the server of the setup with its simulated machine,

@@ -95,7 +95,9 @@ pub fn read_setup<S: Source>(alloc: Global, source: &mut S) -> Result<Setup, Fil
     ensures err { IfErr result (WhyNoSetup S.left S.has_failed source.old source.new) }
 {
     let text = read_text(alloc, source, Role::Setup)?;
-    match Setup::read(alloc, text.as_slice()) {
+    let read = Setup::read(alloc, text.as_slice());
+    drop(text);
+    match read {
         Ok(setup) => Ok(setup),
         Err(SetupFault::Memory) => Err(FilesFault::Memory),
         Err(refused) => Err(FilesFault::Setup(refused)),
@@ -111,7 +113,9 @@ pub(crate) fn read_schedule<S: Source>(
     ensures err { IfErr result (WhyNoSchedule S.left S.has_failed source.old source.new) }
 {
     let text = read_text(alloc, source, Role::Schedule)?;
-    match Schedule::read(alloc, text.as_slice()) {
+    let read = Schedule::read(alloc, text.as_slice());
+    drop(text);
+    match read {
         Ok(schedule) => Ok(schedule),
         Err(ScheduleFault::Memory) => Err(FilesFault::Memory),
         Err(refused) => Err(FilesFault::Schedule(refused)),
@@ -127,7 +131,9 @@ pub(crate) fn features_from<S: Source>(
     ensures err { IfErr result (WhyNoFeatures S.left S.has_failed source.old source.new) }
 {
     let text = read_text(alloc, source, Role::Features)?;
-    match read_features(alloc, text.as_slice()) {
+    let read = read_features(alloc, text.as_slice());
+    drop(text);
+    match read {
         Ok(features) => Ok(features),
         Err(TextFault::Memory) => Err(FilesFault::Memory),
         Err(refused) => Err(FilesFault::Features(refused)),
@@ -143,7 +149,9 @@ pub(crate) fn contacts_from<S: Source>(
     ensures err { IfErr result (WhyNoContacts S.left S.has_failed source.old source.new) }
 {
     let text = read_text(alloc, source, Role::Contacts)?;
-    match read_contacts(alloc, text.as_slice()) {
+    let read = read_contacts(alloc, text.as_slice());
+    drop(text);
+    match read {
         Ok(ledger) => Ok(ledger),
         Err(TextFault::Memory) => Err(FilesFault::Memory),
         Err(refused) => Err(FilesFault::Contacts(refused)),
@@ -161,7 +169,9 @@ pub(crate) fn read_program<S: Source>(
         frames.now) }
 {
     let text = read_text(alloc, source, Role::Program)?;
-    match Program::read(alloc, text.as_slice(), frames) {
+    let read = Program::read(alloc, text.as_slice(), frames);
+    drop(text);
+    match read {
         Ok(program) => Ok(program),
         Err(ProgramFault::Memory) => Err(FilesFault::Memory),
         Err(refused) => Err(FilesFault::Program(refused)),

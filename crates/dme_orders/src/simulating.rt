@@ -70,8 +70,13 @@ fn played<L: Sink>(
     ensures { IfOk result (λ end. IsPlayed window setup schedule.now program end.world) }
 {
     let mut world = new_world(alloc, program, setup, window)?;
-    play(schedule, &mut world, lines)?;
-    Ok(world)
+    match play(schedule, &mut world, lines) {
+        Ok(()) => Ok(world),
+        Err(error) => {
+            drop(world);
+            Err(error)
+        }
+    }
 }
 
 /// The state in which the client of a world stands, and the world's report. Only want of memory is an `Err`.
@@ -101,7 +106,9 @@ fn simulated_report<L: Sink>(
     ensures some { IfOk result (λ end. 0 < length end.1.items) }
 {
     let world = played(alloc, setup, schedule, program, window, lines)?;
-    reported(alloc, &world)
+    let end = reported(alloc, &world);
+    drop(world);
+    end
 }
 
 /// Reads a setup, then a schedule, then a program under the setup's frames, each to the end of its text and understood before the next is

@@ -125,13 +125,17 @@ IsExportOf rows (Export form setup features explain program) =
     × IsValueOf (codes "features") rows (string_bytes features) × IsExplainedOf rows explain × IsProgramOf rows (string_bytes program)
 IsExportOf rows _ = ⊥
 
+-- the order of one of the last four subcommands with its values, by its name
+abbrev pub IsLaterOrderOf : Text × List Row → Order → Type 0
+IsLaterOrderOf p order = ((p.0 ≡ codes "serve") × IsServeOf p.1 order) ⊎ ((p.0 ≡ codes "run") × IsRunOf p.1 order)
+    ⊎ ((p.0 ≡ codes "explain") × IsExplainOf p.1 order) ⊎ ((p.0 ≡ codes "export") × IsExportOf p.1 order)
+
 -- the order of a subcommand with its values, by its name
 abbrev pub IsOrderOf : Option (Text × List Row) → Order → Type 0
 IsOrderOf None order = ⊥
 IsOrderOf (Some p) order = ((p.0 ≡ codes "check") × IsCheckOf p.1 order) ⊎ ((p.0 ≡ codes "simulate") × IsSimulateOf p.1 order)
     ⊎ ((p.0 ≡ codes "audit") × IsAuditOf p.1 order) ⊎ ((p.0 ≡ codes "loop") × IsLoopOf p.1 order)
-    ⊎ ((p.0 ≡ codes "serve") × IsServeOf p.1 order) ⊎ ((p.0 ≡ codes "run") × IsRunOf p.1 order)
-    ⊎ ((p.0 ≡ codes "explain") × IsExplainOf p.1 order) ⊎ ((p.0 ≡ codes "export") × IsExportOf p.1 order)
+    ⊎ IsLaterOrderOf p order
 
 -- the option with this id has a value
 abbrev pub HasValue : Text → List Row → Type 0
@@ -212,11 +216,15 @@ pub record HasExport (rows : List Row) : Type 0 where
   pub features : HasValue (codes "features") rows
   pub explain : HasExplained rows
 
+-- the name of one of the last four subcommands, with the values that it cannot do without
+abbrev pub IsLaterAskable : Text × List Row → Type 0
+IsLaterAskable p = ((p.0 ≡ codes "serve") × HasService p.1) ⊎ ((p.0 ≡ codes "run") × HasRun p.1)
+    ⊎ ((p.0 ≡ codes "explain") × HasValue (codes "CODE") p.1) ⊎ ((p.0 ≡ codes "export") × HasExport p.1)
+
 -- the name of a subcommand of `dme`, with the values that it cannot do without
 abbrev pub IsAskable : Text × List Row → Type 0
 IsAskable p = ((p.0 ≡ codes "check") × HasExplained p.1) ⊎ ((p.0 ≡ codes "simulate") × HasSimulation p.1) ⊎ ((p.0 ≡ codes "audit") × HasAudit p.1)
-    ⊎ ((p.0 ≡ codes "loop") × HasLoop p.1) ⊎ ((p.0 ≡ codes "serve") × HasService p.1) ⊎ ((p.0 ≡ codes "run") × HasRun p.1)
-    ⊎ ((p.0 ≡ codes "explain") × HasValue (codes "CODE") p.1) ⊎ ((p.0 ≡ codes "export") × HasExport p.1)
+    ⊎ ((p.0 ≡ codes "loop") × HasLoop p.1) ⊎ IsLaterAskable p
 
 -- the window is one that a client takes, the port is one that can be listened on, and the count is one of a server's connections
 abbrev pub IsReady : Order → Type 0

@@ -1,6 +1,6 @@
 // The command line.
 
-ghost use Rattle.std.specs.Prelude.{◌≡◌, ◌≤◌, IfOk, IfErr, IsErrAnd, IsSomeAnd, MatchOption, map, true, codes, string_bytes};
+ghost use Rattle.std.specs.Prelude.{◌≡◌, ◌≤◌, IfOk, IfErr, IsErrAnd, IsSomeAnd, MatchOption, Some, map, true, codes, string_bytes};
 ghost use Rattle.std.specs.Option.{option_map};
 ghost use Rattle.clap.specs.Words.{first_of, found_of, rows_of, subcommand_rows_of};
 ghost use Rattle.client_core.specs.Clients.{is_window};
@@ -9,6 +9,7 @@ ghost use Rattle.dme_words.specs.Ordered.{IsCheckOf, IsSimulateOf, IsAuditOf, Is
 ghost use Rattle.dme_words.specs.Ordered.{IsExplainOf, IsExportOf, HasExport, AsksForNothing, IsNoCode, IsNoForm, IsCodeOf, form_word, HasNoTopic, HasNoForm};
 ghost use Rattle.dme_words.specs.Ordered.{HasValue, HasWindow, HasPort, HasConnections, HasFlag, HasExplained};
 ghost use Rattle.dme_words.specs.Ordered.{HasSimulation, HasAudit, HasLoop, HasService, HasRun};
+ghost use Rattle.dme_words.specs.Ordered.{IsLaterAskable, IsLaterOrderOf};
 ghost use Rattle.dme_words.specs.Ordered.{IsAskable, IsReady, Asks, IsRefusal, IsCalled};
 
 use crate::line::whole_command;
@@ -442,6 +443,23 @@ fn export_order(alloc: Global, values: &ArgMatches) -> Result<Order, WordsFault>
     })
 }
 
+/// The order of one of the last four subcommands, with its values.
+fn later_order(alloc: Global, name: &str, values: &ArgMatches) -> Result<Order, WordsFault>
+    requires { IsLaterAskable (name.now, rows_of (found_of values.now)) }
+    ensures named { IfOk result (IsLaterOrderOf (name.now, rows_of (found_of values.now))) }
+    ensures ready { IfOk result IsReady }
+    ensures none { IfErr result
+        (AsksForNothing (Some (name.now, rows_of (found_of values.now)))) }
+{
+    match name {
+        "serve" => serve_order(alloc, values),
+        "run" => run_order(alloc, values),
+        "explain" => explain_order(alloc, values),
+        "export" => export_order(alloc, values),
+        _ => unreachable!(),
+    }
+}
+
 /// The order of the subcommand that `clap` found, with its values.
 fn order_of(alloc: Global, matches: &ArgMatches) -> Result<Order, WordsFault>
     requires { IsSomeAnd (subcommand_rows_of matches.now) IsAskable }
@@ -454,11 +472,8 @@ fn order_of(alloc: Global, matches: &ArgMatches) -> Result<Order, WordsFault>
         Some(("simulate", values)) => simulate_order(alloc, values),
         Some(("audit", values)) => audit_order(alloc, values),
         Some(("loop", values)) => loop_order(alloc, values),
-        Some(("serve", values)) => serve_order(alloc, values),
-        Some(("run", values)) => run_order(alloc, values),
-        Some(("explain", values)) => explain_order(alloc, values),
-        Some(("export", values)) => export_order(alloc, values),
-        _ => unreachable!(),
+        Some((name, values)) => later_order(alloc, name, values),
+        None => unreachable!(),
     }
 }
 

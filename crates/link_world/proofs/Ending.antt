@@ -1,22 +1,18 @@
 -- What is left of a program, brought to its end.
-use Rattle.std.proofs.Common.{◌≡◌, inl, inr, ℕ, ◌≤◌, Bool, true, false, List, [], ◌++◌, length, refl, sym, ◌∙◌, ap, subst, Option, None, is_some}
-use Rattle.dmis_program.specs.Meaning.{Meaning}
-use Rattle.tool_rack.specs.Setups.{SetupValue}
+use Rattle.std.proofs.Common.{◌≡◌, inl, inr, ℕ, ◌≤◌, Bool, true, false, List, [], length, refl, sym, ◌∙◌, ap, subst, Option, None, is_some}
 use Rattle.protocol_model.specs.Client.{due}
 use Rattle.protocol_model.specs.Finishing.{CanFinish, rejoining, rejoined, plan_left}
 use Rattle.protocol_model.specs.Lines.{Readers, AreReaders}
-use Rattle.protocol_model.specs.World.{World, start, run_of}
+use Rattle.protocol_model.specs.World.{World, run_of}
 use Rattle.protocol_model.specs.declared.events.Event.{Event}
 use Rattle.protocol_model.specs.declared.machine.Job.{Job}
 use Rattle.protocol_model.specs.declared.machine.Outcome.{Outcome}
 use Rattle.protocol_model.proofs.written_lines.ReadersExist.{some_are_readers}
 use Rattle.client_core.specs.Always.{FitsState}
-use Rattle.link_world.specs.Claims.{IsSound, IsTold, DoNotDisagree}
-use Rattle.link_world.specs.Finishing.{commands_most, IsSameKind, AreFirstOfJoining, AreTurns, Finishes, Stops, IsQuietRun}
+use Rattle.link_world.specs.Finishing.{commands_most, IsSameKind, AreFirstOfJoining, AreTurns, Finishes, Stops}
 use Rattle.link_world.specs.Links.{Linked, with_world, IsReached}
 use Rattle.link_world.specs.Parts.{Makes}
-use Rattle.link_world.specs.declared.finishing.Quiet.{Quiet}
-use Rattle.link_world.proofs.EventLists.{run_append, leads_more}
+use Rattle.link_world.proofs.EventLists.{run_append}
 use Rattle.link_world.proofs.Rejoining.{IsJoined, joined_at, joined_due, left_few}
 use Rattle.link_world.proofs.SameKind.{same_run, same_then}
 
@@ -91,19 +87,3 @@ same_joined l k joined = same_run some_are_readers.0 (rejoining l.world) l k (jo
 pub same_turned : (are : Readers → Bool → World → List Event → Type 0) (cut : Bool) (told : Option Bool) (l k m : Linked) → Joined l k
     → ((readers : Readers) → AreReaders readers → Makes readers (are readers) cut told k m) → IsSameKind l m
 same_turned are cut told l k m joined h = same_then l k m (same_joined l k joined) (same_made are cut told k m h)
-
-pub quiet_ran : (readers : Readers) (answer : Job → ℕ → Outcome) (p : Meaning) (setup : SetupValue) (window turns : ℕ)
-    (l m : Linked) (quiet : Quiet) → l ≡ record { setup = setup; world = start p setup.tools window }
-    → Finishes readers answer turns l.world m.world → quiet.turns ≡ turns
-    → quiet.state ≡ m.world.client.client.state → quiet.features ≡ m.world.client.client.table.tally.features
-    → IsSound m.world → IsTold m.world → DoNotDisagree m.world → IsQuietRun readers answer p setup.tools window quiet
-quiet_ran readers answer p setup window turns l m quiet new finishes count state features sound told agree = record {
-  world = m.world;
-  finishes = subst (λ (x : Linked). Finishes readers answer quiet.turns x.world m.world) new
-      (subst (λ (n : ℕ). Finishes readers answer n l.world m.world) (sym count) finishes);
-  state = state;
-  features = features;
-  sound = sound;
-  told = told;
-  agree = agree;
-}

@@ -198,6 +198,34 @@ impl World {
             turns,
         })
     }
+
+    /// What `finish` does, where it can, and what is told of it. Only want of memory is an `Err`.
+    fn finish_told<M: Machine>(&mut self, machine: &mut M) -> Result<Quiet, AllocError>
+        requires { CanFinish self.old.world }
+        ensures finishes { IfOk result (λ quiet. (readers : Readers) → AreReaders readers
+            → Finishes readers (M.answers machine.old) quiet.turns self.old.world self.new.world) }
+        ensures few { IfOk result (λ quiet. quiet.turns ≤ length (plan_left self.old.world)) }
+        ensures done { OnOk result (CanMeasure (M.answers machine.old) self.old.world
+            → self.new.world.client.client.state ≡ state.Done) }
+        ensures measured { OnOk result (CanMeasure (M.answers machine.old) self.old.world
+            → HasMeasured (M.answers machine.old) self.old.world self.new.world) }
+        ensures state { IfOk result (λ quiet. quiet.state ≡ self.new.world.client.client.state) }
+        ensures features { IfOk result (λ quiet.
+            quiet.features ≡ self.new.world.client.client.table.tally.features) }
+        ensures keeps { M.answers machine.new ≡ M.answers machine.old }
+        ensures sound { IsSound self.new.world }
+        ensures told { IsTold self.new.world }
+        ensures agree { DoNotDisagree self.new.world }
+    {
+        match self.finish(machine) {
+            Ok(turns) => {
+                let quiet = self.quiet_told(turns)?;
+                Ok(quiet)
+            }
+            Err(WorldFault::Memory) => Err(AllocError),
+            Err(WorldFault::NotNow) => unreachable!(),
+        }
+    }
 }
 
 /// The undisturbed run of a program on a server with this setup, neither of which was ever on a connection: both come to connection 1, and
@@ -235,12 +263,9 @@ pub fn quiet_run<M: Machine>(
     ensures keeps { M.answers machine.new ≡ M.answers machine.old }
 {
     let mut world = World::new(alloc, program, setup, window)?;
-    let turns = match world.finish(machine) {
-        Ok(turns) => turns,
-        Err(WorldFault::Memory) => return Err(NewFault::Memory),
-        Err(WorldFault::NotNow) => unreachable!(),
-    };
-    match world.quiet_told(turns) {
+    let told = world.finish_told(machine);
+    drop(world);
+    match told {
         Ok(quiet) => Ok(quiet),
         Err(AllocError) => Err(NewFault::Memory),
     }

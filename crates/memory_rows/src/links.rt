@@ -282,12 +282,24 @@ fn new_both(alloc: Global, call: &str) -> Result<Both<'_>, Stop> {
     })
 }
 
+fn client_answer(alloc: Global, call: &str) -> Result<String, Stop> {
+    tried(alloc, new_calling(alloc, 0, call)?)
+}
+
+fn server_answer(alloc: Global, call: &str) -> Result<String, Stop> {
+    tried(alloc, new_serving(alloc, 0, call)?)
+}
+
+fn both_answer(alloc: Global, call: &str) -> Result<String, Stop> {
+    tried(alloc, new_both(alloc, call)?)
+}
+
 /// What a row of ports shows.
 pub(crate) fn answer(alloc: Global, call: &str) -> Result<String, Stop> {
     match call {
-        "client_turns" | "run_link" | "watch_link" => { tried(alloc, new_calling(alloc, 0, call)?) }
-        "serve_turns" | "serve_link" => { tried(alloc, new_serving(alloc, 0, call)?) }
-        "loop_link" => tried(alloc, new_both(alloc, call)?),
+        "client_turns" | "run_link" | "watch_link" => client_answer(alloc, call),
+        "serve_turns" | "serve_link" => server_answer(alloc, call),
+        "loop_link" => both_answer(alloc, call),
         _ => Err(Stop::Row),
     }
 }

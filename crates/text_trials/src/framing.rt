@@ -1,6 +1,7 @@
 // What no clause says of framing, beside the rows of text_rows.
 
 use line_framing::{FramingFault, Line, Lines, LinesFault};
+use std::alloc::Global;
 use std::test::Fail;
 
 /// Two replies, of 41 and of 9 bytes with their ends.
@@ -27,59 +28,113 @@ fn is_refused(answer: &Result<Option<Line>, LinesFault>, due: FramingFault) -> b
     matches!(answer, Err(LinesFault::Framing(fault)) if *fault == due)
 }
 
+/// Whether a byte of the replies, the one at this place, gives the line that ends with it, and else none.
+fn comes_with_its_last(lines: &mut Lines, index: usize, byte: u8) -> bool {
+    let answer = fed(lines, &[byte]);
+    match index {
+        40 => is_line(&answer, b"00008 # X(10.002), Y(20.000), Z(25.000)"),
+        49 => is_line(&answer, b"00008 %"),
+        _ => is_nothing(&answer),
+    }
+}
+
+/// Whether the replies give both lines where they come at once, and no more.
+fn come_at_once(lines: &mut Lines) -> bool {
+    is_line(
+        &fed(lines, REPLIES),
+        b"00008 # X(10.002), Y(20.000), Z(25.000)",
+    ) && is_line(&lines.next_line(), b"00008 %")
+        && is_nothing(&lines.next_line())
+}
+
 #[test]
 fn lines_come_with_their_last_byte(rt: HostRuntime) {
     let mut lines = Lines::new(rt.alloc());
     for (index, byte) in REPLIES.iter().enumerate() {
-        let answer = fed(&mut lines, &[*byte]);
-        let is_right = match index {
-            40 => is_line(&answer, b"00008 # X(10.002), Y(20.000), Z(25.000)"),
-            49 => is_line(&answer, b"00008 %"),
-            _ => is_nothing(&answer),
-        };
-        assert!(rt; is_right, "after byte {index}");
+        assert!(rt;
+            comes_with_its_last(&mut lines, index, *byte),
+            "after byte {index}"
+        );
     }
     assert_eq!(rt; lines.rest().len(), 0);
-    assert!(rt;
-        is_line(
-            &fed(&mut lines, REPLIES),
-            b"00008 # X(10.002), Y(20.000), Z(25.000)"
-        )
-    );
-    assert!(rt; is_line(&lines.next_line(), b"00008 %"));
-    assert!(rt; is_nothing(&lines.next_line()));
+    assert!(rt; come_at_once(&mut lines));
+}
+
+/// Whether 65,536 bytes, one by one, give no line.
+fn are_no_line(lines: &mut Lines) -> bool {
+    for _ in 0..65_536u32 {
+        if !is_nothing(&fed(lines, b"A")) {
+            return false;
+        }
+    }
+    true
+}
+
+/// Whether the end of a line gives this line, and not before its LF.
+fn ends_with_lf(lines: &mut Lines, line: &[u8]) -> bool {
+    is_nothing(&fed(lines, b"\r")) && is_line(&fed(lines, b"\n"), line)
+}
+
+/// Whether a line that comes as a whole is given with its end, and refused with a byte more.
+fn is_refused_one_longer(lines: &mut Lines, longest: &[u8]) -> bool {
+    is_nothing(&fed(lines, longest))
+        && is_line(&fed(lines, b"\r\n"), longest)
+        && is_nothing(&fed(lines, longest))
+        && is_refused(&fed(lines, b"A\n"), FramingFault::LineTooLong)
 }
 
 #[test]
 fn the_longest_line_has_65536_bytes(rt: HostRuntime) -> Result<(), Fail> {
     let longest = vec![in rt.alloc(); b'A'; 65_536]?;
     let mut lines = Lines::new(rt.alloc());
-    for _ in 0..65_536u32 {
-        assert!(rt; is_nothing(&fed(&mut lines, b"A")));
-    }
-    assert!(rt; is_nothing(&fed(&mut lines, b"\r")));
-    assert!(rt; is_line(&fed(&mut lines, b"\n"), longest.as_slice()));
-    assert!(rt; is_nothing(&fed(&mut lines, longest.as_slice())));
-    assert!(rt; is_line(&fed(&mut lines, b"\r\n"), longest.as_slice()));
-    assert!(rt; is_nothing(&fed(&mut lines, longest.as_slice())));
-    assert!(rt; is_refused(&fed(&mut lines, b"A\n"), FramingFault::LineTooLong));
+    assert!(rt; are_no_line(&mut lines));
+    assert!(rt; ends_with_lf(&mut lines, longest.as_slice()));
+    assert!(rt; is_refused_one_longer(&mut lines, longest.as_slice()));
     assert_eq!(rt; lines.rest().len(), 65_538);
     Ok(())
+}
+
+/// Whether a piece is taken three times over.
+fn is_taken_often(lines: &mut Lines, piece: &[u8]) -> bool {
+    for _ in 0..3u32 {
+        if lines.feed(piece).is_err() {
+            return false;
+        }
+    }
+    true
+}
+
+/// What two calls gave.
+type Two = (
+    Result<Option<Line>, LinesFault>,
+    Result<Option<Line>, LinesFault>,
+);
+
+/// The two lines of the replies, from a buffer that is then filled, cleared, gives another line and is gone; none where it gives that not.
+fn outlived(alloc: Global, piece: &[u8]) -> Option<Two> {
+    let mut lines = Lines::new(alloc);
+    let answers = (fed(&mut lines, REPLIES), lines.next_line());
+    let is_filled = is_taken_often(&mut lines, piece);
+    lines.clear();
+    let is_cleared = is_line(&fed(&mut lines, b"B\r\n"), b"B");
+    drop(lines);
+    if is_filled && is_cleared {
+        Some(answers)
+    } else {
+        None
+    }
+}
+
+/// Whether they are the replies.
+fn are_replies(answers: &Two) -> bool {
+    is_line(&answers.0, b"00008 # X(10.002), Y(20.000), Z(25.000)")
+        && is_line(&answers.1, b"00008 %")
 }
 
 #[test]
 fn a_line_outlives_its_buffer(rt: HostRuntime) -> Result<(), Fail> {
     let piece = vec![in rt.alloc(); b'A'; 65_536]?;
-    let mut lines = Lines::new(rt.alloc());
-    let first = fed(&mut lines, REPLIES);
-    let second = lines.next_line();
-    for _ in 0..3u32 {
-        assert!(rt; lines.feed(piece.as_slice()).is_ok());
-    }
-    lines.clear();
-    assert!(rt; is_line(&fed(&mut lines, b"B\r\n"), b"B"));
-    drop(lines);
-    assert!(rt; is_line(&first, b"00008 # X(10.002), Y(20.000), Z(25.000)"));
-    assert!(rt; is_line(&second, b"00008 %"));
+    let answers = outlived(rt.alloc(), piece.as_slice()).ok_or("another line")?;
+    assert!(rt; are_replies(&answers));
     Ok(())
 }

@@ -59,101 +59,141 @@ fn pieces(alloc: Global, call: u64) -> Result<Pieces, AllocError> {
     Ok(source)
 }
 
+// Whether a source whose pull number `call` fails answers its pulls of at most two bytes so.
+fn pulls(
+    alloc: Global,
+    call: u64,
+    answers: [Result<usize, Failed>; 5],
+) -> Result<bool, AllocError> {
+    let mut source = pieces(alloc, call)?;
+    for answer in answers {
+        if source.pull(&mut [0; 2]) != answer {
+            return Ok(false);
+        }
+    }
+    Ok(true)
+}
+
 #[test]
 fn pieces_come_one_a_pull_until_the_set_call(rt: HostRuntime) -> Result<(), Fail> {
     let failed: Result<usize, Failed> = Err(Failed);
-    let cases = [
-        (0, [Ok(2), Ok(1), Ok(2), Ok(0), Ok(0)]),
-        (3, [Ok(2), Ok(1), failed, failed, failed]),
-    ];
-    for (call, answers) in cases {
-        let mut source = pieces(rt.alloc(), call)?;
-        for answer in answers {
-            let pulled = source.pull(&mut [0; 2]);
-            assert_eq!(rt; pulled, answer, "failing at {call}");
-        }
-    }
+    assert!(rt; pulls(rt.alloc(), 0, [Ok(2), Ok(1), Ok(2), Ok(0), Ok(0)])?);
+    assert!(rt; pulls(rt.alloc(), 3, [Ok(2), Ok(1), failed, failed, failed])?);
     Ok(())
+}
+
+// Whether all bytes come of such a source in at most so many pulls, or this fault; and whether it fails then just behind a failure.
+fn comes_to(
+    alloc: Global,
+    (call, bound): (u64, u64),
+    fault: Option<PullFault>,
+) -> Result<bool, AllocError> {
+    let mut source = pieces(alloc, call)?;
+    let is_told = match pull_all(alloc, &mut source, bound) {
+        Ok(bytes) => fault == None && bytes.as_slice() == b"abcde".as_slice(),
+        Err(told) => fault == Some(told),
+    };
+    let again = source.pull(&mut [0; 4]);
+    Ok(is_told && again.is_err() == (fault == Some(PullFault::Failed)))
 }
 
 #[test]
 fn all_bytes_are_pulled_or_the_fault_is_told(rt: HostRuntime) -> Result<(), Fail> {
     let cases = [
-        (0, 3, None),
-        (0, 2, Some(PullFault::TooMany)),
-        (0, 0, Some(PullFault::TooMany)),
-        (2, 9, Some(PullFault::Failed)),
-        (3, 9, Some(PullFault::Failed)),
+        ((0, 3), None),
+        ((0, 2), Some(PullFault::TooMany)),
+        ((0, 0), Some(PullFault::TooMany)),
+        ((2, 9), Some(PullFault::Failed)),
+        ((3, 9), Some(PullFault::Failed)),
     ];
-    for (call, bound, fault) in cases {
-        let mut source = pieces(rt.alloc(), call)?;
-        match pull_all(rt.alloc(), &mut source, bound) {
-            Ok(bytes) => {
-                assert_eq!(rt; fault, None);
-                assert_eq!(rt; bytes.as_slice(), b"abcde".as_slice());
-            }
-            Err(told) => assert_eq!(rt; fault, Some(told)),
-        }
-        let again = source.pull(&mut [0; 4]);
-        assert_eq!(rt; again.is_err(), fault == Some(PullFault::Failed));
+    for (asked, fault) in cases {
+        assert!(rt; comes_to(rt.alloc(), asked, fault)?, "{asked:?}");
     }
-
-    let long = vec![in rt.alloc(); b'x'; PIECE + 1]?;
-    let mut source = Reading::new(long.as_slice());
-    let fault = pull_all(rt.alloc(), &mut source, 2).err();
-    assert_eq!(rt; fault, Some(PullFault::TooMany));
-    let mut source = Reading::new(long.as_slice());
-    let bytes = pull_all(rt.alloc(), &mut source, 3)
-        .ok()
-        .ok_or("three pulls")?;
-    assert!(rt; bytes.as_slice() == long.as_slice());
     Ok(())
+}
+
+// Whether a text of more than a piece comes in three pulls, and not in two.
+fn comes_in_three(alloc: Global, long: &[u8]) -> bool {
+    let fault = pull_all(alloc, &mut Reading::new(long), 2).err();
+    let all = match pull_all(alloc, &mut Reading::new(long), 3) {
+        Ok(bytes) => bytes.as_slice() == long,
+        Err(_) => false,
+    };
+    fault == Some(PullFault::TooMany) && all
+}
+
+#[test]
+fn the_end_of_a_text_takes_a_pull(rt: HostRuntime) -> Result<(), Fail> {
+    let long = vec![in rt.alloc(); b'x'; PIECE + 1]?;
+    assert!(rt; comes_in_three(rt.alloc(), long.as_slice()));
+    Ok(())
+}
+
+// Whether a sink that takes at most so many bytes, and whose push number `call` fails, has taken these of five, and fails then for good.
+fn takes(alloc: Global, (most, call): (usize, u64), taken: &[u8]) -> bool {
+    if most == 0 {
+        return false;
+    }
+    let mut sink = if call == 0 {
+        Takes::new(alloc, most)
+    } else {
+        Takes::failing_at(alloc, most, call)
+    };
+    let is_pushed = push_all(&mut sink, b"abcde").is_ok();
+    let is_right = is_pushed == (taken.len() == 5) && sink.taken() == taken;
+    is_right && sink.push(b"f").is_ok() == (call == 0)
 }
 
 #[test]
 fn all_bytes_are_pushed_or_a_front_of_them(rt: HostRuntime) -> Result<(), Fail> {
-    let cases: [(usize, u64, &[u8]); 6] = [
-        (2, 0, b"abcde"),
-        (100, 0, b"abcde"),
-        (3, 3, b"abcde"),
-        (2, 3, b"abcd"),
-        (2, 2, b"ab"),
-        (1, 1, b""),
+    let cases: [((usize, u64), &[u8]); 6] = [
+        ((2, 0), b"abcde"),
+        ((100, 0), b"abcde"),
+        ((3, 3), b"abcde"),
+        ((2, 3), b"abcd"),
+        ((2, 2), b"ab"),
+        ((1, 1), b""),
     ];
-    for (most, call, taken) in cases {
-        assert!(rt; most > 0);
-        let mut sink = if call == 0 {
-            Takes::new(rt.alloc(), most)
-        } else {
-            Takes::failing_at(rt.alloc(), most, call)
-        };
-        let pushed = push_all(&mut sink, b"abcde");
-        assert_eq!(rt; pushed.is_ok(), taken.len() == 5);
-        assert_eq!(rt; sink.taken(), taken);
-        assert_eq!(rt; sink.push(b"f").is_ok(), call == 0);
+    for (asked, taken) in cases {
+        assert!(rt; takes(rt.alloc(), asked, taken), "{asked:?}");
     }
     Ok(())
 }
 
-#[test]
-fn ports_of_std_fail_with_their_device_and_for_good(rt: HostRuntime) -> Result<(), Fail> {
+// Whether a port over a device fails with it, and for good.
+fn stumbles_for_good() -> bool {
     let mut source = Reading::new(Stumbles { calls: 0 });
     let mut sink = Writing::new(Stumbles { calls: 0 });
     for works in [true, false, false] {
-        assert_eq!(rt; source.pull(&mut [0; 2]).is_ok(), works);
-        assert_eq!(rt; sink.push(b"ab").is_ok(), works);
+        if source.pull(&mut [0; 2]).is_ok() != works || sink.push(b"ab").is_ok() != works {
+            return false;
+        }
     }
+    true
+}
 
-    let mut sink = Writing::new(Vec::new(rt.alloc()));
-    assert_eq!(rt; push_all(&mut sink, b"abc"), Ok(()));
-    assert_eq!(rt; sink.push(b""), Ok(0));
-    assert_eq!(rt; push_all(&mut sink, b"de"), Ok(()));
-    assert_eq!(rt; sink.into_inner().as_slice(), b"abcde".as_slice());
+// Whether all bytes that are pushed stand in a text.
+fn is_written(alloc: Global) -> bool {
+    let mut sink = Writing::new(Vec::new(alloc));
+    let first = push_all(&mut sink, b"abc");
+    let nothing = sink.push(b"");
+    let second = push_all(&mut sink, b"de");
+    let text = sink.into_inner();
+    first.is_ok() && nothing == Ok(0) && second.is_ok() && text.as_slice() == b"abcde".as_slice()
+}
 
+// Whether a room takes what it has place for, and fails then.
+fn is_full() -> bool {
     let mut room = [0; 3];
     let mut sink = Writing::new(room.as_mut_slice());
-    assert_eq!(rt; push_all(&mut sink, b"abcde"), Err(Failed));
-    assert_eq!(rt; sink.push(b""), Err(Failed));
-    assert_eq!(rt; room, *b"abc");
-    Ok(())
+    let all = push_all(&mut sink, b"abcde");
+    let nothing = sink.push(b"");
+    all == Err(Failed) && nothing == Err(Failed) && room == *b"abc"
+}
+
+#[test]
+fn ports_of_std_fail_with_their_device_and_for_good(rt: HostRuntime) {
+    assert!(rt; stumbles_for_good());
+    assert!(rt; is_written(rt.alloc()));
+    assert!(rt; is_full());
 }

@@ -1,6 +1,7 @@
 // What no clause says of directions, names and lengths, beside the rows of text_rows.
 
 use fixed_um::{Name, Um, read_dir, write_dir};
+use std::alloc::{AllocError, Global};
 use std::test::Fail;
 
 #[test]
@@ -16,15 +17,17 @@ fn any_text_may_stand_between_components(rt: HostRuntime) -> Result<(), Fail> {
     Ok(())
 }
 
+/// Whether a name is copied, in capitals.
+fn is_copied(alloc: Global) -> Result<bool, AllocError> {
+    match Name::new(alloc, b"probe_1a")? {
+        Some(name) => Ok(name.copy(alloc)?.as_bytes() == b"PROBE_1A".as_slice()),
+        None => Ok(false),
+    }
+}
+
 #[test]
 fn a_copy_of_a_name_is_equal_and_lengths_are_bounded(rt: HostRuntime) -> Result<(), Fail> {
-    let named = Name::new(rt.alloc(), b"probe_1a")?;
-    let Some(name) = named else {
-        assert!(rt; false, "a name");
-        return Ok(());
-    };
-    let copy = name.copy(rt.alloc())?;
-    assert_eq!(rt; copy.as_bytes(), b"PROBE_1A".as_slice());
+    assert!(rt; is_copied(rt.alloc())?);
     assert!(rt; Um::new(4_000_000_000).is_some());
     assert!(rt; Um::new(-4_000_000_001).is_none());
     Ok(())

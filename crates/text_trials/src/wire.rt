@@ -1,15 +1,12 @@
 // What no clause says: that commands and responses that are made by hand are written as the interface has them, and that the calls succeed
 // with memory. What lines are read as is shown by the rows of text_rows.
 
-ghost use Rattle.std.specs.Prelude.{IfSome};
-ghost use Rattle.dme_line.specs.Kinds.{kind_of, IsTagOf};
-ghost use Rattle.dme_line.specs.Written.{HasVolumeLengths};
-
 use dme_line::{
     Command, Csy, Kind, Mark, Response, Tag, read_command, write_command, write_data, write_homed,
     write_homed_data, write_response,
 };
 use fixed_um::{Dir, Name, Point, Um, read_dir, read_um};
+use std::alloc::{AllocError, Global};
 use std::test::Fail;
 
 fn length(numeral: &str) -> Um {
@@ -34,31 +31,46 @@ fn direction(i: &str, j: &str, k: &str) -> Option<Dir> {
     }
 }
 
+/// Whether a line is read as a touch with this tag, this target and this direction.
+fn is_touch(
+    alloc: Global,
+    line: &[u8],
+    (number, target, along): (Tag, Point, Option<Dir>),
+) -> Result<bool, AllocError> {
+    let read = read_command(alloc, line)?;
+    let is_due = match &read {
+        Ok((tag, Command::PtMeas(to, by))) => *tag == number && *to == target && *by == along,
+        _ => false,
+    };
+    Ok(is_due)
+}
+
+/// Whether a line is read as a transformation with this tag and these lengths.
+fn is_transformation(
+    alloc: Global,
+    line: &[u8],
+    (number, lengths): (Tag, Point),
+) -> Result<bool, AllocError> {
+    let read = read_command(alloc, line)?;
+    let is_due = match &read {
+        Ok((tag, Command::SetCsyTransformation(by))) => *tag == number && *by == lengths,
+        _ => false,
+    };
+    Ok(is_due)
+}
+
 #[test]
 fn arguments_stand_in_their_places(rt: HostRuntime) -> Result<(), Fail> {
-    let touch = read_command(
-        rt.alloc(),
-        b"00005 PtMeas(IJK(0, 0.5, 1), Z(3), X(1), Y(2))",
-    )?;
-    match &touch {
-        Ok((tag, Command::PtMeas(target, along))) => {
-            assert_eq!(rt; *tag, Tag::Std(5));
-            assert_eq!(rt; *target, point("1", "2", "3"));
-            assert_eq!(rt; *along, direction("0", "0.5", "1"));
-        }
-        _ => assert!(rt; false, "a touch"),
-    }
-    let transformation = read_command(
-        rt.alloc(),
-        b"00012 SETCSYTRANSFORMATION ( partcsy , 1 , 2 , 3 , 0 , 0.0 , 0E5 )",
-    )?;
-    match &transformation {
-        Ok((tag, Command::SetCsyTransformation(lengths))) => {
-            assert_eq!(rt; *tag, Tag::Std(12));
-            assert_eq!(rt; *lengths, point("1", "2", "3"));
-        }
-        _ => assert!(rt; false, "a transformation"),
-    }
+    let touch = (
+        Tag::Std(5),
+        point("1", "2", "3"),
+        direction("0", "0.5", "1"),
+    );
+    let line = b"00005 PtMeas(IJK(0, 0.5, 1), Z(3), X(1), Y(2))";
+    assert!(rt; is_touch(rt.alloc(), line, touch)?);
+    let transformation = (Tag::Std(12), point("1", "2", "3"));
+    let line = b"00012 SETCSYTRANSFORMATION ( partcsy , 1 , 2 , 3 , 0 , 0.0 , 0E5 )";
+    assert!(rt; is_transformation(rt.alloc(), line, transformation)?);
     Ok(())
 }
 
@@ -71,62 +83,66 @@ fn answers_to_is_homed_are_written(rt: HostRuntime) -> Result<(), Fail> {
     Ok(())
 }
 
-fn transformation(lengths: &Point) -> Option<Command>
-    ensures tag { IfSome result (λ command. IsTagOf (kind_of command) (Tag.Std 18)) }
-    ensures lengths { IfSome result (λ command. HasVolumeLengths command) }
-{
-    if lengths.is_in_volume() {
-        Some(Command::SetCsyTransformation(*lengths))
-    } else {
-        None
+/// Commands without arguments, as a session begins.
+fn write_begin(out: &mut Vec<u8>) -> Result<(), AllocError> {
+    write_command(out, Tag::Std(1), &Command::StartSession)?;
+    write_command(out, Tag::Std(2), &Command::ClearAllErrors)?;
+    write_command(out, Tag::Std(3), &Command::IsHomed)?;
+    write_command(out, Tag::Std(3), &Command::Home)?;
+    write_command(out, Tag::Std(4), &Command::OnPtMeasReport)
+}
+
+/// A frame and a tool.
+fn write_choice(out: &mut Vec<u8>, tool: Name) -> Result<(), AllocError> {
+    let machine = Command::SetCoordSystem(Csy::MachineCsy);
+    write_command(out, Tag::Std(5), &machine)?;
+    write_command(out, Tag::Std(6), &Command::ChangeTool(tool))
+}
+
+/// A move, and a touch with a direction.
+fn write_touch(out: &mut Vec<u8>) -> Result<(), AllocError> {
+    let way = Command::GoTo(point("10", "20", "30"));
+    write_command(out, Tag::Std(7), &way)?;
+    let touch = Command::PtMeas(point("10", "20", "25"), direction("0", "0", "1"));
+    write_command(out, Tag::Std(8), &touch)
+}
+
+/// The end of a session, a touch without a direction, and another frame.
+fn write_rest(out: &mut Vec<u8>) -> Result<(), AllocError> {
+    write_command(out, Tag::Std(9), &Command::EndSession)?;
+    let touch = Command::PtMeas(point("30", "0", "-0.001"), None);
+    write_command(out, Tag::Std(20), &touch)?;
+    let part = Command::SetCoordSystem(Csy::PartCsy);
+    write_command(out, Tag::Std(12345), &part)?;
+    write_command(out, Tag::Event(67), &Command::AbortE)
+}
+
+/// A transformation; false where its lengths are not in the volume.
+fn write_transformation(out: &mut Vec<u8>, lengths: &Point) -> Result<bool, AllocError> {
+    if !lengths.is_in_volume() {
+        return Ok(false);
     }
+    let command = Command::SetCsyTransformation(*lengths);
+    write_command(out, Tag::Std(18), &command)?;
+    Ok(true)
+}
+
+/// All of them; false where the tool has no name.
+fn write_all(alloc: Global, out: &mut Vec<u8>) -> Result<bool, AllocError> {
+    let Some(tool) = Name::new(alloc, b"p1")? else {
+        return Ok(false);
+    };
+    write_begin(out)?;
+    write_choice(out, tool)?;
+    write_touch(out)?;
+    write_rest(out)?;
+    write_transformation(out, &point("-100", "0", "0"))
 }
 
 #[test]
 fn commands_are_written(rt: HostRuntime) -> Result<(), Fail> {
-    let alloc = rt.alloc();
-    let mut out = Vec::new(alloc);
-    let Some(tool) = Name::new(alloc, b"p1")? else {
-        assert!(rt; false, "a name");
-        return Ok(());
-    };
-    write_command(&mut out, Tag::Std(1), &Command::StartSession)?;
-    write_command(&mut out, Tag::Std(2), &Command::ClearAllErrors)?;
-    write_command(&mut out, Tag::Std(3), &Command::IsHomed)?;
-    write_command(&mut out, Tag::Std(3), &Command::Home)?;
-    write_command(&mut out, Tag::Std(4), &Command::OnPtMeasReport)?;
-    write_command(
-        &mut out,
-        Tag::Std(5),
-        &Command::SetCoordSystem(Csy::MachineCsy),
-    )?;
-    write_command(&mut out, Tag::Std(6), &Command::ChangeTool(tool))?;
-    write_command(
-        &mut out,
-        Tag::Std(7),
-        &Command::GoTo(point("10", "20", "30")),
-    )?;
-    write_command(
-        &mut out,
-        Tag::Std(8),
-        &Command::PtMeas(point("10", "20", "25"), direction("0", "0", "1")),
-    )?;
-    write_command(&mut out, Tag::Std(9), &Command::EndSession)?;
-    write_command(
-        &mut out,
-        Tag::Std(20),
-        &Command::PtMeas(point("30", "0", "-0.001"), None),
-    )?;
-    write_command(
-        &mut out,
-        Tag::Std(12345),
-        &Command::SetCoordSystem(Csy::PartCsy),
-    )?;
-    write_command(&mut out, Tag::Event(67), &Command::AbortE)?;
-    match transformation(&point("-100", "0", "0")) {
-        Some(command) => write_command(&mut out, Tag::Std(18), &command)?,
-        None => assert!(rt; false, "a transformation"),
-    }
+    let mut out = Vec::new(rt.alloc());
+    assert!(rt; write_all(rt.alloc(), &mut out)?);
     let wanted = "00001 StartSession()\
         00002 ClearAllErrors()\
         00003 IsHomed()\

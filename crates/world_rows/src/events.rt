@@ -158,6 +158,7 @@ impl WorldTask for Rows<'_> {
     }
 }
 
+/// What the rows of a part of events show of a new world.
 pub(crate) fn push_events(
     alloc: Global,
     out: &mut Vec<u8>,

@@ -61,6 +61,7 @@ impl WorldTask for NumbersBehind<'_> {
     }
 }
 
+/// The first and the last number of the worlds that a way has behind this front.
 fn numbers_behind(
     alloc: Global,
     made: Made<'_>,
@@ -132,6 +133,7 @@ impl WorldTask for Behind<'_> {
     }
 }
 
+/// The same of a new world.
 fn push_behind(
     alloc: Global,
     out: &mut Vec<u8>,

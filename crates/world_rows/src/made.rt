@@ -55,7 +55,9 @@ pub(crate) fn do_task<T: WorldTask>(
     task: &mut T,
 ) -> Result<(), Stop> {
     let mut world = new_world(alloc, made)?;
-    task.done(alloc, &mut world)
+    let done = task.done(alloc, &mut world);
+    drop(world);
+    done
 }
 
 /// The program that worlds are made of.

@@ -4,7 +4,7 @@ use Rattle.link_world.specs.Machines.{simulated}
 use Rattle.link_world.specs.Schedules.{Plays}
 use Rattle.dme_orders.proofs.simulating.played.Goals as goal
 
-pub returns : goal.returns
-returns g c = λ readers are. subst (λ (w : Linked). Plays readers
+pub returns-in-Ok : goal.returns-in-Ok
+returns-in-Ok g c = λ readers are. subst (λ (w : Linked). Plays readers
     (simulated w.setup.shifts) c.args.schedule.now false w.world c.play.new.world.world)
-    c.in_ok-world.ensures (c.in_ok-play.ensures.ok readers are)
+    c.in_ok-world.ensures (c.in-Ok.ensures.ok readers are)
