@@ -70,7 +70,7 @@ fn round(alloc: Global, server: &mut Server, number: u64, sum: u64) -> Result<u6
     Ok(take_answers(server, sum))
 }
 
-/// So many rounds on a server that is ready for them, and what `rounds` answers.
+/// Makes a new server ready and so many rounds on it, and answers what `rounds` does.
 fn run_all(alloc: Global, server: &mut Server, wanted: u64) -> Result<(u64, u64), Stop> {
     make_ready(server)?;
     let mut sum = take_answers(server, 0);

@@ -110,7 +110,7 @@ type Two = (
     Result<Option<Line>, LinesFault>,
 );
 
-/// The two lines of the replies, from a buffer that is then filled, cleared, gives another line and is gone; none where it gives that not.
+/// The two lines of the replies, from a buffer that is then filled, cleared, fed another line and gone; none where that line does not come.
 fn outlived(alloc: Global, piece: &[u8]) -> Option<Two> {
     let mut lines = Lines::new(alloc);
     let answers = (fed(&mut lines, REPLIES), lines.next_line());
