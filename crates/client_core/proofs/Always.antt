@@ -16,6 +16,7 @@ use Rattle.dme_line.specs.declared.responses.Mark.{Mark as Marked}
 use Rattle.dme_line.specs.declared.responses.Mark.TheVariants as mark
 use Rattle.dme_line.specs.declared.responses.Response.{Response}
 use Rattle.dme_line.specs.declared.responses.NotResponse.{NotResponse}
+use Rattle.protocol_model.specs.Readings.{response_of, point_of, homed_of}
 use Rattle.line_framing.specs.Next.{Front, next_of}
 use Rattle.line_framing.specs.Framing.{fed_behind, left_by}
 use Rattle.line_framing.specs.declared.faults.FramingFault.{FramingFault}
@@ -24,7 +25,6 @@ use Rattle.contact_ledger.specs.declared.features.Feature.{Feature}
 use Rattle.dmis_program.specs.Meaning.{Meaning}
 use Rattle.dmis_program.specs.declared.features.Wanted.{Wanted}
 use Rattle.protocol_model.specs.Replies.{Mark, tag_is}
-use Rattle.protocol_model.specs.Lines.{Readers}
 use Rattle.protocol_model.specs.Open.{is_asking, is_failed, count_open}
 use Rattle.protocol_model.specs.Client.{Client, Table, heard, heard_on, faulted, new_client, client_connected, may_go, first_due, due}
 use Rattle.protocol_model.specs.Client.{held_now, sends_next, next_number, sends_abort, may_abort, first_state, last_state, state_behind}
@@ -171,43 +171,43 @@ homed_live : (c : Client) (t : Tag) (r : Result Bool NotHomedText) → Reads c �
 homed_live c t (Ok homed) reads h = reply_live c t (Mark.Given (datum.Homed homed)) reads h
 homed_live c t (Err why) reads h = faulted_live c Cause.NotResponse h
 
-given_live : (readers : Readers) (c : Client) (t : Tag) (text : List ℕ) (k : Kind) → Reads c → IsLive c
-    → IsLive (given_for readers c t text k)
-given_live readers c t text kind.PtMeas reads h = point_live c t (readers.point text) reads h
-given_live readers c t text kind.IsHomed reads h = homed_live c t (readers.homed text) reads h
-given_live readers c t text kind.StartSession reads h = faulted_live c Cause.OutOfOrder h
-given_live readers c t text kind.EndSession reads h = faulted_live c Cause.OutOfOrder h
-given_live readers c t text kind.ClearAllErrors reads h = faulted_live c Cause.OutOfOrder h
-given_live readers c t text kind.Home reads h = faulted_live c Cause.OutOfOrder h
-given_live readers c t text kind.OnPtMeasReport reads h = faulted_live c Cause.OutOfOrder h
-given_live readers c t text kind.GoTo reads h = faulted_live c Cause.OutOfOrder h
-given_live readers c t text kind.ChangeTool reads h = faulted_live c Cause.OutOfOrder h
-given_live readers c t text kind.SetCsyTransformation reads h = faulted_live c Cause.OutOfOrder h
-given_live readers c t text kind.SetCoordSystem reads h = faulted_live c Cause.OutOfOrder h
-given_live readers c t text kind.AbortE reads h = faulted_live c Cause.OutOfOrder h
+given_live : (c : Client) (t : Tag) (text : List ℕ) (k : Kind) → Reads c → IsLive c
+    → IsLive (given_for c t text k)
+given_live c t text kind.PtMeas reads h = point_live c t (point_of text) reads h
+given_live c t text kind.IsHomed reads h = homed_live c t (homed_of text) reads h
+given_live c t text kind.StartSession reads h = faulted_live c Cause.OutOfOrder h
+given_live c t text kind.EndSession reads h = faulted_live c Cause.OutOfOrder h
+given_live c t text kind.ClearAllErrors reads h = faulted_live c Cause.OutOfOrder h
+given_live c t text kind.Home reads h = faulted_live c Cause.OutOfOrder h
+given_live c t text kind.OnPtMeasReport reads h = faulted_live c Cause.OutOfOrder h
+given_live c t text kind.GoTo reads h = faulted_live c Cause.OutOfOrder h
+given_live c t text kind.ChangeTool reads h = faulted_live c Cause.OutOfOrder h
+given_live c t text kind.SetCsyTransformation reads h = faulted_live c Cause.OutOfOrder h
+given_live c t text kind.SetCoordSystem reads h = faulted_live c Cause.OutOfOrder h
+given_live c t text kind.AbortE reads h = faulted_live c Cause.OutOfOrder h
 
-under_live : (readers : Readers) (c : Client) (t : Tag) (text : List ℕ) (kind : Option Kind) → Reads c → IsLive c
-    → IsLive (given_under readers c t text kind)
-under_live readers c t text None reads h = faulted_live c Cause.UnknownTag h
-under_live readers c t text (Some k) reads h = given_live readers c t text k reads h
+under_live : (c : Client) (t : Tag) (text : List ℕ) (kind : Option Kind) → Reads c → IsLive c
+    → IsLive (given_under c t text kind)
+under_live c t text None reads h = faulted_live c Cause.UnknownTag h
+under_live c t text (Some k) reads h = given_live c t text k reads h
 
-response_live : (readers : Readers) (c : Client) (t : Tag) (m : Marked) → Reads c → IsLive c → IsLive (response_read readers c t m)
-response_live readers c t mark.Ack reads h = reply_live c t Mark.Ack reads h
-response_live readers c t (mark.Given text) reads h =
-    either_live (tag_is t (tag.Event 0)) c (given_under readers c t text (held_under t c)) h
-    (under_live readers c t text (held_under t c) reads h)
-response_live readers c t mark.Done reads h = reply_live c t Mark.Done reads h
-response_live readers c t (mark.Error text) reads h = reply_live c t Mark.Error reads h
+response_live : (c : Client) (t : Tag) (m : Marked) → Reads c → IsLive c → IsLive (response_read c t m)
+response_live c t mark.Ack reads h = reply_live c t Mark.Ack reads h
+response_live c t (mark.Given text) reads h =
+    either_live (tag_is t (tag.Event 0)) c (given_under c t text (held_under t c)) h
+    (under_live c t text (held_under t c) reads h)
+response_live c t mark.Done reads h = reply_live c t Mark.Done reads h
+response_live c t (mark.Error text) reads h = reply_live c t Mark.Error reads h
 
-line_live : (readers : Readers) (c : Client) (r : Result Response NotResponse) → Reads c → IsLive c → IsLive (line_read readers c r)
-line_live readers c (Ok r) reads h = response_live readers c r.tag r.mark reads h
-line_live readers c (Err refused) reads h = faulted_live c Cause.NotResponse h
+line_live : (c : Client) (r : Result Response NotResponse) → Reads c → IsLive c → IsLive (line_read c r)
+line_live c (Ok r) reads h = response_live c r.tag r.mark reads h
+line_live c (Err refused) reads h = faulted_live c Cause.NotResponse h
 
-front_live : (readers : Readers) (c : Client) (f : Front) → Reads c → IsLive c → IsLive (front_read readers c f)
-front_live readers c (Ok None) reads h = h
-front_live readers c (Ok (Some (line, rest))) reads h = line_live readers c (readers.response line) reads h
-front_live readers c (Err framing.LineTooLong) reads h = faulted_live c Cause.LineTooLong h
-front_live readers c (Err framing.BadByte) reads h = faulted_live c Cause.BadByte h
+front_live : (c : Client) (f : Front) → Reads c → IsLive c → IsLive (front_read c f)
+front_live c (Ok None) reads h = h
+front_live c (Ok (Some (line, rest))) reads h = line_live c (response_of line) reads h
+front_live c (Err framing.LineTooLong) reads h = faulted_live c Cause.LineTooLong h
+front_live c (Err framing.BadByte) reads h = faulted_live c Cause.BadByte h
 
 -- ---- what is written
 
@@ -393,61 +393,61 @@ fed_unmet : (fault : Option FramingFault) (rest piece : List ℕ) → fault ≡ 
 fed_unmet None rest piece e = refl
 fed_unmet (Some fault) rest piece e = e
 
-read_unmet : (readers : Readers) (e : ClientEnd) (f : Front) → next_of e.input.rest ≡ f → e.input.fault ≡ None
-    → is_faulted (front_read readers e.client f).state ≡ false → (left_by f e.input).fault ≡ None
-read_unmet readers e (Ok None) is none awake = none
-read_unmet readers e (Ok (Some (line, rest))) is none awake = none
-read_unmet readers e (Err framing.LineTooLong) is none awake = absurd (false≢true (sym awake))
-read_unmet readers e (Err framing.BadByte) is none awake = absurd (false≢true (sym awake))
+read_unmet : (e : ClientEnd) (f : Front) → next_of e.input.rest ≡ f → e.input.fault ≡ None
+    → is_faulted (front_read e.client f).state ≡ false → (left_by f e.input).fault ≡ None
+read_unmet e (Ok None) is none awake = none
+read_unmet e (Ok (Some (line, rest))) is none awake = none
+read_unmet e (Err framing.LineTooLong) is none awake = absurd (false≢true (sym awake))
+read_unmet e (Err framing.BadByte) is none awake = absurd (false≢true (sym awake))
 
 drop_none : (k : ℕ) (none : List ℕ) → none ≡ [] → drop k none ≡ []
 drop_none zero none e = e
 drop_none (suc k) [] e = refl
 drop_none (suc k) (x ∷ xs) e = absurd (cc)
 
-done_sound : (readers : Readers) (call : Call) (e : ClientEnd) → possible call e ≡ true → IsSound e → IsSound (done_by readers call e)
-done_sound readers (Connected n) e may h = live_sound (done_by readers (Connected n) e) refl
+done_sound : (call : Call) (e : ClientEnd) → possible call e ≡ true → IsSound e → IsSound (done_by call e)
+done_sound (Connected n) e may h = live_sound (done_by (Connected n) e) refl
     (connected_steady n e.client may (IsSound.steady h)) (λ awake. refl)
-done_sound readers Send e may h =
+done_sound Send e may h =
     let now : IsDue e.client = due_running e.client may in
     let running : e.client.state ≡ State.Running = now.running in
     let number : Option ℕ = next_number tag.Std e.client.table.standard e.client.drawn in
-    live_sound (done_by readers Send e)
+    live_sound (done_by Send e)
     (sends_on e.client e.client.table.tally.unsent number ∙ running_on e.client running (IsSound.steady h))
     (sends_steady e.client e.client.table.tally.unsent number running (may_fewer e.client may) (IsSound.steady h))
     (λ awake. IsSound.unmet h (ap is_faulted running))
-done_sound readers (Feed bytes) e may h =
+done_sound (Feed bytes) e may h =
     let r : Reads e.client = reads_by e.client may in
-    live_sound (done_by readers (Feed bytes) e) (Reads.on r) (IsSound.steady h)
+    live_sound (done_by (Feed bytes) e) (Reads.on r) (IsSound.steady h)
     (λ awake. fed_unmet e.input.fault e.input.rest bytes (IsSound.unmet h (Reads.awake r)))
-done_sound readers ReadOne e may h =
+done_sound ReadOne e may h =
     let r : Reads e.client = reads_by e.client may in
-    let l : IsLive (front_read readers e.client (next_of e.input.rest)) =
-    front_live readers e.client (next_of e.input.rest) r (record { steady = IsSound.steady h; on = Reads.on r }) in
-    live_sound (done_by readers ReadOne e) (IsLive.on l) (IsLive.steady l)
-    (read_unmet readers e (next_of e.input.rest) refl (IsSound.unmet h (Reads.awake r)))
-done_sound readers Abort e may h =
+    let l : IsLive (front_read e.client (next_of e.input.rest)) =
+    front_live e.client (next_of e.input.rest) r (record { steady = IsSound.steady h; on = Reads.on r }) in
+    live_sound (done_by ReadOne e) (IsLive.on l) (IsLive.steady l)
+    (read_unmet e (next_of e.input.rest) refl (IsSound.unmet h (Reads.awake r)))
+done_sound Abort e may h =
     let a : Aborts e.client = aborts_by e.client e.client.state refl may (IsSteady.connected (IsSound.steady h)) in
     let number : Option ℕ = next_number tag.Event e.client.table.event e.client.event_drawn in
-    live_sound (done_by readers Abort e) (aborts_on e.client number
+    live_sound (done_by Abort e) (aborts_on e.client number
     ∙ Aborts.on a) (aborts_steady e.client number a (IsSound.steady h)) (λ awake. IsSound.unmet h (Aborts.awake a))
-done_sound readers Resume e may h =
+done_sound Resume e may h =
     let halted : e.client.state ≡ State.Halted = resumed_state e.client e.client.state may in
-    live_sound (done_by readers Resume e) (subst (λ (s : State). FitsState s e.client.on) halted (IsSteady.connected (IsSound.steady h)))
+    live_sound (done_by Resume e) (subst (λ (s : State). FitsState s e.client.on) halted (IsSteady.connected (IsSound.steady h)))
     (resumed_steady e.client halted (IsSound.steady h)) (λ awake. IsSound.unmet h (ap is_faulted halted))
-done_sound readers Leave e may h =
+done_sound Leave e may h =
     record {
       steady = left_steady e.client (IsSound.steady h);
       quiet = λ off. record { input = refl; out = refl; points = refl };
       unmet = λ awake. refl;
     }
-done_sound readers (Restart k) e may h =
+done_sound (Restart k) e may h =
     record {
       steady = restarted_steady k e.client (IsSound.steady h);
       quiet = λ off. record { input = refl; out = refl; points = refl };
       unmet = λ awake. refl;
     }
-done_sound readers (Sent k) e may h =
+done_sound (Sent k) e may h =
     record {
       steady = IsSound.steady h;
       quiet = λ off. let q : IsQuiet e = IsSound.quiet h off in
@@ -455,16 +455,16 @@ done_sound readers (Sent k) e may h =
       unmet = IsSound.unmet h;
     }
 
-call_sound : (readers : Readers) (call : Call) (e : ClientEnd) → IsSound e → IsSound (behind_call readers call e)
-call_sound readers call e h = go (possible call e) refl
+call_sound : (call : Call) (e : ClientEnd) → IsSound e → IsSound (behind_call call e)
+call_sound call e h = go (possible call e) refl
   where
-    go : (b : Bool) → possible call e ≡ b → IsSound (cond b (done_by readers call e) e)
-    go true may = done_sound readers call e may h
+    go : (b : Bool) → possible call e ≡ b → IsSound (cond b (done_by call e) e)
+    go true may = done_sound call e may h
     go false never = h
 
-calls_sound : (readers : Readers) (calls : List Call) (e : ClientEnd) → IsSound e → IsSound (behind_calls readers calls e)
-calls_sound readers [] e h = h
-calls_sound readers (call ∷ calls) e h = calls_sound readers calls (behind_call readers call e) (call_sound readers call e h)
+calls_sound : (calls : List Call) (e : ClientEnd) → IsSound e → IsSound (behind_calls calls e)
+calls_sound [] e h = h
+calls_sound (call ∷ calls) e h = calls_sound calls (behind_call call e) (call_sound call e h)
 
 new_sound : (p : Meaning) (fs : List Feature) (window : ℕ) → 1 ≤ window → window ≤ 16 → IsSound (new_client_end p fs window)
 new_sound p fs window some few =
@@ -475,5 +475,5 @@ new_sound p fs window some few =
     }
 
 pub sound : (e : ClientEnd) → IsReached e → IsSound e
-sound e h = subst IsSound (sym h.reached) (calls_sound h.readers h.calls (new_client_end h.program h.kept h.window)
+sound e h = subst IsSound (sym h.reached) (calls_sound h.calls (new_client_end h.program h.kept h.window)
     (new_sound h.program h.kept h.window h.some h.few))

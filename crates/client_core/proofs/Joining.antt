@@ -12,7 +12,7 @@ use Rattle.dmis_program.specs.declared.features.Wanted.{Wanted}
 use Rattle.protocol_model.specs.Client.{joined}
 use Rattle.protocol_model.specs.Plan.{is_empty}
 use Rattle.client_core.specs.Clients.{is_ours, are_ours}
-use Rattle.client_core.specs.Tables.{command_of}
+use Rattle.client_core.specs.Tables.{planned_command}
 use Rattle.std.specs.Option.{is_some}
 use Rattle.dme_line.specs.declared.commands.Command.{Command}
 use Rattle.protocol_model.specs.declared.plans.Planned.{Planned}
@@ -73,7 +73,7 @@ ours_within (w ∷ ws) (f ∷ fs) is = let less : length fs ≤ length ws = ours
     in omega (arith, less)
 
 -- a planned command is due where its command is
-pub is_due : (o : Option Planned) (c : Command) → command_of o ≡ Some c → true ≡ is_some o
+pub is_due : (o : Option Planned) (c : Command) → planned_command o ≡ Some c → true ≡ is_some o
 is_due None c is = absurd (cc is)
 is_due (Some p) c is = refl
 

@@ -12,12 +12,11 @@ use Rattle.dmis_program.specs.Programs.{IsProgram}
 use Rattle.line_framing.specs.Framing.{Framing, no_bytes, fed, after_next}
 use Rattle.line_framing.specs.Next.{next_of}
 use Rattle.line_framing.specs.declared.faults.FramingFault.{FramingFault}
-use Rattle.protocol_model.specs.Lines.{Readers, AreReaders, command_bytes}
+use Rattle.protocol_model.specs.Lines.{command_bytes}
 use Rattle.protocol_model.specs.Open.{count_open}
 use Rattle.protocol_model.specs.Client.{Client, new_client, due, may_abort, may_resume, client_connected, client_sent, client_aborted}
 use Rattle.protocol_model.specs.Client.{client_resumed, client_left, client_restarted}
 use Rattle.protocol_model.specs.Ends.{ClientEnd, new_client_end, line_read, front_read, end_read}
-use Rattle.protocol_model.proofs.written_lines.ReadersExist.{some_are_readers}
 use Rattle.client_core.specs.Calls.{Call, Connected, Send, Feed, ReadOne, Abort, Resume, Leave, Restart, Sent, possible, done_by}
 use Rattle.client_core.specs.Calls.{behind_call, behind_calls}
 use Rattle.client_core.specs.Clients.{are_ours, is_faulted, may_connect, may_read}
@@ -26,25 +25,24 @@ use Rattle.client_core.proofs.Always.{IsSteady, IsSound, sound, Reads, reads_by}
 use Rattle.client_core.proofs.Fits.{ours_writable}
 use Rattle.client_core.proofs.Runs.{behind_holds, Holds}
 use Rattle.client_core.specs.Calls.{plans_begun}
+use Rattle.protocol_model.specs.Readings.{response_of}
 
 -- ---- one call more
 
-calls_more : (readers : Readers) (calls : List Call) (call : Call) (e : ClientEnd)
-    → behind_calls readers (calls ++ call ∷ []) e ≡ behind_call readers call (behind_calls readers calls e)
-calls_more readers [] call e = refl
-calls_more readers (x ∷ calls) call e = calls_more readers calls call (behind_call readers x e)
+calls_more : (calls : List Call) (call : Call) (e : ClientEnd)
+    → behind_calls (calls ++ call ∷ []) e ≡ behind_call call (behind_calls calls e)
+calls_more [] call e = refl
+calls_more (x ∷ calls) call e = calls_more calls call (behind_call x e)
 
-called : (readers : Readers) (call : Call) (e : ClientEnd) (b : Bool) → possible call e ≡ b → b ≡ true
-    → cond b (done_by readers call e) e ≡ done_by readers call e
-called readers call e true is may = refl
-called readers call e false is may = absurd (false≢true may)
+called : (call : Call) (e : ClientEnd) (b : Bool) → possible call e ≡ b → b ≡ true
+    → cond b (done_by call e) e ≡ done_by call e
+called call e true is may = refl
+called call e false is may = absurd (false≢true may)
 
 pub reached_more : (e f : ClientEnd) (call : Call) → IsReached e → possible call e ≡ true
-    → ((readers : Readers) → AreReaders readers → f ≡ done_by readers call e) → IsReached f
+    → (f ≡ done_by call e) → IsReached f
 reached_more e f call h may is =
-    subst IsReached (sym (is h.readers h.are)) (record {
-      readers = h.readers;
-      are = h.are;
+    subst IsReached (sym (is)) (record {
       program = h.program;
       is_program = h.is_program;
       kept = h.kept;
@@ -54,8 +52,8 @@ reached_more e f call h may is =
       few = h.few;
       calls = h.calls ++ call ∷ [];
       reached =
-          sym (called h.readers call e (possible call e) refl may)
-          ∙ (ap (behind_call h.readers call) h.reached ∙ sym (calls_more h.readers h.calls call
+          sym (called call e (possible call e) refl may)
+          ∙ (ap (behind_call call) h.reached ∙ sym (calls_more h.calls call
           (new_client_end h.program h.kept h.window)));
     })
 
@@ -75,8 +73,6 @@ pub new_reached : (program : Meaning) (kept : List Feature) (window : ℕ) (clie
     → client ≡ new_client program kept window → input ≡ no_bytes → out ≡ [] → IsReached (end_of client input out)
 new_reached program kept window client input out is_program ours some few c i o =
     subst IsReached (sym (parts_are (new_client program kept window) client no_bytes input [] out c i o)) (record {
-      readers = some_are_readers.0;
-      are = some_are_readers.1;
       program = program;
       is_program = is_program;
       kept = kept;
@@ -97,7 +93,7 @@ pub connected_reached : (number : ℕ) (client after : Client) (input now : Fram
     → after ≡ client_connected number client → now ≡ no_bytes → written ≡ [] → IsReached (end_of after now written)
 connected_reached number client after input now out written h may c i o =
     reached_more (end_of client input out) (end_of after now written) (Connected number) h may
-    (λ readers are. parts_are (client_connected number client) after no_bytes now [] written c i o)
+    (parts_are (client_connected number client) after no_bytes now [] written c i o)
 
 pub sent_reached : (client after : Client) (input : Framing) (out written : List ℕ) → IsReached (end_of client input out)
     → is_some (due client) ≡ true
@@ -105,7 +101,7 @@ pub sent_reached : (client after : Client) (input : Framing) (out written : List
     → IsReached (end_of after input written)
 sent_reached client after input out written h may c o =
     reached_more (end_of client input out) (end_of after input written) Send h may
-    (λ readers are. parts_are (client_sent client).client after input input (out ++ command_bytes (client_sent client).lines) written c refl
+    (parts_are (client_sent client).client after input input (out ++ command_bytes (client_sent client).lines) written c refl
     o)
 
 pub aborted_reached : (client after : Client) (input : Framing) (out written : List ℕ) → IsReached (end_of client input out)
@@ -114,7 +110,7 @@ pub aborted_reached : (client after : Client) (input : Framing) (out written : L
     → IsReached (end_of after input written)
 aborted_reached client after input out written h may c o =
     reached_more (end_of client input out) (end_of after input written) Abort h may
-    (λ readers are. parts_are (client_aborted client).client after input input (out ++ command_bytes (client_aborted client).lines) written
+    (parts_are (client_aborted client).client after input input (out ++ command_bytes (client_aborted client).lines) written
     c refl o)
 
 pub fed_reached : (bytes : List ℕ) (client : Client) (input now : Framing) (out : List ℕ) → IsReached (end_of client input out)
@@ -122,35 +118,34 @@ pub fed_reached : (bytes : List ℕ) (client : Client) (input now : Framing) (ou
     → now ≡ fed input bytes → IsReached (end_of client now out)
 fed_reached bytes client input now out h may i =
     reached_more (end_of client input out) (end_of client now out) (Feed bytes) h may
-    (λ readers are. ap (λ (x : Framing). end_of client x out) i)
+    (ap (λ (x : Framing). end_of client x out) i)
 
 pub read_reached : (client : Client) (input : Framing) (out : List ℕ) (f : ClientEnd) → IsReached (end_of client input out)
     → may_read client ≡ true
-    → ((readers : Readers) → AreReaders readers → f ≡ end_read readers (end_of client input out)) → IsReached f
+    → (f ≡ end_read (end_of client input out)) → IsReached f
 read_reached client input out f h may is = reached_more (end_of client input out) f ReadOne h may is
 
 -- a line is read
 pub line_reached : (client after : Client) (input now : Framing) (out line rest : List ℕ) → IsReached (end_of client input out)
     → may_read client ≡ true
-    → next_of input.rest ≡ Ok (Some (line, rest)) → ((readers : Readers) → AreReaders readers
-    → after ≡ line_read readers client (readers.response line))
+    → next_of input.rest ≡ Ok (Some (line, rest)) → (after ≡ line_read client (response_of line))
     → now ≡ after_next input → IsReached (end_of after now out)
 line_reached client after input now out line rest h may front is left =
     read_reached client input out (end_of after now out) h may
-    (λ readers are. parts_are (front_read readers client (next_of input.rest)) after (after_next input) now out out
-    (is readers are ∙ ap (front_read readers client) (sym front)) left refl)
+    (parts_are (front_read client (next_of input.rest)) after (after_next input) now out out
+    (is ∙ ap (front_read client) (sym front)) left refl)
 
 pub resumed_reached : (client after : Client) (input : Framing) (out : List ℕ) → IsReached (end_of client input out)
     → may_resume client client.state ≡ true
     → after ≡ client_resumed client → IsReached (end_of after input out)
 resumed_reached client after input out h may c =
-    reached_more (end_of client input out) (end_of after input out) Resume h may (λ readers are. ap (λ (x : Client). end_of x input out) c)
+    reached_more (end_of client input out) (end_of after input out) Resume h may (ap (λ (x : Client). end_of x input out) c)
 
 pub left_reached : (client after : Client) (input now : Framing) (out written : List ℕ) → IsReached (end_of client input out)
     → after ≡ client_left client → now ≡ no_bytes → written ≡ [] → IsReached (end_of after now written)
 left_reached client after input now out written h c i o =
     reached_more (end_of client input out) (end_of after now written) Leave h refl
-    (λ readers are. parts_are (client_left client) after no_bytes now [] written c i o)
+    (parts_are (client_left client) after no_bytes now [] written c i o)
 
 pub restarted_reached : (count : ℕ) (client after : Client) (input now : Framing) (out written : List ℕ)
     → IsReached (end_of client input out) → count ≤ length client.table.tally.features
@@ -158,14 +153,14 @@ pub restarted_reached : (count : ℕ) (client after : Client) (input now : Frami
 restarted_reached count client after input now out written h le c i o =
     reached_more (end_of client input out) (end_of after now written) (Restart count) h
     (le-leb count (length client.table.tally.features) le)
-    (λ readers are. parts_are (client_restarted count client) after no_bytes now [] written c i o)
+    (parts_are (client_restarted count client) after no_bytes now [] written c i o)
 
 pub taken_reached : (count : ℕ) (client : Client) (input : Framing) (out written : List ℕ) → IsReached (end_of client input out)
     → count ≤ length out
     → written ≡ drop count out → IsReached (end_of client input written)
 taken_reached count client input out written h le o =
     reached_more (end_of client input out) (end_of client input written) (Sent count) h (le-leb count (length out) le)
-    (λ readers are. ap (λ (x : List ℕ). end_of client input x) o)
+    (ap (λ (x : List ℕ). end_of client input x) o)
 
 -- ---- what holds at any time
 
@@ -207,10 +202,10 @@ pub never_met : (client : Client) (input : Framing) (out : List ℕ) (fault : Fr
 never_met client input out fault h may met = let none = no_fault_unmet (end_of client input out) h (Reads.awake (reads_by client may))
     in let is : None ≡ Some fault = sym none ∙ met in absurd (cc)
 
-holds : (e : ClientEnd) → (h : IsReached e) → Holds h.program e.client (plans_begun h.readers h.calls h.program h.kept h.window)
-holds e h = subst (λ (c : Client). Holds h.program c (plans_begun h.readers h.calls h.program h.kept h.window))
+holds : (e : ClientEnd) → (h : IsReached e) → Holds h.program e.client (plans_begun h.calls h.program h.kept h.window)
+holds e h = subst (λ (c : Client). Holds h.program c (plans_begun h.calls h.program h.kept h.window))
     (sym (ap (λ (x : ClientEnd). x.client) h.reached))
-    (behind_holds h.readers h.program h.kept h.window h.calls h.is_program h.ours)
+    (behind_holds h.program h.kept h.window h.calls h.is_program h.ours)
 
 pub features_ours : (e : ClientEnd) → IsReached e → are_ours e.client.program.features e.client.table.tally.features ≡ true
 features_ours e h = Holds.ours (holds e h)

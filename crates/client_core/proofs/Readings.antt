@@ -11,16 +11,13 @@ use Rattle.dme_line.specs.declared.responses.NotResponse.{NotResponse}
 use Rattle.dme_line.proofs.HomedLemmas.{one_homed_reading}
 use Rattle.dme_line.proofs.OneResponse.{one_response_reading}
 use Rattle.dme_line.proofs.PointLemmas.{one_point_reading}
-use Rattle.protocol_model.specs.Lines.{Readers, AreReaders}
+use Rattle.protocol_model.specs.Readings.{response_of, point_of, homed_of, reads_response, reads_point, reads_homed}
 
-pub one_point : (text : List ℕ) (r : Result Point NotPoint) (readers : Readers) → ReadsPoint text r → AreReaders readers
-    → readers.point text ≡ r
-one_point text r readers read are = one_point_reading text (readers.point text) r (are.point text) read
+pub one_point : (text : List ℕ) (r : Result Point NotPoint) → ReadsPoint text r → point_of text ≡ r
+one_point text r read = one_point_reading text (point_of text) r (reads_point text) read
 
-pub one_homed : (text : List ℕ) (r : Result Bool NotHomedText) (readers : Readers) → ReadsHomed text r → AreReaders readers
-    → readers.homed text ≡ r
-one_homed text r readers read are = one_homed_reading text (readers.homed text) r (are.homed text) read
+pub one_homed : (text : List ℕ) (r : Result Bool NotHomedText) → ReadsHomed text r → homed_of text ≡ r
+one_homed text r read = one_homed_reading text (homed_of text) r (reads_homed text) read
 
-pub one_response : (line : List ℕ) (r : Result Response NotResponse) (readers : Readers) → ReadsResponse line r → AreReaders readers
-    → readers.response line ≡ r
-one_response line r readers read are = one_response_reading line (readers.response line) r (are.response line) read
+pub one_response : (line : List ℕ) (r : Result Response NotResponse) → ReadsResponse line r → response_of line ≡ r
+one_response line r read = one_response_reading line (response_of line) r (reads_response line) read

@@ -16,6 +16,7 @@ use Rattle.dme_line.specs.declared.responses.Mark.{Mark as Marked}
 use Rattle.dme_line.specs.declared.responses.Mark.TheVariants as mark
 use Rattle.dme_line.specs.declared.responses.Response.{Response}
 use Rattle.dme_line.specs.declared.responses.NotResponse.{NotResponse}
+use Rattle.protocol_model.specs.Readings.{response_of, point_of, homed_of}
 use Rattle.line_framing.specs.Next.{Front, next_of}
 use Rattle.line_framing.specs.declared.faults.FramingFault.TheVariants as framing
 use Rattle.contact_ledger.specs.declared.acts.Act.{Act}
@@ -25,7 +26,6 @@ use Rattle.dmis_program.specs.Meaning.{Meaning}
 use Rattle.dmis_program.specs.Programs.{IsProgram}
 use Rattle.dmis_program.specs.declared.features.Wanted.{Wanted}
 use Rattle.protocol_model.specs.Replies.{Mark, tag_is}
-use Rattle.protocol_model.specs.Lines.{Readers}
 use Rattle.protocol_model.specs.Open.{Effect, Heard as Heardings, heard_in, asks_homed, is_asking, count_open}
 use Rattle.protocol_model.specs.Client.{Client, Table, Tally, act_of, origin_of, measured, counted_next, begins_session, tells_homed}
 use Rattle.protocol_model.specs.Client.{passed_over, tallied, heard}
@@ -630,46 +630,46 @@ homed_holds : (p : Meaning) (plans : Plans) (c : Client) (t : Tag) (r : Result B
 homed_holds p plans c t (Ok homed) on h = reply_holds p plans c t (Mark.Given (datum.Homed homed)) on h
 homed_holds p plans c t (Err why) on h = faulted_holds p plans c Cause.NotResponse on h
 
-given_holds : (readers : Readers) (p : Meaning) (plans : Plans) (c : Client) (t : Tag) (text : List ℕ) (k : Kind) → c.on ≡ true
-    → Holds p c plans → Holds p (given_for readers c t text k) plans
-given_holds readers p plans c t text kind.PtMeas on h = point_holds p plans c t (readers.point text) on h
-given_holds readers p plans c t text kind.IsHomed on h = homed_holds p plans c t (readers.homed text) on h
-given_holds readers p plans c t text kind.StartSession on h = faulted_holds p plans c Cause.OutOfOrder on h
-given_holds readers p plans c t text kind.EndSession on h = faulted_holds p plans c Cause.OutOfOrder on h
-given_holds readers p plans c t text kind.ClearAllErrors on h = faulted_holds p plans c Cause.OutOfOrder on h
-given_holds readers p plans c t text kind.Home on h = faulted_holds p plans c Cause.OutOfOrder on h
-given_holds readers p plans c t text kind.OnPtMeasReport on h = faulted_holds p plans c Cause.OutOfOrder on h
-given_holds readers p plans c t text kind.GoTo on h = faulted_holds p plans c Cause.OutOfOrder on h
-given_holds readers p plans c t text kind.ChangeTool on h = faulted_holds p plans c Cause.OutOfOrder on h
-given_holds readers p plans c t text kind.SetCsyTransformation on h = faulted_holds p plans c Cause.OutOfOrder on h
-given_holds readers p plans c t text kind.SetCoordSystem on h = faulted_holds p plans c Cause.OutOfOrder on h
-given_holds readers p plans c t text kind.AbortE on h = faulted_holds p plans c Cause.OutOfOrder on h
+given_holds : (p : Meaning) (plans : Plans) (c : Client) (t : Tag) (text : List ℕ) (k : Kind) → c.on ≡ true
+    → Holds p c plans → Holds p (given_for c t text k) plans
+given_holds p plans c t text kind.PtMeas on h = point_holds p plans c t (point_of text) on h
+given_holds p plans c t text kind.IsHomed on h = homed_holds p plans c t (homed_of text) on h
+given_holds p plans c t text kind.StartSession on h = faulted_holds p plans c Cause.OutOfOrder on h
+given_holds p plans c t text kind.EndSession on h = faulted_holds p plans c Cause.OutOfOrder on h
+given_holds p plans c t text kind.ClearAllErrors on h = faulted_holds p plans c Cause.OutOfOrder on h
+given_holds p plans c t text kind.Home on h = faulted_holds p plans c Cause.OutOfOrder on h
+given_holds p plans c t text kind.OnPtMeasReport on h = faulted_holds p plans c Cause.OutOfOrder on h
+given_holds p plans c t text kind.GoTo on h = faulted_holds p plans c Cause.OutOfOrder on h
+given_holds p plans c t text kind.ChangeTool on h = faulted_holds p plans c Cause.OutOfOrder on h
+given_holds p plans c t text kind.SetCsyTransformation on h = faulted_holds p plans c Cause.OutOfOrder on h
+given_holds p plans c t text kind.SetCoordSystem on h = faulted_holds p plans c Cause.OutOfOrder on h
+given_holds p plans c t text kind.AbortE on h = faulted_holds p plans c Cause.OutOfOrder on h
 
-under_holds : (readers : Readers) (p : Meaning) (plans : Plans) (c : Client) (t : Tag) (text : List ℕ) (kind : Option Kind) → c.on ≡ true
-    → Holds p c plans → Holds p (given_under readers c t text kind) plans
-under_holds readers p plans c t text None on h = faulted_holds p plans c Cause.UnknownTag on h
-under_holds readers p plans c t text (Some k) on h = given_holds readers p plans c t text k on h
+under_holds : (p : Meaning) (plans : Plans) (c : Client) (t : Tag) (text : List ℕ) (kind : Option Kind) → c.on ≡ true
+    → Holds p c plans → Holds p (given_under c t text kind) plans
+under_holds p plans c t text None on h = faulted_holds p plans c Cause.UnknownTag on h
+under_holds p plans c t text (Some k) on h = given_holds p plans c t text k on h
 
-response_holds : (readers : Readers) (p : Meaning) (plans : Plans) (c : Client) (t : Tag) (m : Marked) → c.on ≡ true → Holds p c plans
-    → Holds p (response_read readers c t m) plans
-response_holds readers p plans c t mark.Ack on h = reply_holds p plans c t Mark.Ack on h
-response_holds readers p plans c t (mark.Given text) on h =
-    either_holds p plans (tag_is t (tag.Event 0)) c (given_under readers c t text (held_under t c)) h
-    (under_holds readers p plans c t text (held_under t c) on h)
-response_holds readers p plans c t mark.Done on h = reply_holds p plans c t Mark.Done on h
-response_holds readers p plans c t (mark.Error text) on h = reply_holds p plans c t Mark.Error on h
+response_holds : (p : Meaning) (plans : Plans) (c : Client) (t : Tag) (m : Marked) → c.on ≡ true → Holds p c plans
+    → Holds p (response_read c t m) plans
+response_holds p plans c t mark.Ack on h = reply_holds p plans c t Mark.Ack on h
+response_holds p plans c t (mark.Given text) on h =
+    either_holds p plans (tag_is t (tag.Event 0)) c (given_under c t text (held_under t c)) h
+    (under_holds p plans c t text (held_under t c) on h)
+response_holds p plans c t mark.Done on h = reply_holds p plans c t Mark.Done on h
+response_holds p plans c t (mark.Error text) on h = reply_holds p plans c t Mark.Error on h
 
-line_holds : (readers : Readers) (p : Meaning) (plans : Plans) (c : Client) (r : Result Response NotResponse) → c.on ≡ true
-    → Holds p c plans → Holds p (line_read readers c r) plans
-line_holds readers p plans c (Ok r) on h = response_holds readers p plans c r.tag r.mark on h
-line_holds readers p plans c (Err refused) on h = faulted_holds p plans c Cause.NotResponse on h
+line_holds : (p : Meaning) (plans : Plans) (c : Client) (r : Result Response NotResponse) → c.on ≡ true
+    → Holds p c plans → Holds p (line_read c r) plans
+line_holds p plans c (Ok r) on h = response_holds p plans c r.tag r.mark on h
+line_holds p plans c (Err refused) on h = faulted_holds p plans c Cause.NotResponse on h
 
-front_holds : (readers : Readers) (p : Meaning) (plans : Plans) (c : Client) (f : Front) → c.on ≡ true → Holds p c plans
-    → Holds p (front_read readers c f) plans
-front_holds readers p plans c (Ok None) on h = h
-front_holds readers p plans c (Ok (Some (line, rest))) on h = line_holds readers p plans c (readers.response line) on h
-front_holds readers p plans c (Err framing.LineTooLong) on h = faulted_holds p plans c Cause.LineTooLong on h
-front_holds readers p plans c (Err framing.BadByte) on h = faulted_holds p plans c Cause.BadByte on h
+front_holds : (p : Meaning) (plans : Plans) (c : Client) (f : Front) → c.on ≡ true → Holds p c plans
+    → Holds p (front_read c f) plans
+front_holds p plans c (Ok None) on h = h
+front_holds p plans c (Ok (Some (line, rest))) on h = line_holds p plans c (response_of line) on h
+front_holds p plans c (Err framing.LineTooLong) on h = faulted_holds p plans c Cause.LineTooLong on h
+front_holds p plans c (Err framing.BadByte) on h = faulted_holds p plans c Cause.BadByte on h
 
 -- ---- what is written
 
@@ -913,87 +913,87 @@ restarted_holds p plans k c h = record {
 read_on : (c : Client) → may_read c ≡ true → c.on ≡ true
 read_on c e = (both c.on _ e).0
 
-done_holds : (readers : Readers) (p : Meaning) (plans : Plans) (call : Call) (e : ClientEnd) → possible call e ≡ true
-    → Holds p e.client plans → Holds p (done_by readers call e).client (plans_by call e plans)
-done_holds readers p plans (Connected n) e may h = connected_holds p plans n e.client h
-done_holds readers p plans Send e may h = sends_holds p plans e.client e.client.table.tally.unsent
+done_holds : (p : Meaning) (plans : Plans) (call : Call) (e : ClientEnd) → possible call e ≡ true
+    → Holds p e.client plans → Holds p (done_by call e).client (plans_by call e plans)
+done_holds p plans (Connected n) e may h = connected_holds p plans n e.client h
+done_holds p plans Send e may h = sends_holds p plans e.client e.client.table.tally.unsent
     (next_number tag.Std e.client.table.standard e.client.drawn) refl (due_running e.client may) h
-done_holds readers p plans (Feed bytes) e may h = h
-done_holds readers p plans ReadOne e may h = front_holds readers p plans e.client (next_of e.input.rest) (read_on e.client may) h
-done_holds readers p plans Abort e may h =
+done_holds p plans (Feed bytes) e may h = h
+done_holds p plans ReadOne e may h = front_holds p plans e.client (next_of e.input.rest) (read_on e.client may) h
+done_holds p plans Abort e may h =
     aborts_holds p plans e.client (next_number tag.Event e.client.table.event e.client.event_drawn)
     (on_unless_off e.client (λ off. may_abort_on e.client.state may (h.off off))) h
-done_holds readers p plans Resume e may h = resumed_holds p plans e.client (resumed_state e.client e.client.state may) h
-done_holds readers p plans Leave e may h = left_holds p plans e.client h
-done_holds readers p plans (Restart k) e may h = restarted_holds p plans k e.client h
-done_holds readers p plans (Sent k) e may h = h
+done_holds p plans Resume e may h = resumed_holds p plans e.client (resumed_state e.client e.client.state may) h
+done_holds p plans Leave e may h = left_holds p plans e.client h
+done_holds p plans (Restart k) e may h = restarted_holds p plans k e.client h
+done_holds p plans (Sent k) e may h = h
 
-call_holds : (readers : Readers) (p : Meaning) (plans : Plans) (call : Call) (e : ClientEnd) → Holds p e.client plans
-    → Holds p (behind_call readers call e).client (if possible call e then plans_by call e plans else plans)
-call_holds readers p plans call e h = go (possible call e) refl
+call_holds : (p : Meaning) (plans : Plans) (call : Call) (e : ClientEnd) → Holds p e.client plans
+    → Holds p (behind_call call e).client (if possible call e then plans_by call e plans else plans)
+call_holds p plans call e h = go (possible call e) refl
   where
-    go : (b : Bool) → possible call e ≡ b → Holds p (cond b (done_by readers call e) e).client (cond b (plans_by call e plans) plans)
-    go true may = done_holds readers p plans call e may h
+    go : (b : Bool) → possible call e ≡ b → Holds p (cond b (done_by call e) e).client (cond b (plans_by call e plans) plans)
+    go true may = done_holds p plans call e may h
     go false never = h
 
-calls_hold : (readers : Readers) (p : Meaning) (plans : Plans) (calls : List Call) (e : ClientEnd) → Holds p e.client plans
-    → Holds p (behind_calls readers calls e).client (plans_behind readers calls e plans)
-calls_hold readers p plans [] e h = h
-calls_hold readers p plans (call ∷ calls) e h =
-    calls_hold readers p (if possible call e then plans_by call e plans else plans) calls (behind_call readers call e)
-    (call_holds readers p plans call e h)
+calls_hold : (p : Meaning) (plans : Plans) (calls : List Call) (e : ClientEnd) → Holds p e.client plans
+    → Holds p (behind_calls calls e).client (plans_behind calls e plans)
+calls_hold p plans [] e h = h
+calls_hold p plans (call ∷ calls) e h =
+    calls_hold p (if possible call e then plans_by call e plans else plans) calls (behind_call call e)
+    (call_holds p plans call e h)
 
-pub behind_holds : (readers : Readers) (p : Meaning) (kept : List Feature) (window : ℕ) (calls : List Call) → IsProgram p
+pub behind_holds : (p : Meaning) (kept : List Feature) (window : ℕ) (calls : List Call) → IsProgram p
     → are_ours p.features kept ≡ true
-    → Holds p (client_behind readers calls p kept window) (plans_begun readers calls p kept window)
-behind_holds readers p kept window calls program ours =
-    calls_hold readers p (first_plan kept) calls (new_client_end p kept window) (new_holds p kept window program ours)
+    → Holds p (client_behind calls p kept window) (plans_begun calls p kept window)
+behind_holds p kept window calls program ours =
+    calls_hold p (first_plan kept) calls (new_client_end p kept window) (new_holds p kept window program ours)
 
 -- a client keeps its program
-pub program_stays : (readers : Readers) (p : Meaning) (kept : List Feature) (window : ℕ) (calls : List Call) → IsProgram p
+pub program_stays : (p : Meaning) (kept : List Feature) (window : ℕ) (calls : List Call) → IsProgram p
     → are_ours p.features kept ≡ true
-    → (client_behind readers calls p kept window).program ≡ p
-program_stays readers p kept window calls program ours =
-    let h : Holds p (client_behind readers calls p kept window) (plans_begun readers calls p kept window) =
-    behind_holds readers p kept window calls program ours in
+    → (client_behind calls p kept window).program ≡ p
+program_stays p kept window calls program ours =
+    let h : Holds p (client_behind calls p kept window) (plans_begun calls p kept window) =
+    behind_holds p kept window calls program ours in
     h.same
 
 -- the features that a client holds are the first of its program
-pub features_are_ours : (readers : Readers) (p : Meaning) (kept : List Feature) (window : ℕ) (calls : List Call) → IsProgram p
+pub features_are_ours : (p : Meaning) (kept : List Feature) (window : ℕ) (calls : List Call) → IsProgram p
     → are_ours p.features kept ≡ true
-    → are_ours p.features (client_behind readers calls p kept window).table.tally.features ≡ true
-features_are_ours readers p kept window calls program ours =
-    let h : Holds p (client_behind readers calls p kept window) (plans_begun readers calls p kept window) =
-    behind_holds readers p kept window calls program ours in
-    subst (λ (q : Meaning). are_ours q.features (client_behind readers calls p kept window).table.tally.features ≡ true) h.same h.ours
+    → are_ours p.features (client_behind calls p kept window).table.tally.features ≡ true
+features_are_ours p kept window calls program ours =
+    let h : Holds p (client_behind calls p kept window) (plans_begun calls p kept window) =
+    behind_holds p kept window calls program ours in
+    subst (λ (q : Meaning). are_ours q.features (client_behind calls p kept window).table.tally.features ≡ true) h.same h.ours
 
 -- and what it has counted is that of its plans
-pub counted_are_planned : (readers : Readers) (p : Meaning) (kept : List Feature) (window : ℕ) (calls : List Call) → IsProgram p
+pub counted_are_planned : (p : Meaning) (kept : List Feature) (window : ℕ) (calls : List Call) → IsProgram p
     → are_ours p.features kept ≡ true
-    → AreCounted p (plans_begun readers calls p kept window) (client_behind readers calls p kept window).table.tally
-counted_are_planned readers p kept window calls program ours =
-    let h : Holds p (client_behind readers calls p kept window) (plans_begun readers calls p kept window) =
-    behind_holds readers p kept window calls program ours in
-    subst (λ (q : Meaning). AreCounted q (plans_begun readers calls p kept window) (client_behind readers calls p kept window).table.tally)
+    → AreCounted p (plans_begun calls p kept window) (client_behind calls p kept window).table.tally
+counted_are_planned p kept window calls program ours =
+    let h : Holds p (client_behind calls p kept window) (plans_begun calls p kept window) =
+    behind_holds p kept window calls program ours in
+    subst (λ (q : Meaning). AreCounted q (plans_begun calls p kept window) (client_behind calls p kept window).table.tally)
     h.same h.counted
 
 -- on the connection of its own last number
-pub counted_on_the_last : (readers : Readers) (p : Meaning) (kept : List Feature) (window : ℕ) (calls : List Call) → IsProgram p
+pub counted_on_the_last : (p : Meaning) (kept : List Feature) (window : ℕ) (calls : List Call) → IsProgram p
     → are_ours p.features kept ≡ true
-    → (client_behind readers calls p kept window).table.tally.connection ≡ (client_behind readers calls p kept window).last
-counted_on_the_last readers p kept window calls program ours =
-    let h : Holds p (client_behind readers calls p kept window) (plans_begun readers calls p kept window) =
-    behind_holds readers p kept window calls program ours in
+    → (client_behind calls p kept window).table.tally.connection ≡ (client_behind calls p kept window).last
+counted_on_the_last p kept window calls program ours =
+    let h : Holds p (client_behind calls p kept window) (plans_begun calls p kept window) =
+    behind_holds p kept window calls program ours in
     h.numbered
 
 -- of a plan of which it was told that the machine is homed no homing is unsent
-pub told_is_unhomed : (readers : Readers) (p : Meaning) (kept : List Feature) (window : ℕ) (calls : List Call) → IsProgram p
+pub told_is_unhomed : (p : Meaning) (kept : List Feature) (window : ℕ) (calls : List Call) → IsProgram p
     → are_ours p.features kept ≡ true
-    → is_told (plans_begun readers calls p kept window) (client_behind readers calls p kept window).table.tally ≡ true
-    → has_homing (client_behind readers calls p kept window).table.tally.unsent ≡ false
-told_is_unhomed readers p kept window calls program ours told =
-    let h : Holds p (client_behind readers calls p kept window) (plans_begun readers calls p kept window) =
-    behind_holds readers p kept window calls program ours in
+    → is_told (plans_begun calls p kept window) (client_behind calls p kept window).table.tally ≡ true
+    → has_homing (client_behind calls p kept window).table.tally.unsent ≡ false
+told_is_unhomed p kept window calls program ours told =
+    let h : Holds p (client_behind calls p kept window) (plans_begun calls p kept window) =
+    behind_holds p kept window calls program ours in
     h.unhomed told
 
 -- a counted command is the next of the plan, by its kind
@@ -1007,16 +1007,16 @@ first_is_next (q ∷ todo) k ks e = ap (λ (x : Kind). Some x) (sym (ap (λ (l :
 kind_is : (k kind : Kind) → Some k ≡ Some kind → k ≡ kind
 kind_is k kind e = cc
 
-pub counted_is_next : (readers : Readers) (p : Meaning) (kept : List Feature) (window : ℕ) (calls : List Call) → IsProgram p
+pub counted_is_next : (p : Meaning) (kept : List Feature) (window : ℕ) (calls : List Call) → IsProgram p
     → are_ours p.features kept ≡ true
-    → (client_behind readers calls p kept window).on ≡ true
-    → (n : ℕ) (m : Mark) (kind : Kind) → counted_by (client_behind readers calls p kept window) n m ≡ Some kind
-    → next_kind (client_behind readers calls p kept window).table.tally.todo ≡ Some kind
-counted_is_next readers p kept window calls program ours on n m kind is =
-    let c : Client = client_behind readers calls p kept window in
-    let h : Holds p c (plans_begun readers calls p kept window) = behind_holds readers p kept window calls program ours in
-    let r : Reads c (plans_begun readers calls p kept window) = h.live on in
-    go c.table.standard c.table.tally (plans_begun readers calls p kept window) c.program r
+    → (client_behind calls p kept window).on ≡ true
+    → (n : ℕ) (m : Mark) (kind : Kind) → counted_by (client_behind calls p kept window) n m ≡ Some kind
+    → next_kind (client_behind calls p kept window).table.tally.todo ≡ Some kind
+counted_is_next p kept window calls program ours on n m kind is =
+    let c : Client = client_behind calls p kept window in
+    let h : Holds p c (plans_begun calls p kept window) = behind_holds p kept window calls program ours in
+    let r : Reads c (plans_begun calls p kept window) = h.live on in
+    go c.table.standard c.table.tally (plans_begun calls p kept window) c.program r
     (heard_in (not c.table.tally.failed) c.table.standard (tag.Std n) m) refl is
   where
     go : (hs : List Held) (y : Tally) (plans : Plans) (program : Meaning) → IsOnPlan program hs y plans

@@ -4,7 +4,6 @@ use Rattle.contact_ledger.specs.declared.features.Feature.{Feature}
 use Rattle.dmis_program.specs.Meaning.{Meaning}
 use Rattle.dmis_program.specs.Programs.{IsProgram}
 use Rattle.line_framing.specs.Framing.{no_bytes}
-use Rattle.protocol_model.specs.Lines.{Readers, AreReaders}
 use Rattle.protocol_model.specs.Ends.{ClientEnd, new_client_end}
 use Rattle.protocol_model.specs.declared.states.State.{State}
 use Rattle.client_core.specs.Calls.{Call, behind_calls}
@@ -13,8 +12,6 @@ use Rattle.client_core.specs.Clients.{are_ours, window_most}
 -- a list of calls leads to it from a client that was never on a connection, with a program, the features of it that were kept, and a window
 -- from 1 to 16
 pub record IsReached (e : ClientEnd) : Type 0 where
-  pub readers : Readers
-  pub are : AreReaders readers
   pub program : Meaning
   pub is_program : IsProgram program
   pub kept : List Feature
@@ -23,7 +20,7 @@ pub record IsReached (e : ClientEnd) : Type 0 where
   pub some : 1 ≤ window
   pub few : window ≤ window_most
   pub calls : List Call
-  pub reached : e ≡ behind_calls readers calls (new_client_end program kept window)
+  pub reached : e ≡ behind_calls calls (new_client_end program kept window)
 
 -- a client is on no connection where it is Apart, is on one in each other state, and is Done on one or on none
 abbrev pub FitsState : State → Bool → Type 0

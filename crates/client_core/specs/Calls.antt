@@ -12,7 +12,6 @@ use Rattle.dme_line.specs.declared.tags.Tag.TheVariants.{Std}
 use Rattle.dmis_program.specs.Meaning.{Meaning}
 use Rattle.protocol_model.specs.Replies.{Mark}
 use Rattle.protocol_model.specs.Open.{Effect, Heard, heard_in}
-use Rattle.protocol_model.specs.Lines.{Readers}
 use Rattle.protocol_model.specs.Plan.{plan}
 use Rattle.protocol_model.specs.Client.{Client, Tally, origin_of, is_homing, due, may_abort, may_resume}
 use Rattle.protocol_model.specs.Ends.{ClientEnd, new_client_end, end_connected, end_sent, end_aborted, end_fed, end_read, end_resumed}
@@ -49,25 +48,25 @@ possible (Restart k) e = nat_le k (length e.client.table.tally.features)
 possible (Sent k) e = nat_le k (length e.out)
 
 -- what a call does
-abbrev pub done_by : Readers → Call → ClientEnd → ClientEnd
-done_by readers (Connected n) e = end_connected n e
-done_by readers Send e = end_sent e
-done_by readers (Feed bytes) e = end_fed bytes e
-done_by readers ReadOne e = end_read readers e
-done_by readers Abort e = end_aborted e
-done_by readers Resume e = end_resumed e
-done_by readers Leave e = end_left e
-done_by readers (Restart k) e = end_restarted k e
-done_by readers (Sent k) e = end_taken k e
+abbrev pub done_by : Call → ClientEnd → ClientEnd
+done_by (Connected n) e = end_connected n e
+done_by Send e = end_sent e
+done_by (Feed bytes) e = end_fed bytes e
+done_by ReadOne e = end_read e
+done_by Abort e = end_aborted e
+done_by Resume e = end_resumed e
+done_by Leave e = end_left e
+done_by (Restart k) e = end_restarted k e
+done_by (Sent k) e = end_taken k e
 
 -- a call that is not possible changes nothing
-abbrev pub behind_call : Readers → Call → ClientEnd → ClientEnd
-behind_call readers call e = if possible call e then done_by readers call e else e
+abbrev pub behind_call : Call → ClientEnd → ClientEnd
+behind_call call e = if possible call e then done_by call e else e
 
 -- calls, one after another
-abbrev pub behind_calls : Readers → List Call → ClientEnd → ClientEnd
-behind_calls readers [] e = e
-behind_calls readers (call ∷ calls) e = behind_calls readers calls (behind_call readers call e)
+abbrev pub behind_calls : List Call → ClientEnd → ClientEnd
+behind_calls [] e = e
+behind_calls (call ∷ calls) e = behind_calls calls (behind_call call e)
 
 -- an act tells that the machine is homed
 abbrev pub tells : Act → Bool
@@ -132,18 +131,18 @@ plans_by Leave e plans = plans
 plans_by (Sent k) e plans = plans
 
 -- the plans behind calls, one after another
-abbrev pub plans_behind : Readers → List Call → ClientEnd → Plans → Plans
-plans_behind readers [] e plans = plans
-plans_behind readers (call ∷ calls) e plans =
-    plans_behind readers calls (behind_call readers call e) (if possible call e then plans_by call e plans else plans)
+abbrev pub plans_behind : List Call → ClientEnd → Plans → Plans
+plans_behind [] e plans = plans
+plans_behind (call ∷ calls) e plans =
+    plans_behind calls (behind_call call e) (if possible call e then plans_by call e plans else plans)
 
 -- a client behind calls, from one that was never on a connection
-abbrev pub client_behind : Readers → List Call → Meaning → List Feature → ℕ → Client
-client_behind readers calls p kept window = (behind_calls readers calls (new_client_end p kept window)).client
+abbrev pub client_behind : List Call → Meaning → List Feature → ℕ → Client
+client_behind calls p kept window = (behind_calls calls (new_client_end p kept window)).client
 
 -- and its plans
-abbrev pub plans_begun : Readers → List Call → Meaning → List Feature → ℕ → Plans
-plans_begun readers calls p kept window = plans_behind readers calls (new_client_end p kept window) (first_plan kept)
+abbrev pub plans_begun : List Call → Meaning → List Feature → ℕ → Plans
+plans_begun calls p kept window = plans_behind calls (new_client_end p kept window) (first_plan kept)
 
 -- the counted front of the present plan, as it is followed
 abbrev pub front_of : Meaning → Plans → Tally → List Planned

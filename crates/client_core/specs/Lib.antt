@@ -3,6 +3,5 @@ pub mod Kept
 pub mod Tables
 pub mod Clients
 pub mod Refusals
-pub mod Reads
 pub mod Calls
 pub mod Always

@@ -19,9 +19,9 @@ tallied_on (Std n) ws effect y = tallied ws effect y
 tallied_on (Event n) ws effect y = y
 
 -- the command that is planned
-abbrev pub command_of : Option Planned → Option Command
-command_of None = None
-command_of (Some p) = Some p.command
+abbrev pub planned_command : Option Planned → Option Command
+planned_command None = None
+planned_command (Some p) = Some p.command
 
 -- a command is counted
 abbrev pub is_count : Effect → Bool

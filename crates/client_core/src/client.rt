@@ -9,10 +9,9 @@ ghost use Rattle.contact_ledger.specs.Ledgers.{HaveOrigins, connection_most};
 ghost use Rattle.line_framing.specs.Next.{next_of};
 ghost use Rattle.line_framing.specs.Framing.{IsLineDue};
 ghost use Rattle.protocol_model.specs.Open.{count_open, is_asking};
-ghost use Rattle.protocol_model.specs.Lines.{Readers, AreReaders};
 ghost use Rattle.protocol_model.specs.Client.{due, may_abort, may_resume};
 ghost use Rattle.protocol_model.specs.Ends.{new_client_end, end_connected, end_sent, end_aborted, end_fed, end_read, end_resumed, end_left, end_restarted, end_taken};
-ghost use Rattle.client_core.specs.Tables.{command_of};
+ghost use Rattle.client_core.specs.Tables.{planned_command};
 ghost use Rattle.client_core.specs.Always.{IsReached, FitsState, IsQuiet};
 ghost use Rattle.client_core.specs.Clients.{are_ours, is_faulted, is_window, may_connect, may_read, window_most};
 ghost use Rattle.client_core.specs.Refusals.{IsRefused, IsReadRefused, IsSendRefused};
@@ -126,7 +125,7 @@ impl Client {
     pub fn due(&self) -> Option<&Command>
         ensures asked { is_asking self.now.client.table.standard ≡ true → IsNone result }
         ensures due { MatchOption result (due self.now.client ≡ None)
-            (λ command. command_of (due self.now.client) ≡ Some command.now) }
+            (λ command. planned_command (due self.now.client) ≡ Some command.now) }
     {
         self.executor.due()
     }
@@ -179,15 +178,13 @@ impl Client {
     /// that tells that the machine is homed is not asked to home it.
     #[tactic(auto, using(crate::proofs::Reached::read_reached, crate::proofs::Reached::line_reached, crate::proofs::Reached::same_reached))]
     pub fn read_one(&mut self) -> Result<bool, ClientFault>
-        ensures ok { OnOk result ((readers : Readers) → AreReaders readers
-            → self.new ≡ end_read readers self.old) }
+        ensures ok { OnOk result (self.new ≡ end_read self.old) }
         ensures fine { OnOk result (is_faulted self.new.client.state ≡ false) }
         ensures read { IfOk result (λ read. IsTrue read ↔ IsLineDue (next_of self.old.input.rest)) }
         ensures can { OnOk result (may_read self.old.client ≡ true) }
         ensures refused { IfErr result (λ fault. IsReadRefused self.old self.new fault) }
         ensures met { IfErr result (λ fault. fault ≢ ClientFault.Memory
-            → may_read self.old.client ≡ true → (readers : Readers) → AreReaders readers
-            → self.new ≡ end_read readers self.old) }
+            → may_read self.old.client ≡ true → self.new ≡ end_read self.old) }
         ensures before { may_read self.old.client ≡ false → self.new ≡ self.old }
         ensures memory { IsErrOf result ClientFault.Memory → may_read self.old.client ≡ true }
         ensures line { IsErrOf result ClientFault.Memory → IsLineDue (next_of self.old.input.rest) }

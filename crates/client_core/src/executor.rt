@@ -6,7 +6,7 @@ ghost use Rattle.contact_ledger.specs.Ledgers.{HaveOrigins};
 ghost use Rattle.protocol_model.specs.Client.{new_client, client_left, client_restarted, due, faulted, is_whole, first_state, last_state, state_behind};
 ghost use Rattle.protocol_model.specs.Open.{count_open};
 ghost use Rattle.protocol_model.specs.Client.{may_abort, may_resume};
-ghost use Rattle.client_core.specs.Tables.{command_of};
+ghost use Rattle.client_core.specs.Tables.{planned_command};
 ghost use Rattle.client_core.specs.Clients.{is_faulted, may_connect, may_read};
 ghost use Rattle.client_core.specs.Refusals.{IsRefusal};
 
@@ -133,7 +133,7 @@ impl Executor {
     /// The command that is to be sent next, if one is due; none is while it is asked whether the machine is homed.
     pub(crate) fn due(&self) -> Option<&Command>
         ensures { MatchOption result (due self.now ≡ None)
-            (λ command. command_of (due self.now) ≡ Some command.now) }
+            (λ command. planned_command (due self.now) ≡ Some command.now) }
     {
         if !matches!(self.state, State::Running) || self.commands.is_asking() {
             return None;

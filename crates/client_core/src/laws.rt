@@ -6,7 +6,6 @@ ghost use Rattle.dmis_program.specs.Meaning.{Meaning};
 ghost use Rattle.dmis_program.specs.Programs.{IsProgram};
 ghost use Rattle.dme_line.specs.declared.commands.Kind.{Kind};
 ghost use Rattle.protocol_model.specs.Replies.{Mark};
-ghost use Rattle.protocol_model.specs.Lines.{Readers};
 ghost use Rattle.client_core.specs.Calls.{Call, client_behind, plans_begun, is_told, has_homing, AreCounted, counted_by, next_kind};
 ghost use Rattle.client_core.specs.Clients.{are_ours};
 
@@ -23,33 +22,33 @@ ghost use Rattle.client_core.specs.Clients.{are_ours};
 /// - `numbered`: that number is the one that the client came to last;
 /// - `next`: a mark that counts a command counts one of the kind of the first command of the plan that is not counted.
 ///
-/// A call that is not possible changes nothing. What reads lines and data texts may be any functions.
+/// A call that is not possible changes nothing.
 pub fn whatever_the_peer_sends()
-    ensures program { (readers : Readers) (program : Meaning) (kept : List OneFeature) (window : ℕ)
+    ensures program { (program : Meaning) (kept : List OneFeature) (window : ℕ)
         (calls : List Call) → IsProgram program → are_ours program.features kept ≡ true
-        → (client_behind readers calls program kept window).program ≡ program }
-    ensures features { (readers : Readers) (program : Meaning) (kept : List OneFeature) (window : ℕ)
+        → (client_behind calls program kept window).program ≡ program }
+    ensures features { (program : Meaning) (kept : List OneFeature) (window : ℕ)
         (calls : List Call) → IsProgram program → are_ours program.features kept ≡ true
-        → are_ours program.features (client_behind readers calls program kept
+        → are_ours program.features (client_behind calls program kept
         window).table.tally.features ≡ true }
-    ensures counted { (readers : Readers) (program : Meaning) (kept : List OneFeature) (window : ℕ)
+    ensures counted { (program : Meaning) (kept : List OneFeature) (window : ℕ)
         (calls : List Call) → IsProgram program → are_ours program.features kept ≡ true
-        → AreCounted program (plans_begun readers calls program kept window)
-        (client_behind readers calls program kept window).table.tally }
-    ensures homed { (readers : Readers) (program : Meaning) (kept : List OneFeature) (window : ℕ)
+        → AreCounted program (plans_begun calls program kept window)
+        (client_behind calls program kept window).table.tally }
+    ensures homed { (program : Meaning) (kept : List OneFeature) (window : ℕ)
         (calls : List Call) → IsProgram program → are_ours program.features kept ≡ true
-        → is_told (plans_begun readers calls program kept window)
-        (client_behind readers calls program kept window).table.tally ≡ true
-        → has_homing (client_behind readers calls program kept
+        → is_told (plans_begun calls program kept window)
+        (client_behind calls program kept window).table.tally ≡ true
+        → has_homing (client_behind calls program kept
         window).table.tally.unsent ≡ false }
-    ensures numbered { (readers : Readers) (program : Meaning) (kept : List OneFeature) (window : ℕ)
+    ensures numbered { (program : Meaning) (kept : List OneFeature) (window : ℕ)
         (calls : List Call) → IsProgram program → are_ours program.features kept ≡ true
-        → (client_behind readers calls program kept window).table.tally.connection
-        ≡ (client_behind readers calls program kept window).last }
-    ensures next { (readers : Readers) (program : Meaning) (kept : List OneFeature) (window : ℕ)
+        → (client_behind calls program kept window).table.tally.connection
+        ≡ (client_behind calls program kept window).last }
+    ensures next { (program : Meaning) (kept : List OneFeature) (window : ℕ)
         (calls : List Call) → IsProgram program → are_ours program.features kept ≡ true
-        → (client_behind readers calls program kept window).on ≡ true
+        → (client_behind calls program kept window).on ≡ true
         → (number : ℕ) (mark : Mark) (kind : Kind)
-        → counted_by (client_behind readers calls program kept window) number mark ≡ Some kind
-        → next_kind (client_behind readers calls program kept window).table.tally.todo ≡ Some kind }
+        → counted_by (client_behind calls program kept window) number mark ≡ Some kind
+        → next_kind (client_behind calls program kept window).table.tally.todo ≡ Some kind }
 {}

@@ -1,11 +1,11 @@
 // What a client makes of a line (this profile).
 
 ghost use Rattle.std.specs.Prelude.{◌≡◌, OnOk, OnErr};
+ghost use Rattle.fixed_um.specs.Calls.{Leads};
 ghost use Rattle.contact_ledger.specs.Ledgers.{IsConnection};
 ghost use Rattle.dme_line.specs.Responses.{the_mark};
-ghost use Rattle.protocol_model.specs.Lines.{Readers, AreReaders};
+ghost use Rattle.protocol_model.specs.Readings.{response_of};
 ghost use Rattle.protocol_model.specs.Ends.{given, response_read, line_read};
-ghost use Rattle.client_core.specs.Reads.{LeadsRead};
 
 use crate::executor::Executor;
 use crate::hearing::is_unasked;
@@ -19,8 +19,7 @@ impl Executor {
     /// The text of a data line is read as what the command under its tag asks for: a point, or whether the machine is homed.
     #[tactic(auto, using(crate::proofs::Readings::one_point, crate::proofs::Readings::one_homed))]
     fn hear_data(&mut self, tag: Tag, text: &[u8])
-        ensures { (readers : Readers) → AreReaders readers
-            → self.new ≡ given readers self.old tag text.now }
+        ensures { self.new ≡ given self.old tag text.now }
     {
         if is_unasked(tag) {
             return;
@@ -42,8 +41,8 @@ impl Executor {
     /// A response is read. Only want of memory is an `Err`.
     fn hear(&mut self, tag: Tag, mark: MarkSlice<'_>) -> Result<(), AllocError>
         requires connection { IsConnection self.old.last }
-        ensures { LeadsRead result self.old self.new
-            (λ readers. response_read readers self.old tag (the_mark mark.entry)) }
+        ensures { Leads result self.old self.new
+            (response_read self.old tag (the_mark mark.entry)) }
     {
         match mark {
             MarkSlice::Ack => self.hear_received(tag),
@@ -58,8 +57,7 @@ impl Executor {
     #[tactic(auto, using(crate::proofs::Readings::one_response))]
     pub(crate) fn hear_line(&mut self, line: &[u8]) -> Result<(), AllocError>
         requires connection { IsConnection self.old.last }
-        ensures ok { OnOk result ((readers : Readers) → AreReaders readers
-            → self.new ≡ line_read readers self.old (readers.response line.now)) }
+        ensures ok { OnOk result (self.new ≡ line_read self.old (response_of line.now)) }
         ensures err { OnErr result (self.new ≡ self.old) }
     {
         match cut_response(line) {

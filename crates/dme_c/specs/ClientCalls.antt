@@ -4,7 +4,6 @@ use Rattle.fixed_um.specs.Calls.{Leads}
 use Rattle.line_framing.specs.Next.{next_of}
 use Rattle.line_framing.specs.Framing.{IsLineDue}
 use Rattle.protocol_model.specs.Client.{due, may_abort, may_resume}
-use Rattle.protocol_model.specs.Lines.{Readers, AreReaders}
 use Rattle.protocol_model.specs.Ends.{ClientEnd, end_connected, end_sent, end_aborted, end_fed, end_read, end_resumed, end_taken}
 use Rattle.contact_ledger.specs.FeatureTexts.{features_text, header}
 use Rattle.contact_ledger.specs.declared.features.Feature.{Feature}
@@ -40,7 +39,7 @@ Aborts = Writes (λ e. may_abort e.client.state) end_aborted
 -- a call that reads a line
 abbrev pub Reads : ClientEnd → ClientEnd → Result Bool ClientFault → Type 0
 Reads old new answer =
-    OnOk answer ((readers : Readers) → AreReaders readers → new ≡ end_read readers old)
+    OnOk answer (new ≡ end_read old)
     × IfOk answer (λ read. IsTrue read ↔ IsLineDue (next_of old.input.rest))
     × OnOk answer (may_read old.client ≡ true) × IfErr answer (λ fault. IsReadRefused old new fault)
 

@@ -7,7 +7,6 @@ use Rattle.fixed_um.specs.declared.lengths.Point.{Point}
 use Rattle.line_framing.specs.Next.{next_of}
 use Rattle.line_framing.specs.Framing.{IsLineDue}
 use Rattle.line_framing.specs.declared.faults.FramingFault.TheVariants as framing
-use Rattle.protocol_model.specs.Lines.{Readers, AreReaders}
 use Rattle.protocol_model.specs.Server.{may_end}
 use Rattle.protocol_model.specs.Ends.{serving_accepted, serving_fed, serving_read, serving_turned, serving_machined, serving_taken}
 use Rattle.protocol_model.specs.declared.machine.Job.{Job}
@@ -50,7 +49,7 @@ Feeds piece old new answer =
 -- a call that reads a line and answers it
 abbrev pub Reads : Serving → Serving → Result Bool ServerFault → Type 0
 Reads old new answer =
-    OnOk answer ((readers : Readers) → AreReaders readers → new ≡ with_end old (serving_read readers old.end))
+    OnOk answer (new ≡ with_end old (serving_read old.end))
     × IfOk answer (λ read. IsTrue read ↔ IsLineDue (next_of old.end.input.rest)) × IfErr answer (λ why. IsReadFault old new why)
 
 -- what waits first has its turn

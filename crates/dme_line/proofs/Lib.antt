@@ -19,3 +19,5 @@ pub mod ResponseBack
 pub mod ReadWritable
 pub mod OneCommand
 pub mod OneResponse
+pub mod Deciding
+pub mod Readings

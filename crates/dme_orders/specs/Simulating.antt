@@ -4,7 +4,6 @@ use Rattle.std.specs.Io.KnownBytes.{Appends}
 use Rattle.byte_ports.specs.Transfers.{AppendsFront}
 use Rattle.tool_rack.specs.Setups.{SetupValue, setup_of}
 use Rattle.dmis_program.specs.Meaning.{Meaning, program_of}
-use Rattle.protocol_model.specs.Lines.{Readers, AreReaders}
 use Rattle.protocol_model.specs.World.{World, start}
 use Rattle.protocol_model.specs.declared.states.State.{State}
 use Rattle.link_world.specs.Machines.{simulated}
@@ -26,8 +25,7 @@ shown_of w = record {
 -- the instructions, played in a new world with the program, the setup's tools and this window, and with the machine of the setup's shifts,
 -- lead to this world
 abbrev pub IsPlayed : ℕ → SetupValue → List Instruction → Meaning → World → Type 0
-IsPlayed window setup instructions program world = (readers : Readers) → AreReaders readers
-    → Plays readers (simulated setup.shifts) instructions false (start program setup.tools window) world
+IsPlayed window setup instructions program world = Plays (simulated setup.shifts) instructions false (start program setup.tools window) world
 
 -- so played, they leave a client in this state, and a report that is this text
 pub record LeavesReport (window : ℕ) (setup : SetupValue) (instructions : List Instruction) (program : Meaning) (state : State)

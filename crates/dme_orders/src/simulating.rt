@@ -8,7 +8,6 @@ ghost use Rattle.link_world.specs.declared.schedules.Instruction.{Instruction};
 ghost use Rattle.link_world.specs.Reports.{report_text};
 ghost use Rattle.client_core.specs.Clients.{is_window};
 ghost use Rattle.protocol_model.specs.World.{start};
-ghost use Rattle.protocol_model.specs.Lines.{Readers, AreReaders};
 ghost use Rattle.link_world.specs.Machines.{simulated};
 ghost use Rattle.link_world.specs.Schedules.{Plays};
 ghost use Rattle.dme_orders.specs.Reading.{ReadsSetup, WhyNoSetup, ReadsSchedule, WhyNoSchedule, ReadsProgram, WhyNoProgram};
@@ -43,8 +42,7 @@ fn play<L: Sink>(
     world: &mut World,
     lines: &mut Option<L>,
 ) -> Result<(), AllocError>
-    ensures ok { OnOk result ((readers : Readers) → AreReaders readers
-        → Plays readers (simulated world.old.setup.shifts) schedule.now false
+    ensures ok { OnOk result (Plays (simulated world.old.setup.shifts) schedule.now false
         world.old.world world.new.world) }
 {
     let Some(sink) = lines else {

@@ -3,7 +3,6 @@ use Rattle.std.proofs.Common.{◌≡◌, inl, inr, ℕ, ◌-◌, ◌<◌, Bool, 
 use Rattle.std.proofs.Common.{refl, sym, ◌∙◌, ap, subst, is_none, arith}
 use Rattle.std.proofs.Common.{Option, Some, None, Result, Ok, Err, IfOk, OnOk, OnErr}
 use Rattle.std.proofs.lemmas.Bool.{and_parts}
-use Rattle.protocol_model.specs.Lines.{Readers, AreReaders}
 use Rattle.protocol_model.specs.World.{World, can, after, server_link, client_link, Link, no_link, has_some}
 use Rattle.protocol_model.specs.declared.events.Event.{Event}
 use Rattle.protocol_model.specs.declared.events.Event.TheVariants as event
@@ -35,30 +34,30 @@ one_cut (Some e) = inr (refl, refl)
 abbrev pub Attempted : {E : Type 0} → Result Bool E → Event → Linked → Linked → Type 0
 Attempted r e l m =
     IfOk r (λ happened. happened ≡ can e l.world)
-    × OnOk r ((readers : Readers) → AreReaders readers → m ≡ with_world l (after readers e l.world)) × OnErr r (m ≡ l)
+    × OnOk r (m ≡ with_world l (after e l.world)) × OnErr r (m ≡ l)
 
 attempted_if : (e : Event) (some : World → Option Event) (l m : Linked) (b : Bool) → (can e l.world ≡ true → some l.world ≡ Some e)
     → (can e l.world ≡ false → some l.world ≡ None) → b ≡ can e l.world
-    → ((readers : Readers) → AreReaders readers → m ≡ with_world l (after readers e l.world))
-    → (readers : Readers) → AreReaders readers → Makes readers (λ cut w. IsOne (some w) cut) false (Some b) l m
-attempted_if e some l m true known never is leads readers are = record {
+    → (m ≡ with_world l (after e l.world))
+    → Makes (λ cut w. IsOne (some w) cut) false (Some b) l m
+attempted_if e some l m true known never is leads = record {
   events = e ∷ [];
   made = subst (λ (o : Option Event). IsOne o false (e ∷ [])) (sym (known (sym is))) (inl refl);
-  leads = leads readers are;
+  leads = leads;
   told_is = refl;
 }
-attempted_if e some l m false known never is leads readers are = record {
+attempted_if e some l m false known never is leads = record {
   events = [];
   made = subst (λ (o : Option Event). IsOne o false []) (sym (never (sym is))) refl;
-  leads = leads readers are ∙ ap (λ (w : World). with_world l w) (not_done readers e l.world (sym is));
+  leads = leads ∙ ap (λ (w : World). with_world l w) (not_done e l.world (sym is));
   told_is = refl;
 }
 
 pub attempted : {E : Type 0} (e : Event) (some : World → Option Event) (l m : Linked) (r : Result Bool E)
     → (can e l.world ≡ true → some l.world ≡ Some e) → (can e l.world ≡ false → some l.world ≡ None) → Attempted r e l m
-    → Tells r (λ readers cut w. IsOne (some w) cut) l m
+    → Tells r (λ cut w. IsOne (some w) cut) l m
 attempted e some l m (Ok b) known never h = attempted_if e some l m b known never h.0 h.1
-attempted e some l m (Err fault) known never h = λ readers are. record {
+attempted e some l m (Err fault) known never h = record {
   events = [];
   made = one_cut (some l.world);
   leads = h.2;
@@ -83,13 +82,13 @@ up_no count w false off is never =
 
 pub up_done : {E : Type 0} (count : ℕ) (l m : Linked) (r : Result Bool E)
     → (l.world.server.server.on ≡ true → count ≡ length (server_link l.world).up) → Attempted r (event.Up count) l m
-    → Tells r (λ readers cut w. IsOne (all_up w) cut) l m
+    → Tells r (λ cut w. IsOne (all_up w) cut) l m
 up_done count l m r is h = attempted (event.Up count) all_up l m r (up_yes count l.world is)
     (up_no count l.world l.world.server.server.on refl is) h
 
 pub down_done : {E : Type 0} (count : ℕ) (l m : Linked) (r : Result Bool E)
     → count ≡ length (client_link l.world).down → Attempted r (event.Down count) l m
-    → Tells r (λ readers cut w. IsOne (all_down w) cut) l m
+    → Tells r (λ cut w. IsOne (all_down w) cut) l m
 down_done count l m r is h = attempted (event.Down count) all_down l m r
     (λ may. subst (λ (n : ℕ). possible (event.Down n) l.world ≡ Some (event.Down count)) is (possible_now (event.Down count) l.world may))
     (λ never. subst (λ (n : ℕ). possible (event.Down n) l.world ≡ None) is (not_possible (event.Down count) l.world never)) h

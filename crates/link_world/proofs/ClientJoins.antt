@@ -8,7 +8,6 @@ use Rattle.line_framing.specs.Framing.{Framing, fed, fed_behind}
 use Rattle.line_framing.specs.declared.faults.FramingFault.{FramingFault}
 use Rattle.dmis_program.specs.Programs.{IsProgram}
 use Rattle.dmis_program.specs.Meaning.{Meaning}
-use Rattle.protocol_model.specs.Lines.{Readers, AreReaders}
 use Rattle.protocol_model.specs.Claims.{Sound, Told}
 use Rattle.protocol_model.specs.Client.{Client, due, sends_next}
 use Rattle.protocol_model.specs.Ends.{ClientEnd, end_sent, end_taken, end_fed, end_read, end_left}
@@ -97,12 +96,12 @@ begun w h = sym (λ i. record {
   written = (ap (λ (t : List ℕ). w.written ++ t) h.out ∙ append-nil w.written) i;
 })
 
-sends_on : (readers : Readers) (w : World) (e : ClientEnd) → IsOn w → e.client.last ≡ w.client.client.last
+sends_on : (w : World) (e : ClientEnd) → IsOn w → e.client.last ≡ w.client.client.last
     → is_some (due e.client) ≡ true
-    → after readers event.ClientSends (client_joined w e e.out 0) ≡ client_joined w (end_sent e) (end_sent e).out 0
-sends_on readers w e h last is =
+    → after event.ClientSends (client_joined w e e.out 0) ≡ client_joined w (end_sent e) (end_sent e).out 0
+sends_on w e h last is =
     let more : List ℕ = (end_sent (record e { out = [] })).out in
-    done_now readers event.ClientSends (client_joined w e e.out 0) is ∙ (λ i. record {
+    done_now event.ClientSends (client_joined w e e.out 0) is ∙ (λ i. record {
       client = record (end_sent e) { out = [] };
       server = w.server;
       links = (put_again (λ (l : Link). record l { up = l.up ++ more }) w.links w.client.client.last e.client.last
@@ -127,17 +126,17 @@ some_down w e text k h last may some le =
     (ap (λ (l : Link). has_some k l.down) (there w e text h last)
     ∙ and_from _ _ (le-leb 1 k some) (le-leb k (length (client_link w).down) le)))
 
-takes_on : (readers : Readers) (w : World) (e : ClientEnd) (text read : List ℕ) → IsOn w → e.client.last ≡ w.client.client.last
+takes_on : (w : World) (e : ClientEnd) (text read : List ℕ) → IsOn w → e.client.last ≡ w.client.client.last
     → may_read e.client ≡ true → take (length read) (client_link w).down ≡ read
-    → after readers (event.Down (length read)) (client_joined w e text 0) ≡ client_joined w (end_fed read e) text (length read)
-takes_on readers w e text [] h last may front =
-    not_done readers (event.Down 0) (client_joined w e text 0) (never_none e.client.on (not (is_over e.client.state)))
+    → after (event.Down (length read)) (client_joined w e text 0) ≡ client_joined w (end_fed read e) text (length read)
+takes_on w e text [] h last may front =
+    not_done (event.Down 0) (client_joined w e text 0) (never_none e.client.on (not (is_over e.client.state)))
     ∙ ap (λ (f : Framing). client_joined w (record e { input = f }) text 0) (sym (fed_none e.input))
-takes_on readers w e text (x ∷ xs) h last may front =
+takes_on w e text (x ∷ xs) h last may front =
     let k : ℕ = length (x ∷ xs) in
     let came : take k (client_link (client_joined w e text 0)).down ≡ x ∷ xs =
     ap (λ (l : Link). take k l.down) (there w e text h last) ∙ front in
-    done_now readers (event.Down k) (client_joined w e text 0)
+    done_now (event.Down k) (client_joined w e text 0)
     (some_down w e text k h last may (omega arith) (fits (x ∷ xs) (client_link w).down front))
     ∙ (λ i. record {
       client = record e { input = fed e.input (came i); out = [] };
@@ -155,209 +154,209 @@ may_hear e may is = let parts = and_parts _ _ may in and_from _ _ parts.0 (and_f
 all_out : (written : List ℕ) (e : ClientEnd) → e.out ≡ [] → written ++ e.out ≡ written
 all_out written e out = ap (λ (x : List ℕ). written ++ x) out ∙ append-nil written
 
-reads_on : (readers : Readers) (w : World) (e : ClientEnd) (text : List ℕ) (k : ℕ) → may_read e.client ≡ true
+reads_on : (w : World) (e : ClientEnd) (text : List ℕ) (k : ℕ) → may_read e.client ≡ true
     → is_any (next_of e.input.rest) ≡ true
-    → after readers event.ClientReads (client_joined w e text k) ≡ client_joined w (end_read readers e) text k
-reads_on readers w e text k may is =
+    → after event.ClientReads (client_joined w e text k) ≡ client_joined w (end_read e) text k
+reads_on w e text k may is =
     let parts = and_parts _ _ may in
-    done_now readers event.ClientReads (client_joined w e text k)
+    done_now event.ClientReads (client_joined w e text k)
     (and_from _ _ parts.0 (and_from _ _ (not_over e.client.state parts.1) is))
 
 -- ---- the turn
 
 -- besides: until bytes come in the client stands on its connection, and from then on it has nothing to send; it sends until nothing is due
-record Sends (readers : Readers) (w : World) (e : ClientEnd) : Type 0 where
-  pub so_far : SoFar readers event.ClientSends w (client_joined w e e.out 0)
+record Sends (w : World) (e : ClientEnd) : Type 0 where
+  pub so_far : SoFar event.ClientSends w (client_joined w e e.out 0)
   pub last : e.client.last ≡ w.client.client.last
 
-record Writes (readers : Readers) (w : World) (written : List ℕ) (e : ClientEnd) : Type 0 where
-  pub so_far : SoFar readers event.ClientSends w (client_joined w e (written ++ e.out) 0)
+record Writes (w : World) (written : List ℕ) (e : ClientEnd) : Type 0 where
+  pub so_far : SoFar event.ClientSends w (client_joined w e (written ++ e.out) 0)
   pub last : e.client.last ≡ w.client.client.last
   pub none : due e.client ≡ None
 
-record Hears (readers : Readers) (w : World) (read written : List ℕ) (e : ClientEnd) : Type 0 where
+record Hears (w : World) (read written : List ℕ) (e : ClientEnd) : Type 0 where
   pub first : ClientEnd
-  pub sent : SoFar readers event.ClientSends w (client_joined w first written 0)
+  pub sent : SoFar event.ClientSends w (client_joined w first written 0)
   pub none : due first.client ≡ None
   pub fed : World
-  pub came : after readers (event.Down (length read)) (client_joined w first written 0) ≡ fed
-  pub so_far : SoFar readers event.ClientReads fed (client_joined w e written (length read))
+  pub came : after (event.Down (length read)) (client_joined w first written 0) ≡ fed
+  pub so_far : SoFar event.ClientReads fed (client_joined w e written (length read))
   pub out : e.out ≡ []
 
-abbrev Goes : Readers → World → Stage → List ℕ → List ℕ → ClientEnd → Type 0
-Goes readers w Sending read written e = Sends readers w e × (written ≡ [])
-Goes readers w Writing read written e = Writes readers w written e
-Goes readers w _ read written e = Hears readers w read written e
+abbrev Goes : World → Stage → List ℕ → List ℕ → ClientEnd → Type 0
+Goes w Sending read written e = Sends w e × (written ≡ [])
+Goes w Writing read written e = Writes w written e
+Goes w _ read written e = Hears w read written e
 
-plays : (readers : Readers) (least : ℕ) (w : World) (stage : Stage) (read written : List ℕ) (e : ClientEnd) → IsOn w
-    → take (length read) (client_link w).down ≡ read → ClientTurn readers least w.client stage read written e
-    → Goes readers w stage read written e
-plays readers least w _ _ _ _ h front begins =
-    (record { so_far = not_yet readers event.ClientSends w (client_joined w w.client w.client.out 0) (begun w h); last = refl }, refl)
-plays readers least w _ _ _ _ h front (sends e t is) =
-    let p : Sends readers w e = (plays readers least w Sending [] [] e h front t).0 in (
+plays : (least : ℕ) (w : World) (stage : Stage) (read written : List ℕ) (e : ClientEnd) → IsOn w
+    → take (length read) (client_link w).down ≡ read → ClientTurn least w.client stage read written e
+    → Goes w stage read written e
+plays least w _ _ _ _ h front begins =
+    (record { so_far = not_yet event.ClientSends w (client_joined w w.client w.client.out 0) (begun w h); last = refl }, refl)
+plays least w _ _ _ _ h front (sends e t is) =
+    let p : Sends w e = (plays least w Sending [] [] e h front t).0 in (
       record {
-        so_far = once_more readers event.ClientSends w (client_joined w e e.out 0)
+        so_far = once_more event.ClientSends w (client_joined w e e.out 0)
             (client_joined w (end_sent e) (end_sent e).out 0) p.so_far
-            is (sends_on readers w e h p.last is);
+            is (sends_on w e h p.last is);
         last = sent_last e ∙ p.last;
       },
       refl,
     )
-plays readers least w _ _ _ _ h front (writes e count t none within) =
-    let p : Sends readers w e = (plays readers least w Sending [] [] e h front t).0 in record {
-      so_far = subst (λ (x : List ℕ). SoFar readers event.ClientSends w (client_joined w e x 0))
+plays least w _ _ _ _ h front (writes e count t none within) =
+    let p : Sends w e = (plays least w Sending [] [] e h front t).0 in record {
+      so_far = subst (λ (x : List ℕ). SoFar event.ClientSends w (client_joined w e x 0))
           (sym (take-append-drop count e.out)) p.so_far;
       last = p.last;
       none = none;
     }
-plays readers least w _ _ _ _ h front (takes e read written t out may) =
-    let p : Writes readers w written e = plays readers least w Writing [] written e h refl t in record {
+plays least w _ _ _ _ h front (takes e read written t out may) =
+    let p : Writes w written e = plays least w Writing [] written e h refl t in record {
       first = e;
-      sent = subst (λ (x : List ℕ). SoFar readers event.ClientSends w (client_joined w e x 0)) (all_out written e out) p.so_far;
+      sent = subst (λ (x : List ℕ). SoFar event.ClientSends w (client_joined w e x 0)) (all_out written e out) p.so_far;
       none = p.none;
       fed = client_joined w (end_fed read e) written (length read);
-      came = takes_on readers w e written read h p.last may front;
-      so_far = not_yet readers event.ClientReads (client_joined w (end_fed read e) written (length read))
+      came = takes_on w e written read h p.last may front;
+      so_far = not_yet event.ClientReads (client_joined w (end_fed read e) written (length read))
           (client_joined w (end_fed read e) written (length read)) refl;
       out = out;
     }
-plays readers least w _ _ _ _ h front (has e read written t enough) = plays readers least w Taking read written e h front t
-plays readers least w _ _ _ _ h front (reads e read written t may is) =
-    let p : Hears readers w read written e = plays readers least w Reading read written e h front t in record {
+plays least w _ _ _ _ h front (has e read written t enough) = plays least w Taking read written e h front t
+plays least w _ _ _ _ h front (reads e read written t may is) =
+    let p : Hears w read written e = plays least w Reading read written e h front t in record {
       first = p.first;
       sent = p.sent;
       none = p.none;
       fed = p.fed;
       came = p.came;
-      so_far = once_more readers event.ClientReads p.fed (client_joined w e written (length read))
-          (client_joined w (end_read readers e) written (length read)) p.so_far (may_hear e may is)
-          (reads_on readers w e written (length read) may is);
+      so_far = once_more event.ClientReads p.fed (client_joined w e written (length read))
+          (client_joined w (end_read e) written (length read)) p.so_far (may_hear e may is)
+          (reads_on w e written (length read) may is);
       out = p.out;
     }
 
 -- nothing more is due
-none_due : (readers : Readers) (w : World) (e : ClientEnd) (text : List ℕ) → due e.client ≡ None
+none_due : (w : World) (e : ClientEnd) (text : List ℕ) → due e.client ≡ None
     → can event.ClientSends (client_joined w e text 0) ≡ false
-none_due readers w e text none = ap is_some none
+none_due w e text none = ap is_some none
 
-abbrev Turns : Readers → World → (cut : Bool) → ℕ → World → Type 0
-Turns readers w cut count v = TurnLeads readers (IsClientTurn readers count) cut w v
+abbrev Turns : World → (cut : Bool) → ℕ → World → Type 0
+Turns w cut count v = TurnLeads (IsClientTurn count) cut w v
 
-hears_leads : (readers : Readers) (w : World) (read written : List ℕ) (e : ClientEnd) → Hears readers w read written e
-    → Turns readers w true (length read) (client_joined w e (written ++ e.out) (length read))
-hears_leads readers w read written e p =
-    subst (λ (x : List ℕ). Turns readers w true (length read) (client_joined w e x (length read))) (sym (all_out written e p.out))
-    (client_turned readers (length read) true w (client_joined w p.first written 0) p.fed (client_joined w e written (length read)) p.sent
-    (none_due readers w p.first written p.none) p.came p.so_far p.so_far.while)
+hears_leads : (w : World) (read written : List ℕ) (e : ClientEnd) → Hears w read written e
+    → Turns w true (length read) (client_joined w e (written ++ e.out) (length read))
+hears_leads w read written e p =
+    subst (λ (x : List ℕ). Turns w true (length read) (client_joined w e x (length read))) (sym (all_out written e p.out))
+    (client_turned (length read) true w (client_joined w p.first written 0) p.fed (client_joined w e written (length read)) p.sent
+    (none_due w p.first written p.none) p.came p.so_far p.so_far.while)
 
 -- so far, in events
-sent_leads : (readers : Readers) (least : ℕ) (w : World) (stage : Stage) (read written : List ℕ) (e : ClientEnd) → IsOn w
-    → take (length read) (client_link w).down ≡ read → ClientTurn readers least w.client stage read written e
-    → Turns readers w true (length read) (client_joined w e (written ++ e.out) (length read))
-sent_leads readers least w _ _ _ _ h front begins =
-    let p : Sends readers w w.client = (plays readers least w Sending [] [] w.client h front begins).0 in
-    sent_only readers 0 w (client_joined w w.client w.client.out 0) p.so_far
-sent_leads readers least w _ _ _ _ h front (sends e t is) =
-    let p : Sends readers w (end_sent e) = (plays readers least w Sending [] [] (end_sent e) h front (sends e t is)).0 in
-    sent_only readers 0 w (client_joined w (end_sent e) (end_sent e).out 0) p.so_far
-sent_leads readers least w _ _ _ _ h front (writes e count t none within) =
-    let p : Writes readers w (take count e.out) (end_taken count e) =
-    plays readers least w Writing [] (take count e.out) (end_taken count e) h front (writes e count t none within) in
-    sent_only readers 0 w (client_joined w (end_taken count e) (take count e.out ++ drop count e.out) 0) p.so_far
-sent_leads readers least w _ _ _ _ h front (takes e read written t out may) =
-    hears_leads readers w read written (end_fed read e)
-    (plays readers least w Taking read written (end_fed read e) h front (takes e read written t out may))
-sent_leads readers least w _ _ _ _ h front (has e read written t enough) =
-    hears_leads readers w read written e (plays readers least w Reading read written e h front (has e read written t enough))
-sent_leads readers least w _ _ _ _ h front (reads e read written t may is) =
-    hears_leads readers w read written (end_read readers e)
-    (plays readers least w Reading read written (end_read readers e) h front (reads e read written t may is))
+sent_leads : (least : ℕ) (w : World) (stage : Stage) (read written : List ℕ) (e : ClientEnd) → IsOn w
+    → take (length read) (client_link w).down ≡ read → ClientTurn least w.client stage read written e
+    → Turns w true (length read) (client_joined w e (written ++ e.out) (length read))
+sent_leads least w _ _ _ _ h front begins =
+    let p : Sends w w.client = (plays least w Sending [] [] w.client h front begins).0 in
+    sent_only 0 w (client_joined w w.client w.client.out 0) p.so_far
+sent_leads least w _ _ _ _ h front (sends e t is) =
+    let p : Sends w (end_sent e) = (plays least w Sending [] [] (end_sent e) h front (sends e t is)).0 in
+    sent_only 0 w (client_joined w (end_sent e) (end_sent e).out 0) p.so_far
+sent_leads least w _ _ _ _ h front (writes e count t none within) =
+    let p : Writes w (take count e.out) (end_taken count e) =
+    plays least w Writing [] (take count e.out) (end_taken count e) h front (writes e count t none within) in
+    sent_only 0 w (client_joined w (end_taken count e) (take count e.out ++ drop count e.out) 0) p.so_far
+sent_leads least w _ _ _ _ h front (takes e read written t out may) =
+    hears_leads w read written (end_fed read e)
+    (plays least w Taking read written (end_fed read e) h front (takes e read written t out may))
+sent_leads least w _ _ _ _ h front (has e read written t enough) =
+    hears_leads w read written e (plays least w Reading read written e h front (has e read written t enough))
+sent_leads least w _ _ _ _ h front (reads e read written t may is) =
+    hears_leads w read written (end_read e)
+    (plays least w Reading read written (end_read e) h front (reads e read written t may is))
 
 -- how far a client's turn has come, in events
-pub turn_joins : (readers : Readers) (least : ℕ) (w : World) (stage : Stage) (read written : List ℕ) (e : ClientEnd)
+pub turn_joins : (least : ℕ) (w : World) (stage : Stage) (read written : List ℕ) (e : ClientEnd)
     → w.client.out ≡ [] → 1 ≤ w.client.client.last → w.client.client.last ≤ length w.links
-    → take (length read) (client_link w).down ≡ read → ClientTurn readers least w.client stage read written e
-    → TurnLeads readers (IsClientTurn readers (length read)) true w (client_joined w e (written ++ e.out) (length read))
-turn_joins readers least w stage read written e out from to front t =
-    sent_leads readers least w stage read written e (record { out = out; from = from; to = to }) front t
+    → take (length read) (client_link w).down ≡ read → ClientTurn least w.client stage read written e
+    → TurnLeads (IsClientTurn (length read)) true w (client_joined w e (written ++ e.out) (length read))
+turn_joins least w stage read written e out from to front t =
+    sent_leads least w stage read written e (record { out = out; from = from; to = to }) front t
 
 -- a turn in which the client has read all
-pub turn_whole : (readers : Readers) (least : ℕ) (w : World) (read written : List ℕ) (e : ClientEnd)
+pub turn_whole : (least : ℕ) (w : World) (read written : List ℕ) (e : ClientEnd)
     → w.client.out ≡ [] → 1 ≤ w.client.client.last → w.client.client.last ≤ length w.links
-    → take (length read) (client_link w).down ≡ read → ClientTurn readers least w.client Reading read written e
+    → take (length read) (client_link w).down ≡ read → ClientTurn least w.client Reading read written e
     → next_of e.input.rest ≡ Ok None
-    → TurnLeads readers (IsClientTurn readers (length read)) false w (client_joined w e written (length read))
-turn_whole readers least w read written e out from to front t none =
-    let p : Hears readers w read written e =
-    plays readers least w Reading read written e (record { out = out; from = from; to = to }) front t in
+    → TurnLeads (IsClientTurn (length read)) false w (client_joined w e written (length read))
+turn_whole least w read written e out from to front t none =
+    let p : Hears w read written e =
+    plays least w Reading read written e (record { out = out; from = from; to = to }) front t in
     let v : World = client_joined w e written (length read) in
     let never : can event.ClientReads v ≡ false =
     ap (λ (f : Front). e.client.on && (not (is_over e.client.state) && is_any f)) none
     ∙ never_none e.client.on (not (is_over e.client.state)) in
-    client_turned readers (length read) false w (client_joined w p.first written 0) p.fed v p.sent
-    (none_due readers w p.first written p.none) p.came p.so_far (all_done readers event.ClientReads p.fed v p.so_far never)
+    client_turned (length read) false w (client_joined w p.first written 0) p.fed v p.sent
+    (none_due w p.first written p.none) p.came p.so_far (all_done event.ClientReads p.fed v p.so_far never)
 
 -- it has then written all
-pub turn_written : (readers : Readers) (least : ℕ) (w : World) (read written : List ℕ) (e : ClientEnd)
+pub turn_written : (least : ℕ) (w : World) (read written : List ℕ) (e : ClientEnd)
     → w.client.out ≡ [] → 1 ≤ w.client.client.last → w.client.client.last ≤ length w.links
-    → take (length read) (client_link w).down ≡ read → ClientTurn readers least w.client Reading read written e → e.out ≡ []
-turn_written readers least w read written e out from to front t =
-    let p : Hears readers w read written e =
-    plays readers least w Reading read written e (record { out = out; from = from; to = to }) front t in p.out
+    → take (length read) (client_link w).down ≡ read → ClientTurn least w.client Reading read written e → e.out ≡ []
+turn_written least w read written e out from to front t =
+    let p : Hears w read written e =
+    plays least w Reading read written e (record { out = out; from = from; to = to }) front t in p.out
 
 -- where a client reads, as many bytes have come in as were asked for
 abbrev Enough : Stage → ℕ → List ℕ → Type 0
 Enough Reading least read = least ≤ length read
 Enough _ least read = Unit {0}
 
-enough_came : (readers : Readers) (least : ℕ) (s : ClientEnd) (stage : Stage) (read written : List ℕ) (e : ClientEnd)
-    → ClientTurn readers least s stage read written e → Enough stage least read
-enough_came readers least s _ _ _ _ begins = tt
-enough_came readers least s _ _ _ _ (sends e t is) = tt
-enough_came readers least s _ _ _ _ (writes e count t none within) = tt
-enough_came readers least s _ _ _ _ (takes e read written t out may) = tt
-enough_came readers least s _ _ _ _ (has e read written t enough) = enough
-enough_came readers least s _ _ _ _ (reads e read written t may is) = enough_came readers least s Reading read written e t
+enough_came : (least : ℕ) (s : ClientEnd) (stage : Stage) (read written : List ℕ) (e : ClientEnd)
+    → ClientTurn least s stage read written e → Enough stage least read
+enough_came least s _ _ _ _ begins = tt
+enough_came least s _ _ _ _ (sends e t is) = tt
+enough_came least s _ _ _ _ (writes e count t none within) = tt
+enough_came least s _ _ _ _ (takes e read written t out may) = tt
+enough_came least s _ _ _ _ (has e read written t enough) = enough
+enough_came least s _ _ _ _ (reads e read written t may is) = enough_came least s Reading read written e t
 
-pub turn_enough : (readers : Readers) (least : ℕ) (s : ClientEnd) (read written : List ℕ) (e : ClientEnd)
-    → ClientTurn readers least s Reading read written e → least ≤ length read
-turn_enough readers least s read written e t = enough_came readers least s Reading read written e t
+pub turn_enough : (least : ℕ) (s : ClientEnd) (read written : List ℕ) (e : ClientEnd)
+    → ClientTurn least s Reading read written e → least ≤ length read
+turn_enough least s read written e t = enough_came least s Reading read written e t
 
 -- ---- behind a turn from a world to which events have led
 
-at_end : (readers : Readers) (w x : World) (events more : List Event) (v : World) → w ≡ run_of readers events v
-    → run_of readers more w ≡ x → run_of readers (events ++ more) v ≡ x
-at_end readers w x events more v is leads = run_append readers events more v ∙ (ap (run_of readers more) (sym is) ∙ leads)
+at_end : (w x : World) (events more : List Event) (v : World) → w ≡ run_of events v
+    → run_of more w ≡ x → run_of (events ++ more) v ≡ x
+at_end w x events more v is leads = run_append events more v ∙ (ap (run_of more) (sym is) ∙ leads)
 
-pub turn_sound : (readers : Readers) → AreReaders readers → (least : ℕ) (w : World) (stage : Stage) (read written : List ℕ) (e : ClientEnd)
+pub turn_sound : (least : ℕ) (w : World) (stage : Stage) (read written : List ℕ) (e : ClientEnd)
     (program : Meaning) (rack : List (List ℕ)) (window : ℕ) (events : List Event) → IsProgram program → window ≤ 16
-    → w ≡ run_of readers events (start program rack window)
+    → w ≡ run_of events (start program rack window)
     → w.client.out ≡ [] → 1 ≤ w.client.client.last → w.client.client.last ≤ length w.links
-    → take (length read) (client_link w).down ≡ read → ClientTurn readers least w.client stage read written e
+    → take (length read) (client_link w).down ≡ read → ClientTurn least w.client stage read written e
     → Sound program.features e.client.table.tally.features w.server.server.ledger
-turn_sound readers are least w stage read written e program rack window events is few reached out from to front t =
-    let j = turn_joins readers least w stage read written e out from to front t in
+turn_sound least w stage read written e program rack window events is few reached out from to front t =
+    let j = turn_joins least w stage read written e out from to front t in
     subst (λ (v : World). Sound program.features v.client.client.table.tally.features v.server.server.ledger)
-    (at_end readers w (client_joined w e (written ++ e.out) (length read)) events j.events (start program rack window) reached j.leads)
-    (always_sound readers are program rack window (events ++ j.events) is few)
+    (at_end w (client_joined w e (written ++ e.out) (length read)) events j.events (start program rack window) reached j.leads)
+    (always_sound program rack window (events ++ j.events) is few)
 
-pub turn_told : (readers : Readers) → AreReaders readers → (least : ℕ) (w : World) (stage : Stage) (read written : List ℕ) (e : ClientEnd)
+pub turn_told : (least : ℕ) (w : World) (stage : Stage) (read written : List ℕ) (e : ClientEnd)
     (program : Meaning) (rack : List (List ℕ)) (window : ℕ) (events : List Event) → IsProgram program → window ≤ 16
-    → w ≡ run_of readers events (start program rack window)
+    → w ≡ run_of events (start program rack window)
     → w.client.out ≡ [] → 1 ≤ w.client.client.last → w.client.client.last ≤ length w.links
-    → take (length read) (client_link w).down ≡ read → ClientTurn readers least w.client stage read written e
+    → take (length read) (client_link w).down ≡ read → ClientTurn least w.client stage read written e
     → Told e.client.table.tally.counted w.server.server.ledger e.client.last
-turn_told readers are least w stage read written e program rack window events is few reached out from to front t =
-    let j = turn_joins readers least w stage read written e out from to front t in
+turn_told least w stage read written e program rack window events is few reached out from to front t =
+    let j = turn_joins least w stage read written e out from to front t in
     subst (λ (v : World). Told v.client.client.table.tally.counted v.server.server.ledger v.client.client.last)
-    (at_end readers w (client_joined w e (written ++ e.out) (length read)) events j.events (start program rack window) reached j.leads)
-    (always_told readers are program rack window (events ++ j.events) is few)
+    (at_end w (client_joined w e (written ++ e.out) (length read)) events j.events (start program rack window) reached j.leads)
+    (always_told program rack window (events ++ j.events) is few)
 
 -- the client leaves its connection behind events that have led so far
-pub turn_leaves : (readers : Readers) (w : World) (events : List Event) (e : ClientEnd) (text : List ℕ) (count : ℕ)
-    → run_of readers events w ≡ client_joined w e text count → e.client.on ≡ true
-    → run_of readers (events ++ event.ClientLeaves ∷ []) w ≡ record (client_joined w e text count) { client = end_left e }
-turn_leaves readers w events e text count leads on =
-    run_append readers events (event.ClientLeaves ∷ []) w
-    ∙ (ap (after readers event.ClientLeaves) leads ∙ done_now readers event.ClientLeaves (client_joined w e text count) on)
+pub turn_leaves : (w : World) (events : List Event) (e : ClientEnd) (text : List ℕ) (count : ℕ)
+    → run_of events w ≡ client_joined w e text count → e.client.on ≡ true
+    → run_of (events ++ event.ClientLeaves ∷ []) w ≡ record (client_joined w e text count) { client = end_left e }
+turn_leaves w events e text count leads on =
+    run_append events (event.ClientLeaves ∷ []) w
+    ∙ (ap (after event.ClientLeaves) leads ∙ done_now event.ClientLeaves (client_joined w e text count) on)

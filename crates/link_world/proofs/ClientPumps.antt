@@ -11,12 +11,10 @@ use Rattle.line_framing.specs.Framing.{IsLineDue, Framing, fed, fed_behind, left
 use Rattle.line_framing.specs.declared.faults.FramingFault.{FramingFault}
 use Rattle.line_framing.specs.declared.faults.FramingFault.TheVariants as framing
 use Rattle.line_framing.proofs.FirstLine.{found}
-use Rattle.protocol_model.specs.Lines.{Readers, AreReaders}
 use Rattle.protocol_model.specs.Client.{due}
 use Rattle.protocol_model.specs.Ends.{ClientEnd, end_sent, end_taken, end_fed, end_read, end_left, front_read, new_server_end}
 use Rattle.protocol_model.specs.World.{World, is_any}
 use Rattle.protocol_model.specs.declared.events.Event.TheVariants as event
-use Rattle.protocol_model.proofs.written_lines.ReadersExist.{some_are_readers}
 use Rattle.client_core.specs.Clients.{is_faulted, may_read}
 use Rattle.client_core.specs.Refusals.{IsRefused, IsSendRefused, IsReadRefused}
 use Rattle.client_core.specs.declared.faults.ClientFault.{ClientFault}
@@ -47,15 +45,15 @@ alone e = record { client = e; server = new_server_end []; links = []; written =
 pub sending_less : (a b : ClientEnd) → is_some (due a.client) ≡ true → b ≡ end_sent a
     → left_of event.ClientSends (alone b) < left_of event.ClientSends (alone a)
 sending_less a b is same = subst (λ (e : ClientEnd). left_of event.ClientSends (alone e) < left_of event.ClientSends (alone a)) (sym same)
-    (less some_are_readers.0 event.ClientSends (alone a) refl is)
+    (less event.ClientSends (alone a) refl is)
 
 pub goes_none : (stage : Stage) (read written : List ℕ) (e : ClientEnd) → GoesOn stage read written e e
-goes_none stage read written e = λ readers are least start t. t
+goes_none stage read written e = λ least start t. t
 
 pub sent_more : (a b c : ClientEnd) → GoesOn Sending [] [] a b → is_some (due b.client) ≡ true → c ≡ end_sent b
     → GoesOn Sending [] [] a c
-sent_more a b c h is same = λ readers are least start t.
-    subst (λ (e : ClientEnd). ClientTurn readers least start Sending [] [] e) (sym same) (sends b (h readers are least start t) is)
+sent_more a b c h is same = λ least start t.
+    subst (λ (e : ClientEnd). ClientTurn least start Sending [] [] e) (sym same) (sends b (h least start t) is)
 
 -- a client that refuses to send
 pub send_goes : (a b c : ClientEnd) (why : ClientFault) → GoesOn Sending [] [] a b
@@ -95,14 +93,14 @@ is_unread Writing = true
 is_unread Taking = true
 is_unread _ = false
 
-pub none_read : (readers : Readers) (least : ℕ) (start : ClientEnd) (stage : Stage) (read written : List ℕ) (e : ClientEnd)
-    (t : ClientTurn readers least start stage read written e) → is_unread stage ≡ true → lines_read t ≡ 0
-none_read readers least start _ _ _ _ begins is = refl
-none_read readers least start _ _ _ _ (sends e t due) is = none_read readers least start Sending [] [] e t refl
-none_read readers least start _ _ _ _ (writes e count t none within) is = none_read readers least start Sending [] [] e t refl
-none_read readers least start _ _ _ _ (takes e read written t out may) is = none_read readers least start Writing [] written e t refl
-none_read readers least start _ _ _ _ (has e read written t enough) is = absurd (false≢true is)
-none_read readers least start _ _ _ _ (reads e read written t may any) is = absurd (false≢true is)
+pub none_read : (least : ℕ) (start : ClientEnd) (stage : Stage) (read written : List ℕ) (e : ClientEnd)
+    (t : ClientTurn least start stage read written e) → is_unread stage ≡ true → lines_read t ≡ 0
+none_read least start _ _ _ _ begins is = refl
+none_read least start _ _ _ _ (sends e t due) is = none_read least start Sending [] [] e t refl
+none_read least start _ _ _ _ (writes e count t none within) is = none_read least start Sending [] [] e t refl
+none_read least start _ _ _ _ (takes e read written t out may) is = none_read least start Writing [] written e t refl
+none_read least start _ _ _ _ (has e read written t enough) is = absurd (false≢true is)
+none_read least start _ _ _ _ (reads e read written t may any) is = absurd (false≢true is)
 
 -- a turn that has stopped before it read lines
 pub unread_within : (bound calls calls_now least : ℕ) (old new : ClientEnd) (left left_now taken taken_now : Option (List ℕ))
@@ -110,8 +108,7 @@ pub unread_within : (bound calls calls_now least : ℕ) (old new : ClientEnd) (l
     → calls_now ≤ calls + bound → ClientStoppedWithin bound calls calls_now least old new left left_now taken taken_now f
 unread_within bound calls calls_now least old new left left_now taken taken_now f s is most = record {
   front = s;
-  within = λ readers are.
-      let none = none_read readers least old s.stage s.read s.written s.last (s.turn readers are) is in omega (arith, most, none);
+  within = let none = none_read least old s.stage s.read s.written s.last (s.turn) is in omega (arith, most, none);
 }
 
 -- the calls of a port beside those that were counted
@@ -120,7 +117,7 @@ pub stopped_beside : (more bound calls calls_now least : ℕ) (old new : ClientE
     → ClientStoppedWithin bound (more + calls) (more + calls_now) least old new left left_now taken taken_now f
 stopped_beside more bound calls calls_now least old new left left_now taken taken_now f s = record {
   front = s.front;
-  within = λ readers are. let before = s.within readers are in omega (arith, before);
+  within = let before = s.within in omega (arith, before);
 }
 
 -- while it sends
@@ -134,7 +131,7 @@ stops_sending a b f least bound calls calls_now left taken h r most = unread_wit
       written = [];
       lost = [];
       last = b;
-      turn = λ readers are. h readers are least a begins;
+      turn = h least a begins;
       leaves = refl;
       consumed = Consumes-nil left;
       is_lost = none_lost f;
@@ -164,7 +161,7 @@ stops_writing a b f least bound calls calls_now left taken taken_now bytes h non
       written = take p.count b.out;
       lost = [];
       last = end_taken p.count b;
-      turn = λ readers are. writes b p.count (h readers are least a begins) none p.within;
+      turn = writes b p.count (h least a begins) none p.within;
       leaves = refl;
       consumed = Consumes-nil left;
       is_lost = none_lost f;
@@ -180,10 +177,10 @@ pub all_out : (a b c : ClientEnd) (taken taken_now : Option (List ℕ)) (bound l
     → Appends taken taken_now bytes → bound ≤ left + length bytes → AllOut a c taken taken_now bound left count
 all_out a b c taken taken_now bound left count bytes h none held are is same appended counted = record {
   written = b.out;
-  turn = λ readers are least.
-      subst (λ (e : ClientEnd). ClientTurn readers least a Writing [] b.out e) (sym same)
-      (subst (λ (bytes : List ℕ). ClientTurn readers least a Writing [] bytes (end_taken count b)) (whole count b.out is)
-      (writes b count (h readers are least a begins) none (omega (arith, is))));
+  turn = λ least.
+      subst (λ (e : ClientEnd). ClientTurn least a Writing [] b.out e) (sym same)
+      (subst (λ (bytes : List ℕ). ClientTurn least a Writing [] bytes (end_taken count b)) (whole count b.out is)
+      (writes b count (h least a begins) none (omega (arith, is))));
   out = ap (λ (e : ClientEnd). e.out) same ∙ nothing count b.out is;
   held = ap (λ (e : ClientEnd). e.input) same ∙ held;
   appended = subst (Appends taken taken_now) are appended;
@@ -292,7 +289,7 @@ pub record LinesRead (a b : ClientEnd) (budget now : ℕ) : Type 0 where
   pub counted : 2 * budget + length b.input.rest ≤ 2 * now + length a.input.rest
 
 pub lines_none : (e : ClientEnd) (budget : ℕ) → LinesRead e e budget budget
-lines_none e budget = record { goes = λ readers are least start read written t. (t, omega arith); counted = omega arith }
+lines_none e budget = record { goes = λ least start read written t. (t, omega arith); counted = omega arith }
 
 pub one_line : (f : Front) → next_lines f ≤ 1
 one_line (Ok None) = omega arith
@@ -306,13 +303,13 @@ no_line (Err why) none = refl
 
 read_goes : (a b c : ClientEnd) (budget now then : ℕ) → ReadsOn budget now a b → then + next_lines (next_of b.input.rest) ≤ now
     → may_read b.client ≡ true → is_any (next_of b.input.rest) ≡ true
-    → ((readers : Readers) → AreReaders readers → c ≡ end_read readers b) → ReadsOn budget then a c
-read_goes a b c budget now then h step may is same = λ readers are least start read written t.
-    let p : (f : ClientTurn readers least start Reading read written b) × (now + lines_read f ≤ budget + lines_read t) =
-    h readers are least start read written t in
+    → (c ≡ end_read b) → ReadsOn budget then a c
+read_goes a b c budget now then h step may is same = λ least start read written t.
+    let p : (f : ClientTurn least start Reading read written b) × (now + lines_read f ≤ budget + lines_read t) =
+    h least start read written t in
     let before = p.1 in
-    subst (λ (e : ClientEnd). (f : ClientTurn readers least start Reading read written e)
-    × (then + lines_read f ≤ budget + lines_read t)) (sym (same readers are))
+    subst (λ (e : ClientEnd). (f : ClientTurn least start Reading read written e)
+    × (then + lines_read f ≤ budget + lines_read t)) (sym (same))
     (reads b read written p.0 may is, omega (arith, before, step))
 
 any_line : (f : Front) → IsLineDue f → is_any f ≡ true
@@ -328,10 +325,10 @@ two_less input (Ok (Some (line, rest))) is there =
 two_less input (Err why) is line = absurd line
 
 pub lines_more : (a b c : ClientEnd) (budget now then : ℕ) → LinesRead a b budget now → now ≡ then + 1 → may_read b.client ≡ true
-    → IsLineDue (next_of b.input.rest) → ((readers : Readers) → AreReaders readers → c ≡ end_read readers b) → LinesRead a c budget then
+    → IsLineDue (next_of b.input.rest) → (c ≡ end_read b) → LinesRead a c budget then
 lines_more a b c budget now then h step may is same =
     let less : length c.input.rest + 2 ≤ length b.input.rest =
-    subst (λ (e : ClientEnd). length e.input.rest + 2 ≤ length b.input.rest) (sym (same some_are_readers.0 some_are_readers.1))
+    subst (λ (e : ClientEnd). length e.input.rest + 2 ≤ length b.input.rest) (sym (same))
     (two_less b.input (next_of b.input.rest) refl is) in
     let before = h.counted in
     let one = one_line (next_of b.input.rest) in record {
@@ -345,21 +342,21 @@ pub record NothingLeft (b c : ClientEnd) : Type 0 where
   pub none : next_of c.input.rest ≡ Ok None
 
 pub lines_end : (b c : ClientEnd) → (IsLineDue (next_of b.input.rest) → ⊥) → is_faulted c.client.state ≡ false
-    → ((readers : Readers) → AreReaders readers → c ≡ end_read readers b) → NothingLeft b c
+    → (c ≡ end_read b) → NothingLeft b c
 lines_end b c none fine same = go (next_of b.input.rest) refl
   where
-    is : c ≡ end_read some_are_readers.0 b
-    is = same some_are_readers.0 some_are_readers.1
+    is : c ≡ end_read b
+    is = same
 
     met : (f : Front) → next_of b.input.rest ≡ f
-        → is_faulted (front_read some_are_readers.0 b.client f).state ≡ false
-    met f e = subst (λ (x : Front). is_faulted (front_read some_are_readers.0 b.client x).state ≡ false) e
+        → is_faulted (front_read b.client f).state ≡ false
+    met f e = subst (λ (x : Front). is_faulted (front_read b.client x).state ≡ false) e
         (subst (λ (x : ClientEnd). is_faulted x.client.state ≡ false) is fine)
 
     go : (f : Front) → next_of b.input.rest ≡ f → NothingLeft b c
     go (Ok None) e =
         let unchanged : c ≡ b = is ∙ ap (λ (x : Front). record {
-          client = front_read some_are_readers.0 b.client x;
+          client = front_read b.client x;
           input = left_by x b.input;
           out = b.out;
         }) e in
@@ -375,9 +372,9 @@ pub record LinesStop (a c : ClientEnd) (budget now held : ℕ) (f : PumpFault Cl
 
 -- what is left of a budget may be less
 pub spends_more : (a b : ClientEnd) (budget now then : ℕ) → ReadsOn budget now a b → then ≤ now → ReadsOn budget then a b
-spends_more a b budget now then h less = λ readers are least start read written t.
-    let p : (f : ClientTurn readers least start Reading read written b) × (now + lines_read f ≤ budget + lines_read t) =
-    h readers are least start read written t in
+spends_more a b budget now then h less = λ least start read written t.
+    let p : (f : ClientTurn least start Reading read written b) × (now + lines_read f ≤ budget + lines_read t) =
+    h least start read written t in
     let before = p.1 in (p.0, omega (arith, before, less))
 
 pub stays : (a b c : ClientEnd) (budget now then : ℕ) → ReadsOn budget now a b → then ≤ now → c ≡ b → ReadsOn budget then a c
@@ -388,7 +385,7 @@ off_reads e off = ap (λ (b : Bool). b && not (is_faulted e.client.state)) off
 
 pub read_stops : (a b c : ClientEnd) (why : ClientFault) (budget now then held : ℕ) → ReadsOn budget now a b
     → then + next_lines (next_of b.input.rest) ≤ now → IsReadRefused b c why
-    → (why ≢ client_fault.Memory → may_read b.client ≡ true → (readers : Readers) → AreReaders readers → c ≡ end_read readers b)
+    → (why ≢ client_fault.Memory → may_read b.client ≡ true → c ≡ end_read b)
     → (may_read b.client ≡ false → c ≡ b) → LinesStop a c budget then held (of_client why)
 read_stops a b c client_fault.NotNow budget now then held h step r is before = record {
   goes = stays a b c budget now then h (omega (arith, step)) r.0;
@@ -400,13 +397,13 @@ read_stops a b c client_fault.NotNow budget now then held h step r is before = r
 read_stops a b c (client_fault.Faulted cause) budget now then held h step r is before =
     record { goes = go (may_read b.client) refl; why = (r.0, r.1) }
   where
-    met : may_read b.client ≡ true → (readers : Readers) → AreReaders readers → c ≡ end_read readers b
+    met : may_read b.client ≡ true → c ≡ end_read b
     met = is (λ (e : client_fault.Faulted cause ≡ client_fault.Memory). cc)
 
     front : (f : Front) → next_of b.input.rest ≡ f → may_read b.client ≡ true → ReadsOn budget then a c
     front (Ok None) e may =
-        let unchanged : c ≡ b = met may some_are_readers.0 some_are_readers.1 ∙ ap (λ (x : Front). record {
-          client = front_read some_are_readers.0 b.client x;
+        let unchanged : c ≡ b = met may ∙ ap (λ (x : Front). record {
+          client = front_read b.client x;
           input = left_by x b.input;
           out = b.out;
         }) e in
@@ -438,7 +435,7 @@ stops_asking a b c why least bound calls calls_now mid count left taken taken_no
       written = h.written;
       lost = [];
       last = b;
-      turn = λ readers are. h.turn readers are least;
+      turn = h.turn least;
       leaves = ap end_left same;
       consumed = Consumes-nil left;
       is_lost = none_lost (of_client why);
@@ -472,7 +469,7 @@ stops_taking a b c d f least bound calls calls_now mid count left left_now taken
       written = h.written;
       lost = s.lost;
       last = end_fed s.read b;
-      turn = λ readers are. takes b s.read h.written (h.turn readers are least) h.out may;
+      turn = takes b s.read h.written (h.turn least) h.out may;
       leaves = ap end_left (s.fed ∙ ap (end_fed s.read) (same ∙ fed_none b));
       consumed = s.consumed;
       is_lost = s.is_lost;
@@ -497,28 +494,26 @@ read_why least bound mid late read written held now left_now e fault.Memory out 
 -- so many bytes have come as were asked for, and it reads
 has_come : (a b c d : ClientEnd) (least bound mid late count come : ℕ) (left left_now taken taken_now : Option (List ℕ))
     (h : AllOut a b taken taken_now bound mid count) → may_read b.client ≡ true → c ≡ end_fed [] b
-    → (s : Came c d left left_now mid late come) → least ≤ come → (readers : Readers) → AreReaders readers
-    → (t : ClientTurn readers least a Reading s.read h.written d) × (lines_read t ≡ 0)
-has_come a b c d least bound mid late count come left left_now taken taken_now h may same s enough readers are =
+    → (s : Came c d left left_now mid late come) → least ≤ come → (t : ClientTurn least a Reading s.read h.written d) × (lines_read t ≡ 0)
+has_come a b c d least bound mid late count come left left_now taken taken_now h may same s enough =
     let many = s.count_is in
-    let t : ClientTurn readers least a Taking s.read h.written (end_fed s.read b) =
-    takes b s.read h.written (h.turn readers are least) h.out may in
-    let u : (t : ClientTurn readers least a Taking s.read h.written d) × (lines_read t ≡ 0) =
-    subst (λ (e : ClientEnd). (t : ClientTurn readers least a Taking s.read h.written e) × (lines_read t ≡ 0))
+    let t : ClientTurn least a Taking s.read h.written (end_fed s.read b) =
+    takes b s.read h.written (h.turn least) h.out may in
+    let u : (t : ClientTurn least a Taking s.read h.written d) × (lines_read t ≡ 0) =
+    subst (λ (e : ClientEnd). (t : ClientTurn least a Taking s.read h.written e) × (lines_read t ≡ 0))
     (sym (s.fed ∙ ap (end_fed s.read) (same ∙ fed_none b)))
-    (t, none_read readers least a Taking s.read h.written (end_fed s.read b) t refl) in
+    (t, none_read least a Taking s.read h.written (end_fed s.read b) t refl) in
     (has d s.read h.written u.0 (omega (arith, many, enough)), u.1)
 
 -- it has read on from there
 reads_from : (a b c d e : ClientEnd) (least bound mid late now count come : ℕ) (left left_now taken taken_now : Option (List ℕ))
     (h : AllOut a b taken taken_now bound mid count) → may_read b.client ≡ true → c ≡ end_fed [] b
-    → (s : Came c d left left_now mid late come) → least ≤ come → ReadsOn late now d e → (readers : Readers) → AreReaders readers
-    → (t : ClientTurn readers least a Reading s.read h.written e) × (lines_read t ≤ late)
-reads_from a b c d e least bound mid late now count come left left_now taken taken_now h may same s enough goes readers are =
-    let t : (t : ClientTurn readers least a Reading s.read h.written d) × (lines_read t ≡ 0) =
-    has_come a b c d least bound mid late count come left left_now taken taken_now h may same s enough readers are in
-    let u : (u : ClientTurn readers least a Reading s.read h.written e) × (now + lines_read u ≤ late + lines_read t.0) =
-    goes readers are least a s.read h.written t.0 in
+    → (s : Came c d left left_now mid late come) → least ≤ come → ReadsOn late now d e → (t : ClientTurn least a Reading s.read h.written e) × (lines_read t ≤ late)
+reads_from a b c d e least bound mid late now count come left left_now taken taken_now h may same s enough goes =
+    let t : (t : ClientTurn least a Reading s.read h.written d) × (lines_read t ≡ 0) =
+    has_come a b c d least bound mid late count come left left_now taken taken_now h may same s enough in
+    let u : (u : ClientTurn least a Reading s.read h.written e) × (now + lines_read u ≤ late + lines_read t.0) =
+    goes least a s.read h.written t.0 in
     let none = t.1 in
     let few = u.1 in (u.0, omega (arith, none, few))
 
@@ -535,7 +530,7 @@ stops_reading a b c d e f least bound calls calls_now mid late now count come le
         written = h.written;
         lost = [];
         last = e;
-        turn = λ readers are. (read_on readers are).0;
+        turn = (read_on).0;
         leaves = refl;
         consumed = subst (Consumes left left_now) (sym (append-nil s.read)) s.consumed;
         is_lost = none_lost f;
@@ -543,11 +538,10 @@ stops_reading a b c d e f least bound calls calls_now mid late now count come le
         why = read_why least bound mid late (length s.read) (length h.written) (length a.input.rest) (length d.input.rest) left_now e f h.counted
             s.counted few r;
       };
-      within = λ readers are. let lines = (read_on readers are).1 in omega (arith, most, lines);
+      within = let lines = (read_on).1 in omega (arith, most, lines);
     }
   where
-    read_on : (readers : Readers) → AreReaders readers
-        → (t : ClientTurn readers least a Reading s.read h.written e) × (lines_read t ≤ late)
+    read_on : (t : ClientTurn least a Reading s.read h.written e) × (lines_read t ≤ late)
     read_on = reads_from a b c d e least bound mid late now count come left left_now taken taken_now h may same s enough goes
 
     few : length d.input.rest ≤ length a.input.rest + length s.read
@@ -565,7 +559,7 @@ has_moved a b c d e least bound calls calls_now mid late now count come left lef
       whole = record {
         read = s.read;
         written = h.written;
-        turn = λ readers are. (read_on readers are).0;
+        turn = (read_on).0;
         may = may_now;
         all = none;
         consumed = s.consumed;
@@ -573,9 +567,8 @@ has_moved a b c d e least bound calls calls_now mid late now count come left lef
         read_is = s.count_is;
         written_is = h.count_is;
       };
-      within = λ readers are. let lines = (read_on readers are).1 in omega (arith, most, lines);
+      within = let lines = (read_on).1 in omega (arith, most, lines);
     }
   where
-    read_on : (readers : Readers) → AreReaders readers
-        → (t : ClientTurn readers least a Reading s.read h.written e) × (lines_read t ≤ late)
+    read_on : (t : ClientTurn least a Reading s.read h.written e) × (lines_read t ≤ late)
     read_on = reads_from a b c d e least bound mid late now count come left left_now taken taken_now h may same s enough goes

@@ -4,7 +4,6 @@ use Rattle.std.proofs.lemmas.Bool.{false≢true, and_parts, and_from}
 use Rattle.line_framing.specs.Next.{Front, next_of}
 use Rattle.line_framing.specs.Framing.{IsLineDue, left_by}
 use Rattle.line_framing.specs.declared.faults.FramingFault.{FramingFault}
-use Rattle.protocol_model.specs.Lines.{Readers, AreReaders}
 use Rattle.protocol_model.specs.Ends.{ClientEnd, end_read, front_read}
 use Rattle.protocol_model.specs.World.{World, Link, no_link, link_of, with_link, client_link, is_any, has_some, can, happens, moved_down}
 use Rattle.protocol_model.specs.World as world
@@ -60,21 +59,21 @@ no_fault_read client server cs written h on why is =
 
 pub read_reached : (client after : ClientEnd) (server : Serving) (cs : List Connection) (written : List ℕ)
     → IsReached (seen client server cs written)
-    → reads_any client ≡ true → ((readers : Readers) → AreReaders readers → after ≡ end_read readers client)
+    → reads_any client ≡ true → (after ≡ end_read client)
     → IsReached (seen after server cs written)
 read_reached client after server cs written h may is =
     reached_more (seen client server cs written) (seen after server cs written) event.ClientReads h may
-    (λ readers are. ap (λ (e : ClientEnd). seen e server cs written) (is readers are))
+    (ap (λ (e : ClientEnd). seen e server cs written) (is))
 
 -- no line is there
 pub record NothingRead (client after : ClientEnd) : Type 0 where
   pub same : after ≡ client
   pub none : reads_any client ≡ false
 
-none_there : (readers : Readers) (client : ClientEnd) (f : Front) → f ≡ Ok None
-    → record { client = front_read readers client.client f; input = left_by f client.input; out = client.out } ≡ client
-none_there readers client f e = ap (λ (x : Front). record {
-  client = front_read readers client.client x;
+none_there : (client : ClientEnd) (f : Front) → f ≡ Ok None
+    → record { client = front_read client.client f; input = left_by f client.input; out = client.out } ≡ client
+none_there client f e = ap (λ (x : Front). record {
+  client = front_read client.client x;
   input = left_by x client.input;
   out = client.out;
 }) e
@@ -89,12 +88,12 @@ not_any e f is none = go (reads_any e) refl
 pub nothing_read : (client after : ClientEnd) (server : Serving) (cs : List Connection) (written : List ℕ)
     → IsReached (seen client server cs written)
     → may_read client.client ≡ true → (IsLineDue (next_of client.input.rest) → ⊥)
-    → ((readers : Readers) → AreReaders readers → after ≡ end_read readers client) → NothingRead client after
+    → (after ≡ end_read client) → NothingRead client after
 nothing_read client after server cs written h may none is = go (next_of client.input.rest) refl
   where
     go : (f : Front) → next_of client.input.rest ≡ f → NothingRead client after
     go (Ok None) e = record {
-      same = is h.readers h.are ∙ none_there h.readers client (next_of client.input.rest) e;
+      same = is ∙ none_there client (next_of client.input.rest) e;
       none = not_any client (Ok None) e refl;
     }
     go (Ok (Some found)) e = absurd (none (subst IsLineDue (sym e) refl))
@@ -110,15 +109,15 @@ off_reads e off = ap (λ (b : Bool). b && (not (world.is_faulted e.client.state)
 
 never_met : (client after : ClientEnd) (server : Serving) (cs : List Connection) (written : List ℕ)
     → IsReached (seen client server cs written) → is_faulted after.client.state ≡ true
-    → (may_read client.client ≡ true → (readers : Readers) → AreReaders readers → after ≡ end_read readers client)
+    → (may_read client.client ≡ true → after ≡ end_read client)
     → (may_read client.client ≡ false → after ≡ client) → ⊥
 never_met client after server cs written h met is before = go (may_read client.client) refl
   where
     front : (f : Front) → next_of client.input.rest ≡ f → may_read client.client ≡ true → ⊥
     front (Ok None) e may =
         never_faulted_now client server cs written h
-        (subst (λ (x : ClientEnd). is_faulted x.client.state ≡ true) (is may h.readers h.are
-        ∙ none_there h.readers client (next_of client.input.rest) e) met)
+        (subst (λ (x : ClientEnd). is_faulted x.client.state ≡ true) (is may
+        ∙ none_there client (next_of client.input.rest) e) met)
     front (Ok (Some found)) e may =
         let parts = may_is client may in
         let can_now : reads_any client ≡ true = and_from _ _ parts.0 (and_from _ _ parts.1 (ap is_any e)) in
@@ -132,8 +131,7 @@ never_met client after server cs written h met is before = go (may_read client.c
 
 pub not_read : (client after : ClientEnd) (server : Serving) (cs : List Connection) (written : List ℕ) (fault : ClientFault)
     → IsReached (seen client server cs written)
-    → IsReadRefused client after fault → (fault ≢ client_fault.Memory → may_read client.client ≡ true → (readers : Readers)
-    → AreReaders readers → after ≡ end_read readers client)
+    → IsReadRefused client after fault → (fault ≢ client_fault.Memory → may_read client.client ≡ true → after ≡ end_read client)
     → (may_read client.client ≡ false → after ≡ client) → NotRead client after fault
 not_read client after server cs written client_fault.NotNow h r is before = record { same = r.0; none = λ e. off_reads client r.1 }
 not_read client after server cs written (client_fault.Faulted cause) h r is before =

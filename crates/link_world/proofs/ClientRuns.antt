@@ -5,9 +5,7 @@ use Rattle.std.specs.Io.KnownBytes.{Appends, Consumes}
 use Rattle.std.proofs.KnownBytes.{Consumes-nil, Consumes-trans, Appends-nil, Appends-trans}
 use Rattle.line_framing.specs.Next.{Front, next_of}
 use Rattle.line_framing.specs.Framing.{Framing, left_by}
-use Rattle.protocol_model.specs.Lines.{Readers}
 use Rattle.protocol_model.specs.Ends.{ClientEnd, end_left}
-use Rattle.protocol_model.proofs.written_lines.ReadersExist.{some_are_readers}
 use Rattle.client_core.specs.declared.faults.ClientFault.{ClientFault}
 use Rattle.link_world.specs.declared.pumps.Moved.{Moved}
 use Rattle.link_world.specs.declared.pumps.PumpFault.{PumpFault}
@@ -27,17 +25,17 @@ left_fewer input (Ok (Some found)) is = let less = two_less input (Ok (Some foun
 left_fewer input (Err why) is = omega arith
 
 -- no more is held than was held and came in
-turn_held : (readers : Readers) (least : ℕ) (start : ClientEnd) (stage : Stage) (read written : List ℕ) (e : ClientEnd)
-    → ClientTurn readers least start stage read written e → length e.input.rest ≤ length start.input.rest + length read
-turn_held readers least start _ _ _ _ begins = omega arith
-turn_held readers least start _ _ _ _ (sends e t is) = turn_held readers least start Sending [] [] e t
-turn_held readers least start _ _ _ _ (writes e count t none within) = turn_held readers least start Sending [] [] e t
-turn_held readers least start _ _ _ _ (takes e read written t out may) =
-    let before = turn_held readers least start Writing [] written e t in
+turn_held : (least : ℕ) (start : ClientEnd) (stage : Stage) (read written : List ℕ) (e : ClientEnd)
+    → ClientTurn least start stage read written e → length e.input.rest ≤ length start.input.rest + length read
+turn_held least start _ _ _ _ begins = omega arith
+turn_held least start _ _ _ _ (sends e t is) = turn_held least start Sending [] [] e t
+turn_held least start _ _ _ _ (writes e count t none within) = turn_held least start Sending [] [] e t
+turn_held least start _ _ _ _ (takes e read written t out may) =
+    let before = turn_held least start Writing [] written e t in
     let more = longer e.input.fault e.input.rest read in omega (arith, before, more)
-turn_held readers least start _ _ _ _ (has e read written t enough) = turn_held readers least start Taking read written e t
-turn_held readers least start _ _ _ _ (reads e read written t may is) =
-    let before = turn_held readers least start Reading read written e t in
+turn_held least start _ _ _ _ (has e read written t enough) = turn_held least start Taking read written e t
+turn_held least start _ _ _ _ (reads e read written t may is) =
+    let before = turn_held least start Reading read written e t in
     let fewer = left_fewer e.input (next_of e.input.rest) refl in omega (arith, before, fewer)
 
 -- as many bytes as were asked for have come in, once lines are read
@@ -48,14 +46,14 @@ Enough Taking least count = Unit {0}
 Enough Reading least count = least ≤ count
 Enough Working least count = Unit {0}
 
-turn_enough : (readers : Readers) (least : ℕ) (start : ClientEnd) (stage : Stage) (read written : List ℕ) (e : ClientEnd)
-    → ClientTurn readers least start stage read written e → Enough stage least (length read)
-turn_enough readers least start _ _ _ _ begins = tt
-turn_enough readers least start _ _ _ _ (sends e t is) = tt
-turn_enough readers least start _ _ _ _ (writes e count t none within) = tt
-turn_enough readers least start _ _ _ _ (takes e read written t out may) = tt
-turn_enough readers least start _ _ _ _ (has e read written t enough) = enough
-turn_enough readers least start _ _ _ _ (reads e read written t may is) = turn_enough readers least start Reading read written e t
+turn_enough : (least : ℕ) (start : ClientEnd) (stage : Stage) (read written : List ℕ) (e : ClientEnd)
+    → ClientTurn least start stage read written e → Enough stage least (length read)
+turn_enough least start _ _ _ _ begins = tt
+turn_enough least start _ _ _ _ (sends e t is) = tt
+turn_enough least start _ _ _ _ (writes e count t none within) = tt
+turn_enough least start _ _ _ _ (takes e read written t out may) = tt
+turn_enough least start _ _ _ _ (has e read written t enough) = enough
+turn_enough least start _ _ _ _ (reads e read written t may is) = turn_enough least start Reading read written e t
 
 -- ---- turns of a client
 
@@ -89,14 +87,14 @@ client_goes turns old mid new left left_mid left_now taken taken_mid taken_now m
   run = run.goes turns h.read h.written mid new left_mid left_now taken_mid taken_now moved h.run going m;
   consumed = Consumes-trans left left_mid left_now h.read m.read h.consumed m.consumed;
   appended = Appends-trans taken taken_mid taken_now h.written m.written h.appended m.appended;
-  many = let some = turn_enough some_are_readers.0 1 mid Reading m.read m.written new turn in
+  many = let some = turn_enough 1 mid Reading m.read m.written new turn in
       let many = h.many in let total = length-append h.read m.read in omega (arith, some, many, total);
-  held = let then = turn_held some_are_readers.0 1 mid Reading m.read m.written new turn in
+  held = let then = turn_held 1 mid Reading m.read m.written new turn in
       let before = h.held in let total = length-append h.read m.read in omega (arith, then, before, total);
 }
   where
-    turn : ClientTurn some_are_readers.0 1 mid Reading m.read m.written new
-    turn = m.turn some_are_readers.0 some_are_readers.1
+    turn : ClientTurn 1 mid Reading m.read m.written new
+    turn = m.turn
 
 pub client_ran : (turns : ℕ) (old new : ClientEnd) (left left_now taken taken_now : Option (List ℕ))
     → ClientSoFar turns old new left left_now taken taken_now → turns ≤ turns_most → ClientRan old new left left_now taken taken_now

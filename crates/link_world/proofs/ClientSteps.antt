@@ -3,7 +3,6 @@ use Rattle.std.proofs.Common.{◌≡◌, ℕ, suc, ◌+◌, ◌≤◌, ◌<◌, 
 use Rattle.std.proofs.Common.{◌∙◌, ap, subst, arith}
 use Rattle.std.proofs.lemmas.Bool.{false≢true, and_parts, and_from, ltb-true, lt-ltb, le-leb, leb-true}
 use Rattle.contact_ledger.specs.Ledgers.{connection_most}
-use Rattle.protocol_model.specs.Lines.{Readers, AreReaders}
 use Rattle.protocol_model.specs.Client.{is_apart, may_resume}
 use Rattle.protocol_model.specs.Ends.{ClientEnd, end_connected, end_resumed, end_left, end_restarted}
 use Rattle.protocol_model.specs.World.{World, Link, no_link, can, happens, connected}
@@ -20,7 +19,7 @@ use Rattle.link_world.specs.declared.faults.WorldFault.TheVariants as world_faul
 use Rattle.link_world.specs.Claims.{refused_by}
 use Rattle.link_world.specs.Links.{Linked, link_of_connection, links_of, seen, with_world, IsReached}
 use Rattle.link_world.proofs.Linking.{links_more}
-use Rattle.link_world.proofs.Reached.{reached_more, made, agree}
+use Rattle.link_world.proofs.Reached.{reached_more, made, headline}
 
 -- no call of the client finds it Faulted
 faulted_state : (s : State) → is_faulted s ≡ true → s ≡ State.Faulted
@@ -34,7 +33,7 @@ faulted_state State.Done e = absurd (false≢true e)
 
 pub never_faulted_now : (client : ClientEnd) (server : Serving) (cs : List Connection) (written : List ℕ)
     → IsReached (seen client server cs written) → is_faulted client.client.state ≡ true → ⊥
-never_faulted_now client server cs written h e = (agree (seen client server cs written) h).client (faulted_state client.client.state e)
+never_faulted_now client server cs written h e = (headline (seen client server cs written) h).client (faulted_state client.client.state e)
 
 -- a call that is refused was not possible
 pub refused_now : (client : ClientEnd) (server : Serving) (cs : List Connection) (written : List ℕ) (can_call : Bool) (fault : ClientFault)
@@ -86,7 +85,7 @@ pub connect_reached : (client after : ClientEnd) (server : Serving) (cs ds : Lis
     → IsReached (seen after server ds now)
 connect_reached client after server cs ds written now c number h may is n d up down none =
     reached_more (seen client server cs written) (seen after server ds now) event.Connect h may
-    (λ readers are. connect_seen client after server cs ds written now c number h is n d up down none)
+    (connect_seen client after server cs ds written now c number h is n d up down none)
 
 pub connect_is : (l : Linked) (client after : ClientEnd) (server : Serving) (cs ds : List Connection) (written now : List ℕ)
     (c : Connection) (number : ℕ)
@@ -137,17 +136,17 @@ connect_refused l client server cs written number view h n never =
 
 alone : (client after : ClientEnd) (server : Serving) (cs : List Connection) (written : List ℕ) (e : Event)
     → IsReached (seen client server cs written) → can e (seen client server cs written).world ≡ true
-    → ((readers : Readers) → AreReaders readers → record (seen client server cs written).world { client = after }
-    ≡ happens readers e (seen client server cs written).world) → IsReached (seen after server cs written)
+    → (record (seen client server cs written).world { client = after }
+    ≡ happens e (seen client server cs written).world) → IsReached (seen after server cs written)
 alone client after server cs written e h may is =
     reached_more (seen client server cs written) (seen after server cs written) e h may
-    (λ readers are. ap (λ (w : World). with_world (seen client server cs written) w) (is readers are))
+    (ap (λ (w : World). with_world (seen client server cs written) w) (is))
 
 pub resume_reached : (client after : ClientEnd) (server : Serving) (cs : List Connection) (written : List ℕ)
     → IsReached (seen client server cs written) → may_resume client.client client.client.state ≡ true
     → after ≡ end_resumed client → IsReached (seen after server cs written)
 resume_reached client after server cs written h may is =
-    alone client after server cs written event.Resume h may (λ readers are. ap
+    alone client after server cs written event.Resume h may (ap
     (λ (e : ClientEnd). record (seen client server cs written).world { client = e }) is)
 
 pub left_reached : (client after : ClientEnd) (server : Serving) (cs : List Connection) (written : List ℕ)
@@ -155,7 +154,7 @@ pub left_reached : (client after : ClientEnd) (server : Serving) (cs : List Conn
     → after ≡ end_left client → IsReached (seen after server cs written)
 left_reached client after server cs written h may is =
     alone client after server cs written event.ClientLeaves h may
-    (λ readers are. ap (λ (e : ClientEnd). record (seen client server cs written).world { client = e }) is)
+    (ap (λ (e : ClientEnd). record (seen client server cs written).world { client = e }) is)
 
 pub restart_can : (count : ℕ) (client : ClientEnd) → count ≤ length client.client.table.tally.features
     → nat_le count (length client.client.table.tally.features) ≡ true
@@ -174,4 +173,4 @@ pub restart_reached : (count : ℕ) (client after : ClientEnd) (server : Serving
     → count ≤ length client.client.table.tally.features → after ≡ end_restarted count client → IsReached (seen after server cs written)
 restart_reached count client after server cs written h le is =
     alone client after server cs written (event.ClientRestart count) h (restart_can count client le)
-    (λ readers are. ap (λ (e : ClientEnd). record (seen client server cs written).world { client = e }) is)
+    (ap (λ (e : ClientEnd). record (seen client server cs written).world { client = e }) is)

@@ -13,7 +13,7 @@ use Rattle.server_core.specs.Serving.{Serving}
 use Rattle.link_world.specs.declared.connection.Connection.{Connection}
 use Rattle.link_world.specs.Links.{Linked, link_of_connection, links_of, quiet_client, with_up, seen, with_world, IsReached}
 use Rattle.link_world.proofs.Linking.{links_same, link_put}
-use Rattle.link_world.proofs.Reached.{carried, made, agree, never_faulted_behind}
+use Rattle.link_world.proofs.Reached.{carried, made, headline, never_faulted_behind}
 
 -- ---- where it may write it is on a connection
 
@@ -54,18 +54,18 @@ awake_state State.Faulted n = absurd (n refl)
 
 pub awake : (client : ClientEnd) (server : Serving) (cs : List Connection) (written : List ℕ) → IsReached (seen client server cs written)
     → is_faulted client.client.state ≡ false
-awake client server cs written h = awake_state client.client.state (agree (seen client server cs written) h).client
+awake client server cs written h = awake_state client.client.state (headline (seen client server cs written) h).client
 
 pub send_fine : (client : ClientEnd) (server : Serving) (cs : List Connection) (written : List ℕ)
     → IsReached (seen client server cs written) → is_some (due client.client) ≡ true → is_faulted (end_sent client).client.state ≡ false
 send_fine client server cs written h may = awake_state (end_sent client).client.state
-    (never_faulted_behind h.readers h.are (seen client server cs written) event.ClientSends h may)
+    (never_faulted_behind (seen client server cs written) event.ClientSends h may)
 
 pub abort_fine : (client : ClientEnd) (server : Serving) (cs : List Connection) (written : List ℕ)
     → IsReached (seen client server cs written) → may_abort client.client.state ≡ true
     → is_faulted (end_aborted client).client.state ≡ false
 abort_fine client server cs written h may = awake_state (end_aborted client).client.state
-    (never_faulted_behind h.readers h.are (seen client server cs written) event.Abort h may)
+    (never_faulted_behind (seen client server cs written) event.Abort h may)
 
 -- ---- what is written
 

@@ -1,15 +1,18 @@
 -- What is left of a program, brought to its end.
-use Rattle.std.proofs.Common.{◌≡◌, inl, inr, ℕ, ◌≤◌, Bool, true, false, List, [], length, refl, sym, ◌∙◌, ap, subst, Option, None, is_some}
+use Rattle.std.specs.Prelude.{◌↔◌, OnOk, IfOk}
+use Rattle.std.specs.Result.{IsErrOf}
+use Rattle.std.proofs.Common.{rules, Result, Ok, Err, ◌≡◌, inl, inr, ℕ, ◌≤◌, Bool, true, false, List, [], length, refl, sym, ◌∙◌, ap, subst, Option, None, is_some}
 use Rattle.protocol_model.specs.Client.{due}
-use Rattle.protocol_model.specs.Finishing.{CanFinish, rejoining, rejoined, plan_left}
-use Rattle.protocol_model.specs.Lines.{Readers, AreReaders}
+use Rattle.protocol_model.specs.Finishing.{CanFinish, CanMeasure, HasMeasured, rejoining, rejoined, plan_left}
 use Rattle.protocol_model.specs.World.{World, run_of}
 use Rattle.protocol_model.specs.declared.events.Event.{Event}
 use Rattle.protocol_model.specs.declared.machine.Job.{Job}
 use Rattle.protocol_model.specs.declared.machine.Outcome.{Outcome}
-use Rattle.protocol_model.proofs.written_lines.ReadersExist.{some_are_readers}
+use Rattle.protocol_model.specs.declared.states.State.{State}
 use Rattle.client_core.specs.Always.{FitsState}
-use Rattle.link_world.specs.Finishing.{commands_most, IsSameKind, AreFirstOfJoining, AreTurns, Finishes, Stops}
+use Rattle.link_world.specs.Finishing.{commands_most, IsSameKind, AreFirstOfJoining, AreTurns, Finishes, Stops, IsFinish}
+use Rattle.link_world.specs.declared.faults.WorldFault.{WorldFault}
+use Rattle.link_world.specs.declared.faults.WorldFault.TheVariants as fault
 use Rattle.link_world.specs.Links.{Linked, with_world, IsReached}
 use Rattle.link_world.specs.Parts.{Makes}
 use Rattle.link_world.proofs.EventLists.{run_append}
@@ -18,16 +21,15 @@ use Rattle.link_world.proofs.SameKind.{same_run, same_then}
 
 -- a call came to the next connection
 abbrev pub Joined : Linked → Linked → Type 0
-Joined l k = (readers : Readers) → AreReaders readers → k ≡ with_world l (rejoined readers l.world)
+Joined l k = k ≡ with_world l (rejoined l.world)
 
-joined_world : (readers : Readers) (l k : Linked) → k ≡ with_world l (rejoined readers l.world) → k.world ≡ rejoined readers l.world
-joined_world readers l k is = ap (λ (x : Linked). x.world) is
+joined_world : (l k : Linked) → k ≡ with_world l (rejoined l.world) → k.world ≡ rejoined l.world
+joined_world l k is = ap (λ (x : Linked). x.world) is
 
 behind_joining : (l k : Linked) → Joined l k → CanFinish l.world → FitsState l.world.client.client.state l.world.client.client.on
     → IsJoined l.world k.world
 behind_joining l k joined may fits =
-    let readers : Readers = some_are_readers.0 in
-    subst (IsJoined l.world) (sym (joined_world readers l k (joined readers some_are_readers.1))) (joined_at readers l.world may fits)
+    subst (IsJoined l.world) (sym (joined_world l k (joined))) (joined_at l.world may fits)
 
 pub due_behind : (l k : Linked) → Joined l k → CanFinish l.world → FitsState l.world.client.client.state l.world.client.client.on
     → 1 ≤ l.world.client.client.window → is_some (due k.world.client.client) ≡ true
@@ -44,46 +46,59 @@ pub few_behind : (l k : Linked) (turns : ℕ) → Joined l k → CanFinish l.wor
 few_behind l k turns joined may fits few =
     subst (λ (n : ℕ). turns ≤ n) (ap length (behind_joining l k joined may fits).unsent) few
 
-pub finished : (readers : Readers) → AreReaders readers → (answer : Job → ℕ → Outcome) (turns : ℕ) (l k m : Linked) → Joined l k
-    → Makes readers (AreTurns readers answer turns) false None k m → Finishes readers answer turns l.world m.world
-finished readers are answer turns l k m joined h =
-    let there : k.world ≡ rejoined readers l.world = joined_world readers l k (joined readers are) in record {
+pub finished : (answer : Job → ℕ → Outcome) (turns : ℕ) (l k m : Linked) → Joined l k
+    → Makes (AreTurns answer turns) false None k m → Finishes answer turns l.world m.world
+finished answer turns l k m joined h =
+    let there : k.world ≡ rejoined l.world = joined_world l k (joined) in record {
       events = h.events;
-      made = subst (λ (w : World). AreTurns readers answer turns false w h.events) there h.made;
+      made = subst (λ (w : World). AreTurns answer turns false w h.events) there h.made;
       leads =
           ap (λ (x : Linked). x.world) h.leads
-          ∙ (ap (λ (w : World). run_of readers h.events w) there ∙ sym (run_append readers (rejoining l.world) h.events l.world));
+          ∙ (ap (λ (w : World). run_of h.events w) there ∙ sym (run_append (rejoining l.world) h.events l.world));
     }
 
-pub stopped_turning : (readers : Readers) → AreReaders readers → (answer : Job → ℕ → Outcome) (l k m : Linked) → Joined l k
-    → Makes readers (AreTurns readers answer 0) true None k m → Stops readers answer l.world m.world
-stopped_turning readers are answer l k m joined h =
-    let there : k.world ≡ rejoined readers l.world = joined_world readers l k (joined readers are) in record {
+pub stopped_turning : (answer : Job → ℕ → Outcome) (l k m : Linked) → Joined l k
+    → Makes (AreTurns answer 0) true None k m → Stops answer l.world m.world
+stopped_turning answer l k m joined h =
+    let there : k.world ≡ rejoined l.world = joined_world l k (joined) in record {
       joins = rejoining l.world;
       events = h.events;
-      made = inr (refl, subst (λ (w : World). AreTurns readers answer 0 true w h.events) there h.made);
+      made = inr (refl, subst (λ (w : World). AreTurns answer 0 true w h.events) there h.made);
       leads =
           ap (λ (x : Linked). x.world) h.leads
-          ∙ (ap (λ (w : World). run_of readers h.events w) there ∙ sym (run_append readers (rejoining l.world) h.events l.world));
+          ∙ (ap (λ (w : World). run_of h.events w) there ∙ sym (run_append (rejoining l.world) h.events l.world));
     }
 
-pub stopped_joining : (readers : Readers) (answer : Job → ℕ → Outcome) (l m : Linked) → Makes readers AreFirstOfJoining true None l m
-    → Stops readers answer l.world m.world
-stopped_joining readers answer l m h = record {
+pub stopped_joining : (answer : Job → ℕ → Outcome) (l m : Linked) → Makes AreFirstOfJoining true None l m
+    → Stops answer l.world m.world
+stopped_joining answer l m h = record {
   joins = h.events;
   events = [];
   made = inl (h.made, refl);
-  leads = ap (λ (x : Linked). x.world) h.leads ∙ sym (run_append readers h.events [] l.world);
+  leads = ap (λ (x : Linked). x.world) h.leads ∙ sym (run_append h.events [] l.world);
 }
 
-pub same_made : (are : Readers → Bool → World → List Event → Type 0) (cut : Bool) (told : Option Bool) (l m : Linked)
-    → ((readers : Readers) → AreReaders readers → Makes readers (are readers) cut told l m) → IsSameKind l m
+pub same_made : (are : Bool → World → List Event → Type 0) (cut : Bool) (told : Option Bool) (l m : Linked)
+    → Makes are cut told l m → IsSameKind l m
 same_made are cut told l m h =
-    let one = h some_are_readers.0 some_are_readers.1 in same_run some_are_readers.0 one.events l m one.leads
+    let one = h in same_run one.events l m one.leads
 
 pub same_joined : (l k : Linked) → Joined l k → IsSameKind l k
-same_joined l k joined = same_run some_are_readers.0 (rejoining l.world) l k (joined some_are_readers.0 some_are_readers.1)
+same_joined l k joined = same_run (rejoining l.world) l k (joined)
 
-pub same_turned : (are : Readers → Bool → World → List Event → Type 0) (cut : Bool) (told : Option Bool) (l k m : Linked) → Joined l k
-    → ((readers : Readers) → AreReaders readers → Makes readers (are readers) cut told k m) → IsSameKind l m
+pub same_turned : (are : Bool → World → List Event → Type 0) (cut : Bool) (told : Option Bool) (l k m : Linked) → Joined l k
+    → Makes are cut told k m → IsSameKind l m
 same_turned are cut told l k m joined h = same_then l k m (same_joined l k joined) (same_made are cut told k m h)
+
+-- what is said of each answer is what is said of all
+pub finish_is : (answer : Job → ℕ → Outcome) (l m : Linked) (r : Result ℕ WorldFault) → OnOk r (CanFinish l.world)
+    → (IsErrOf r fault.NotNow ↔ ¬ (CanFinish l.world)) → (IsErrOf r fault.NotNow → m ≡ l)
+    → IfOk r (λ turns. Finishes answer turns l.world m.world) → IfOk r (λ turns. turns ≤ length (plan_left l.world))
+    → OnOk r (CanMeasure answer l.world → m.world.client.client.state ≡ State.Done)
+    → OnOk r (CanMeasure answer l.world → HasMeasured answer l.world m.world)
+    → (IsErrOf r fault.Memory → CanFinish l.world × Stops answer l.world m.world) → IsFinish answer l r m
+finish_is answer l m (Ok turns) can not_now unchanged finishes few done measured memory =
+    (can, record { finishes = finishes; few = few; done = done; measured = measured })
+finish_is answer l m (Err fault.NotNow) can not_now unchanged finishes few done measured memory =
+    (not_now.0 (search rules), unchanged (search rules))
+finish_is answer l m (Err fault.Memory) can not_now unchanged finishes few done measured memory = memory (search rules)

@@ -2,7 +2,6 @@
 use Rattle.std.proofs.Common.{◌≡◌, Bool, true, false, ◌||◌, cond, List, [], ◌∷◌, ◌++◌, refl, sym, ◌∙◌, ap, subst}
 use Rattle.std.proofs.Common.{Some}
 use Rattle.std.proofs.lemmas.Bool.{false≢true}
-use Rattle.protocol_model.specs.Lines.{Readers}
 use Rattle.protocol_model.specs.World.{World, can, happens, after, run_of}
 use Rattle.protocol_model.specs.declared.events.Event.{Event}
 use Rattle.link_world.specs.Links.{Linked, with_world}
@@ -12,10 +11,10 @@ use Rattle.link_world.proofs.Undisturbed.{after_can}
 
 -- ---- lists of events
 
-pub run_append : (readers : Readers) (es fs : List Event) (w : World)
-    → run_of readers (es ++ fs) w ≡ run_of readers fs (run_of readers es w)
-run_append readers [] fs w = refl
-run_append readers (e ∷ es) fs w = run_append readers es fs (after readers e w)
+pub run_append : (es fs : List Event) (w : World)
+    → run_of (es ++ fs) w ≡ run_of fs (run_of es w)
+run_append [] fs w = refl
+run_append (e ∷ es) fs w = run_append es fs (after e w)
 
 pub any_append : (es fs : List Event) → is_any (es ++ fs) ≡ (is_any es || is_any fs)
 any_append [] fs = refl
@@ -30,66 +29,66 @@ none_there [] is = refl
 none_there (e ∷ es) is = absurd (cc)
 
 -- the world behind more events
-pub leads_more : (readers : Readers) (l k m : Linked) (es fs : List Event) → k ≡ with_world l (run_of readers es l.world)
-    → m ≡ with_world k (run_of readers fs k.world) → m ≡ with_world l (run_of readers (es ++ fs) l.world)
-leads_more readers l k m es fs first then =
-    then ∙ (ap (λ (x : Linked). with_world x (run_of readers fs x.world)) first
-    ∙ ap (λ (x : World). with_world l x) (sym (run_append readers es fs l.world)))
+pub leads_more : (l k m : Linked) (es fs : List Event) → k ≡ with_world l (run_of es l.world)
+    → m ≡ with_world k (run_of fs k.world) → m ≡ with_world l (run_of (es ++ fs) l.world)
+leads_more l k m es fs first then =
+    then ∙ (ap (λ (x : Linked). with_world x (run_of fs x.world)) first
+    ∙ ap (λ (x : World). with_world l x) (sym (run_append es fs l.world)))
 
 -- ---- an event while it can happen
 
-pub done_now : (readers : Readers) (e : Event) (w : World) → can e w ≡ true → after readers e w ≡ happens readers e w
-done_now readers e w may = after_can readers e w (can e w) refl may
+pub done_now : (e : Event) (w : World) → can e w ≡ true → after e w ≡ happens e w
+done_now e w may = after_can e w (can e w) refl may
 
-not_done_by : (readers : Readers) (e : Event) (w : World) (b : Bool) → b ≡ false → cond b (happens readers e w) w ≡ w
-not_done_by readers e w true never = absurd (false≢true (sym never))
-not_done_by readers e w false never = refl
+not_done_by : (e : Event) (w : World) (b : Bool) → b ≡ false → cond b (happens e w) w ≡ w
+not_done_by e w true never = absurd (false≢true (sym never))
+not_done_by e w false never = refl
 
-pub not_done : (readers : Readers) (e : Event) (w : World) → can e w ≡ false → after readers e w ≡ w
-not_done readers e w never = not_done_by readers e w (can e w) never
+pub not_done : (e : Event) (w : World) → can e w ≡ false → after e w ≡ w
+not_done e w never = not_done_by e w (can e w) never
 
 -- so far
-abbrev pub Going : Readers → Event → Bool → World → List Event → Type 0
-Going readers e cut w es = AreWhile readers e true w es
+abbrev pub Going : Event → Bool → World → List Event → Type 0
+Going e cut w es = AreWhile e true w es
 
 -- the world behind the first of them
-first : (readers : Readers) (e f : Event) (w : World) → f ≡ e → can e w ≡ true → after readers f w ≡ happens readers e w
-first readers e f w is may = ap (λ (x : Event). after readers x w) is ∙ done_now readers e w may
+first : (e f : Event) (w : World) → f ≡ e → can e w ≡ true → after f w ≡ happens e w
+first e f w is may = ap (λ (x : Event). after x w) is ∙ done_now e w may
 
-while_more : (readers : Readers) (e : Event) (w : World) (es : List Event) → AreWhile readers e true w es
-    → can e (run_of readers es w) ≡ true → AreWhile readers e true w (es ++ e ∷ [])
-while_more readers e w [] h may = (refl, may, tt)
-while_more readers e w (f ∷ fs) h may = (
+while_more : (e : Event) (w : World) (es : List Event) → AreWhile e true w es
+    → can e (run_of es w) ≡ true → AreWhile e true w (es ++ e ∷ [])
+while_more e w [] h may = (refl, may, tt)
+while_more e w (f ∷ fs) h may = (
   h.0,
   h.1,
-  while_more readers e (happens readers e w) fs h.2
-      (subst (λ (x : World). can e (run_of readers fs x) ≡ true) (first readers e f w h.0 h.1) may),
+  while_more e (happens e w) fs h.2
+      (subst (λ (x : World). can e (run_of fs x) ≡ true) (first e f w h.0 h.1) may),
 )
 
-while_ends : (readers : Readers) (e : Event) (w : World) (es : List Event) → AreWhile readers e true w es
-    → can e (run_of readers es w) ≡ false → AreWhile readers e false w es
-while_ends readers e w [] h never = never
-while_ends readers e w (f ∷ fs) h never = (
+while_ends : (e : Event) (w : World) (es : List Event) → AreWhile e true w es
+    → can e (run_of es w) ≡ false → AreWhile e false w es
+while_ends e w [] h never = never
+while_ends e w (f ∷ fs) h never = (
   h.0,
   h.1,
-  while_ends readers e (happens readers e w) fs h.2
-      (subst (λ (x : World). can e (run_of readers fs x) ≡ false) (first readers e f w h.0 h.1) never),
+  while_ends e (happens e w) fs h.2
+      (subst (λ (x : World). can e (run_of fs x) ≡ false) (first e f w h.0 h.1) never),
 )
 
-pub going_more : (readers : Readers) (e : Event) (b : Bool) (l k m : Linked) → Makes readers (Going readers e) false (Some b) l k
-    → can e k.world ≡ true → m ≡ with_world k (after readers e k.world) → Makes readers (Going readers e) false (Some true) l m
-going_more readers e b l k m h may is = record {
+pub going_more : (e : Event) (b : Bool) (l k m : Linked) → Makes (Going e) false (Some b) l k
+    → can e k.world ≡ true → m ≡ with_world k (after e k.world) → Makes (Going e) false (Some true) l m
+going_more e b l k m h may is = record {
   events = h.events ++ e ∷ [];
-  made = while_more readers e l.world h.events h.made (subst (λ (x : Linked). can e x.world ≡ true) h.leads may);
-  leads = leads_more readers l k m h.events (e ∷ []) h.leads is;
+  made = while_more e l.world h.events h.made (subst (λ (x : Linked). can e x.world ≡ true) h.leads may);
+  leads = leads_more l k m h.events (e ∷ []) h.leads is;
   told_is = any_more h.events e;
 }
 
-pub going_ends : (readers : Readers) (e : Event) (b : Bool) (l k m : Linked) → Makes readers (Going readers e) false (Some b) l k
-    → can e k.world ≡ false → m ≡ with_world k (after readers e k.world) → Makes readers (AreWhile readers e) false (Some b) l m
-going_ends readers e b l k m h never is = record {
+pub going_ends : (e : Event) (b : Bool) (l k m : Linked) → Makes (Going e) false (Some b) l k
+    → can e k.world ≡ false → m ≡ with_world k (after e k.world) → Makes (AreWhile e) false (Some b) l m
+going_ends e b l k m h never is = record {
   events = h.events;
-  made = while_ends readers e l.world h.events h.made (subst (λ (x : Linked). can e x.world ≡ false) h.leads never);
-  leads = is ∙ (ap (λ (x : World). with_world k x) (not_done readers e k.world never) ∙ h.leads);
+  made = while_ends e l.world h.events h.made (subst (λ (x : Linked). can e x.world ≡ false) h.leads never);
+  leads = is ∙ (ap (λ (x : World). with_world k x) (not_done e k.world never) ∙ h.leads);
   told_is = h.told_is;
 }

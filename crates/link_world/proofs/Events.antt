@@ -22,19 +22,16 @@ use Rattle.std.proofs.Common.{
 use Rattle.std.proofs.Common.{Result, Ok, Err}
 use Rattle.std.specs.Prelude.{OnOk, OnErr, IsErrAnd}
 use Rattle.fixed_um.specs.Calls.{Leads}
-use Rattle.protocol_model.specs.Lines.{Readers}
 use Rattle.protocol_model.specs.Ends.{ClientEnd, ServerEnd, end_fed, serving_fed}
 use Rattle.protocol_model.specs.World.{World, can, happens, has_some, is_line, client_writes, server_writes, moved_up, moved_down}
 use Rattle.protocol_model.specs.declared.events.Event.{Event}
 use Rattle.protocol_model.specs.declared.events.Event.TheVariants as event
 use Rattle.line_framing.specs.Next.{next_of}
-use Rattle.protocol_model.proofs.written_lines.ReadersExist.{some_are_readers}
 use Rattle.server_core.specs.Serving.{Serving, with_end}
 use Rattle.link_world.specs.declared.connection.Connection.{Connection}
 use Rattle.link_world.specs.declared.faults.WorldFault.{WorldFault}
 use Rattle.link_world.specs.declared.faults.WorldFault.TheVariants as fault
 use Rattle.link_world.specs.declared.world.World.TheInside.{Inside}
-use Rattle.client_core.specs.Reads.{LeadsRead}
 use Rattle.link_world.specs.Events.{HappensIf, HappensIff}
 use Rattle.link_world.specs.Links.{Linked, StandsOn, link_of_connection, with_up, with_down, fewer_up, fewer_down}
 use Rattle.link_world.specs.Links.{quiet_client, quiet_server, seen, with_world, IsReached}
@@ -71,8 +68,8 @@ refused_iff (Ok u) f b is now never = absurd is
 refused_iff (Err g) f b is now never = (tt, never, is ∙ now)
 
 -- where nothing has changed
-pub unchanged : {S : Type 0} (r : Result (Unit {0}) WorldFault) (f : WorldFault) (old new : S) (then : Readers → S)
-    → IsErrAnd r (λ given. given ≡ f) → new ≡ old → LeadsRead r old new then
+pub unchanged : {S : Type 0} (r : Result (Unit {0}) WorldFault) (f : WorldFault) (old new : S) (then : S)
+    → IsErrAnd r (λ given. given ≡ f) → new ≡ old → Leads r old new then
 unchanged (Ok u) f old new then is same = absurd is
 unchanged (Err g) f old new then is same = (tt, same)
 
@@ -80,58 +77,47 @@ unchanged (Err g) f old new then is same = (tt, same)
 pub happens_same : (r : Result (Unit {0}) WorldFault) (a b : Bool) → a ≡ b → HappensIf r a → HappensIf r b
 happens_same r a b same h = subst (HappensIf r) same h
 
--- what reads no line does the same for all readers
-pub for_readers : {S : Type 0} (r : Result (Unit {0}) WorldFault) (old new then : S) → Leads r old new then
-    → LeadsRead r old new (λ readers. then)
-for_readers (Ok u) old new then h = ((λ readers are. h.0), h.1)
-for_readers (Err f) old new then h = (h.0, h.1)
-
-pub for_none : {S : Type 0} (r : Result (Unit {0}) WorldFault) (old new then : S) → LeadsRead r old new (λ readers. then)
-    → Leads r old new then
-for_none (Ok u) old new then h = (h.0 some_are_readers.0 some_are_readers.1, h.1)
-for_none (Err f) old new then h = (h.0, h.1)
-
 -- a world behind an event: a list of events leads to it, and it is as the event makes it
-pub record Tried (l m : Linked) (r : Result (Unit {0}) WorldFault) (makes : Readers → World → World) : Type 0 where
+pub record Tried (l m : Linked) (r : Result (Unit {0}) WorldFault) (makes : World → World) : Type 0 where
   pub reached : IsReached m
-  pub leads : LeadsRead r l m (λ readers. with_world l (makes readers l.world))
+  pub leads : Leads r l m (with_world l (makes l.world))
 
-pub tried : (e : Event) (makes : Readers → World → World) (l k m : Linked) (r : Result (Unit {0}) WorldFault) → k ≡ l → IsReached k
-    → ((readers : Readers) → happens readers e k.world ≡ makes readers k.world) → HappensIf r (can e l.world)
-    → LeadsRead r k m (λ readers. with_world k (makes readers k.world)) → Tried l m r makes
+pub tried : (e : Event) (makes : World → World) (l k m : Linked) (r : Result (Unit {0}) WorldFault) → k ≡ l → IsReached k
+    → (happens e k.world ≡ makes k.world) → HappensIf r (can e l.world)
+    → Leads r k m (with_world k (makes k.world)) → Tried l m r makes
 tried e makes l k m r view h same may leads = record {
   reached = go r (subst (λ (x : Linked). HappensIf r (can e x.world)) (sym view) may) leads;
-  leads = subst (λ (x : Linked). LeadsRead r x m (λ readers. with_world x (makes readers x.world))) view leads;
+  leads = subst (λ (x : Linked). Leads r x m (with_world x (makes x.world))) view leads;
 }
   where
     go : (r : Result (Unit {0}) WorldFault) → HappensIf r (can e k.world)
-        → LeadsRead r k m (λ readers. with_world k (makes readers k.world)) → IsReached m
+        → Leads r k m (with_world k (makes k.world)) → IsReached m
     go (Ok u) may leads = reached_more k m e h may.0
-        (λ readers are. leads.0 readers are ∙ ap (λ (w : World). with_world k w) (sym (same readers)))
+        (leads.0 ∙ ap (λ (w : World). with_world k w) (sym (same)))
     go (Err f) may leads = subst IsReached (sym leads.1) h
 
 -- the client writes on its connection
 pub writes : (e : Event) (written_by : ClientEnd → ClientEnd) (l : Linked) (w : Inside) (after : ClientEnd) (now : List ℕ) (at : ℕ)
     (c d : Connection) (r : Result (Unit {0}) WorldFault) → inner w ≡ l → IsReached (inner w)
-    → ((readers : Readers) (x : World) → happens readers e x ≡ client_writes x (written_by x.client))
+    → ((x : World) → happens e x ≡ client_writes x (written_by x.client))
     → HappensIf r (can e l.world) → at ≡ length w.connections.items - 1 → 0 < length w.connections.items
     → c ≡ slice_index_or w.connections.items at c
     → Leads r w.client after (quiet_client (written_by w.client))
     → Leads r (link_of_connection c) (link_of_connection d) (with_up c (written_by w.client).out)
     → OnOk r (now ≡ w.written.items ++ (written_by w.client).out) × OnErr r (now ≡ w.written.items)
-    → Tried l (seen after w.server (slice_set w.connections.items at d) now) r (λ readers x. client_writes x (written_by x.client))
+    → Tried l (seen after w.server (slice_set w.connections.items at d) now) r (λ x. client_writes x (written_by x.client))
 writes e written_by l w after now at c d r view h same may place some is sent link text =
-    tried e (λ readers x. client_writes x (written_by x.client)) l (inner w)
-    (seen after w.server (slice_set w.connections.items at d) now) r view h (λ readers. same readers (inner w).world) may
+    tried e (λ x. client_writes x (written_by x.client)) l (inner w)
+    (seen after w.server (slice_set w.connections.items at d) now) r view h (same (inner w).world) may
     (go r sent link text)
   where
     go : (r : Result (Unit {0}) WorldFault) → Leads r w.client after (quiet_client (written_by w.client))
         → Leads r (link_of_connection c) (link_of_connection d) (with_up c (written_by w.client).out)
         → OnOk r (now ≡ w.written.items ++ (written_by w.client).out) × OnErr r (now ≡ w.written.items)
-        → LeadsRead r (inner w) (seen after w.server (slice_set w.connections.items at d) now)
-        (λ readers. with_world (inner w) (client_writes (inner w).world (written_by w.client)))
+        → Leads r (inner w) (seen after w.server (slice_set w.connections.items at d) now)
+        (with_world (inner w) (client_writes (inner w).world (written_by w.client)))
     go (Ok u) sent link text = (
-      (λ readers are. writes_seen w.client after w.server w.connections.items w.written.items now at c d (written_by w.client) h
+      (writes_seen w.client after w.server w.connections.items w.written.items now at c d (written_by w.client) h
           place some is sent.0 link.0 text.0),
       tt,
     )
@@ -146,17 +132,17 @@ pub comes_down : (count : ℕ) (l : Linked) (w : Inside) (after : ClientEnd) (at
     → at ≡ length w.connections.items - 1 → 0 < length w.connections.items → c ≡ slice_index_or w.connections.items at c
     → Leads r w.client after (end_fed (take count c.down.waiting) w.client)
     → Leads r (link_of_connection c) (link_of_connection d) (fewer_down count c)
-    → Tried l (seen after w.server (slice_set w.connections.items at d) w.written.items) r (λ readers. moved_down count)
+    → Tried l (seen after w.server (slice_set w.connections.items at d) w.written.items) r (moved_down count)
 comes_down count l w after at c d r view h may place some is fed link =
-    tried (event.Down count) (λ readers. moved_down count) l (inner w)
-    (seen after w.server (slice_set w.connections.items at d) w.written.items) r view h (λ readers. refl) may (go r fed link)
+    tried (event.Down count) (moved_down count) l (inner w)
+    (seen after w.server (slice_set w.connections.items at d) w.written.items) r view h (refl) may (go r fed link)
   where
     go : (r : Result (Unit {0}) WorldFault) → Leads r w.client after (end_fed (take count c.down.waiting) w.client)
         → Leads r (link_of_connection c) (link_of_connection d) (fewer_down count c)
-        → LeadsRead r (inner w) (seen after w.server (slice_set w.connections.items at d) w.written.items)
-        (λ readers. with_world (inner w) (moved_down count (inner w).world))
+        → Leads r (inner w) (seen after w.server (slice_set w.connections.items at d) w.written.items)
+        (with_world (inner w) (moved_down count (inner w).world))
     go (Ok u) fed link = (
-      (λ readers are. down_seen count w.client after w.server w.connections.items w.written.items at c d h place some is fed.0 link.0),
+      (down_seen count w.client after w.server w.connections.items w.written.items at c d h place some is fed.0 link.0),
       tt,
     )
     go (Err f) fed link = (
@@ -175,28 +161,28 @@ down_can count l w at c r view h on place some is may =
     (happens_same r _ _ (sym (down_may count w.client w.server w.connections.items w.written.items at c h on place some is)) may)
 
 -- the server answers on its connection
-pub answers : (e : Event) (answered : Readers → ServerEnd → ServerEnd) (l : Linked) (w : Inside) (after : Serving) (at : ℕ)
+pub answers : (e : Event) (answered : ServerEnd → ServerEnd) (l : Linked) (w : Inside) (after : Serving) (at : ℕ)
     (c d : Connection) (r : Result (Unit {0}) WorldFault) → inner w ≡ l → IsReached (inner w)
-    → ((readers : Readers) (x : World) → happens readers e x ≡ server_writes x (answered readers x.server))
+    → ((x : World) → happens e x ≡ server_writes x (answered x.server))
     → HappensIf r (can e l.world) → at ≡ w.server.end.server.last - 1 → at < length w.connections.items
     → c ≡ slice_index_or w.connections.items at c
-    → LeadsRead r w.server after (λ readers. with_end w.server (quiet_server (answered readers w.server.end)))
-    → LeadsRead r (link_of_connection c) (link_of_connection d) (λ readers. with_down c (answered readers w.server.end).out)
+    → Leads r w.server after (with_end w.server (quiet_server (answered w.server.end)))
+    → Leads r (link_of_connection c) (link_of_connection d) (with_down c (answered w.server.end).out)
     → Tried l (seen w.client after (slice_set w.connections.items at d) w.written.items) r
-    (λ readers x. server_writes x (answered readers x.server))
+    (λ x. server_writes x (answered x.server))
 answers e answered l w after at c d r view h same may place short is served link =
-    tried e (λ readers x. server_writes x (answered readers x.server)) l (inner w)
-    (seen w.client after (slice_set w.connections.items at d) w.written.items) r view h (λ readers. same readers (inner w).world) may
+    tried e (λ x. server_writes x (answered x.server)) l (inner w)
+    (seen w.client after (slice_set w.connections.items at d) w.written.items) r view h (same (inner w).world) may
     (go r served link)
   where
     go : (r : Result (Unit {0}) WorldFault)
-        → LeadsRead r w.server after (λ readers. with_end w.server (quiet_server (answered readers w.server.end)))
-        → LeadsRead r (link_of_connection c) (link_of_connection d) (λ readers. with_down c (answered readers w.server.end).out)
-        → LeadsRead r (inner w) (seen w.client after (slice_set w.connections.items at d) w.written.items)
-        (λ readers. with_world (inner w) (server_writes (inner w).world (answered readers w.server.end)))
+        → Leads r w.server after (with_end w.server (quiet_server (answered w.server.end)))
+        → Leads r (link_of_connection c) (link_of_connection d) (with_down c (answered w.server.end).out)
+        → Leads r (inner w) (seen w.client after (slice_set w.connections.items at d) w.written.items)
+        (with_world (inner w) (server_writes (inner w).world (answered w.server.end)))
     go (Ok u) served link = (
-      (λ readers are. answers_seen w.client w.server after w.connections.items w.written.items at c d (answered readers w.server.end)
-          place short is (served.0 readers are) (link.0 readers are)),
+      (answers_seen w.client w.server after w.connections.items w.written.items at c d (answered w.server.end)
+          place short is (served.0) (link.0)),
       tt,
     )
     go (Err f) served link = (
@@ -210,18 +196,18 @@ pub comes_up : (count : ℕ) (l : Linked) (w : Inside) (after : Serving) (at : �
     → at ≡ w.server.end.server.last - 1 → at < length w.connections.items → c ≡ slice_index_or w.connections.items at c
     → Leads r w.server after (with_end w.server (serving_fed (take count c.up.waiting) w.server.end))
     → Leads r (link_of_connection c) (link_of_connection d) (fewer_up count c)
-    → Tried l (seen w.client after (slice_set w.connections.items at d) w.written.items) r (λ readers. moved_up count)
+    → Tried l (seen w.client after (slice_set w.connections.items at d) w.written.items) r (moved_up count)
 comes_up count l w after at c d r view h may place short is fed link =
-    tried (event.Up count) (λ readers. moved_up count) l (inner w)
-    (seen w.client after (slice_set w.connections.items at d) w.written.items) r view h (λ readers. refl) may (go r fed link)
+    tried (event.Up count) (moved_up count) l (inner w)
+    (seen w.client after (slice_set w.connections.items at d) w.written.items) r view h (refl) may (go r fed link)
   where
     go : (r : Result (Unit {0}) WorldFault)
         → Leads r w.server after (with_end w.server (serving_fed (take count c.up.waiting) w.server.end))
         → Leads r (link_of_connection c) (link_of_connection d) (fewer_up count c)
-        → LeadsRead r (inner w) (seen w.client after (slice_set w.connections.items at d) w.written.items)
-        (λ readers. with_world (inner w) (moved_up count (inner w).world))
+        → Leads r (inner w) (seen w.client after (slice_set w.connections.items at d) w.written.items)
+        (with_world (inner w) (moved_up count (inner w).world))
     go (Ok u) fed link = (
-      (λ readers are. up_seen count w.client w.server after w.connections.items w.written.items at c d place short is fed.0 link.0),
+      (up_seen count w.client w.server after w.connections.items w.written.items at c d place short is fed.0 link.0),
       tt,
     )
     go (Err f) fed link = (

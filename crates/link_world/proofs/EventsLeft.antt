@@ -7,7 +7,6 @@ use Rattle.line_framing.specs.Framing.{left_by}
 use Rattle.line_framing.specs.declared.faults.FramingFault.TheVariants as framing
 use Rattle.line_framing.proofs.FirstLine.{found}
 use Rattle.dme_line.specs.declared.tags.Tag.TheVariants.{Std}
-use Rattle.protocol_model.specs.Lines.{Readers, AreReaders}
 use Rattle.protocol_model.specs.Client.{Client, first_due, sends_next, next_number, is_running}
 use Rattle.protocol_model.specs.Open.{count_open, is_asking}
 use Rattle.protocol_model.specs.Ends.{ClientEnd, ServerEnd, front_read, front_served}
@@ -16,7 +15,6 @@ use Rattle.protocol_model.specs.declared.plans.Planned.{Planned}
 use Rattle.protocol_model.specs.declared.states.State.{State}
 use Rattle.protocol_model.specs.declared.events.Event.{Event}
 use Rattle.protocol_model.specs.declared.events.Event.TheVariants as event
-use Rattle.protocol_model.proofs.written_lines.ReadersExist.{some_are_readers}
 use Rattle.link_world.specs.Links.{Linked, with_world}
 use Rattle.link_world.specs.Parts.{repeats}
 use Rattle.link_world.proofs.EventLists.{done_now}
@@ -65,12 +63,12 @@ sent_less c b [] number runs is = absurd (due_there c.window (count_open c.table
 sent_less c b (p ∷ ps) None runs is = omega arith
 sent_less c b (p ∷ ps) (Some n) runs is = subst (λ (s : State). sends_left s (length ps) < suc (length (p ∷ ps))) (sym runs) (omega arith)
 
-sends_less : (readers : Readers) (w : World) → can event.ClientSends w ≡ true
-    → left_of event.ClientSends (happens readers event.ClientSends w) < left_of event.ClientSends w
-sends_less readers w may =
+sends_less : (w : World) → can event.ClientSends w ≡ true
+    → left_of event.ClientSends (happens event.ClientSends w) < left_of event.ClientSends w
+sends_less w may =
     let c : Client = w.client.client in
     let runs : c.state ≡ State.Running = is_runs c.state (due_runs c (is_running c.state) (not (is_asking c.table.standard)) may) in
-    subst (λ (s : State). left_of event.ClientSends (happens readers event.ClientSends w) < sends_left s (length c.table.tally.unsent))
+    subst (λ (s : State). left_of event.ClientSends (happens event.ClientSends w) < sends_left s (length c.table.tally.unsent))
     (sym runs)
     (sent_less c (is_running c.state && not (is_asking c.table.standard)) c.table.tally.unsent
     (next_number Std c.table.standard c.drawn) runs may)
@@ -82,68 +80,67 @@ shorter bytes line rest is =
     let f : IsFound bytes line rest = found bytes line rest is in
     let count = ap length f.parts ∙ length-append line (13 ∷ 10 ∷ rest) in omega (arith, count)
 
-served_less : (readers : Readers) (e : ServerEnd) (f : Front) → next_of e.input.rest ≡ f → is_line f ≡ true
-    → length (front_served readers e f).input.rest < length e.input.rest
-served_less readers e (Ok None) is line = absurd (false≢true line)
-served_less readers e (Ok (Some (line, rest))) is there = shorter e.input.rest line rest is
-served_less readers e (Err why) is line = absurd (false≢true line)
+served_less : (e : ServerEnd) (f : Front) → next_of e.input.rest ≡ f → is_line f ≡ true
+    → length (front_served e f).input.rest < length e.input.rest
+served_less e (Ok None) is line = absurd (false≢true line)
+served_less e (Ok (Some (line, rest))) is there = shorter e.input.rest line rest is
+served_less e (Err why) is line = absurd (false≢true line)
 
 most_left : (b : Bool) (n : ℕ) → reads_left b n ≤ suc n
 most_left true n = omega arith
 most_left false n = omega arith
 
-heard_less : (readers : Readers) (e : ClientEnd) (f : Front) → next_of e.input.rest ≡ f → is_any f ≡ true
-    → reads_left (is_faulted (front_read readers e.client f).state) (length (left_by f e.input).rest) < suc (length e.input.rest)
-heard_less readers e (Ok None) is there = absurd (false≢true there)
-heard_less readers e (Ok (Some (line, rest))) is there =
+heard_less : (e : ClientEnd) (f : Front) → next_of e.input.rest ≡ f → is_any f ≡ true
+    → reads_left (is_faulted (front_read e.client f).state) (length (left_by f e.input).rest) < suc (length e.input.rest)
+heard_less e (Ok None) is there = absurd (false≢true there)
+heard_less e (Ok (Some (line, rest))) is there =
     let less : length rest < length e.input.rest = shorter e.input.rest line rest is in
-    let most : reads_left (is_faulted (front_read readers e.client (Ok (Some (line, rest)))).state) (length rest) ≤ suc (length rest) =
+    let most : reads_left (is_faulted (front_read e.client (Ok (Some (line, rest)))).state) (length rest) ≤ suc (length rest) =
     most_left _ (length rest) in omega (arith, less, most)
-heard_less readers e (Err framing.LineTooLong) is there = omega arith
-heard_less readers e (Err framing.BadByte) is there = omega arith
+heard_less e (Err framing.LineTooLong) is there = omega arith
+heard_less e (Err framing.BadByte) is there = omega arith
 
 awake : (b : Bool) (n : ℕ) → not b ≡ true → reads_left b n ≡ suc n
 awake true n e = absurd (false≢true e)
 awake false n e = refl
 
-reads_less : (readers : Readers) (w : World) → can event.ClientReads w ≡ true
-    → left_of event.ClientReads (happens readers event.ClientReads w) < left_of event.ClientReads w
-reads_less readers w may =
+reads_less : (w : World) → can event.ClientReads w ≡ true
+    → left_of event.ClientReads (happens event.ClientReads w) < left_of event.ClientReads w
+reads_less w may =
     let parts = and_parts _ _ (and_parts _ _ may).1 in
-    subst (λ (n : ℕ). left_of event.ClientReads (happens readers event.ClientReads w) < n)
+    subst (λ (n : ℕ). left_of event.ClientReads (happens event.ClientReads w) < n)
     (sym (awake (is_faulted w.client.client.state) (length w.client.input.rest) parts.0))
-    (heard_less readers w.client (next_of w.client.input.rest) refl parts.1)
+    (heard_less w.client (next_of w.client.input.rest) refl parts.1)
 
-serves_less : (readers : Readers) (w : World) → can event.ServerReads w ≡ true
-    → left_of event.ServerReads (happens readers event.ServerReads w) < left_of event.ServerReads w
-serves_less readers w may =
+serves_less : (w : World) → can event.ServerReads w ≡ true
+    → left_of event.ServerReads (happens event.ServerReads w) < left_of event.ServerReads w
+serves_less w may =
     let parts = and_parts _ _ (and_parts _ _ may).1 in
-    served_less readers w.server (next_of w.server.input.rest) refl parts.1
+    served_less w.server (next_of w.server.input.rest) refl parts.1
 
 -- ---- each of them
 
-pub less : (readers : Readers) (e : Event) (w : World) → repeats e ≡ true → can e w ≡ true → left_of e (happens readers e w) < left_of e w
-less readers event.ClientSends w is may = sends_less readers w may
-less readers event.ServerReads w is may = serves_less readers w may
-less readers event.ClientReads w is may = reads_less readers w may
-less readers event.Connect w is may = absurd (false≢true is)
-less readers (event.Accept n) w is may = absurd (false≢true is)
-less readers (event.Up n) w is may = absurd (false≢true is)
-less readers event.ServerTurn w is may = absurd (false≢true is)
-less readers (event.Machine o) w is may = absurd (false≢true is)
-less readers (event.Down n) w is may = absurd (false≢true is)
-less readers event.ClientLeaves w is may = absurd (false≢true is)
-less readers event.ServerLeaves w is may = absurd (false≢true is)
-less readers event.Abort w is may = absurd (false≢true is)
-less readers event.Resume w is may = absurd (false≢true is)
-less readers (event.ClientRestart n) w is may = absurd (false≢true is)
-less readers event.ServerRestart w is may = absurd (false≢true is)
+pub less : (e : Event) (w : World) → repeats e ≡ true → can e w ≡ true → left_of e (happens e w) < left_of e w
+less event.ClientSends w is may = sends_less w may
+less event.ServerReads w is may = serves_less w may
+less event.ClientReads w is may = reads_less w may
+less event.Connect w is may = absurd (false≢true is)
+less (event.Accept n) w is may = absurd (false≢true is)
+less (event.Up n) w is may = absurd (false≢true is)
+less event.ServerTurn w is may = absurd (false≢true is)
+less (event.Machine o) w is may = absurd (false≢true is)
+less (event.Down n) w is may = absurd (false≢true is)
+less event.ClientLeaves w is may = absurd (false≢true is)
+less event.ServerLeaves w is may = absurd (false≢true is)
+less event.Abort w is may = absurd (false≢true is)
+less event.Resume w is may = absurd (false≢true is)
+less (event.ClientRestart n) w is may = absurd (false≢true is)
+less event.ServerRestart w is may = absurd (false≢true is)
 
 -- behind an event that happened for all readers
 pub less_after : (e : Event) (l m : Linked) → repeats e ≡ true → can e l.world ≡ true
-    → ((readers : Readers) → AreReaders readers → m ≡ with_world l (after readers e l.world)) → left_of e m.world < left_of e l.world
+    → (m ≡ with_world l (after e l.world)) → left_of e m.world < left_of e l.world
 less_after e l m is may leads =
-    let readers : Readers = some_are_readers.0 in
-    let same : m.world ≡ happens readers e l.world = ap (λ (k : Linked). k.world) (leads readers some_are_readers.1)
-    ∙ done_now readers e l.world may in
-    subst (λ (w : World). left_of e w < left_of e l.world) (sym same) (less readers e l.world is may)
+    let same : m.world ≡ happens e l.world = ap (λ (k : Linked). k.world) (leads)
+    ∙ done_now e l.world may in
+    subst (λ (w : World). left_of e w < left_of e l.world) (sym same) (less e l.world is may)

@@ -6,7 +6,7 @@ use Rattle.dmis_program.specs.Meaning.{Meaning}
 use Rattle.dmis_program.specs.Programs.{IsProgram}
 use Rattle.contact_ledger.specs.declared.acts.Act.{Act}
 use Rattle.line_framing.specs.Next.{Front, next_of}
-use Rattle.protocol_model.specs.Lines.{Readers, AreReaders, reading_of}
+use Rattle.protocol_model.specs.Lines.{reading_of}
 use Rattle.protocol_model.specs.Plan.{plan}
 use Rattle.protocol_model.specs.Server.{Server}
 use Rattle.protocol_model.specs.Ends.{ServerEnd, front_served, serving_left}
@@ -21,6 +21,7 @@ use Rattle.server_core.specs.Calls.{Call, Accept, Feed, ReadOne, Turn, Machine, 
 use Rattle.server_core.specs.Calls.{behind_calls, reached}
 use Rattle.server_core.specs.Steady.{IsOff}
 use Rattle.server_core.proofs.Reached.{reached_steady}
+use Rattle.protocol_model.specs.Readings.{command_of}
 
 -- no act is on a later connection than the last
 abbrev IsBehind : ServerEnd → Type 0
@@ -32,36 +33,36 @@ moved s t acts m h =
     in
     subst (λ (n : ℕ). AreUpTo n t.ledger) (sym m.last) (subst (λ (l : List (ℕ × Act)). AreUpTo s.last l) (sym m.ledger) all)
 
-front_behind : (readers : Readers) (e : ServerEnd) (f : Front) → IsBehind e → IsBehind (front_served readers e f)
-front_behind readers e (Ok None) h = h
-front_behind readers e (Ok (Some (line, rest))) h = moved e.server _ [] (read_moves e.server (reading_of (readers.command line))) h
-front_behind readers e (Err why) h = h
+front_behind : (e : ServerEnd) (f : Front) → IsBehind e → IsBehind (front_served e f)
+front_behind e (Ok None) h = h
+front_behind e (Ok (Some (line, rest))) h = moved e.server _ [] (read_moves e.server (reading_of (command_of line))) h
+front_behind e (Err why) h = h
 
-done_behind : (readers : Readers) (call : Call) (e : ServerEnd) → possible call e ≡ true → IsBehind e → IsBehind (done_by readers call e)
-done_behind readers (Accept n) e may h =
+done_behind : (call : Call) (e : ServerEnd) → possible call e ≡ true → IsBehind e → IsBehind (done_by call e)
+done_behind (Accept n) e may h =
     let parts = and_parts _ _ may in
     let numbers = and_parts _ _ parts.1 in
     up_to_above e.server.last n e.server.ledger (later e.server.last n (ltb-true _ _ numbers.0)) h
   where
     later : (m n : ℕ) → m < n → m ≤ n
     later m n lt = omega (arith, lt)
-done_behind readers (Feed bytes) e may h = h
-done_behind readers ReadOne e may h = front_behind readers e (next_of e.input.rest) h
-done_behind readers Turn e may h = let m = turned_moves e.server in moved e.server _ m.0 m.1 h
-done_behind readers (Machine ended) e may h = let m = machined_moves e.server ended in moved e.server _ m.0 m.1 h
-done_behind readers Leave e may h = h
-done_behind readers Restart e may h = h
-done_behind readers (Sent count) e may h = h
+done_behind (Feed bytes) e may h = h
+done_behind ReadOne e may h = front_behind e (next_of e.input.rest) h
+done_behind Turn e may h = let m = turned_moves e.server in moved e.server _ m.0 m.1 h
+done_behind (Machine ended) e may h = let m = machined_moves e.server ended in moved e.server _ m.0 m.1 h
+done_behind Leave e may h = h
+done_behind Restart e may h = h
+done_behind (Sent count) e may h = h
 
-call_behind : (readers : Readers) (call : Call) (e : ServerEnd) → IsBehind e → (b : Bool) → possible call e ≡ b
-    → IsBehind (cond b (done_by readers call e) e)
-call_behind readers call e h true may = done_behind readers call e may h
-call_behind readers call e h false may = h
+call_behind : (call : Call) (e : ServerEnd) → IsBehind e → (b : Bool) → possible call e ≡ b
+    → IsBehind (cond b (done_by call e) e)
+call_behind call e h true may = done_behind call e may h
+call_behind call e h false may = h
 
-calls_behind : (readers : Readers) (calls : List Call) (e : ServerEnd) → IsBehind e → IsBehind (behind_calls readers calls e)
-calls_behind readers [] e h = h
-calls_behind readers (call ∷ calls) e h =
-    calls_behind readers calls (behind_call readers call e) (call_behind readers call e h (possible call e) refl)
+calls_behind : (calls : List Call) (e : ServerEnd) → IsBehind e → IsBehind (behind_calls calls e)
+calls_behind [] e h = h
+calls_behind (call ∷ calls) e h =
+    calls_behind calls (behind_call call e) (call_behind call e h (possible call e) refl)
 
 -- what a server that is on no connection would leave, it has left
 left_is : (e : ServerEnd) → e.server.on ≡ false → IsOff e → serving_left e ≡ e
@@ -80,19 +81,19 @@ left_is e on off = sym (λ i. record {
 })
 
 -- behind its calls a server that is on no connection is as it left its last
-pub off_is_left : (readers : Readers) (rack : List (List ℕ)) (calls : List Call) → (reached readers rack calls).server.on ≡ false
-    → serving_left (reached readers rack calls) ≡ reached readers rack calls
-off_is_left readers rack calls off = left_is (reached readers rack calls) off ((reached_steady readers rack calls).off off)
+pub off_is_left : (rack : List (List ℕ)) (calls : List Call) → (reached rack calls).server.on ≡ false
+    → serving_left (reached rack calls) ≡ reached rack calls
+off_is_left rack calls off = left_is (reached rack calls) off ((reached_steady rack calls).off off)
 
 -- and where its machine is homed, it is not told to home it again
-pub homed_off_lines : (readers : Readers) → AreReaders readers → (rack : List (List ℕ)) (calls : List Call)
-    → (reached readers rack calls).server.homed ≡ true → (program : Meaning) (window : ℕ) (links : List Link) (events : List Event)
-    → length links ≡ (reached readers rack calls).server.last → IsProgram program → window ≤ 16 → AreUndisturbed events
-    → AreFirstLines (run_of readers events (met program window (reached readers rack calls) links)).written
+pub homed_off_lines : (rack : List (List ℕ)) (calls : List Call)
+    → (reached rack calls).server.homed ≡ true → (program : Meaning) (window : ℕ) (links : List Link) (events : List Event)
+    → length links ≡ (reached rack calls).server.last → IsProgram program → window ≤ 16 → AreUndisturbed events
+    → AreFirstLines (run_of events (met program window (reached rack calls) links)).written
     (followed true (plan program 0 Start.NewConnection))
-homed_off_lines readers are rack calls homed program window links events made is few quiet =
-    homed_lines readers are program window (reached readers rack calls) links events is few (record {
+homed_off_lines rack calls homed program window links events made is few quiet =
+    homed_lines program window (reached rack calls) links events is few (record {
       homed = homed;
       made = made;
-      ledger = calls_behind readers calls _ tt;
+      ledger = calls_behind calls _ tt;
     }) quiet

@@ -3,7 +3,6 @@ use Rattle.std.proofs.Common.{◌≡◌, ◌⊎◌, inl, inr, ℕ, ◌≤◌, tr
 use Rattle.std.proofs.lemmas.Bool.{false≢true}
 use Rattle.dmis_program.specs.Meaning.{Meaning}
 use Rattle.protocol_model.specs.Finishing.{CanFinish, CanMeasure, HasMeasured, rejoining, rejoined}
-use Rattle.protocol_model.specs.Lines.{Readers, AreReaders}
 use Rattle.protocol_model.specs.PlainExecution.{plain_execution, as_measured}
 use Rattle.protocol_model.specs.Rounds.{IsRound, AreBusy, AreAllBusy, all_of}
 use Rattle.protocol_model.specs.World.{World, start, run_of}
@@ -23,51 +22,51 @@ pub record IsMeasured (answer : Job → ℕ → Outcome) (w v : World) : Type 0 
   pub measured : HasMeasured answer w v
 
 -- quiet rounds from a world, both ends of which came to the next connection, measure what is left
-abbrev Measures : Readers → (Job → ℕ → Outcome) → List (List Event) → World → Type 0
-Measures readers answer rounds w = CanFinish w → CanMeasure answer w → AreAllBusy readers answer (rejoined readers w) rounds
-    → IsMeasured answer w (run_of readers (all_of rounds) (rejoined readers w))
+abbrev Measures : (Job → ℕ → Outcome) → List (List Event) → World → Type 0
+Measures answer rounds w = CanFinish w → CanMeasure answer w → AreAllBusy answer (rejoined w) rounds
+    → IsMeasured answer w (run_of (all_of rounds) (rejoined w))
 
 window_of : (l : Linked) → (h : IsReached l) → l.world.client.client.window ≡ h.window
 window_of l h =
-    ap (λ (w : World). w.client.client.window) h.reached ∙ run_window h.readers h.events (start h.program l.setup.tools h.window)
+    ap (λ (w : World). w.client.client.window) h.reached ∙ run_window h.events (start h.program l.setup.tools h.window)
 
 measures : (answer : Job → ℕ → Outcome) (rounds : List (List Event)) (l : Linked) (h : IsReached l)
-    → 1 ≤ l.world.client.client.window → Measures h.readers answer rounds l.world
+    → 1 ≤ l.world.client.client.window → Measures answer rounds l.world
 measures answer rounds l h some =
     let some : 1 ≤ h.window = subst (λ (n : ℕ). 1 ≤ n) (window_of l h) some in
-    subst (Measures h.readers answer rounds) (sym h.reached) (λ may can busy. record {
-      done = done h.readers h.are answer h.program l.setup.tools h.window h.events rounds h.is_program some h.few may can busy;
-      measured = features h.readers h.are answer h.program l.setup.tools h.window h.events rounds h.is_program some h.few may can busy;
+    subst (Measures answer rounds) (sym h.reached) (λ may can busy. record {
+      done = done answer h.program l.setup.tools h.window h.events rounds h.is_program some h.few may can busy;
+      measured = features answer h.program l.setup.tools h.window h.events rounds h.is_program some h.few may can busy;
     })
 
 -- the rounds of a run that was not cut
-pub record Rounds (readers : Readers) (answer : Job → ℕ → Outcome) (w : World) (events : List Event) : Type 0 where
+pub record Rounds (answer : Job → ℕ → Outcome) (w : World) (events : List Event) : Type 0 where
   pub rounds : List (List Event)
-  pub busy : AreAllBusy readers answer w rounds
+  pub busy : AreAllBusy answer w rounds
   pub whole : events ≡ all_of rounds
 
 all_alone : (xs rest : List Event) → rest ≡ [] → xs ++ rest ≡ xs
 all_alone xs rest none = ap (λ (ys : List Event). xs ++ ys) none ∙ append-nil xs
 
-rounds_at : (readers : Readers) (answer : Job → ℕ → Outcome) (turns : ℕ) (w : World) (events : List Event)
-    → (h : AreTurns readers answer turns false w events)
-    → ((AreAllBusy readers answer w h.rounds × (length h.rounds ≡ turns) × (h.rest ≡ []))
-    ⊎ ((false ≡ true) × AreBusy readers answer w h.rounds × IsRound readers answer true (run_of readers (all_of h.rounds) w) h.rest))
-    → Rounds readers answer w events
-rounds_at readers answer turns w events h (inl end) =
+rounds_at : (answer : Job → ℕ → Outcome) (turns : ℕ) (w : World) (events : List Event)
+    → (h : AreTurns answer turns false w events)
+    → ((AreAllBusy answer w h.rounds × (length h.rounds ≡ turns) × (h.rest ≡ []))
+    ⊎ ((false ≡ true) × AreBusy answer w h.rounds × IsRound answer true (run_of (all_of h.rounds) w) h.rest))
+    → Rounds answer w events
+rounds_at answer turns w events h (inl end) =
     record { rounds = h.rounds; busy = end.0; whole = h.whole ∙ all_alone (all_of h.rounds) h.rest end.2 }
-rounds_at readers answer turns w events h (inr end) = absurd (false≢true end.0)
+rounds_at answer turns w events h (inr end) = absurd (false≢true end.0)
 
 pub finish_measures : (answer : Job → ℕ → Outcome) (turns : ℕ) (l m : Linked) → IsReached l → CanFinish l.world
     → 1 ≤ l.world.client.client.window → CanMeasure answer l.world
-    → ((readers : Readers) → AreReaders readers → Finishes readers answer turns l.world m.world) → IsMeasured answer l.world m.world
+    → (Finishes answer turns l.world m.world) → IsMeasured answer l.world m.world
 finish_measures answer turns l m h may some can finishes =
-    let f : Finishes h.readers answer turns l.world m.world = finishes h.readers h.are in
-    let r : Rounds h.readers answer (rejoined h.readers l.world) f.events =
-    rounds_at h.readers answer turns (rejoined h.readers l.world) f.events f.made f.made.end in
-    let there : m.world ≡ run_of h.readers (all_of r.rounds) (rejoined h.readers l.world) =
-    f.leads ∙ (run_append h.readers (rejoining l.world) f.events l.world
-    ∙ ap (λ (es : List Event). run_of h.readers es (rejoined h.readers l.world)) r.whole) in
+    let f : Finishes answer turns l.world m.world = finishes in
+    let r : Rounds answer (rejoined l.world) f.events =
+    rounds_at answer turns (rejoined l.world) f.events f.made f.made.end in
+    let there : m.world ≡ run_of (all_of r.rounds) (rejoined l.world) =
+    f.leads ∙ (run_append (rejoining l.world) f.events l.world
+    ∙ ap (λ (es : List Event). run_of es (rejoined l.world)) r.whole) in
     subst (IsMeasured answer l.world) (sym there) (measures answer r.rounds l h some may can r.busy)
 
 -- ---- of a whole program

@@ -17,11 +17,12 @@ use Rattle.dme_line.specs.declared.responses.Mark.{Mark as Marked}
 use Rattle.dme_line.specs.declared.responses.Mark.TheVariants as mark
 use Rattle.dme_line.specs.declared.responses.Response.{Response}
 use Rattle.dme_line.specs.declared.responses.NotResponse.{NotResponse}
+use Rattle.protocol_model.specs.Readings.{command_of, response_of, point_of, homed_of}
 use Rattle.fixed_um.specs.declared.lengths.Point.{Point}
 use Rattle.dmis_program.specs.Programs.{IsProgram}
 use Rattle.dmis_program.specs.Meaning.{Meaning}
 use Rattle.protocol_model.specs.Replies.{Mark, tag_is}
-use Rattle.protocol_model.specs.Lines.{Readers, AreReaders, reading_of}
+use Rattle.protocol_model.specs.Lines.{reading_of}
 use Rattle.protocol_model.specs.Claims.{Sound, Told}
 use Rattle.protocol_model.specs.Client.{Client, Table, due, sends_next, client_read, client_hears, heard_on, left_state, is_running}
 use Rattle.protocol_model.specs.Client.{first_due}
@@ -82,40 +83,40 @@ homed_on : (c : Client) (t : Tag) (r : Result Bool NotHomedText) → (given_home
 homed_on c t (Ok homed) = client_on c t (Mark.Given (datum.Homed homed))
 homed_on c t (Err why) = refl
 
-for_on : (readers : Readers) (c : Client) (t : Tag) (text : List ℕ) (k : Kind) → (given_for readers c t text k).on ≡ c.on
-for_on readers c t text kind.PtMeas = point_on c t (readers.point text)
-for_on readers c t text kind.IsHomed = homed_on c t (readers.homed text)
-for_on readers c t text kind.StartSession = refl
-for_on readers c t text kind.EndSession = refl
-for_on readers c t text kind.ClearAllErrors = refl
-for_on readers c t text kind.Home = refl
-for_on readers c t text kind.OnPtMeasReport = refl
-for_on readers c t text kind.GoTo = refl
-for_on readers c t text kind.ChangeTool = refl
-for_on readers c t text kind.SetCsyTransformation = refl
-for_on readers c t text kind.SetCoordSystem = refl
-for_on readers c t text kind.AbortE = refl
+for_on : (c : Client) (t : Tag) (text : List ℕ) (k : Kind) → (given_for c t text k).on ≡ c.on
+for_on c t text kind.PtMeas = point_on c t (point_of text)
+for_on c t text kind.IsHomed = homed_on c t (homed_of text)
+for_on c t text kind.StartSession = refl
+for_on c t text kind.EndSession = refl
+for_on c t text kind.ClearAllErrors = refl
+for_on c t text kind.Home = refl
+for_on c t text kind.OnPtMeasReport = refl
+for_on c t text kind.GoTo = refl
+for_on c t text kind.ChangeTool = refl
+for_on c t text kind.SetCsyTransformation = refl
+for_on c t text kind.SetCoordSystem = refl
+for_on c t text kind.AbortE = refl
 
-under_on : (readers : Readers) (c : Client) (t : Tag) (text : List ℕ) (k : Option Kind) → (given_under readers c t text k).on ≡ c.on
-under_on readers c t text None = refl
-under_on readers c t text (Some k) = for_on readers c t text k
+under_on : (c : Client) (t : Tag) (text : List ℕ) (k : Option Kind) → (given_under c t text k).on ≡ c.on
+under_on c t text None = refl
+under_on c t text (Some k) = for_on c t text k
 
-response_on : (readers : Readers) (c : Client) (t : Tag) (m : Marked) → (response_read readers c t m).on ≡ c.on
-response_on readers c t mark.Ack = client_on c t Mark.Ack
-response_on readers c t (mark.Given text) = either_on c (tag_is t (tag.Event 0)) (given_under readers c t text (held_under t c))
-    (under_on readers c t text (held_under t c))
-response_on readers c t mark.Done = client_on c t Mark.Done
-response_on readers c t (mark.Error text) = client_on c t Mark.Error
+response_on : (c : Client) (t : Tag) (m : Marked) → (response_read c t m).on ≡ c.on
+response_on c t mark.Ack = client_on c t Mark.Ack
+response_on c t (mark.Given text) = either_on c (tag_is t (tag.Event 0)) (given_under c t text (held_under t c))
+    (under_on c t text (held_under t c))
+response_on c t mark.Done = client_on c t Mark.Done
+response_on c t (mark.Error text) = client_on c t Mark.Error
 
-line_on : (readers : Readers) (c : Client) (r : Result Response NotResponse) → (line_read readers c r).on ≡ c.on
-line_on readers c (Ok r) = response_on readers c r.tag r.mark
-line_on readers c (Err refused) = refl
+line_on : (c : Client) (r : Result Response NotResponse) → (line_read c r).on ≡ c.on
+line_on c (Ok r) = response_on c r.tag r.mark
+line_on c (Err refused) = refl
 
-read_on : (readers : Readers) (c : Client) (f : Front) → (front_read readers c f).on ≡ c.on
-read_on readers c (Ok None) = refl
-read_on readers c (Ok (Some (line, rest))) = line_on readers c (readers.response line)
-read_on readers c (Err framing.LineTooLong) = refl
-read_on readers c (Err framing.BadByte) = refl
+read_on : (c : Client) (f : Front) → (front_read c f).on ≡ c.on
+read_on c (Ok None) = refl
+read_on c (Ok (Some (line, rest))) = line_on c (response_of line)
+read_on c (Err framing.LineTooLong) = refl
+read_on c (Err framing.BadByte) = refl
 
 next_on : (c : Client) (ps : List Planned) (n : Option ℕ) → (sends_next c ps n).client.on ≡ c.on
 next_on c [] n = refl
@@ -126,49 +127,49 @@ record Stays (was is : Bool) (first now : ℕ) : Type 0 where
   pub on : is ≡ was
   pub last : now ≡ first
 
-client_stays : (readers : Readers) (least : ℕ) (s : ClientEnd) (stage : Stage) (read written : List ℕ) (e : ClientEnd)
-    → ClientTurn readers least s stage read written e → Stays s.client.on e.client.on s.client.last e.client.last
-client_stays readers least s _ _ _ _ client_stage.begins = record { on = refl; last = refl }
-client_stays readers least s _ _ _ _ (client_stage.sends e t is) =
-    let k = client_stays readers least s Sending [] [] e t in record {
+client_stays : (least : ℕ) (s : ClientEnd) (stage : Stage) (read written : List ℕ) (e : ClientEnd)
+    → ClientTurn least s stage read written e → Stays s.client.on e.client.on s.client.last e.client.last
+client_stays least s _ _ _ _ client_stage.begins = record { on = refl; last = refl }
+client_stays least s _ _ _ _ (client_stage.sends e t is) =
+    let k = client_stays least s Sending [] [] e t in record {
       on = next_on e.client e.client.table.tally.unsent _ ∙ k.on;
       last = sent_last e ∙ k.last;
     }
-client_stays readers least s _ _ _ _ (client_stage.writes e count t none within) =
-    let k = client_stays readers least s Sending [] [] e t in record { on = k.on; last = k.last }
-client_stays readers least s _ _ _ _ (client_stage.takes e read written t out may) =
-    let k = client_stays readers least s Writing [] written e t in record { on = k.on; last = k.last }
-client_stays readers least s _ _ _ _ (client_stage.has e read written t enough) = client_stays readers least s Taking read written e t
-client_stays readers least s _ _ _ _ (client_stage.reads e read written t may is) =
-    let k = client_stays readers least s Reading read written e t in record {
-      on = read_on readers e.client (next_of e.input.rest) ∙ k.on;
-      last = read_last readers e.client (next_of e.input.rest) ∙ k.last;
+client_stays least s _ _ _ _ (client_stage.writes e count t none within) =
+    let k = client_stays least s Sending [] [] e t in record { on = k.on; last = k.last }
+client_stays least s _ _ _ _ (client_stage.takes e read written t out may) =
+    let k = client_stays least s Writing [] written e t in record { on = k.on; last = k.last }
+client_stays least s _ _ _ _ (client_stage.has e read written t enough) = client_stays least s Taking read written e t
+client_stays least s _ _ _ _ (client_stage.reads e read written t may is) =
+    let k = client_stays least s Reading read written e t in record {
+      on = read_on e.client (next_of e.input.rest) ∙ k.on;
+      last = read_last e.client (next_of e.input.rest) ∙ k.last;
     }
 
-served_stays : (readers : Readers) (e : ServerEnd) (f : Front)
-    → Stays e.server.on (front_served readers e f).server.on e.server.last (front_served readers e f).server.last
-served_stays readers e (Ok None) = record { on = refl; last = refl }
-served_stays readers e (Ok (Some (line, rest))) =
-    let m = read_moves e.server (reading_of (readers.command line)) in record { on = m.on; last = m.last }
-served_stays readers e (Err why) = record { on = refl; last = refl }
+served_stays : (e : ServerEnd) (f : Front)
+    → Stays e.server.on (front_served e f).server.on e.server.last (front_served e f).server.last
+served_stays e (Ok None) = record { on = refl; last = refl }
+served_stays e (Ok (Some (line, rest))) =
+    let m = read_moves e.server (reading_of (command_of line)) in record { on = m.on; last = m.last }
+served_stays e (Err why) = record { on = refl; last = refl }
 
-server_stays : (readers : Readers) (answer : Job → ℕ → Outcome) (least : ℕ) (s : ServerEnd) (stage : Stage) (read written : List ℕ)
-    (e : ServerEnd) → ServerTurn readers answer least s stage read written e → Stays s.server.on e.server.on s.server.last e.server.last
-server_stays readers answer least s _ _ _ _ server_stage.begins = record { on = refl; last = refl }
-server_stays readers answer least s _ _ _ _ (server_stage.takes read may) = record { on = refl; last = refl }
-server_stays readers answer least s _ _ _ _ (server_stage.has e read t enough) = server_stays readers answer least s Taking read [] e t
-server_stays readers answer least s _ _ _ _ (server_stage.reads e read t on is) =
-    let k = server_stays readers answer least s Reading read [] e t in
-    let m = served_stays readers e (next_of e.input.rest) in record { on = m.on ∙ k.on; last = m.last ∙ k.last }
-server_stays readers answer least s _ _ _ _ (server_stage.knows e read t none) = server_stays readers answer least s Reading read [] e t
-server_stays readers answer least s _ _ _ _ (server_stage.turns e read t may) =
-    let k = server_stays readers answer least s Working read [] e t in
+server_stays : (answer : Job → ℕ → Outcome) (least : ℕ) (s : ServerEnd) (stage : Stage) (read written : List ℕ)
+    (e : ServerEnd) → ServerTurn answer least s stage read written e → Stays s.server.on e.server.on s.server.last e.server.last
+server_stays answer least s _ _ _ _ server_stage.begins = record { on = refl; last = refl }
+server_stays answer least s _ _ _ _ (server_stage.takes read may) = record { on = refl; last = refl }
+server_stays answer least s _ _ _ _ (server_stage.has e read t enough) = server_stays answer least s Taking read [] e t
+server_stays answer least s _ _ _ _ (server_stage.reads e read t on is) =
+    let k = server_stays answer least s Reading read [] e t in
+    let m = served_stays e (next_of e.input.rest) in record { on = m.on ∙ k.on; last = m.last ∙ k.last }
+server_stays answer least s _ _ _ _ (server_stage.knows e read t none) = server_stays answer least s Reading read [] e t
+server_stays answer least s _ _ _ _ (server_stage.turns e read t may) =
+    let k = server_stays answer least s Working read [] e t in
     let m = (turned_moves e.server).1 in record { on = m.on ∙ k.on; last = m.last ∙ k.last }
-server_stays readers answer least s _ _ _ _ (server_stage.ends e read j t is) =
-    let k = server_stays readers answer least s Working read [] e t in
+server_stays answer least s _ _ _ _ (server_stage.ends e read j t is) =
+    let k = server_stays answer least s Working read [] e t in
     let m = (machined_moves e.server (answer j (contact_count e.server.ledger))).1 in record { on = m.on ∙ k.on; last = m.last ∙ k.last }
-server_stays readers answer least s _ _ _ _ (server_stage.writes e read count t idle none within) =
-    let k = server_stays readers answer least s Working read [] e t in record { on = k.on; last = k.last }
+server_stays answer least s _ _ _ _ (server_stage.writes e read count t idle none within) =
+    let k = server_stays answer least s Working read [] e t in record { on = k.on; last = k.last }
 
 -- ---- a side that has left does nothing more
 
@@ -215,48 +216,48 @@ ClientStill Sending s e read written = Still s e read written
 ClientStill Writing s e read written = Still s e read written
 ClientStill _ s e read written = ⊥
 
-client_still : (readers : Readers) (least : ℕ) (s x : ClientEnd) (stage : Stage) (read written : List ℕ) (e : ClientEnd) → s ≡ end_left x
-    → ClientTurn readers least s stage read written e → ClientStill stage s e read written
-client_still readers least s x _ _ _ _ left client_stage.begins = record { same = refl; read_none = refl; written_none = refl }
-client_still readers least s x _ _ _ _ left (client_stage.sends e t is) =
-    let k : Still s e [] [] = client_still readers least s x Sending [] [] e left t in
+client_still : (least : ℕ) (s x : ClientEnd) (stage : Stage) (read written : List ℕ) (e : ClientEnd) → s ≡ end_left x
+    → ClientTurn least s stage read written e → ClientStill stage s e read written
+client_still least s x _ _ _ _ left client_stage.begins = record { same = refl; read_none = refl; written_none = refl }
+client_still least s x _ _ _ _ left (client_stage.sends e t is) =
+    let k : Still s e [] [] = client_still least s x Sending [] [] e left t in
     absurd (not_due x (subst (λ (y : ClientEnd). is_some (due y.client) ≡ true) (k.same ∙ left) is))
-client_still readers least s x _ _ _ _ left (client_stage.writes e count t none within) =
-    let k : Still s e [] [] = client_still readers least s x Sending [] [] e left t in
+client_still least s x _ _ _ _ left (client_stage.writes e count t none within) =
+    let k : Still s e [] [] = client_still least s x Sending [] [] e left t in
     let out : e.out ≡ [] = ap (λ (y : ClientEnd). y.out) (k.same ∙ left) in record {
       same = (λ i. record e { out = (ap (drop count) out ∙ (drop_none count ∙ sym out)) i }) ∙ k.same;
       read_none = refl;
       written_none = ap (take count) out ∙ take_none count;
     }
-client_still readers least s x _ _ _ _ left (client_stage.takes e read written t out may) =
-    let k : Still s e [] written = client_still readers least s x Writing [] written e left t in
+client_still least s x _ _ _ _ left (client_stage.takes e read written t out may) =
+    let k : Still s e [] written = client_still least s x Writing [] written e left t in
     false≢true (subst (λ (y : ClientEnd). may_read y.client ≡ true) (k.same ∙ left) may)
-client_still readers least s x _ _ _ _ left (client_stage.has e read written t enough) =
-    client_still readers least s x Taking read written e left t
-client_still readers least s x _ _ _ _ left (client_stage.reads e read written t may is) =
-    client_still readers least s x Reading read written e left t
+client_still least s x _ _ _ _ left (client_stage.has e read written t enough) =
+    client_still least s x Taking read written e left t
+client_still least s x _ _ _ _ left (client_stage.reads e read written t may is) =
+    client_still least s x Reading read written e left t
 
-server_still : (readers : Readers) (answer : Job → ℕ → Outcome) (least : ℕ) (s x : ServerEnd) (stage : Stage) (read written : List ℕ)
-    (e : ServerEnd) → s ≡ serving_left x → ServerTurn readers answer least s stage read written e → Still s e read written
-server_still readers answer least s x _ _ _ _ left server_stage.begins = record { same = refl; read_none = refl; written_none = refl }
-server_still readers answer least s x _ _ _ _ left (server_stage.takes read may) =
+server_still : (answer : Job → ℕ → Outcome) (least : ℕ) (s x : ServerEnd) (stage : Stage) (read written : List ℕ)
+    (e : ServerEnd) → s ≡ serving_left x → ServerTurn answer least s stage read written e → Still s e read written
+server_still answer least s x _ _ _ _ left server_stage.begins = record { same = refl; read_none = refl; written_none = refl }
+server_still answer least s x _ _ _ _ left (server_stage.takes read may) =
     absurd (false≢true (sym (ap (λ (y : ServerEnd). y.server.on) left) ∙ (and_parts _ _ may).0))
-server_still readers answer least s x _ _ _ _ left (server_stage.has e read t enough) =
-    server_still readers answer least s x Taking read [] e left t
-server_still readers answer least s x _ _ _ _ left (server_stage.reads e read t on is) =
-    let k = server_still readers answer least s x Reading read [] e left t in
+server_still answer least s x _ _ _ _ left (server_stage.has e read t enough) =
+    server_still answer least s x Taking read [] e left t
+server_still answer least s x _ _ _ _ left (server_stage.reads e read t on is) =
+    let k = server_still answer least s x Reading read [] e left t in
     absurd (false≢true (sym (ap (λ (y : ServerEnd). y.server.on) (k.same ∙ left)) ∙ on))
-server_still readers answer least s x _ _ _ _ left (server_stage.knows e read t none) =
-    server_still readers answer least s x Reading read [] e left t
-server_still readers answer least s x _ _ _ _ left (server_stage.turns e read t may) =
-    let k = server_still readers answer least s x Working read [] e left t in
+server_still answer least s x _ _ _ _ left (server_stage.knows e read t none) =
+    server_still answer least s x Reading read [] e left t
+server_still answer least s x _ _ _ _ left (server_stage.turns e read t may) =
+    let k = server_still answer least s x Working read [] e left t in
     absurd (false≢true (subst (λ (y : ServerEnd). may_turn y.server ≡ true) (k.same ∙ left) may))
-server_still readers answer least s x _ _ _ _ left (server_stage.ends e read j t is) =
-    let k = server_still readers answer least s x Working read [] e left t in
+server_still answer least s x _ _ _ _ left (server_stage.ends e read j t is) =
+    let k = server_still answer least s x Working read [] e left t in
     let never : None ≡ Some j = subst (λ (y : ServerEnd). running_job y.server ≡ Some j) (k.same ∙ left) is
     in absurd (cc)
-server_still readers answer least s x _ _ _ _ left (server_stage.writes e read count t idle none within) =
-    let k = server_still readers answer least s x Working read [] e left t in
+server_still answer least s x _ _ _ _ left (server_stage.writes e read count t idle none within) =
+    let k = server_still answer least s x Working read [] e left t in
     let out : e.out ≡ [] = ap (λ (y : ServerEnd). y.out) (k.same ∙ left) in record {
       same = (λ i. record e { out = (ap (drop count) out ∙ (drop_none count ∙ sym out)) i }) ∙ k.same;
       read_none = k.read_none;
@@ -299,19 +300,19 @@ record Stands (w : World) (p : Pumped) : Type 0 where
   pub server_gone : p.server.server.on ≡ false → (e : ServerEnd) × (p.server ≡ serving_left e)
 
 -- one call
-record Step (readers : Readers) (answer : Job → ℕ → Outcome) (v : World) (p : Pumped) : Type 0 where
+record Step (answer : Job → ℕ → Outcome) (v : World) (p : Pumped) : Type 0 where
   pub events : List Event
-  pub is : IsCall readers answer v events
+  pub is : IsCall answer v events
   pub now : World
-  pub leads : run_of readers events v ≡ now
+  pub leads : run_of events v ≡ now
   pub stands : Stands now p
 
 -- all calls
-record Steps (readers : Readers) (answer : Job → ℕ → Outcome) (v : World) (p : Pumped) : Type 0 where
+record Steps (answer : Job → ℕ → Outcome) (v : World) (p : Pumped) : Type 0 where
   pub events : List Event
-  pub are : AreCalls readers answer v events
+  pub are : AreCalls answer v events
   pub now : World
-  pub leads : run_of readers events v ≡ now
+  pub leads : run_of events v ≡ now
   pub stands : Stands now p
 
 there : (v : World) (n m : ℕ) (l : Link) → IsCarried v → 1 ≤ v.client.client.last → n ≡ v.client.client.last → m ≡ v.client.client.last
@@ -321,8 +322,8 @@ there v n m l c from is also =
     ap (λ (k : ℕ). link_of (with_link v.links n l) k) (also ∙ sym is)
     ∙ link_same v.links n l (omega (arith, from, is)) (omega (arith, made, is))
 
-nothing_done : (readers : Readers) (answer : Job → ℕ → Outcome) (v : World) (p q : Pumped) → Stands v p → q ≡ p → Step readers answer v q
-nothing_done readers answer v p q s same = record {
+nothing_done : (answer : Job → ℕ → Outcome) (v : World) (p q : Pumped) → Stands v p → q ≡ p → Step answer v q
+nothing_done answer v p q s same = record {
   events = [];
   is = no_event;
   now = v;
@@ -349,29 +350,29 @@ server_rests p e read written same read_none written_none = λ i. record {
 }
 
 -- the client's turn, from a connection on which it stands
-record ClientSteps (readers : Readers) (v : World) (p : Pumped) (stage : Stage) (read written : List ℕ) (e : ClientEnd) : Type 0 where
-  pub joined : TurnLeads readers (IsClientTurn readers (length read)) true v (client_joined v e (written ++ e.out) (length read))
+record ClientSteps (v : World) (p : Pumped) (stage : Stage) (read written : List ℕ) (e : ClientEnd) : Type 0 where
+  pub joined : TurnLeads (IsClientTurn (length read)) true v (client_joined v e (written ++ e.out) (length read))
   pub stays : Stays p.client.client.on e.client.on p.client.client.last e.client.last
   pub out : stage ≡ Reading → e.out ≡ []
   pub whole : stage ≡ Reading → next_of e.input.rest ≡ Ok None
-      → TurnLeads readers (IsClientTurn readers (length read)) false v (client_joined v e written (length read))
+      → TurnLeads (IsClientTurn (length read)) false v (client_joined v e written (length read))
 
-client_goes : (readers : Readers) → AreReaders readers → (v : World) (p : Pumped) → IsCarried v → Stands v p → (least : ℕ) (stage : Stage)
+client_goes : (v : World) (p : Pumped) → IsCarried v → Stands v p → (least : ℕ) (stage : Stage)
     (read written : List ℕ) (e : ClientEnd) → take (length read) p.down ≡ read
-    → ClientTurn readers least p.client stage read written e → ClientSteps readers v p stage read written e
-client_goes readers are v p c s least stage read written e front t =
-    let turn : ClientTurn readers least v.client stage read written e =
-    subst (λ (x : ClientEnd). ClientTurn readers least x stage read written e) (sym s.is.client) t in
+    → ClientTurn least p.client stage read written e → ClientSteps v p stage read written e
+client_goes v p c s least stage read written e front t =
+    let turn : ClientTurn least v.client stage read written e =
+    subst (λ (x : ClientEnd). ClientTurn least x stage read written e) (sym s.is.client) t in
     let came : take (length read) (client_link v).down ≡ read =
     way_front p.server.server.on read p.down (client_link v).down front s.is.down in
     let made = c.wired.made in
     let to : v.client.client.last ≤ length v.links = omega (arith, made) in record {
-      joined = turn_joins readers least v stage read written e c.client_out s.from to came turn;
-      stays = client_stays readers least p.client stage read written e t;
-      out = λ is. turn_written readers least v read written e c.client_out s.from to came
-          (subst (λ (x : Stage). ClientTurn readers least v.client x read written e) is turn);
-      whole = λ is all. turn_whole readers least v read written e c.client_out s.from to came
-          (subst (λ (x : Stage). ClientTurn readers least v.client x read written e) is turn) all;
+      joined = turn_joins least v stage read written e c.client_out s.from to came turn;
+      stays = client_stays least p.client stage read written e t;
+      out = λ is. turn_written least v read written e c.client_out s.from to came
+          (subst (λ (x : Stage). ClientTurn least v.client x read written e) is turn);
+      whole = λ is all. turn_whole least v read written e c.client_out s.from to came
+          (subst (λ (x : Stage). ClientTurn least v.client x read written e) is turn) all;
     }
 
 -- the way up behind a turn of the client
@@ -393,12 +394,12 @@ client_last_now : (v : World) (p : Pumped) (e : ClientEnd) → Stands v p → e.
     → e.client.last ≡ v.client.client.last
 client_last_now v p e s last = last ∙ sym (ap (λ (x : ClientEnd). x.client.last) s.is.client)
 
-client_moved_on : (readers : Readers) (answer : Job → ℕ → Outcome) → AreReaders readers → (v : World) (p : Pumped) → IsCarried v
+client_moved_on : (answer : Job → ℕ → Outcome) → (v : World) (p : Pumped) → IsCarried v
     → Stands v p → (least : ℕ)
     (read written : List ℕ) (e : ClientEnd) → p.client.client.on ≡ true → next_of e.input.rest ≡ Ok None → take (length read) p.down ≡ read
-    → ClientTurn readers least p.client Reading read written e → Step readers answer v (with_client p e read written)
-client_moved_on readers answer are v p c s least read written e on all front t =
-    let g : ClientSteps readers v p Reading read written e = client_goes readers are v p c s least Reading read written e front t in
+    → ClientTurn least p.client Reading read written e → Step answer v (with_client p e read written)
+client_moved_on answer v p c s least read written e on all front t =
+    let g : ClientSteps v p Reading read written e = client_goes v p c s least Reading read written e front t in
     let still_on : e.client.on ≡ true = g.stays.on ∙ on in
     let out : e.out ≡ [] = g.out refl in
     let last : e.client.last ≡ v.client.client.last = client_last_now v p e s g.stays.last in
@@ -426,19 +427,19 @@ client_moved_on readers answer are v p c s least read written e on all front t =
       };
     }
 
-client_stopped_on : (readers : Readers) (answer : Job → ℕ → Outcome) → AreReaders readers → (v : World) (p : Pumped) → IsCarried v
+client_stopped_on : (answer : Job → ℕ → Outcome) → (v : World) (p : Pumped) → IsCarried v
     → Stands v p → (least : ℕ)
     (stage : Stage) (read written : List ℕ) (e : ClientEnd) → p.client.client.on ≡ true → take (length read) p.down ≡ read
-    → ClientTurn readers least p.client stage read written e → Step readers answer v (with_client p (end_left e) read written)
-client_stopped_on readers answer are v p c s least stage read written e on front t =
-    let g : ClientSteps readers v p stage read written e = client_goes readers are v p c s least stage read written e front t in
+    → ClientTurn least p.client stage read written e → Step answer v (with_client p (end_left e) read written)
+client_stopped_on answer v p c s least stage read written e on front t =
+    let g : ClientSteps v p stage read written e = client_goes v p c s least stage read written e front t in
     let last : e.client.last ≡ v.client.client.last = client_last_now v p e s g.stays.last in
     let link = client_link_now v p e (written ++ e.out) (length read) c s g.stays.last in
     let now : World = record (client_joined v e (written ++ e.out) (length read)) { client = end_left e } in record {
       events = g.joined.events ++ event.ClientLeaves ∷ [];
       is = client_left (length read) g.joined.events g.joined.made;
       now = now;
-      leads = turn_leaves readers v g.joined.events e (written ++ e.out) (length read) g.joined.leads (g.stays.on ∙ on);
+      leads = turn_leaves v g.joined.events e (written ++ e.out) (length read) g.joined.leads (g.stays.on ∙ on);
       stands = record {
         is = record {
           client = refl;
@@ -454,65 +455,65 @@ client_stopped_on readers answer are v p c s least stage read written e on front
       };
     }
 
-client_moved : (readers : Readers) (answer : Job → ℕ → Outcome) → AreReaders readers → (v : World) (p : Pumped) → IsCarried v → Stands v p
+client_moved : (answer : Job → ℕ → Outcome) → (v : World) (p : Pumped) → IsCarried v → Stands v p
     → (least : ℕ) (read written : List ℕ) (e : ClientEnd) (b : Bool) → p.client.client.on ≡ b → next_of e.input.rest ≡ Ok None
-    → take (length read) p.down ≡ read → ClientTurn readers least p.client Reading read written e
-    → Step readers answer v (with_client p e read written)
-client_moved readers answer are v p c s least read written e true on all front t =
-    client_moved_on readers answer are v p c s least read written e on all front t
-client_moved readers answer are v p c s least read written e false off all front t =
-    let gone = s.client_gone off in absurd (client_still readers least p.client gone.0 Reading read written e gone.1 t)
+    → take (length read) p.down ≡ read → ClientTurn least p.client Reading read written e
+    → Step answer v (with_client p e read written)
+client_moved answer v p c s least read written e true on all front t =
+    client_moved_on answer v p c s least read written e on all front t
+client_moved answer v p c s least read written e false off all front t =
+    let gone = s.client_gone off in absurd (client_still least p.client gone.0 Reading read written e gone.1 t)
 
-client_rest : (readers : Readers) (answer : Job → ℕ → Outcome) (v : World) (p : Pumped) (stage : Stage) (read written : List ℕ)
+client_rest : (answer : Job → ℕ → Outcome) (v : World) (p : Pumped) (stage : Stage) (read written : List ℕ)
     (e x : ClientEnd) → Stands v p
-    → p.client ≡ end_left x → ClientStill stage p.client e read written → Step readers answer v (with_client p (end_left e) read written)
-client_rest readers answer v p stage read written e x s left k = go stage k
+    → p.client ≡ end_left x → ClientStill stage p.client e read written → Step answer v (with_client p (end_left e) read written)
+client_rest answer v p stage read written e x s left k = go stage k
   where
-    at_rest : Still p.client e read written → Step readers answer v (with_client p (end_left e) read written)
-    at_rest k = nothing_done readers answer v p (with_client p (end_left e) read written) s
+    at_rest : Still p.client e read written → Step answer v (with_client p (end_left e) read written)
+    at_rest k = nothing_done answer v p (with_client p (end_left e) read written) s
         (client_rests p (end_left e) read written (ap end_left (k.same ∙ left) ∙ (left_twice x ∙ sym left)) k.read_none k.written_none)
 
-    go : (stage : Stage) → ClientStill stage p.client e read written → Step readers answer v (with_client p (end_left e) read written)
+    go : (stage : Stage) → ClientStill stage p.client e read written → Step answer v (with_client p (end_left e) read written)
     go Sending k = at_rest k
     go Writing k = at_rest k
     go Taking k = absurd k
     go Reading k = absurd k
     go Working k = absurd k
 
-client_stopped : (readers : Readers) (answer : Job → ℕ → Outcome) → AreReaders readers → (v : World) (p : Pumped) → IsCarried v
+client_stopped : (answer : Job → ℕ → Outcome) → (v : World) (p : Pumped) → IsCarried v
     → Stands v p → (least : ℕ)
     (stage : Stage) (read written : List ℕ) (e : ClientEnd) (b : Bool) → p.client.client.on ≡ b → take (length read) p.down ≡ read
-    → ClientTurn readers least p.client stage read written e → Step readers answer v (with_client p (end_left e) read written)
-client_stopped readers answer are v p c s least stage read written e true on front t =
-    client_stopped_on readers answer are v p c s least stage read written e on front t
-client_stopped readers answer are v p c s least stage read written e false off front t =
+    → ClientTurn least p.client stage read written e → Step answer v (with_client p (end_left e) read written)
+client_stopped answer v p c s least stage read written e true on front t =
+    client_stopped_on answer v p c s least stage read written e on front t
+client_stopped answer v p c s least stage read written e false off front t =
     let gone = s.client_gone off in
-    client_rest readers answer v p stage read written e gone.0 s gone.1
-    (client_still readers least p.client gone.0 stage read written e gone.1 t)
+    client_rest answer v p stage read written e gone.0 s gone.1
+    (client_still least p.client gone.0 stage read written e gone.1 t)
 
 -- the server's turn
-record ServerSteps (readers : Readers) (answer : Job → ℕ → Outcome) (v : World) (p : Pumped) (stage : Stage) (read written : List ℕ)
+record ServerSteps (answer : Job → ℕ → Outcome) (v : World) (p : Pumped) (stage : Stage) (read written : List ℕ)
     (e : ServerEnd) : Type 0
   where
-    pub joined : TurnLeads readers (IsServerTurn readers answer (length read)) true v (server_joined v e (written ++ e.out) (length read))
+    pub joined : TurnLeads (IsServerTurn answer (length read)) true v (server_joined v e (written ++ e.out) (length read))
     pub stays : Stays p.server.server.on e.server.on p.server.server.last e.server.last
     pub whole : stage ≡ Writing
-        → TurnLeads readers (IsServerTurn readers answer (length read)) false v (server_joined v e (written ++ e.out) (length read))
+        → TurnLeads (IsServerTurn answer (length read)) false v (server_joined v e (written ++ e.out) (length read))
 
-server_goes : (readers : Readers) (answer : Job → ℕ → Outcome) → AreFit answer → (v : World) (p : Pumped) → IsCarried v → Stands v p
+server_goes : (answer : Job → ℕ → Outcome) → AreFit answer → (v : World) (p : Pumped) → IsCarried v → Stands v p
     → (least : ℕ) (stage : Stage) (read written : List ℕ) (e : ServerEnd) → p.server.server.on ≡ true → take (length read) p.up ≡ read
-    → ServerTurn readers answer least p.server stage read written e → ServerSteps readers answer v p stage read written e
-server_goes readers answer fit v p c s least stage read written e on front t =
-    let turn : ServerTurn readers answer least v.server stage read written e =
-    subst (λ (x : ServerEnd). ServerTurn readers answer least x stage read written e) (sym s.is.server) t in
+    → ServerTurn answer least p.server stage read written e → ServerSteps answer v p stage read written e
+server_goes answer fit v p c s least stage read written e on front t =
+    let turn : ServerTurn answer least v.server stage read written e =
+    subst (λ (x : ServerEnd). ServerTurn answer least x stage read written e) (sym s.is.server) t in
     let waits : take (length read) (client_link v).up ≡ read = way_front p.client.client.on read p.up (client_link v).up front s.is.up in
     let came : take (length read) (server_link v).up ≡ read =
     ap (λ (n : ℕ). take (length read) (link_of v.links n).up) s.same ∙ waits in
     let h : IsServing v = reached_serving v c (ap (λ (x : ServerEnd). x.server.on) s.is.server ∙ on) in record {
-      joined = serving_joins readers answer fit least v stage read written e h.out h.fine h.from h.to came turn;
-      stays = server_stays readers answer least p.server stage read written e t;
-      whole = λ is. serving_whole readers answer fit least v read written e h.out h.fine h.from h.to came
-          (subst (λ (x : Stage). ServerTurn readers answer least v.server x read written e) is turn);
+      joined = serving_joins answer fit least v stage read written e h.out h.fine h.from h.to came turn;
+      stays = server_stays answer least p.server stage read written e t;
+      whole = λ is. serving_whole answer fit least v read written e h.out h.fine h.from h.to came
+          (subst (λ (x : Stage). ServerTurn answer least v.server x read written e) is turn);
     }
 
 server_link_now : (v : World) (p : Pumped) (e : ServerEnd) (text : List ℕ) (k : ℕ) → IsCarried v → Stands v p
@@ -532,13 +533,13 @@ server_last_now : (v : World) (p : Pumped) (e : ServerEnd) → Stands v p → e.
     → e.server.last ≡ v.client.client.last
 server_last_now v p e s last = last ∙ (sym (ap (λ (x : ServerEnd). x.server.last) s.is.server) ∙ s.same)
 
-server_moved_on : (readers : Readers) (answer : Job → ℕ → Outcome) → AreFit answer → (v : World) (p : Pumped) → IsCarried v → Stands v p
+server_moved_on : (answer : Job → ℕ → Outcome) → AreFit answer → (v : World) (p : Pumped) → IsCarried v → Stands v p
     → (least : ℕ) (read written : List ℕ) (e : ServerEnd) → p.server.server.on ≡ true → e.out ≡ []
-    → take (length read) p.up ≡ read → ServerTurn readers answer least p.server Writing read written e
-    → Step readers answer v (with_server p e read written)
-server_moved_on readers answer fit v p c s least read written e on out front t =
-    let g : ServerSteps readers answer v p Writing read written e =
-    server_goes readers answer fit v p c s least Writing read written e on front t in
+    → take (length read) p.up ≡ read → ServerTurn answer least p.server Writing read written e
+    → Step answer v (with_server p e read written)
+server_moved_on answer fit v p c s least read written e on out front t =
+    let g : ServerSteps answer v p Writing read written e =
+    server_goes answer fit v p c s least Writing read written e on front t in
     let still_on : e.server.on ≡ true = g.stays.on ∙ on in
     let link = server_link_now v p e (written ++ e.out) (length read) c s in
     let turn = g.whole refl in
@@ -564,19 +565,19 @@ server_moved_on readers answer fit v p c s least read written e on out front t =
       };
     }
 
-server_stopped_on : (readers : Readers) (answer : Job → ℕ → Outcome) → AreFit answer → (v : World) (p : Pumped) → IsCarried v → Stands v p
+server_stopped_on : (answer : Job → ℕ → Outcome) → AreFit answer → (v : World) (p : Pumped) → IsCarried v → Stands v p
     → (least : ℕ) (stage : Stage) (read written : List ℕ) (e : ServerEnd) → p.server.server.on ≡ true
-    → take (length read) p.up ≡ read → ServerTurn readers answer least p.server stage read written e
-    → Step readers answer v (with_server p (serving_left e) read written)
-server_stopped_on readers answer fit v p c s least stage read written e on front t =
-    let g : ServerSteps readers answer v p stage read written e =
-    server_goes readers answer fit v p c s least stage read written e on front t in
+    → take (length read) p.up ≡ read → ServerTurn answer least p.server stage read written e
+    → Step answer v (with_server p (serving_left e) read written)
+server_stopped_on answer fit v p c s least stage read written e on front t =
+    let g : ServerSteps answer v p stage read written e =
+    server_goes answer fit v p c s least stage read written e on front t in
     let link = server_link_now v p e (written ++ e.out) (length read) c s in
     let now : World = record (server_joined v e (written ++ e.out) (length read)) { server = serving_left e } in record {
       events = g.joined.events ++ event.ServerLeaves ∷ [];
       is = server_left (length read) g.joined.events g.joined.made;
       now = now;
-      leads = serving_leaves readers v g.joined.events e (written ++ e.out) (length read) g.joined.leads (g.stays.on ∙ on);
+      leads = serving_leaves v g.joined.events e (written ++ e.out) (length read) g.joined.leads (g.stays.on ∙ on);
       stands = record {
         is = record {
           client = s.is.client;
@@ -592,70 +593,70 @@ server_stopped_on readers answer fit v p c s least stage read written e on front
       };
     }
 
-server_moved : (readers : Readers) (answer : Job → ℕ → Outcome) → AreFit answer → (v : World) (p : Pumped) → IsCarried v → Stands v p
+server_moved : (answer : Job → ℕ → Outcome) → AreFit answer → (v : World) (p : Pumped) → IsCarried v → Stands v p
     → (least : ℕ) (read written : List ℕ) (e : ServerEnd) (b : Bool) → p.server.server.on ≡ b → e.out ≡ []
-    → take (length read) p.up ≡ read → ServerTurn readers answer least p.server Writing read written e
-    → Step readers answer v (with_server p e read written)
-server_moved readers answer fit v p c s least read written e true on out front t =
-    server_moved_on readers answer fit v p c s least read written e on out front t
-server_moved readers answer fit v p c s least read written e false off out front t =
+    → take (length read) p.up ≡ read → ServerTurn answer least p.server Writing read written e
+    → Step answer v (with_server p e read written)
+server_moved answer fit v p c s least read written e true on out front t =
+    server_moved_on answer fit v p c s least read written e on out front t
+server_moved answer fit v p c s least read written e false off out front t =
     let gone = s.server_gone off in
-    let k = server_still readers answer least p.server gone.0 Writing read written e gone.1 t in
-    nothing_done readers answer v p (with_server p e read written) s (server_rests p e read written k.same k.read_none k.written_none)
+    let k = server_still answer least p.server gone.0 Writing read written e gone.1 t in
+    nothing_done answer v p (with_server p e read written) s (server_rests p e read written k.same k.read_none k.written_none)
 
-server_stopped : (readers : Readers) (answer : Job → ℕ → Outcome) → AreFit answer → (v : World) (p : Pumped) → IsCarried v → Stands v p
+server_stopped : (answer : Job → ℕ → Outcome) → AreFit answer → (v : World) (p : Pumped) → IsCarried v → Stands v p
     → (least : ℕ) (stage : Stage) (read written : List ℕ) (e : ServerEnd) (b : Bool) → p.server.server.on ≡ b
-    → take (length read) p.up ≡ read → ServerTurn readers answer least p.server stage read written e
-    → Step readers answer v (with_server p (serving_left e) read written)
-server_stopped readers answer fit v p c s least stage read written e true on front t =
-    server_stopped_on readers answer fit v p c s least stage read written e on front t
-server_stopped readers answer fit v p c s least stage read written e false off front t =
+    → take (length read) p.up ≡ read → ServerTurn answer least p.server stage read written e
+    → Step answer v (with_server p (serving_left e) read written)
+server_stopped answer fit v p c s least stage read written e true on front t =
+    server_stopped_on answer fit v p c s least stage read written e on front t
+server_stopped answer fit v p c s least stage read written e false off front t =
     let gone = s.server_gone off in
-    let k = server_still readers answer least p.server gone.0 stage read written e gone.1 t in
-    nothing_done readers answer v p (with_server p (serving_left e) read written) s
+    let k = server_still answer least p.server gone.0 stage read written e gone.1 t in
+    nothing_done answer v p (with_server p (serving_left e) read written) s
     (server_rests p (serving_left e) read written (ap serving_left (k.same ∙ gone.1) ∙ sym gone.1) k.read_none k.written_none)
 
 -- ---- all calls
 
-steps_more : (readers : Readers) (answer : Job → ℕ → Outcome) (w : World) (p q : Pumped) → (g : Steps readers answer w p)
-    → Step readers answer g.now q → Steps readers answer w q
-steps_more readers answer w p q g h = record {
+steps_more : (answer : Job → ℕ → Outcome) (w : World) (p q : Pumped) → (g : Steps answer w p)
+    → Step answer g.now q → Steps answer w q
+steps_more answer w p q g h = record {
   events = g.events ++ h.events;
-  are = one_more g.events h.events g.are (subst (λ (v : World). IsCall readers answer v h.events) (sym g.leads) h.is);
+  are = one_more g.events h.events g.are (subst (λ (v : World). IsCall answer v h.events) (sym g.leads) h.is);
   now = h.now;
-  leads = run_append readers g.events h.events w ∙ (ap (run_of readers h.events) g.leads ∙ h.leads);
+  leads = run_append g.events h.events w ∙ (ap (run_of h.events) g.leads ∙ h.leads);
   stands = h.stands;
 }
 
-now_carried : (readers : Readers) (answer : Job → ℕ → Outcome) → AreReaders readers → (w : World) (p : Pumped) → IsCarried w
-    → (g : Steps readers answer w p) → IsCarried g.now
-now_carried readers answer are w p c g = subst IsCarried g.leads (run_carried readers are g.events w c)
+now_carried : (answer : Job → ℕ → Outcome) → (w : World) (p : Pumped) → IsCarried w
+    → (g : Steps answer w p) → IsCarried g.now
+now_carried answer w p c g = subst IsCarried g.leads (run_carried g.events w c)
 
-calls : (readers : Readers) → AreReaders readers → (answer : Job → ℕ → Outcome) → AreFit answer → (w : World) (p : Pumped) → IsCarried w
-    → Stands w (pumped_of w) → PumpCalls answer (pumped_of w) p → Steps readers answer w p
-calls readers are answer fit w _ c s no_calls = record { events = []; are = no_call; now = w; leads = refl; stands = s }
-calls readers are answer fit w _ c s (client_moves p e least left left_now taken taken_now moved t h front) =
-    let g : Steps readers answer w p = calls readers are answer fit w p c s t in
-    steps_more readers answer w p (with_client p e h.read h.written) g
-    (client_moved readers answer are g.now p (now_carried readers answer are w p c g) g.stands least h.read h.written e
-    p.client.client.on refl h.all front (h.turn readers are))
-calls readers are answer fit w _ c s (client_stops p e least bound left left_now taken taken_now fault t h front) =
-    let g : Steps readers answer w p = calls readers are answer fit w p c s t in
-    subst (λ (x : ClientEnd). Steps readers answer w (with_client p x h.read h.written)) (sym h.leaves)
-    (steps_more readers answer w p (with_client p (end_left h.last) h.read h.written) g
-    (client_stopped readers answer are g.now p (now_carried readers answer are w p c g) g.stands least h.stage h.read h.written h.last
-    p.client.client.on refl front (h.turn readers are)))
-calls readers are answer fit w _ c s (server_moves p e least left left_now taken taken_now moved t h front) =
-    let g : Steps readers answer w p = calls readers are answer fit w p c s t in
-    steps_more readers answer w p (with_server p e h.read h.written) g
-    (server_moved readers answer fit g.now p (now_carried readers answer are w p c g) g.stands least h.read h.written e p.server.server.on
-    refl h.all front (h.turn readers are))
-calls readers are answer fit w _ c s (server_stops p e least bound left left_now taken taken_now fault t h front) =
-    let g : Steps readers answer w p = calls readers are answer fit w p c s t in
-    subst (λ (x : ServerEnd). Steps readers answer w (with_server p x h.read h.written)) (sym h.leaves)
-    (steps_more readers answer w p (with_server p (serving_left h.last) h.read h.written) g
-    (server_stopped readers answer fit g.now p (now_carried readers answer are w p c g) g.stands least h.stage h.read h.written h.last
-    p.server.server.on refl front (h.turn readers are)))
+calls : (answer : Job → ℕ → Outcome) → AreFit answer → (w : World) (p : Pumped) → IsCarried w
+    → Stands w (pumped_of w) → PumpCalls answer (pumped_of w) p → Steps answer w p
+calls answer fit w _ c s no_calls = record { events = []; are = no_call; now = w; leads = refl; stands = s }
+calls answer fit w _ c s (client_moves p e least left left_now taken taken_now moved t h front) =
+    let g : Steps answer w p = calls answer fit w p c s t in
+    steps_more answer w p (with_client p e h.read h.written) g
+    (client_moved answer g.now p (now_carried answer w p c g) g.stands least h.read h.written e
+    p.client.client.on refl h.all front (h.turn))
+calls answer fit w _ c s (client_stops p e least bound left left_now taken taken_now fault t h front) =
+    let g : Steps answer w p = calls answer fit w p c s t in
+    subst (λ (x : ClientEnd). Steps answer w (with_client p x h.read h.written)) (sym h.leaves)
+    (steps_more answer w p (with_client p (end_left h.last) h.read h.written) g
+    (client_stopped answer g.now p (now_carried answer w p c g) g.stands least h.stage h.read h.written h.last
+    p.client.client.on refl front (h.turn)))
+calls answer fit w _ c s (server_moves p e least left left_now taken taken_now moved t h front) =
+    let g : Steps answer w p = calls answer fit w p c s t in
+    steps_more answer w p (with_server p e h.read h.written) g
+    (server_moved answer fit g.now p (now_carried answer w p c g) g.stands least h.read h.written e p.server.server.on
+    refl h.all front (h.turn))
+calls answer fit w _ c s (server_stops p e least bound left left_now taken taken_now fault t h front) =
+    let g : Steps answer w p = calls answer fit w p c s t in
+    subst (λ (x : ServerEnd). Steps answer w (with_server p x h.read h.written)) (sym h.leaves)
+    (steps_more answer w p (with_server p (serving_left h.last) h.read h.written) g
+    (server_stopped answer fit g.now p (now_carried answer w p c g) g.stands least h.stage h.read h.written h.last
+    p.server.server.on refl front (h.turn)))
 
 way_whole : (on : Bool) (xs : List ℕ) → AreOnWay on xs xs
 way_whole true xs = refl
@@ -676,68 +677,68 @@ begins_so w c client server same = record {
   server_gone = λ off. absurd (false≢true (sym off ∙ server));
 }
 
-pumps_reach : (readers : Readers) → AreReaders readers → (answer : Job → ℕ → Outcome) → AreFit answer → (w : World) (p : Pumped)
+pumps_reach : (answer : Job → ℕ → Outcome) → AreFit answer → (w : World) (p : Pumped)
     (program : Meaning) (rack : List (List ℕ)) (window : ℕ) (events : List Event) → IsProgram program → window ≤ 16
-    → w ≡ run_of readers events (start program rack window) → w.client.client.on ≡ true → w.server.server.on ≡ true
-    → w.server.server.last ≡ w.client.client.last → PumpCalls answer (pumped_of w) p → Steps readers answer w p
-pumps_reach readers are answer fit w p program rack window events is few reached client server same t =
+    → w ≡ run_of events (start program rack window) → w.client.client.on ≡ true → w.server.server.on ≡ true
+    → w.server.server.last ≡ w.client.client.last → PumpCalls answer (pumped_of w) p → Steps answer w p
+pumps_reach answer fit w p program rack window events is few reached client server same t =
     let c : IsCarried w =
-    subst IsCarried (sym reached) (run_carried readers are events (start program rack window) (start_carried program rack window is few)) in
-    calls readers are answer fit w p c (begins_so w c client server same) t
+    subst IsCarried (sym reached) (run_carried events (start program rack window) (start_carried program rack window is few)) in
+    calls answer fit w p c (begins_so w c client server same) t
 
-pub pumps_join : (readers : Readers) → AreReaders readers → (answer : Job → ℕ → Outcome) → AreFit answer → (w : World) (p : Pumped)
+pub pumps_join : (answer : Job → ℕ → Outcome) → AreFit answer → (w : World) (p : Pumped)
     (program : Meaning) (rack : List (List ℕ)) (window : ℕ) (events : List Event) → IsProgram program → window ≤ 16
-    → w ≡ run_of readers events (start program rack window) → w.client.client.on ≡ true → w.server.server.on ≡ true
-    → w.server.server.last ≡ w.client.client.last → PumpCalls answer (pumped_of w) p → IsOneWorld readers answer w p
-pumps_join readers are answer fit w p program rack window events is few reached client server same t =
-    let g = pumps_reach readers are answer fit w p program rack window events is few reached client server same t in
+    → w ≡ run_of events (start program rack window) → w.client.client.on ≡ true → w.server.server.on ≡ true
+    → w.server.server.last ≡ w.client.client.last → PumpCalls answer (pumped_of w) p → IsOneWorld answer w p
+pumps_join answer fit w p program rack window events is few reached client server same t =
+    let g = pumps_reach answer fit w p program rack window events is few reached client server same t in
     record { events = g.events; are = g.are; is = subst (λ (v : World). IsWorldOf v p) (sym g.leads) g.stands.is }
 
 -- the whole list of events, from the start
-from_start : (readers : Readers) (answer : Job → ℕ → Outcome) (w : World) (p : Pumped) (v : World) (events : List Event)
-    → w ≡ run_of readers events v
-    → (g : Steps readers answer w p) → run_of readers (events ++ g.events) v ≡ g.now
-from_start readers answer w p v events reached g =
-    run_append readers events g.events v ∙ (ap (run_of readers g.events) (sym reached) ∙ g.leads)
+from_start : (answer : Job → ℕ → Outcome) (w : World) (p : Pumped) (v : World) (events : List Event)
+    → w ≡ run_of events v
+    → (g : Steps answer w p) → run_of (events ++ g.events) v ≡ g.now
+from_start answer w p v events reached g =
+    run_append events g.events v ∙ (ap (run_of g.events) (sym reached) ∙ g.leads)
 
-pub pumps_sound : (readers : Readers) → AreReaders readers → (answer : Job → ℕ → Outcome) → AreFit answer → (w : World) (p : Pumped)
+pub pumps_sound : (answer : Job → ℕ → Outcome) → AreFit answer → (w : World) (p : Pumped)
     (program : Meaning) (rack : List (List ℕ)) (window : ℕ) (events : List Event) → IsProgram program → window ≤ 16
-    → w ≡ run_of readers events (start program rack window) → w.client.client.on ≡ true → w.server.server.on ≡ true
+    → w ≡ run_of events (start program rack window) → w.client.client.on ≡ true → w.server.server.on ≡ true
     → w.server.server.last ≡ w.client.client.last → PumpCalls answer (pumped_of w) p
     → Sound program.features p.client.client.table.tally.features p.server.server.ledger
-pumps_sound readers are answer fit w p program rack window events is few reached client server same t =
-    let g = pumps_reach readers are answer fit w p program rack window events is few reached client server same t in
+pumps_sound answer fit w p program rack window events is few reached client server same t =
+    let g = pumps_reach answer fit w p program rack window events is few reached client server same t in
     subst (λ (e : ClientEnd). Sound program.features e.client.table.tally.features p.server.server.ledger) g.stands.is.client
     (subst (λ (e : ServerEnd). Sound program.features g.now.client.client.table.tally.features e.server.ledger) g.stands.is.server
     (subst (λ (v : World). Sound program.features v.client.client.table.tally.features v.server.server.ledger)
-    (from_start readers answer w p (start program rack window) events reached g)
-    (always_sound readers are program rack window (events ++ g.events) is few)))
+    (from_start answer w p (start program rack window) events reached g)
+    (always_sound program rack window (events ++ g.events) is few)))
 
-pub pumps_told : (readers : Readers) → AreReaders readers → (answer : Job → ℕ → Outcome) → AreFit answer → (w : World) (p : Pumped)
+pub pumps_told : (answer : Job → ℕ → Outcome) → AreFit answer → (w : World) (p : Pumped)
     (program : Meaning) (rack : List (List ℕ)) (window : ℕ) (events : List Event) → IsProgram program → window ≤ 16
-    → w ≡ run_of readers events (start program rack window) → w.client.client.on ≡ true → w.server.server.on ≡ true
+    → w ≡ run_of events (start program rack window) → w.client.client.on ≡ true → w.server.server.on ≡ true
     → w.server.server.last ≡ w.client.client.last → PumpCalls answer (pumped_of w) p
     → Told p.client.client.table.tally.counted p.server.server.ledger p.client.client.last
-pumps_told readers are answer fit w p program rack window events is few reached client server same t =
-    let g = pumps_reach readers are answer fit w p program rack window events is few reached client server same t in
+pumps_told answer fit w p program rack window events is few reached client server same t =
+    let g = pumps_reach answer fit w p program rack window events is few reached client server same t in
     subst (λ (e : ClientEnd). Told e.client.table.tally.counted p.server.server.ledger e.client.last) g.stands.is.client
     (subst (λ (e : ServerEnd). Told g.now.client.client.table.tally.counted e.server.ledger g.now.client.client.last) g.stands.is.server
     (subst (λ (v : World). Told v.client.client.table.tally.counted v.server.server.ledger v.client.client.last)
-    (from_start readers answer w p (start program rack window) events reached g)
-    (always_told readers are program rack window (events ++ g.events) is few)))
+    (from_start answer w p (start program rack window) events reached g)
+    (always_told program rack window (events ++ g.events) is few)))
 
-pub pumps_agree : (readers : Readers) → AreReaders readers → (answer : Job → ℕ → Outcome) → AreFit answer → (w : World) (p : Pumped)
+pub pumps_agree : (answer : Job → ℕ → Outcome) → AreFit answer → (w : World) (p : Pumped)
     (program : Meaning) (rack : List (List ℕ)) (window : ℕ) (events : List Event) → IsProgram program → window ≤ 16
-    → w ≡ run_of readers events (start program rack window) → w.client.client.on ≡ true → w.server.server.on ≡ true
+    → w ≡ run_of events (start program rack window) → w.client.client.on ≡ true → w.server.server.on ≡ true
     → w.server.server.last ≡ w.client.client.last → PumpCalls answer (pumped_of w) p
     → (p.client.client.state ≢ State.Faulted) × (p.server.input.fault ≡ None)
-pumps_agree readers are answer fit w p program rack window events is few reached client server same t =
-    let g = pumps_reach readers are answer fit w p program rack window events is few reached client server same t in
-    let leads = from_start readers answer w p (start program rack window) events reached g in (
+pumps_agree answer fit w p program rack window events is few reached client server same t =
+    let g = pumps_reach answer fit w p program rack window events is few reached client server same t in
+    let leads = from_start answer w p (start program rack window) events reached g in (
       subst (λ (e : ClientEnd). e.client.state ≢ State.Faulted) g.stands.is.client
           (subst (λ (v : World). v.client.client.state ≢ State.Faulted) leads
-          (never_faulted_run readers are program rack window (events ++ g.events) is few)),
+          (never_faulted_run program rack window (events ++ g.events) is few)),
       sym (ap (λ (e : ServerEnd). e.input.fault) g.stands.is.server)
           ∙ (sym (ap (λ (v : World). v.server.input.fault) leads)
-          ∙ no_framing_fault readers are program rack window (events ++ g.events) is few),
+          ∙ no_framing_fault program rack window (events ++ g.events) is few),
     )

@@ -8,7 +8,7 @@ use Rattle.tool_rack.specs.Setups.{SetupValue}
 use Rattle.line_framing.specs.Next.{next_of}
 use Rattle.line_framing.specs.declared.faults.FramingFault.{FramingFault}
 use Rattle.line_framing.proofs.Streams.{no_fault}
-use Rattle.protocol_model.specs.Lines.{Readers, AreReaders, command_texts}
+use Rattle.protocol_model.specs.Lines.{command_texts}
 use Rattle.protocol_model.specs.Ends.{ClientEnd, new_client_end}
 use Rattle.protocol_model.specs.World.{World, start, can, happens, after, run_of, server_link}
 use Rattle.protocol_model.specs.declared.events.Event.{Event}
@@ -18,61 +18,66 @@ use Rattle.protocol_model.proofs.each_event.ClientEvents.{served_now, told_now, 
 use Rattle.protocol_model.proofs.invariant.Served.{served_sound}
 use Rattle.protocol_model.proofs.whole_run.Wires.{IsWhole}
 use Rattle.protocol_model.proofs.written_lines.Writable.{command_lines}
-use Rattle.protocol_model.proofs.written_lines.ReadersExist.{some_are_readers}
 use Rattle.protocol_model.proofs.whole_run.WholeRun.{run_carried, start_carried}
 use Rattle.server_core.specs.Serving.{Serving, new_serving}
 use Rattle.link_world.specs.declared.connection.Connection.{Connection}
-use Rattle.link_world.specs.Claims.{IsSound, IsTold, DoNotDisagree}
+use Rattle.protocol_model.specs.Claims.{Sound, Told}
+use Rattle.link_world.specs.Claims.{Headline}
 use Rattle.link_world.specs.Links.{Linked, links_of, seen, with_world, IsReached}
 
 pub carried : (l : Linked) → IsReached l → IsCarried l.world
-carried l h = subst IsCarried (sym h.reached) (run_carried h.readers h.are h.events (start h.program l.setup.tools h.window)
+carried l h = subst IsCarried (sym h.reached) (run_carried h.events (start h.program l.setup.tools h.window)
     (start_carried h.program l.setup.tools h.window h.is_program h.few))
 
 -- ---- one event more
 
-run_more : (readers : Readers) (es : List Event) (e : Event) (w : World)
-    → run_of readers (es ++ e ∷ []) w ≡ after readers e (run_of readers es w)
-run_more readers [] e w = refl
-run_more readers (x ∷ es) e w = run_more readers es e (after readers x w)
+run_more : (es : List Event) (e : Event) (w : World)
+    → run_of (es ++ e ∷ []) w ≡ after e (run_of es w)
+run_more [] e w = refl
+run_more (x ∷ es) e w = run_more es e (after x w)
 
-happened : (readers : Readers) (e : Event) (w : World) (b : Bool) → can e w ≡ b → b ≡ true
-    → cond b (happens readers e w) w ≡ happens readers e w
-happened readers e w true is may = refl
-happened readers e w false is may = absurd (false≢true may)
+happened : (e : Event) (w : World) (b : Bool) → can e w ≡ b → b ≡ true
+    → cond b (happens e w) w ≡ happens e w
+happened e w true is may = refl
+happened e w false is may = absurd (false≢true may)
 
 pub reached_more : (l m : Linked) (e : Event) → IsReached l → can e l.world ≡ true
-    → ((readers : Readers) → AreReaders readers → m ≡ with_world l (happens readers e l.world)) → IsReached m
+    → (m ≡ with_world l (happens e l.world)) → IsReached m
 reached_more l m e h may is =
-    subst IsReached (sym (is h.readers h.are)) (record {
-      readers = h.readers;
-      are = h.are;
+    subst IsReached (sym (is)) (record {
       program = h.program;
       is_program = h.is_program;
       window = h.window;
       few = h.few;
       events = h.events ++ e ∷ [];
       reached =
-          sym (happened h.readers e l.world (can e l.world) refl may)
-          ∙ (ap (after h.readers e) h.reached ∙ sym (run_more h.readers h.events e (start h.program l.setup.tools h.window)));
+          sym (happened e l.world (can e l.world) refl may)
+          ∙ (ap (after e) h.reached ∙ sym (run_more h.events e (start h.program l.setup.tools h.window)));
     })
 
 -- ---- the claims
 
-pub sound : (l : Linked) → IsReached l → IsSound l.world
+pub sound : (l : Linked) → IsReached l
+    → Sound l.world.client.client.program.features l.world.client.client.table.tally.features l.world.server.server.ledger
 sound l h = let c : IsCarried l.world = carried l h in
     served_sound l.world.client.client.program.features l.world.client.client.table.tally.features l.world.server.server.ledger
     (served_now (lined l.world c.up c.down) c.inv)
 
-pub told : (l : Linked) → IsReached l → IsTold l.world
+told : (l : Linked) → IsReached l → Told l.world.client.client.table.tally.counted l.world.server.server.ledger l.world.client.client.last
 told l h = let c : IsCarried l.world = carried l h in let t = told_now (lined l.world c.up c.down) c.inv
     in record { more = t.0; whole = t.1 }
 
-pub agree : (l : Linked) → IsReached l → DoNotDisagree l.world
-agree l h = let c : IsCarried l.world = carried l h in record {
+pub headline : (l : Linked) → IsReached l → Headline l.world
+headline l h = let c : IsCarried l.world = carried l h in record {
+  features = sound l h;
+  counted = told l h;
   client = never_faulted (lined l.world c.up c.down) c.inv;
   server = c.server_fault;
 }
+
+-- the same of what is seen as another
+pub headline_seen : (l m : Linked) → l ≡ m → IsReached l → Headline m.world
+headline_seen l m same h = subst (λ (k : Linked). Headline k.world) same (headline l h)
 
 -- ---- numbers of connections
 
@@ -154,12 +159,12 @@ server_reads_lines client server cs written h on why is =
     no_fault server.end.input.rest (server_link (seen client server cs written).world).up (command_texts whole.lines) why
     (command_lines whole.lines whole.writable) whole.is is
 
-pub never_faulted_behind : (readers : Readers) → AreReaders readers → (l : Linked) (e : Event) → IsReached l → can e l.world ≡ true
-    → (happens readers e l.world).client.client.state ≢ State.Faulted
-never_faulted_behind readers are l e h may =
-    let c : IsCarried (happens readers e l.world) = Rattle.protocol_model.proofs.whole_run.WholeRun.happens_carried readers are e l.world
+pub never_faulted_behind : (l : Linked) (e : Event) → IsReached l → can e l.world ≡ true
+    → (happens e l.world).client.client.state ≢ State.Faulted
+never_faulted_behind l e h may =
+    let c : IsCarried (happens e l.world) = Rattle.protocol_model.proofs.whole_run.WholeRun.happens_carried e l.world
     (carried l h) may in
-    never_faulted (lined (happens readers e l.world) c.up c.down) c.inv
+    never_faulted (lined (happens e l.world) c.up c.down) c.inv
 
 -- ---- before any event
 
@@ -173,8 +178,6 @@ start_reached program setup window client server cs written is_program few c s n
     ∙ (ap (λ (x : List Connection). seen (new_client_end program [] window) (new_serving setup) x written) none
     ∙ ap (λ (x : List ℕ). seen (new_client_end program [] window) (new_serving setup) [] x) nothing))))
     (record {
-      readers = some_are_readers.0;
-      are = some_are_readers.1;
       program = program;
       is_program = is_program;
       window = window;

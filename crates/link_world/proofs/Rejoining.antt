@@ -14,7 +14,6 @@ use Rattle.protocol_model.specs.Client.{Client, due, first_due, is_apart, is_run
 use Rattle.protocol_model.specs.Open.{count_open, is_asking}
 use Rattle.protocol_model.specs.Ends.{ClientEnd}
 use Rattle.protocol_model.specs.Finishing.{CanFinish, rejoining, rejoined, plan_left}
-use Rattle.protocol_model.specs.Lines.{Readers, AreReaders}
 use Rattle.protocol_model.specs.Plan.{is_empty, plan, planned, behind, up_to, tool_behind, frame_behind, tooling, framing, stepping, measuring}
 use Rattle.protocol_model.specs.World.{World, can, happens, after, run_of}
 use Rattle.protocol_model.specs.declared.events.Event.{Event}
@@ -52,52 +51,52 @@ finish_at l client server cs written n view h long undone =
 
 -- ---- the events of joining
 
-joins_one : (readers : Readers) (e : Event) (l k m : Linked) (es : List Event) → k ≡ with_world l (run_of readers es l.world)
-    → m ≡ with_world k (after readers e k.world) → m ≡ with_world l (run_of readers (es ++ e ∷ []) l.world)
-joins_one readers e l k m es first then = leads_more readers l k m es (e ∷ []) first then
+joins_one : (e : Event) (l k m : Linked) (es : List Event) → k ≡ with_world l (run_of es l.world)
+    → m ≡ with_world k (after e k.world) → m ≡ with_world l (run_of (es ++ e ∷ []) l.world)
+joins_one e l k m es first then = leads_more l k m es (e ∷ []) first then
 
 -- each of them happened
-pub joins_all : (readers : Readers) (l a b c m : Linked) (n : ℕ) → n ≡ suc l.world.client.client.last
-    → a ≡ with_world l (after readers event.ClientLeaves l.world) → b ≡ with_world a (after readers event.ServerLeaves a.world)
-    → c ≡ with_world b (after readers event.Connect b.world) → m ≡ with_world c (after readers (event.Accept n) c.world)
-    → m ≡ with_world l (rejoined readers l.world)
-joins_all readers l a b c m n is first second third fourth =
-    subst (λ (k : ℕ). m ≡ with_world l (run_of readers (event.ClientLeaves ∷ event.ServerLeaves ∷ event.Connect ∷ event.Accept k ∷ []) l.world))
+pub joins_all : (l a b c m : Linked) (n : ℕ) → n ≡ suc l.world.client.client.last
+    → a ≡ with_world l (after event.ClientLeaves l.world) → b ≡ with_world a (after event.ServerLeaves a.world)
+    → c ≡ with_world b (after event.Connect b.world) → m ≡ with_world c (after (event.Accept n) c.world)
+    → m ≡ with_world l (rejoined l.world)
+joins_all l a b c m n is first second third fourth =
+    subst (λ (k : ℕ). m ≡ with_world l (run_of (event.ClientLeaves ∷ event.ServerLeaves ∷ event.Connect ∷ event.Accept k ∷ []) l.world))
     is
-    (joins_one readers (event.Accept n) l c m (event.ClientLeaves ∷ event.ServerLeaves ∷ event.Connect ∷ [])
-    (joins_one readers event.Connect l b c (event.ClientLeaves ∷ event.ServerLeaves ∷ [])
-    (joins_one readers event.ServerLeaves l a b (event.ClientLeaves ∷ []) first second) third) fourth)
+    (joins_one (event.Accept n) l c m (event.ClientLeaves ∷ event.ServerLeaves ∷ event.Connect ∷ [])
+    (joins_one event.Connect l b c (event.ClientLeaves ∷ event.ServerLeaves ∷ [])
+    (joins_one event.ServerLeaves l a b (event.ClientLeaves ∷ []) first second) third) fourth)
 
 -- the first of them happened, and the next wanted memory
-pub joins_cut : (readers : Readers) (l k m : Linked) (es more : List Event) → k ≡ with_world l (run_of readers es l.world) → m ≡ k
-    → es ++ more ≡ rejoining l.world → Makes readers AreFirstOfJoining true None l m
-joins_cut readers l k m es more leads same parts = record {
+pub joins_cut : (l k m : Linked) (es more : List Event) → k ≡ with_world l (run_of es l.world) → m ≡ k
+    → es ++ more ≡ rejoining l.world → Makes AreFirstOfJoining true None l m
+joins_cut l k m es more leads same parts = record {
   events = es;
   made = record { more = more; parts = parts };
   leads = same ∙ leads;
   told_is = tt;
 }
 
-pub joins_none : (readers : Readers) (l m : Linked) → m ≡ l → Makes readers AreFirstOfJoining true None l m
-joins_none readers l m same = joins_cut readers l l m [] (rejoining l.world) refl same refl
+pub joins_none : (l m : Linked) → m ≡ l → Makes AreFirstOfJoining true None l m
+joins_none l m same = joins_cut l l m [] (rejoining l.world) refl same refl
 
-pub joins_client : (readers : Readers) (l a m : Linked) → a ≡ with_world l (after readers event.ClientLeaves l.world) → m ≡ a
-    → Makes readers AreFirstOfJoining true None l m
-joins_client readers l a m first same = joins_cut readers l a m (event.ClientLeaves ∷ []) _ first same refl
+pub joins_client : (l a m : Linked) → a ≡ with_world l (after event.ClientLeaves l.world) → m ≡ a
+    → Makes AreFirstOfJoining true None l m
+joins_client l a m first same = joins_cut l a m (event.ClientLeaves ∷ []) _ first same refl
 
-pub joins_server : (readers : Readers) (l a b m : Linked) → a ≡ with_world l (after readers event.ClientLeaves l.world)
-    → b ≡ with_world a (after readers event.ServerLeaves a.world) → m ≡ b → Makes readers AreFirstOfJoining true None l m
-joins_server readers l a b m first second same =
-    joins_cut readers l b m (event.ClientLeaves ∷ event.ServerLeaves ∷ []) _
-    (joins_one readers event.ServerLeaves l a b (event.ClientLeaves ∷ []) first second) same refl
+pub joins_server : (l a b m : Linked) → a ≡ with_world l (after event.ClientLeaves l.world)
+    → b ≡ with_world a (after event.ServerLeaves a.world) → m ≡ b → Makes AreFirstOfJoining true None l m
+joins_server l a b m first second same =
+    joins_cut l b m (event.ClientLeaves ∷ event.ServerLeaves ∷ []) _
+    (joins_one event.ServerLeaves l a b (event.ClientLeaves ∷ []) first second) same refl
 
-pub joins_connect : (readers : Readers) (l a b c m : Linked) → a ≡ with_world l (after readers event.ClientLeaves l.world)
-    → b ≡ with_world a (after readers event.ServerLeaves a.world) → c ≡ with_world b (after readers event.Connect b.world) → m ≡ c
-    → Makes readers AreFirstOfJoining true None l m
-joins_connect readers l a b c m first second third same =
-    joins_cut readers l c m (event.ClientLeaves ∷ event.ServerLeaves ∷ event.Connect ∷ []) _
-    (joins_one readers event.Connect l b c (event.ClientLeaves ∷ event.ServerLeaves ∷ [])
-    (joins_one readers event.ServerLeaves l a b (event.ClientLeaves ∷ []) first second) third) same refl
+pub joins_connect : (l a b c m : Linked) → a ≡ with_world l (after event.ClientLeaves l.world)
+    → b ≡ with_world a (after event.ServerLeaves a.world) → c ≡ with_world b (after event.Connect b.world) → m ≡ c
+    → Makes AreFirstOfJoining true None l m
+joins_connect l a b c m first second third same =
+    joins_cut l c m (event.ClientLeaves ∷ event.ServerLeaves ∷ event.Connect ∷ []) _
+    (joins_one event.Connect l b c (event.ClientLeaves ∷ event.ServerLeaves ∷ [])
+    (joins_one event.ServerLeaves l a b (event.ClientLeaves ∷ []) first second) third) same refl
 
 -- the number of the next connection
 pub next_at : (l : Linked) (client : ClientEnd) (server : Serving) (cs : List Connection) (written : List ℕ) (n : ℕ)
@@ -151,34 +150,34 @@ pub record IsJoined (w v : World) : Type 0 where
   pub unsent : v.client.client.table.tally.unsent ≡ plan_left w
   pub window : v.client.client.window ≡ w.client.client.window
 
-client_leaves : (readers : Readers) (w : World) → w.client.client.state ≢ State.Done → FitsState w.client.client.state w.client.client.on
-    → IsFree w.client.client (after readers event.ClientLeaves w).client.client
-client_leaves readers w undone fits =
+client_leaves : (w : World) → w.client.client.state ≢ State.Done → FitsState w.client.client.state w.client.client.on
+    → IsFree w.client.client (after event.ClientLeaves w).client.client
+client_leaves w undone fits =
     subst (IsFree w.client.client) (by w.client.client.on) (left_free w.client.client w.client.client.on refl undone fits)
   where
     by : (b : Bool) → cond b (client_left w.client.client) w.client.client
-        ≡ (cond b (happens readers event.ClientLeaves w) w).client.client
+        ≡ (cond b (happens event.ClientLeaves w) w).client.client
     by true = refl
     by false = refl
 
-server_leaves : (readers : Readers) (w : World) → (after readers event.ServerLeaves w).client ≡ w.client
-server_leaves readers w = by (can event.ServerLeaves w)
+server_leaves : (w : World) → (after event.ServerLeaves w).client ≡ w.client
+server_leaves w = by (can event.ServerLeaves w)
   where
-    by : (b : Bool) → (cond b (happens readers event.ServerLeaves w) w).client ≡ w.client
+    by : (b : Bool) → (cond b (happens event.ServerLeaves w) w).client ≡ w.client
     by true = refl
     by false = refl
 
-accepts_same : (readers : Readers) (n : ℕ) (w : World) → (after readers (event.Accept n) w).client ≡ w.client
-accepts_same readers n w = by (can (event.Accept n) w)
+accepts_same : (n : ℕ) (w : World) → (after (event.Accept n) w).client ≡ w.client
+accepts_same n w = by (can (event.Accept n) w)
   where
-    by : (b : Bool) → (cond b (happens readers (event.Accept n) w) w).client ≡ w.client
+    by : (b : Bool) → (cond b (happens (event.Accept n) w) w).client ≡ w.client
     by true = refl
     by false = refl
 
-connects : (readers : Readers) (w v : World) → IsFree w.client.client v.client.client → w.client.client.last < connection_most
-    → IsJoined w (after readers event.Connect v)
-connects readers w v free few =
-    subst (IsJoined w) (sym (done_now readers event.Connect v may)) (record {
+connects : (w v : World) → IsFree w.client.client v.client.client → w.client.client.last < connection_most
+    → IsJoined w (after event.Connect v)
+connects w v free few =
+    subst (IsJoined w) (sym (done_now event.Connect v may)) (record {
       state = refl;
       standard = refl;
       unsent = ap (λ (p : Meaning). plan p (length v.client.client.table.tally.features) Start.NewConnection) free.program
@@ -192,16 +191,16 @@ connects readers w v free few =
     may : can event.Connect v ≡ true
     may = ap (λ (b : Bool). b && nat_lt v.client.client.last connection_most) free.apart ∙ below
 
-pub joined_at : (readers : Readers) (w : World) → CanFinish w → FitsState w.client.client.state w.client.client.on
-    → IsJoined w (rejoined readers w)
-joined_at readers w may fits =
-    let left : World = after readers event.ServerLeaves (after readers event.ClientLeaves w) in
+pub joined_at : (w : World) → CanFinish w → FitsState w.client.client.state w.client.client.on
+    → IsJoined w (rejoined w)
+joined_at w may fits =
+    let left : World = after event.ServerLeaves (after event.ClientLeaves w) in
     let free : IsFree w.client.client left.client.client =
-    subst (λ (e : ClientEnd). IsFree w.client.client e.client) (sym (server_leaves readers (after readers event.ClientLeaves w)))
-    (client_leaves readers w may.undone fits) in
-    let joined : IsJoined w (after readers event.Connect left) = connects readers w left free may.connections in
-    let same : (rejoined readers w).client ≡ (after readers event.Connect left).client =
-    accepts_same readers (suc w.client.client.last) (after readers event.Connect left) in record {
+    subst (λ (e : ClientEnd). IsFree w.client.client e.client) (sym (server_leaves (after event.ClientLeaves w)))
+    (client_leaves w may.undone fits) in
+    let joined : IsJoined w (after event.Connect left) = connects w left free may.connections in
+    let same : (rejoined w).client ≡ (after event.Connect left).client =
+    accepts_same (suc w.client.client.last) (after event.Connect left) in record {
       state = ap (λ (e : ClientEnd). e.client.state) same ∙ joined.state;
       standard = ap (λ (e : ClientEnd). e.client.table.standard) same ∙ joined.standard;
       unsent = ap (λ (e : ClientEnd). e.client.table.tally.unsent) same ∙ joined.unsent;

@@ -7,7 +7,7 @@ use Rattle.contact_ledger.specs.declared.acts.Act.{Act}
 use Rattle.line_framing.specs.Next.{Front, next_of}
 use Rattle.line_framing.specs.declared.faults.FramingFault.{FramingFault}
 use Rattle.line_framing.specs.Framing.{Framing}
-use Rattle.protocol_model.specs.Lines.{Readers, reading_of}
+use Rattle.protocol_model.specs.Lines.{reading_of}
 use Rattle.protocol_model.specs.Client.{Client, due}
 use Rattle.protocol_model.specs.Plan.{is_empty}
 use Rattle.protocol_model.specs.Server.{Server, Answer, server_read, server_turned, server_machined, running_job}
@@ -24,44 +24,45 @@ use Rattle.protocol_model.proofs.invariant.Moves.{Moves, read_moves, turned_move
 use Rattle.link_world.proofs.AllBytes.{possible_now, not_possible}
 use Rattle.link_world.proofs.EventLists.{run_append, done_now}
 use Rattle.link_world.proofs.Unsent.{unsent, front_few, is_calm, AreCalm, run_few, sent_less}
+use Rattle.protocol_model.specs.Readings.{command_of}
 
 -- ---- parts of a round that were not cut
 
-pub then_whole : (readers : Readers) (A B : Bool → World → List Event → Type 0) (w : World) (es : List Event)
-    → (h : Then readers A B false w es) → A false w h.front × B false (run_of readers h.front w) h.back
-then_whole readers A B w es h = go h.parts
+pub then_whole : (A B : Bool → World → List Event → Type 0) (w : World) (es : List Event)
+    → (h : Then A B false w es) → A false w h.front × B false (run_of h.front w) h.back
+then_whole A B w es h = go h.parts
   where
-    go : (A false w h.front × B false (run_of readers h.front w) h.back) ⊎ ((false ≡ true) × A true w h.front × (h.back ≡ []))
-        → A false w h.front × B false (run_of readers h.front w) h.back
+    go : (A false w h.front × B false (run_of h.front w) h.back) ⊎ ((false ≡ true) × A true w h.front × (h.back ≡ []))
+        → A false w h.front × B false (run_of h.front w) h.back
     go (inl both) = both
     go (inr cut) = absurd (false≢true cut.0)
 
-pub first_is : (readers : Readers) (e f : Event) (w : World) → f ≡ e → can e w ≡ true → after readers f w ≡ happens readers e w
-first_is readers e f w is may = ap (λ (x : Event). after readers x w) is ∙ done_now readers e w may
+pub first_is : (e f : Event) (w : World) → f ≡ e → can e w ≡ true → after f w ≡ happens e w
+first_is e f w is may = ap (λ (x : Event). after x w) is ∙ done_now e w may
 
 -- an event is not possible behind its repetition
-while_over : (readers : Readers) (e : Event) (w : World) (es : List Event) → AreWhile readers e false w es
-    → can e (run_of readers es w) ≡ false
-while_over readers e w [] h = h
-while_over readers e w (f ∷ fs) h =
-    subst (λ (v : World). can e (run_of readers fs v) ≡ false) (sym (first_is readers e f w h.0 h.1))
-    (while_over readers e (happens readers e w) fs h.2)
+while_over : (e : Event) (w : World) (es : List Event) → AreWhile e false w es
+    → can e (run_of es w) ≡ false
+while_over e w [] h = h
+while_over e w (f ∷ fs) h =
+    subst (λ (v : World). can e (run_of fs v) ≡ false) (sym (first_is e f w h.0 h.1))
+    (while_over e (happens e w) fs h.2)
 
 -- what an event keeps where it happens, its repetition keeps
-while_keeps : (readers : Readers) (e : Event) (P : World → Type 0)
-    → ((v : World) → can e v ≡ true → P v → P (happens readers e v)) → (w : World) (es : List Event) → AreWhile readers e false w es
-    → P w → P (run_of readers es w)
-while_keeps readers e P keeps w [] h p = p
-while_keeps readers e P keeps w (f ∷ fs) h p =
-    subst (λ (v : World). P (run_of readers fs v)) (sym (first_is readers e f w h.0 h.1))
-    (while_keeps readers e P keeps (happens readers e w) fs h.2 (keeps w h.1 p))
+while_keeps : (e : Event) (P : World → Type 0)
+    → ((v : World) → can e v ≡ true → P v → P (happens e v)) → (w : World) (es : List Event) → AreWhile e false w es
+    → P w → P (run_of es w)
+while_keeps e P keeps w [] h p = p
+while_keeps e P keeps w (f ∷ fs) h p =
+    subst (λ (v : World). P (run_of fs v)) (sym (first_is e f w h.0 h.1))
+    (while_keeps e P keeps (happens e w) fs h.2 (keeps w h.1 p))
 
 -- what an event keeps where it happens, it keeps
-after_keeps : (readers : Readers) (e : Event) (P : World → Type 0) → ((v : World) → P v → P (happens readers e v)) → (w : World) → P w
-    → P (after readers e w)
-after_keeps readers e P keeps w p = go (can e w)
+after_keeps : (e : Event) (P : World → Type 0) → ((v : World) → P v → P (happens e v)) → (w : World) → P w
+    → P (after e w)
+after_keeps e P keeps w p = go (can e w)
   where
-    go : (b : Bool) → P (cond b (happens readers e w) w)
+    go : (b : Bool) → P (cond b (happens e w) w)
     go true = keeps w p
     go false = p
 
@@ -71,41 +72,41 @@ possible_is e f true is = cc
 possible_is e f false is = absurd (cc)
 
 -- what one event keeps, one that is possible or none keeps
-one_keeps : (readers : Readers) (e : Event) (P : World → Type 0) → ((v : World) → P v → P (happens readers e v)) → (w : World)
-    (es : List Event) → IsOne (possible e w) false es → P w → P (run_of readers es w)
-one_keeps readers e P keeps w es one p = go (possible e w) refl one
+one_keeps : (e : Event) (P : World → Type 0) → ((v : World) → P v → P (happens e v)) → (w : World)
+    (es : List Event) → IsOne (possible e w) false es → P w → P (run_of es w)
+one_keeps e P keeps w es one p = go (possible e w) refl one
   where
-    go : (o : Option Event) → possible e w ≡ o → IsOne o false es → P (run_of readers es w)
-    go None is none = subst (λ (x : List Event). P (run_of readers x w)) (sym none) p
+    go : (o : Option Event) → possible e w ≡ o → IsOne o false es → P (run_of es w)
+    go None is none = subst (λ (x : List Event). P (run_of x w)) (sym none) p
     go (Some f) is (inl same) =
-        subst (λ (x : List Event). P (run_of readers x w)) (sym same)
-        (subst (λ (x : Event). P (after readers x w)) (sym (possible_is e f (can e w) is)) (after_keeps readers e P keeps w p))
+        subst (λ (x : List Event). P (run_of x w)) (sym same)
+        (subst (λ (x : Event). P (after x w)) (sym (possible_is e f (can e w) is)) (after_keeps e P keeps w p))
     go (Some f) is (inr cut) = absurd (false≢true cut.0)
 
 -- what turns and ends keep, work keeps
-work_keeps : (readers : Readers) (answer : Job → ℕ → Outcome) (P : World → Type 0)
-    → ((v : World) → P v → P (happens readers event.ServerTurn v))
-    → ((o : Outcome) (v : World) → P v → P (happens readers (event.Machine o) v)) → (w : World) (es : List Event)
-    → AreWork readers answer false w es → P w → P (run_of readers es w)
-work_keeps readers answer P turns ends w [] h p = p
-work_keeps readers answer P turns ends w (e ∷ es) h p =
-    work_keeps readers answer P turns ends (after readers e w) es h.1 (go (running_job w.server.server) h.0)
+work_keeps : (answer : Job → ℕ → Outcome) (P : World → Type 0)
+    → ((v : World) → P v → P (happens event.ServerTurn v))
+    → ((o : Outcome) (v : World) → P v → P (happens (event.Machine o) v)) → (w : World) (es : List Event)
+    → AreWork answer false w es → P w → P (run_of es w)
+work_keeps answer P turns ends w [] h p = p
+work_keeps answer P turns ends w (e ∷ es) h p =
+    work_keeps answer P turns ends (after e w) es h.1 (go (running_job w.server.server) h.0)
   where
-    go : (job : Option Job) → working (ended answer (contact_count w.server.server.ledger) job) w ≡ Some e → P (after readers e w)
+    go : (job : Option Job) → working (ended answer (contact_count w.server.server.ledger) job) w ≡ Some e → P (after e w)
     go None is =
-        subst (λ (x : Event). P (after readers x w)) (sym (possible_is event.ServerTurn e (can event.ServerTurn w) is))
-        (after_keeps readers event.ServerTurn P turns w p)
+        subst (λ (x : Event). P (after x w)) (sym (possible_is event.ServerTurn e (can event.ServerTurn w) is))
+        (after_keeps event.ServerTurn P turns w p)
     go (Some job) is =
         let same : e ≡ event.Machine (answer job (contact_count w.server.server.ledger)) = cc in
-        subst (λ (x : Event). P (after readers x w)) (sym same)
-        (after_keeps readers (event.Machine (answer job (contact_count w.server.server.ledger))) P
+        subst (λ (x : Event). P (after x w)) (sym same)
+        (after_keeps (event.Machine (answer job (contact_count w.server.server.ledger))) P
         (ends (answer job (contact_count w.server.server.ledger))) w p)
 
 -- nothing is left to do behind work
-work_over : (readers : Readers) (answer : Job → ℕ → Outcome) (w : World) (es : List Event) → AreWork readers answer false w es
-    → working (ending answer (run_of readers es w)) (run_of readers es w) ≡ None
-work_over readers answer w [] h = h
-work_over readers answer w (e ∷ es) h = work_over readers answer (after readers e w) es h.1
+work_over : (answer : Job → ℕ → Outcome) (w : World) (es : List Event) → AreWork answer false w es
+    → working (ending answer (run_of es w)) (run_of es w) ≡ None
+work_over answer w [] h = h
+work_over answer w (e ∷ es) h = work_over answer (after e w) es h.1
 
 -- ---- bytes of connections
 
@@ -165,8 +166,8 @@ no_bytes_down w none =
     ∙ nothing w.client.client.on (not (is_faulted w.client.client.state))
 
 -- behind all that moves up, nothing can
-up_over : (readers : Readers) (w : World) (es : List Event) → IsOne (all_up w) false es → CannotUp (run_of readers es w)
-up_over readers w es one = go (can (event.Up (length (server_link w).up)) w) refl
+up_over : (w : World) (es : List Event) → IsOne (all_up w) false es → CannotUp (run_of es w)
+up_over w es one = go (can (event.Up (length (server_link w).up)) w) refl
   where
     moves : Event
     moves = event.Up (length (server_link w).up)
@@ -175,19 +176,19 @@ up_over readers w es one = go (can (event.Up (length (server_link w).up)) w) ref
     only (inl same) = same
     only (inr cut) = absurd (false≢true cut.0)
 
-    go : (b : Bool) → can moves w ≡ b → CannotUp (run_of readers es w)
+    go : (b : Bool) → can moves w ≡ b → CannotUp (run_of es w)
     go true may =
-        subst (λ (x : List Event). CannotUp (run_of readers x w))
+        subst (λ (x : List Event). CannotUp (run_of x w))
         (sym (only (subst (λ (o : Option Event). IsOne o false es) (possible_now moves w may) one)))
-        (subst CannotUp (sym (done_now readers moves w may))
-        (no_bytes_up (happens readers moves w) (no_up w.links (w.server.server.last - 1) _ (drop_all (server_link w).up))))
+        (subst CannotUp (sym (done_now moves w may))
+        (no_bytes_up (happens moves w) (no_up w.links (w.server.server.last - 1) _ (drop_all (server_link w).up))))
     go false never =
-        subst (λ (x : List Event). CannotUp (run_of readers x w))
+        subst (λ (x : List Event). CannotUp (run_of x w))
         (sym (subst (λ (o : Option Event). IsOne o false es) (not_possible moves w never) one)) never
 
 -- behind all that moves down, nothing can
-down_over : (readers : Readers) (w : World) (es : List Event) → IsOne (all_down w) false es → CannotDown (run_of readers es w)
-down_over readers w es one = go (can (event.Down (length (client_link w).down)) w) refl
+down_over : (w : World) (es : List Event) → IsOne (all_down w) false es → CannotDown (run_of es w)
+down_over w es one = go (can (event.Down (length (client_link w).down)) w) refl
   where
     moves : Event
     moves = event.Down (length (client_link w).down)
@@ -196,14 +197,14 @@ down_over readers w es one = go (can (event.Down (length (client_link w).down)) 
     only (inl same) = same
     only (inr cut) = absurd (false≢true cut.0)
 
-    go : (b : Bool) → can moves w ≡ b → CannotDown (run_of readers es w)
+    go : (b : Bool) → can moves w ≡ b → CannotDown (run_of es w)
     go true may =
-        subst (λ (x : List Event). CannotDown (run_of readers x w))
+        subst (λ (x : List Event). CannotDown (run_of x w))
         (sym (only (subst (λ (o : Option Event). IsOne o false es) (possible_now moves w may) one)))
-        (subst CannotDown (sym (done_now readers moves w may))
-        (no_bytes_down (happens readers moves w) (no_down w.links (w.client.client.last - 1) _ (drop_all (client_link w).down))))
+        (subst CannotDown (sym (done_now moves w may))
+        (no_bytes_down (happens moves w) (no_down w.links (w.client.client.last - 1) _ (drop_all (client_link w).down))))
     go false never =
-        subst (λ (x : List Event). CannotDown (run_of readers x w))
+        subst (λ (x : List Event). CannotDown (run_of x w))
         (sym (subst (λ (o : Option Event). IsOne o false es) (not_possible moves w never) one)) never
 
 -- ---- what later parts keep
@@ -229,56 +230,56 @@ answers_same w input a acts moves fault = record {
       ∙ up_at w.links (w.server.server.last - 1) (w.server.server.last - 1) _;
 }
 
-read_keeps_up : (readers : Readers) (w : World) → can event.ServerReads w ≡ true → CannotUp w
-    → CannotUp (happens readers event.ServerReads w)
-read_keeps_up readers w may h =
-    keeps_up w (happens readers event.ServerReads w) (go (next_of w.server.input.rest) (and_parts _ _ (and_parts _ _ may).1).1) h
+read_keeps_up : (w : World) → can event.ServerReads w ≡ true → CannotUp w
+    → CannotUp (happens event.ServerReads w)
+read_keeps_up w may h =
+    keeps_up w (happens event.ServerReads w) (go (next_of w.server.input.rest) (and_parts _ _ (and_parts _ _ may).1).1) h
   where
-    go : (f : Front) → is_line f ≡ true → SameUp w (server_writes w (front_served readers w.server f))
+    go : (f : Front) → is_line f ≡ true → SameUp w (server_writes w (front_served w.server f))
     go (Ok None) line = absurd (false≢true line)
     go (Ok (Some (line, rest))) there =
-        answers_same w (record (w.server.input) { rest = rest }) (server_read w.server.server (reading_of (readers.command line))) []
-        (read_moves w.server.server (reading_of (readers.command line))) refl
+        answers_same w (record (w.server.input) { rest = rest }) (server_read w.server.server (reading_of (command_of line))) []
+        (read_moves w.server.server (reading_of (command_of line))) refl
     go (Err why) line = absurd (false≢true line)
 
-turn_keeps_up : (readers : Readers) (w : World) → CannotUp w → CannotUp (happens readers event.ServerTurn w)
-turn_keeps_up readers w h =
+turn_keeps_up : (w : World) → CannotUp w → CannotUp (happens event.ServerTurn w)
+turn_keeps_up w h =
     let m = turned_moves w.server.server in
-    keeps_up w (happens readers event.ServerTurn w) (answers_same w w.server.input (server_turned w.server.server) m.0 m.1 refl) h
+    keeps_up w (happens event.ServerTurn w) (answers_same w w.server.input (server_turned w.server.server) m.0 m.1 refl) h
 
-end_keeps_up : (readers : Readers) (o : Outcome) (w : World) → CannotUp w → CannotUp (happens readers (event.Machine o) w)
-end_keeps_up readers o w h =
+end_keeps_up : (o : Outcome) (w : World) → CannotUp w → CannotUp (happens (event.Machine o) w)
+end_keeps_up o w h =
     let m = machined_moves w.server.server o in
-    keeps_up w (happens readers (event.Machine o) w) (answers_same w w.server.input (server_machined w.server.server o) m.0 m.1 refl) h
+    keeps_up w (happens (event.Machine o) w) (answers_same w w.server.input (server_machined w.server.server o) m.0 m.1 refl) h
 
-turn_keeps_lines : (readers : Readers) (w : World) → CannotRead w → CannotRead (happens readers event.ServerTurn w)
-turn_keeps_lines readers w h =
+turn_keeps_lines : (w : World) → CannotRead w → CannotRead (happens event.ServerTurn w)
+turn_keeps_lines w h =
     ap (λ (b : Bool). b && (is_none w.server.input.fault && is_line (next_of w.server.input.rest))) (turned_moves w.server.server).1.on ∙ h
 
-end_keeps_lines : (readers : Readers) (o : Outcome) (w : World) → CannotRead w → CannotRead (happens readers (event.Machine o) w)
-end_keeps_lines readers o w h =
+end_keeps_lines : (o : Outcome) (w : World) → CannotRead w → CannotRead (happens (event.Machine o) w)
+end_keeps_lines o w h =
     ap (λ (b : Bool). b && (is_none w.server.input.fault && is_line (next_of w.server.input.rest))) (machined_moves w.server.server o).1.on ∙ h
 
-down_keeps_up : (readers : Readers) (k : ℕ) (w : World) → CannotUp w → CannotUp (happens readers (event.Down k) w)
-down_keeps_up readers k w h = keeps_up w (happens readers (event.Down k) w) (record {
+down_keeps_up : (k : ℕ) (w : World) → CannotUp w → CannotUp (happens (event.Down k) w)
+down_keeps_up k w h = keeps_up w (happens (event.Down k) w) (record {
   on = refl;
   fault = refl;
   up = up_at w.links (w.client.client.last - 1) (w.server.server.last - 1) _;
 }) h
 
-heard_keeps_down : (readers : Readers) (w : World) → can event.ClientReads w ≡ true → CannotDown w
-    → CannotDown (happens readers event.ClientReads w)
-heard_keeps_down readers w may h =
+heard_keeps_down : (w : World) → can event.ClientReads w ≡ true → CannotDown w
+    → CannotDown (happens event.ClientReads w)
+heard_keeps_down w may h =
     let on : w.client.client.on ≡ true = (and_parts _ _ may).0 in
     let awake : not (is_faulted w.client.client.state) ≡ true = (and_parts _ _ (and_parts _ _ may).1).0 in
     let none : has_some (length (client_link w).down) (client_link w).down ≡ false = blocked _ _ _ on awake h in
-    let here : (link_of w.links (happens readers event.ClientReads w).client.client.last).down ≡ (client_link w).down =
-    ap (λ (n : ℕ). (link_of w.links n).down) (front_few readers w.client.client (next_of w.client.input.rest)).last in
-    ap (λ (b : Bool). (happens readers event.ClientReads w).client.client.on
-    && (not (is_faulted (happens readers event.ClientReads w).client.client.state) && b))
+    let here : (link_of w.links (happens event.ClientReads w).client.client.last).down ≡ (client_link w).down =
+    ap (λ (n : ℕ). (link_of w.links n).down) (front_few w.client.client (next_of w.client.input.rest)).last in
+    ap (λ (b : Bool). (happens event.ClientReads w).client.client.on
+    && (not (is_faulted (happens event.ClientReads w).client.client.state) && b))
     (ap (λ (bytes : List ℕ). has_some (length bytes) bytes) here ∙ none)
-    ∙ nothing (happens readers event.ClientReads w).client.client.on
-    (not (is_faulted (happens readers event.ClientReads w).client.client.state))
+    ∙ nothing (happens event.ClientReads w).client.client.on
+    (not (is_faulted (happens event.ClientReads w).client.client.state))
   where
     blocked : (a b c : Bool) → a ≡ true → b ≡ true → (a && (b && c)) ≡ false → c ≡ false
     blocked true true c on awake is = is
@@ -292,13 +293,13 @@ idle_by None w v same is =
     same ∙ is
 idle_by (Some e) w v same is = is
 
-heard_keeps_idle : (readers : Readers) (answer : Job → ℕ → Outcome) (w : World) → IsIdle answer w
-    → IsIdle answer (happens readers event.ClientReads w)
-heard_keeps_idle readers answer w h = idle_by (ending answer w) w (happens readers event.ClientReads w) refl h
+heard_keeps_idle : (answer : Job → ℕ → Outcome) (w : World) → IsIdle answer w
+    → IsIdle answer (happens event.ClientReads w)
+heard_keeps_idle answer w h = idle_by (ending answer w) w (happens event.ClientReads w) refl h
 
-down_keeps_idle : (readers : Readers) (answer : Job → ℕ → Outcome) (k : ℕ) (w : World) → IsIdle answer w
-    → IsIdle answer (happens readers (event.Down k) w)
-down_keeps_idle readers answer k w h = idle_by (ending answer w) w (happens readers (event.Down k) w) refl h
+down_keeps_idle : (answer : Job → ℕ → Outcome) (k : ℕ) (w : World) → IsIdle answer w
+    → IsIdle answer (happens (event.Down k) w)
+down_keeps_idle answer k w h = idle_by (ending answer w) w (happens (event.Down k) w) refl h
 
 -- ---- a whole round
 
@@ -310,89 +311,89 @@ record Rests (answer : Job → ℕ → Outcome) (w : World) : Type 0 where
   pub down : CannotDown w
   pub heard : can event.ClientReads w ≡ false
 
-behind_both : (readers : Readers) (answer : Job → ℕ → Outcome) (A B : Bool → World → List Event → Type 0) (w : World) (es : List Event)
-    → (h : Then readers A B false w es) → Rests answer (run_of readers h.back (run_of readers h.front w)) → Rests answer (run_of readers es w)
-behind_both readers answer A B w es h rests =
-    subst (Rests answer) (sym (ap (λ (x : List Event). run_of readers x w) h.whole ∙ run_append readers h.front h.back w)) rests
+behind_both : (answer : Job → ℕ → Outcome) (A B : Bool → World → List Event → Type 0) (w : World) (es : List Event)
+    → (h : Then A B false w es) → Rests answer (run_of h.back (run_of h.front w)) → Rests answer (run_of es w)
+behind_both answer A B w es h rests =
+    subst (Rests answer) (sym (ap (λ (x : List Event). run_of x w) h.whole ∙ run_append h.front h.back w)) rests
 
-rests_heard : (readers : Readers) (answer : Job → ℕ → Outcome) (w : World) (es : List Event)
-    → AreWhile readers event.ClientReads false w es → CannotUp w → CannotRead w → IsIdle answer w → CannotDown w
-    → Rests answer (run_of readers es w)
-rests_heard readers answer w es h up lines idle down = record {
-  up = while_keeps readers event.ClientReads CannotUp (λ v may p. p) w es h up;
-  lines = while_keeps readers event.ClientReads CannotRead (λ v may p. p) w es h lines;
-  idle = while_keeps readers event.ClientReads (IsIdle answer) (λ v may p. heard_keeps_idle readers answer v p) w es h idle;
-  down = while_keeps readers event.ClientReads CannotDown (heard_keeps_down readers) w es h down;
-  heard = while_over readers event.ClientReads w es h;
+rests_heard : (answer : Job → ℕ → Outcome) (w : World) (es : List Event)
+    → AreWhile event.ClientReads false w es → CannotUp w → CannotRead w → IsIdle answer w → CannotDown w
+    → Rests answer (run_of es w)
+rests_heard answer w es h up lines idle down = record {
+  up = while_keeps event.ClientReads CannotUp (λ v may p. p) w es h up;
+  lines = while_keeps event.ClientReads CannotRead (λ v may p. p) w es h lines;
+  idle = while_keeps event.ClientReads (IsIdle answer) (λ v may p. heard_keeps_idle answer v p) w es h idle;
+  down = while_keeps event.ClientReads CannotDown (heard_keeps_down) w es h down;
+  heard = while_over event.ClientReads w es h;
 }
 
 -- the parts of a round, from the last on
-abbrev Lowers : Readers → Bool → World → List Event → Type 0
-Lowers readers = Then readers (λ cut w. IsOne (all_down w) cut) (AreWhile readers event.ClientReads)
+abbrev Lowers : Bool → World → List Event → Type 0
+Lowers = Then (λ cut w. IsOne (all_down w) cut) (AreWhile event.ClientReads)
 
-abbrev Works : Readers → (Job → ℕ → Outcome) → Bool → World → List Event → Type 0
-Works readers answer = Then readers (AreWork readers answer) (Lowers readers)
+abbrev Works : (Job → ℕ → Outcome) → Bool → World → List Event → Type 0
+Works answer = Then (AreWork answer) (Lowers)
 
-abbrev Serves : Readers → (Job → ℕ → Outcome) → Bool → World → List Event → Type 0
-Serves readers answer = Then readers (AreWhile readers event.ServerReads) (Works readers answer)
+abbrev Serves : (Job → ℕ → Outcome) → Bool → World → List Event → Type 0
+Serves answer = Then (AreWhile event.ServerReads) (Works answer)
 
-abbrev Raises : Readers → (Job → ℕ → Outcome) → Bool → World → List Event → Type 0
-Raises readers answer = Then readers (λ cut w. IsOne (all_up w) cut) (Serves readers answer)
+abbrev Raises : (Job → ℕ → Outcome) → Bool → World → List Event → Type 0
+Raises answer = Then (λ cut w. IsOne (all_up w) cut) (Serves answer)
 
-rests_lowered : (readers : Readers) (answer : Job → ℕ → Outcome) (w : World) (es : List Event) → Lowers readers false w es → CannotUp w
-    → CannotRead w → IsIdle answer w → Rests answer (run_of readers es w)
-rests_lowered readers answer w es h up lines idle =
-    let both = then_whole readers (λ cut w. IsOne (all_down w) cut) (AreWhile readers event.ClientReads) w es h in
+rests_lowered : (answer : Job → ℕ → Outcome) (w : World) (es : List Event) → Lowers false w es → CannotUp w
+    → CannotRead w → IsIdle answer w → Rests answer (run_of es w)
+rests_lowered answer w es h up lines idle =
+    let both = then_whole (λ cut w. IsOne (all_down w) cut) (AreWhile event.ClientReads) w es h in
     let n : ℕ = length (client_link w).down in
-    behind_both readers answer (λ cut w. IsOne (all_down w) cut) (AreWhile readers event.ClientReads) w es h
-    (rests_heard readers answer (run_of readers h.front w) h.back both.1
-    (one_keeps readers (event.Down n) CannotUp (down_keeps_up readers n) w h.front both.0 up)
-    (one_keeps readers (event.Down n) CannotRead (λ v p. p) w h.front both.0 lines)
-    (one_keeps readers (event.Down n) (IsIdle answer) (down_keeps_idle readers answer n) w h.front both.0 idle)
-    (down_over readers w h.front both.0))
+    behind_both answer (λ cut w. IsOne (all_down w) cut) (AreWhile event.ClientReads) w es h
+    (rests_heard answer (run_of h.front w) h.back both.1
+    (one_keeps (event.Down n) CannotUp (down_keeps_up n) w h.front both.0 up)
+    (one_keeps (event.Down n) CannotRead (λ v p. p) w h.front both.0 lines)
+    (one_keeps (event.Down n) (IsIdle answer) (down_keeps_idle answer n) w h.front both.0 idle)
+    (down_over w h.front both.0))
 
-rests_worked : (readers : Readers) (answer : Job → ℕ → Outcome) (w : World) (es : List Event) → Works readers answer false w es → CannotUp w
-    → CannotRead w → Rests answer (run_of readers es w)
-rests_worked readers answer w es h up lines =
-    let both = then_whole readers (AreWork readers answer) (Lowers readers) w es h in
-    behind_both readers answer (AreWork readers answer) (Lowers readers) w es h
-    (rests_lowered readers answer (run_of readers h.front w) h.back both.1
-    (work_keeps readers answer CannotUp (turn_keeps_up readers) (end_keeps_up readers) w h.front both.0 up)
-    (work_keeps readers answer CannotRead (turn_keeps_lines readers) (end_keeps_lines readers) w h.front both.0 lines)
-    (work_over readers answer w h.front both.0))
+rests_worked : (answer : Job → ℕ → Outcome) (w : World) (es : List Event) → Works answer false w es → CannotUp w
+    → CannotRead w → Rests answer (run_of es w)
+rests_worked answer w es h up lines =
+    let both = then_whole (AreWork answer) (Lowers) w es h in
+    behind_both answer (AreWork answer) (Lowers) w es h
+    (rests_lowered answer (run_of h.front w) h.back both.1
+    (work_keeps answer CannotUp (turn_keeps_up) (end_keeps_up) w h.front both.0 up)
+    (work_keeps answer CannotRead (turn_keeps_lines) (end_keeps_lines) w h.front both.0 lines)
+    (work_over answer w h.front both.0))
 
-rests_served : (readers : Readers) (answer : Job → ℕ → Outcome) (w : World) (es : List Event) → Serves readers answer false w es → CannotUp w
-    → Rests answer (run_of readers es w)
-rests_served readers answer w es h up =
-    let both = then_whole readers (AreWhile readers event.ServerReads) (Works readers answer) w es h in
-    behind_both readers answer (AreWhile readers event.ServerReads) (Works readers answer) w es h
-    (rests_worked readers answer (run_of readers h.front w) h.back both.1
-    (while_keeps readers event.ServerReads CannotUp (read_keeps_up readers) w h.front both.0 up)
-    (while_over readers event.ServerReads w h.front both.0))
+rests_served : (answer : Job → ℕ → Outcome) (w : World) (es : List Event) → Serves answer false w es → CannotUp w
+    → Rests answer (run_of es w)
+rests_served answer w es h up =
+    let both = then_whole (AreWhile event.ServerReads) (Works answer) w es h in
+    behind_both answer (AreWhile event.ServerReads) (Works answer) w es h
+    (rests_worked answer (run_of h.front w) h.back both.1
+    (while_keeps event.ServerReads CannotUp (read_keeps_up) w h.front both.0 up)
+    (while_over event.ServerReads w h.front both.0))
 
-rests_raised : (readers : Readers) (answer : Job → ℕ → Outcome) (w : World) (es : List Event) → Raises readers answer false w es
-    → Rests answer (run_of readers es w)
-rests_raised readers answer w es h =
-    let both = then_whole readers (λ cut w. IsOne (all_up w) cut) (Serves readers answer) w es h in
-    behind_both readers answer (λ cut w. IsOne (all_up w) cut) (Serves readers answer) w es h
-    (rests_served readers answer (run_of readers h.front w) h.back both.1 (up_over readers w h.front both.0))
+rests_raised : (answer : Job → ℕ → Outcome) (w : World) (es : List Event) → Raises answer false w es
+    → Rests answer (run_of es w)
+rests_raised answer w es h =
+    let both = then_whole (λ cut w. IsOne (all_up w) cut) (Serves answer) w es h in
+    behind_both answer (λ cut w. IsOne (all_up w) cut) (Serves answer) w es h
+    (rests_served answer (run_of h.front w) h.back both.1 (up_over w h.front both.0))
 
-rests : (readers : Readers) (answer : Job → ℕ → Outcome) (w : World) (es : List Event) → IsRound readers answer false w es
-    → Rests answer (run_of readers es w)
-rests readers answer w es h =
-    let both = then_whole readers (AreWhile readers event.ClientSends) (Raises readers answer) w es h in
-    behind_both readers answer (AreWhile readers event.ClientSends) (Raises readers answer) w es h
-    (rests_raised readers answer (run_of readers h.front w) h.back both.1)
+rests : (answer : Job → ℕ → Outcome) (w : World) (es : List Event) → IsRound answer false w es
+    → Rests answer (run_of es w)
+rests answer w es h =
+    let both = then_whole (AreWhile event.ClientSends) (Raises answer) w es h in
+    behind_both answer (AreWhile event.ClientSends) (Raises answer) w es h
+    (rests_raised answer (run_of h.front w) h.back both.1)
 
 -- where nothing is due behind a round, the next does nothing
-pub round_still : (readers : Readers) (answer : Job → ℕ → Outcome) (w : World) (es : List Event) → IsRound readers answer false w es
-    → due (run_of readers es w).client.client ≡ None → IsRound readers answer false (run_of readers es w) []
-round_still readers answer w es h none = go (run_of readers es w) (rests readers answer w es h) none
+pub round_still : (answer : Job → ℕ → Outcome) (w : World) (es : List Event) → IsRound answer false w es
+    → due (run_of es w).client.client ≡ None → IsRound answer false (run_of es w) []
+round_still answer w es h none = go (run_of es w) (rests answer w es h) none
   where
     nothing_there : (e : Event) (v : World) → can e v ≡ false → IsOne (possible e v) false []
     nothing_there e v never = subst (λ (o : Option Event). IsOne o false []) (sym (not_possible e v never)) refl
 
-    go : (v : World) → Rests answer v → due v.client.client ≡ None → IsRound readers answer false v []
+    go : (v : World) → Rests answer v → due v.client.client ≡ None → IsRound answer false v []
     go v r none = record {
       front = [];
       back = [];
@@ -438,9 +439,9 @@ calm_append : (es fs : List Event) → AreCalm es → AreCalm fs → AreCalm (es
 calm_append [] fs p q = q
 calm_append (e ∷ es) fs p q = (p.0, calm_append es fs p.1 q)
 
-while_calm : (readers : Readers) (e : Event) (w : World) (es : List Event) → is_calm e ≡ true → AreWhile readers e false w es → AreCalm es
-while_calm readers e w [] calm h = tt
-while_calm readers e w (f ∷ fs) calm h = (ap is_calm h.0 ∙ calm, while_calm readers e (happens readers e w) fs calm h.2)
+while_calm : (e : Event) (w : World) (es : List Event) → is_calm e ≡ true → AreWhile e false w es → AreCalm es
+while_calm e w [] calm h = tt
+while_calm e w (f ∷ fs) calm h = (ap is_calm h.0 ∙ calm, while_calm e (happens e w) fs calm h.2)
 
 one_calm : (e : Event) (w : World) (es : List Event) → is_calm e ≡ true → IsOne (possible e w) false es → AreCalm es
 one_calm e w es calm one = go (possible e w) refl one
@@ -450,44 +451,44 @@ one_calm e w es calm one = go (possible e w) refl one
     go (Some f) is (inl same) = subst AreCalm (sym same) (ap is_calm (possible_is e f (can e w) is) ∙ calm, tt)
     go (Some f) is (inr cut) = absurd (false≢true cut.0)
 
-work_calm : (readers : Readers) (answer : Job → ℕ → Outcome) (w : World) (es : List Event) → AreWork readers answer false w es → AreCalm es
-work_calm readers answer w [] h = tt
-work_calm readers answer w (e ∷ es) h = (go (running_job w.server.server) h.0, work_calm readers answer (after readers e w) es h.1)
+work_calm : (answer : Job → ℕ → Outcome) (w : World) (es : List Event) → AreWork answer false w es → AreCalm es
+work_calm answer w [] h = tt
+work_calm answer w (e ∷ es) h = (go (running_job w.server.server) h.0, work_calm answer (after e w) es h.1)
   where
     go : (job : Option Job) → working (ended answer (contact_count w.server.server.ledger) job) w ≡ Some e → is_calm e ≡ true
     go None is = ap is_calm (possible_is event.ServerTurn e (can event.ServerTurn w) is)
     go (Some job) is =
         let same : e ≡ event.Machine (answer job (contact_count w.server.server.ledger)) = cc in ap is_calm same
 
-both_calm : (readers : Readers) (A B : Bool → World → List Event → Type 0) (w : World) (es : List Event)
-    → (h : Then readers A B false w es) → AreCalm h.front → AreCalm h.back → AreCalm es
-both_calm readers A B w es h p q = subst AreCalm (sym h.whole) (calm_append h.front h.back p q)
+both_calm : (A B : Bool → World → List Event → Type 0) (w : World) (es : List Event)
+    → (h : Then A B false w es) → AreCalm h.front → AreCalm h.back → AreCalm es
+both_calm A B w es h p q = subst AreCalm (sym h.whole) (calm_append h.front h.back p q)
 
-lowered_calm : (readers : Readers) (w : World) (es : List Event) → Lowers readers false w es → AreCalm es
-lowered_calm readers w es h =
-    let both = then_whole readers (λ cut w. IsOne (all_down w) cut) (AreWhile readers event.ClientReads) w es h in
-    both_calm readers (λ cut w. IsOne (all_down w) cut) (AreWhile readers event.ClientReads) w es h
+lowered_calm : (w : World) (es : List Event) → Lowers false w es → AreCalm es
+lowered_calm w es h =
+    let both = then_whole (λ cut w. IsOne (all_down w) cut) (AreWhile event.ClientReads) w es h in
+    both_calm (λ cut w. IsOne (all_down w) cut) (AreWhile event.ClientReads) w es h
     (one_calm (event.Down (length (client_link w).down)) w h.front refl both.0)
-    (while_calm readers event.ClientReads (run_of readers h.front w) h.back refl both.1)
+    (while_calm event.ClientReads (run_of h.front w) h.back refl both.1)
 
-worked_calm : (readers : Readers) (answer : Job → ℕ → Outcome) (w : World) (es : List Event) → Works readers answer false w es → AreCalm es
-worked_calm readers answer w es h =
-    let both = then_whole readers (AreWork readers answer) (Lowers readers) w es h in
-    both_calm readers (AreWork readers answer) (Lowers readers) w es h
-    (work_calm readers answer w h.front both.0) (lowered_calm readers (run_of readers h.front w) h.back both.1)
+worked_calm : (answer : Job → ℕ → Outcome) (w : World) (es : List Event) → Works answer false w es → AreCalm es
+worked_calm answer w es h =
+    let both = then_whole (AreWork answer) (Lowers) w es h in
+    both_calm (AreWork answer) (Lowers) w es h
+    (work_calm answer w h.front both.0) (lowered_calm (run_of h.front w) h.back both.1)
 
-served_calm : (readers : Readers) (answer : Job → ℕ → Outcome) (w : World) (es : List Event) → Serves readers answer false w es → AreCalm es
-served_calm readers answer w es h =
-    let both = then_whole readers (AreWhile readers event.ServerReads) (Works readers answer) w es h in
-    both_calm readers (AreWhile readers event.ServerReads) (Works readers answer) w es h
-    (while_calm readers event.ServerReads w h.front refl both.0) (worked_calm readers answer (run_of readers h.front w) h.back both.1)
+served_calm : (answer : Job → ℕ → Outcome) (w : World) (es : List Event) → Serves answer false w es → AreCalm es
+served_calm answer w es h =
+    let both = then_whole (AreWhile event.ServerReads) (Works answer) w es h in
+    both_calm (AreWhile event.ServerReads) (Works answer) w es h
+    (while_calm event.ServerReads w h.front refl both.0) (worked_calm answer (run_of h.front w) h.back both.1)
 
-raised_calm : (readers : Readers) (answer : Job → ℕ → Outcome) (w : World) (es : List Event) → Raises readers answer false w es → AreCalm es
-raised_calm readers answer w es h =
-    let both = then_whole readers (λ cut w. IsOne (all_up w) cut) (Serves readers answer) w es h in
-    both_calm readers (λ cut w. IsOne (all_up w) cut) (Serves readers answer) w es h
+raised_calm : (answer : Job → ℕ → Outcome) (w : World) (es : List Event) → Raises answer false w es → AreCalm es
+raised_calm answer w es h =
+    let both = then_whole (λ cut w. IsOne (all_up w) cut) (Serves answer) w es h in
+    both_calm (λ cut w. IsOne (all_up w) cut) (Serves answer) w es h
     (one_calm (event.Up (length (server_link w).up)) w h.front refl both.0)
-    (served_calm readers answer (run_of readers h.front w) h.back both.1)
+    (served_calm answer (run_of h.front w) h.back both.1)
 
 cons_there : (e : Event) (es : List Event) → e ∷ es ≡ [] → ⊥
 cons_there e es is = cc
@@ -495,24 +496,24 @@ cons_there e es is = cc
 -- ---- what a round begins with
 
 -- a round that begins where something is due begins with its being sent, and leaves less to be sent
-pub round_fewer : (readers : Readers) (answer : Job → ℕ → Outcome) (w : World) (es : List Event) → IsRound readers answer false w es
-    → is_some (due w.client.client) ≡ true → (happens readers event.ClientSends w).client.client.state ≢ State.Faulted
-    → (es ≢ []) × (unsent (run_of readers es w) < unsent w)
-round_fewer readers answer w es h some fine =
-    let both = then_whole readers (AreWhile readers event.ClientSends) (Raises readers answer) w es h in
-    go h.front h.back both.0 h.whole (raised_calm readers answer (run_of readers h.front w) h.back both.1)
+pub round_fewer : (answer : Job → ℕ → Outcome) (w : World) (es : List Event) → IsRound answer false w es
+    → is_some (due w.client.client) ≡ true → (happens event.ClientSends w).client.client.state ≢ State.Faulted
+    → (es ≢ []) × (unsent (run_of es w) < unsent w)
+round_fewer answer w es h some fine =
+    let both = then_whole (AreWhile event.ClientSends) (Raises answer) w es h in
+    go h.front h.back both.0 h.whole (raised_calm answer (run_of h.front w) h.back both.1)
   where
-    go : (front back : List Event) → AreWhile readers event.ClientSends false w front → es ≡ front ++ back → AreCalm back
-        → (es ≢ []) × (unsent (run_of readers es w) < unsent w)
+    go : (front back : List Event) → AreWhile event.ClientSends false w front → es ≡ front ++ back → AreCalm back
+        → (es ≢ []) × (unsent (run_of es w) < unsent w)
     go [] back none whole calm = absurd (false≢true (sym none ∙ some))
     go (f ∷ fs) back sends whole calm =
-        let first : after readers f w ≡ happens readers event.ClientSends w = first_is readers event.ClientSends f w sends.0 sends.1 in
-        let less : unsent (happens readers event.ClientSends w) < unsent w = sent_less readers w sends.1 fine in
-        let few : unsent (run_of readers (fs ++ back) (happens readers event.ClientSends w)) ≤ unsent (happens readers event.ClientSends w) =
-        run_few readers (fs ++ back) (happens readers event.ClientSends w)
-        (calm_append fs back (while_calm readers event.ClientSends (happens readers event.ClientSends w) fs refl sends.2) calm) in
-        let same : run_of readers es w ≡ run_of readers (fs ++ back) (happens readers event.ClientSends w) =
-        ap (λ (x : List Event). run_of readers x w) whole ∙ ap (run_of readers (fs ++ back)) first in (
+        let first : after f w ≡ happens event.ClientSends w = first_is event.ClientSends f w sends.0 sends.1 in
+        let less : unsent (happens event.ClientSends w) < unsent w = sent_less w sends.1 fine in
+        let few : unsent (run_of (fs ++ back) (happens event.ClientSends w)) ≤ unsent (happens event.ClientSends w) =
+        run_few (fs ++ back) (happens event.ClientSends w)
+        (calm_append fs back (while_calm event.ClientSends (happens event.ClientSends w) fs refl sends.2) calm) in
+        let same : run_of es w ≡ run_of (fs ++ back) (happens event.ClientSends w) =
+        ap (λ (x : List Event). run_of x w) whole ∙ ap (run_of (fs ++ back)) first in (
           λ none. cons_there f (fs ++ back) (sym whole ∙ none),
           subst (λ (v : World). unsent v < unsent w) (sym same) (omega (arith, few, less)),
         )

@@ -2,24 +2,23 @@
 use Rattle.std.proofs.Common.{◌≡◌, ℕ, suc, ◌+◌, ◌<◌, ◌≤◌, true, false, List, [], ◌∷◌, ◌++◌, length, take, slice_index_or, sym, ◌∙◌, ap}
 use Rattle.std.proofs.Common.{subst, arith}
 use Rattle.std.proofs.lemmas.List.{take_more, take_all}
-use Rattle.protocol_model.specs.Lines.{Readers}
 use Rattle.protocol_model.specs.World.{World, can, happens}
 use Rattle.protocol_model.specs.declared.events.Event.{Event}
 use Rattle.link_world.specs.Claims.{takes_memory}
 use Rattle.link_world.specs.Runs.{Answer, Happened, Refused, Wanting, Follows, happened, refused, wanting, HasRun}
 
 -- one event with its answer
-abbrev Led : Readers → World → Event → Answer → World → Type 0
-Led readers w e a v = Follows readers w (e ∷ []) (a ∷ []) v
+abbrev Led : World → Event → Answer → World → Type 0
+Led w e a v = Follows w (e ∷ []) (a ∷ []) v
 
-leads_more : (readers : Readers) (w u v : World) (es : List Event) (xs : List Answer) (e : Event) (a : Answer) → Follows readers w es xs u
-    → Led readers u e a v → Follows readers w (es ++ e ∷ []) (xs ++ a ∷ []) v
-leads_more readers w u v [] [] e a h one = subst (λ (x : World). Led readers x e a v) h one
-leads_more readers w u v [] (b ∷ xs) e a h one = absurd h
-leads_more readers w u v (f ∷ es) [] e a h one = absurd h
-leads_more readers w u v (f ∷ es) (Happened ∷ xs) e a h one = (h.0, leads_more readers (happens readers f w) u v es xs e a h.1 one)
-leads_more readers w u v (f ∷ es) (Refused ∷ xs) e a h one = (h.0, leads_more readers w u v es xs e a h.1 one)
-leads_more readers w u v (f ∷ es) (Wanting ∷ xs) e a h one = (h.0, h.1, leads_more readers w u v es xs e a h.2 one)
+leads_more : (w u v : World) (es : List Event) (xs : List Answer) (e : Event) (a : Answer) → Follows w es xs u
+    → Led u e a v → Follows w (es ++ e ∷ []) (xs ++ a ∷ []) v
+leads_more w u v [] [] e a h one = subst (λ (x : World). Led x e a v) h one
+leads_more w u v [] (b ∷ xs) e a h one = absurd h
+leads_more w u v (f ∷ es) [] e a h one = absurd h
+leads_more w u v (f ∷ es) (Happened ∷ xs) e a h one = (h.0, leads_more (happens f w) u v es xs e a h.1 one)
+leads_more w u v (f ∷ es) (Refused ∷ xs) e a h one = (h.0, leads_more w u v es xs e a h.1 one)
+leads_more w u v (f ∷ es) (Wanting ∷ xs) e a h one = (h.0, h.1, leads_more w u v es xs e a h.2 one)
 
 happened_more : (xs : List Answer) (a : Answer) → happened (xs ++ a ∷ []) ≡ happened xs + happened (a ∷ [])
 happened_more [] a = omega arith
@@ -39,14 +38,14 @@ wanting_more (Happened ∷ xs) a = wanting_more xs a
 wanting_more (Refused ∷ xs) a = wanting_more xs a
 wanting_more (Wanting ∷ xs) a = ap suc (wanting_more xs a) ∙ omega arith
 
-more : (readers : Readers) (w u v : World) (events : List Event) (i : ℕ) (e : Event) (a : Answer) (done not_now memory : ℕ)
+more : (w u v : World) (events : List Event) (i : ℕ) (e : Event) (a : Answer) (done not_now memory : ℕ)
     → i < length events → e ≡ slice_index_or events i e
-    → HasRun readers w (take i events) u done not_now memory → Led readers u e a v
-    → HasRun readers w (take (i + 1) events) v (done + happened (a ∷ [])) (not_now + refused (a ∷ [])) (memory + wanting (a ∷ []))
-more readers w u v events i e a done not_now memory short is h one = record {
+    → HasRun w (take i events) u done not_now memory → Led u e a v
+    → HasRun w (take (i + 1) events) v (done + happened (a ∷ [])) (not_now + refused (a ∷ [])) (memory + wanting (a ∷ []))
+more w u v events i e a done not_now memory short is h one = record {
   answers = h.answers ++ a ∷ [];
-  leads = subst (λ (es : List Event). Follows readers w es (h.answers ++ a ∷ []) v) (sym next)
-      (leads_more readers w u v (take i events) h.answers e a h.leads one);
+  leads = subst (λ (es : List Event). Follows w es (h.answers ++ a ∷ []) v) (sym next)
+      (leads_more w u v (take i events) h.answers e a h.leads one);
   done_are = happened_more h.answers a ∙ ap (λ (n : ℕ). n + happened (a ∷ [])) h.done_are;
   not_now_are = refused_more h.answers a ∙ ap (λ (n : ℕ). n + refused (a ∷ [])) h.not_now_are;
   memory_are = wanting_more h.answers a ∙ ap (λ (n : ℕ). n + wanting (a ∷ [])) h.memory_are;
@@ -58,35 +57,35 @@ more readers w u v events i e a done not_now memory short is h one = record {
 nothing_more : (n : ℕ) → n + 0 ≡ n
 nothing_more n = omega arith
 
-pub ran_ok : (readers : Readers) (w u v : World) (events : List Event) (i : ℕ) (e : Event) (done not_now memory : ℕ) → i < length events
+pub ran_ok : (w u v : World) (events : List Event) (i : ℕ) (e : Event) (done not_now memory : ℕ) → i < length events
     → e ≡ slice_index_or events i e
-    → HasRun readers w (take i events) u done not_now memory → can e u ≡ true → v ≡ happens readers e u
-    → HasRun readers w (take (i + 1) events) v (done + 1) not_now memory
-ran_ok readers w u v events i e done not_now memory short is h may so =
-    subst (λ (n : ℕ). HasRun readers w (take (i + 1) events) v (done + 1) n memory) (nothing_more not_now)
-    (subst (λ (n : ℕ). HasRun readers w (take (i + 1) events) v (done + 1) (not_now + 0) n) (nothing_more memory)
-    (more readers w u v events i e Happened done not_now memory short is h (may, so)))
+    → HasRun w (take i events) u done not_now memory → can e u ≡ true → v ≡ happens e u
+    → HasRun w (take (i + 1) events) v (done + 1) not_now memory
+ran_ok w u v events i e done not_now memory short is h may so =
+    subst (λ (n : ℕ). HasRun w (take (i + 1) events) v (done + 1) n memory) (nothing_more not_now)
+    (subst (λ (n : ℕ). HasRun w (take (i + 1) events) v (done + 1) (not_now + 0) n) (nothing_more memory)
+    (more w u v events i e Happened done not_now memory short is h (may, so)))
 
-pub ran_refused : (readers : Readers) (w u v : World) (events : List Event) (i : ℕ) (e : Event) (done not_now memory : ℕ)
+pub ran_refused : (w u v : World) (events : List Event) (i : ℕ) (e : Event) (done not_now memory : ℕ)
     → i < length events → e ≡ slice_index_or events i e
-    → HasRun readers w (take i events) u done not_now memory → can e u ≡ false → v ≡ u
-    → HasRun readers w (take (i + 1) events) v done (not_now + 1) memory
-ran_refused readers w u v events i e done not_now memory short is h may so =
-    subst (λ (n : ℕ). HasRun readers w (take (i + 1) events) v n (not_now + 1) memory) (nothing_more done)
-    (subst (λ (n : ℕ). HasRun readers w (take (i + 1) events) v (done + 0) (not_now + 1) n) (nothing_more memory)
-    (more readers w u v events i e Refused done not_now memory short is h (may, so)))
+    → HasRun w (take i events) u done not_now memory → can e u ≡ false → v ≡ u
+    → HasRun w (take (i + 1) events) v done (not_now + 1) memory
+ran_refused w u v events i e done not_now memory short is h may so =
+    subst (λ (n : ℕ). HasRun w (take (i + 1) events) v n (not_now + 1) memory) (nothing_more done)
+    (subst (λ (n : ℕ). HasRun w (take (i + 1) events) v (done + 0) (not_now + 1) n) (nothing_more memory)
+    (more w u v events i e Refused done not_now memory short is h (may, so)))
 
-pub ran_wanting : (readers : Readers) (w u v : World) (events : List Event) (i : ℕ) (e : Event) (done not_now memory : ℕ)
+pub ran_wanting : (w u v : World) (events : List Event) (i : ℕ) (e : Event) (done not_now memory : ℕ)
     → i < length events → e ≡ slice_index_or events i e
-    → HasRun readers w (take i events) u done not_now memory → takes_memory e ≡ true → can e u ≡ true → v ≡ u
-    → HasRun readers w (take (i + 1) events) v done not_now (memory + 1)
-ran_wanting readers w u v events i e done not_now memory short is h takes may so =
-    subst (λ (n : ℕ). HasRun readers w (take (i + 1) events) v n not_now (memory + 1)) (nothing_more done)
-    (subst (λ (n : ℕ). HasRun readers w (take (i + 1) events) v (done + 0) n (memory + 1)) (nothing_more not_now)
-    (more readers w u v events i e Wanting done not_now memory short is h (takes, may, so)))
+    → HasRun w (take i events) u done not_now memory → takes_memory e ≡ true → can e u ≡ true → v ≡ u
+    → HasRun w (take (i + 1) events) v done not_now (memory + 1)
+ran_wanting w u v events i e done not_now memory short is h takes may so =
+    subst (λ (n : ℕ). HasRun w (take (i + 1) events) v n not_now (memory + 1)) (nothing_more done)
+    (subst (λ (n : ℕ). HasRun w (take (i + 1) events) v (done + 0) n (memory + 1)) (nothing_more not_now)
+    (more w u v events i e Wanting done not_now memory short is h (takes, may, so)))
 
 -- behind the last event
-pub ran_all : (readers : Readers) (w v : World) (events : List Event) (i done not_now memory : ℕ) → length events ≤ i
-    → HasRun readers w (take i events) v done not_now memory → HasRun readers w events v done not_now memory
-ran_all readers w v events i done not_now memory all h = subst (λ (es : List Event). HasRun readers w es v done not_now memory)
+pub ran_all : (w v : World) (events : List Event) (i done not_now memory : ℕ) → length events ≤ i
+    → HasRun w (take i events) v done not_now memory → HasRun w events v done not_now memory
+ran_all w v events i done not_now memory all h = subst (λ (es : List Event). HasRun w es v done not_now memory)
     (take_all i events all) h

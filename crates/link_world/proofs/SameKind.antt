@@ -1,34 +1,53 @@
--- No event changes the setup, the program or the window.
-use Rattle.std.proofs.Common.{◌≡◌, true, List, [], ◌∷◌, refl, sym, ◌∙◌, ap, Result, Ok, Err}
-use Rattle.protocol_model.specs.Lines.{Readers, AreReaders}
+-- What an event answers; and no event changes the setup, the program or the window.
+use Rattle.std.specs.Result.{IsErrOf}
+use Rattle.std.proofs.Common.{rules, ◌≡◌, true, false, List, [], ◌∷◌, refl, sym, ◌∙◌, ap, Result, Ok, Err}
+use Rattle.fixed_um.specs.Calls.{Leads}
 use Rattle.protocol_model.specs.World.{World, can, happens, run_of}
 use Rattle.protocol_model.specs.declared.events.Event.{Event}
-use Rattle.protocol_model.proofs.written_lines.ReadersExist.{some_are_readers}
 use Rattle.protocol_model.proofs.whole_run.SameProgram.{run_same, run_window}
-use Rattle.client_core.specs.Reads.{LeadsRead}
+use Rattle.link_world.specs.Claims.{IsAnswer, takes_memory}
 use Rattle.link_world.specs.Events.{HappensIf}
 use Rattle.link_world.specs.Finishing.{IsSameKind}
 use Rattle.link_world.specs.Links.{Linked, with_world}
 use Rattle.link_world.specs.declared.faults.WorldFault.{WorldFault}
+use Rattle.link_world.specs.declared.faults.WorldFault.TheVariants as fault
 use Rattle.link_world.proofs.Undisturbed.{after_can}
 
+pub answered : (e : Event) (w : World) (r : Result (Unit {0}) WorldFault) → HappensIf r (can e w)
+    → (IsErrOf r fault.Memory → takes_memory e ≡ true) → IsAnswer e w r
+answered e w (Ok u) may takes = may.0
+answered e w (Err fault.NotNow) may takes = may.1 (search rules)
+answered e w (Err fault.Memory) may takes = (may.2 (search rules), takes (search rules))
+
+pub answer_refused : (e : Event) (w : World) (r : Result (Unit {0}) WorldFault) → IsAnswer e w r → IsErrOf r fault.NotNow
+    → can e w ≡ false
+answer_refused e w (Ok u) a is = absurd (cc)
+answer_refused e w (Err fault.NotNow) a is = a
+answer_refused e w (Err fault.Memory) a is = absurd (cc)
+
+pub answer_wanting : (e : Event) (w : World) (r : Result (Unit {0}) WorldFault) → IsAnswer e w r → IsErrOf r fault.Memory
+    → (can e w ≡ true) × (takes_memory e ≡ true)
+answer_wanting e w (Ok u) a is = absurd (cc)
+answer_wanting e w (Err fault.NotNow) a is = absurd (cc)
+answer_wanting e w (Err fault.Memory) a is = a
+
 same_kind : (l m : Linked) (e : Event) → can e l.world ≡ true
-    → ((readers : Readers) → AreReaders readers → m ≡ with_world l (happens readers e l.world)) → IsSameKind l m
+    → (m ≡ with_world l (happens e l.world)) → IsSameKind l m
 same_kind l m e may is =
-    let new : m ≡ with_world l (happens some_are_readers.0 e l.world) = is some_are_readers.0 some_are_readers.1 in record {
+    let new : m ≡ with_world l (happens e l.world) = is in record {
       setup = ap (λ (k : Linked). k.setup) new;
       program =
           ap (λ (k : Linked). k.world.client.client.program) new
-          ∙ (ap (λ (w : World). w.client.client.program) (sym (after_can some_are_readers.0 e l.world (can e l.world) refl may))
-          ∙ run_same some_are_readers.0 (e ∷ []) l.world);
+          ∙ (ap (λ (w : World). w.client.client.program) (sym (after_can e l.world (can e l.world) refl may))
+          ∙ run_same (e ∷ []) l.world);
       window =
           ap (λ (k : Linked). k.world.client.client.window) new
-          ∙ (ap (λ (w : World). w.client.client.window) (sym (after_can some_are_readers.0 e l.world (can e l.world) refl may))
-          ∙ run_window some_are_readers.0 (e ∷ []) l.world);
+          ∙ (ap (λ (w : World). w.client.client.window) (sym (after_can e l.world (can e l.world) refl may))
+          ∙ run_window (e ∷ []) l.world);
     }
 
 pub same_behind : (l m : Linked) (e : Event) (r : Result (Unit {0}) WorldFault) → HappensIf r (can e l.world)
-    → LeadsRead r l m (λ readers. with_world l (happens readers e l.world)) → IsSameKind l m
+    → Leads r l m (with_world l (happens e l.world)) → IsSameKind l m
 same_behind l m e (Ok u) may leads = same_kind l m e may.0 leads.0
 same_behind l m e (Err fault) may leads = record {
   setup = ap (λ (k : Linked). k.setup) leads.1;
@@ -37,11 +56,11 @@ same_behind l m e (Err fault) may leads = record {
 }
 
 -- behind any list of events
-pub same_run : (readers : Readers) (es : List Event) (l m : Linked) → m ≡ with_world l (run_of readers es l.world) → IsSameKind l m
-same_run readers es l m is = record {
+pub same_run : (es : List Event) (l m : Linked) → m ≡ with_world l (run_of es l.world) → IsSameKind l m
+same_run es l m is = record {
   setup = ap (λ (k : Linked). k.setup) is;
-  program = ap (λ (k : Linked). k.world.client.client.program) is ∙ run_same readers es l.world;
-  window = ap (λ (k : Linked). k.world.client.client.window) is ∙ run_window readers es l.world;
+  program = ap (λ (k : Linked). k.world.client.client.program) is ∙ run_same es l.world;
+  window = ap (λ (k : Linked). k.world.client.client.window) is ∙ run_window es l.world;
 }
 
 pub same_then : (l k m : Linked) → IsSameKind l k → IsSameKind k m → IsSameKind l m

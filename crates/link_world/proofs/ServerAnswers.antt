@@ -17,7 +17,7 @@ use Rattle.server_core.specs.Serving.{Serving, with_end, may_turn}
 use Rattle.link_world.specs.declared.connection.Connection.{Connection}
 use Rattle.link_world.specs.Links.{Linked, link_of_connection, links_of, with_down, fewer_up, quiet_server, seen, with_world, IsReached}
 use Rattle.link_world.proofs.Linking.{links_get, links_same, link_put}
-use Rattle.link_world.proofs.Reached.{carried, agree}
+use Rattle.link_world.proofs.Reached.{carried, headline}
 
 -- ---- on no connection it does nothing
 
@@ -80,7 +80,7 @@ up_may count client server cs written at c h on place short is =
     let link : link_of (links_of cs) server.end.server.last ≡ link_of_connection c = here server cs at c place short is in
     ap (λ (x : Bool). x && (is_none server.end.input.fault && has_some count (link_of (links_of cs) server.end.server.last).up)) on
     ∙ (ap (λ (x : Option FramingFault). is_none x && has_some count (link_of (links_of cs) server.end.server.last).up)
-    (agree (seen client server cs written) h).server
+    (headline (seen client server cs written) h).server
     ∙ ap (λ (l : Link). has_some count l.up) link)
 
 pub up_seen : (count : ℕ) (client : ClientEnd) (server after : Serving) (cs : List Connection) (written : List ℕ) (at : ℕ)
@@ -132,4 +132,4 @@ pub reads_may : (client : ClientEnd) (server : Serving) (cs : List Connection) (
 reads_may client server cs written h on =
     ap (λ (x : Bool). x && (is_none server.end.input.fault && is_line (next_of server.end.input.rest))) on
     ∙ ap (λ (x : Option FramingFault). is_none x && is_line (next_of server.end.input.rest))
-    (agree (seen client server cs written) h).server
+    (headline (seen client server cs written) h).server

@@ -13,10 +13,11 @@ use Rattle.fixed_um.specs.Shapes.{Direction}
 use Rattle.tool_rack.specs.Setups.{shift_at}
 use Rattle.dme_line.specs.declared.commands.Command.{Command}
 use Rattle.dme_line.specs.declared.commands.Command.TheVariants as command
+use Rattle.protocol_model.specs.Readings.{command_of}
 use Rattle.contact_ledger.specs.Ledgers.{contact_count}
 use Rattle.dmis_program.specs.Programs.{IsProgram}
 use Rattle.dmis_program.specs.Meaning.{Meaning}
-use Rattle.protocol_model.specs.Lines.{Readers, AreReaders, reply_bytes, reading_of}
+use Rattle.protocol_model.specs.Lines.{reply_bytes, reading_of}
 use Rattle.protocol_model.specs.Claims.{Sound, Told}
 use Rattle.protocol_model.specs.Server.{Server, running_job, job_run, job_of, may_end, has_outcome, in_volume, offset}
 use Rattle.protocol_model.specs.Server.{server_turned, server_machined}
@@ -115,24 +116,24 @@ simulated_fits shifts (job.Change m) n = refl
 
 -- ---- what a server keeps
 
-served_last : (readers : Readers) (e : ServerEnd) (f : Front) → (front_served readers e f).server.last ≡ e.server.last
-served_last readers e (Ok None) = refl
-served_last readers e (Ok (Some (line, rest))) = (read_moves e.server (reading_of (readers.command line))).last
-served_last readers e (Err why) = refl
+served_last : (e : ServerEnd) (f : Front) → (front_served e f).server.last ≡ e.server.last
+served_last e (Ok None) = refl
+served_last e (Ok (Some (line, rest))) = (read_moves e.server (reading_of (command_of line))).last
+served_last e (Err why) = refl
 
-served_fine : (readers : Readers) (e : ServerEnd) (f : Front) → is_line f ≡ true → (front_served readers e f).input.fault ≡ e.input.fault
-served_fine readers e (Ok None) is = refl
-served_fine readers e (Ok (Some (line, rest))) is = refl
-served_fine readers e (Err why) is = absurd (false≢true is)
+served_fine : (e : ServerEnd) (f : Front) → is_line f ≡ true → (front_served e f).input.fault ≡ e.input.fault
+served_fine e (Ok None) is = refl
+served_fine e (Ok (Some (line, rest))) is = refl
+served_fine e (Err why) is = absurd (false≢true is)
 
 -- what is answered joins what is to be sent
-served_more : (readers : Readers) (e : ServerEnd) (f : Front) → is_line f ≡ true
-    → front_served readers e f ≡ record (front_served readers (record e { out = [] }) f) {
-      out = e.out ++ (front_served readers (record e { out = [] }) f).out;
+served_more : (e : ServerEnd) (f : Front) → is_line f ≡ true
+    → front_served e f ≡ record (front_served (record e { out = [] }) f) {
+      out = e.out ++ (front_served (record e { out = [] }) f).out;
     }
-served_more readers e (Ok None) is = absurd (false≢true is)
-served_more readers e (Ok (Some (line, rest))) is = refl
-served_more readers e (Err why) is = absurd (false≢true is)
+served_more e (Ok None) is = absurd (false≢true is)
+served_more e (Ok (Some (line, rest))) is = refl
+served_more e (Err why) is = absurd (false≢true is)
 
 fed_fine : (fault : Option FramingFault) (rest xs : List ℕ) → (fed_behind fault rest xs).fault ≡ fault
 fed_fine None rest xs = refl
@@ -159,23 +160,23 @@ begun w h = sym (λ i. record {
   written = w.written;
 })
 
-begun_on : (readers : Readers) (w : World) → IsServing w → after readers (event.Up 0) w ≡ server_joined w w.server w.server.out 0
-begun_on readers w h = not_done readers (event.Up 0) w (never_none w.server.server.on (is_none w.server.input.fault)) ∙ begun w h
+begun_on : (w : World) → IsServing w → after (event.Up 0) w ≡ server_joined w w.server w.server.out 0
+begun_on w h = not_done (event.Up 0) w (never_none w.server.server.on (is_none w.server.input.fault)) ∙ begun w h
 
 some_up : (w : World) (k : ℕ) → may_feed w.server ≡ true → 1 ≤ k → k ≤ length (server_link w).up → can (event.Up k) w ≡ true
 some_up w k may some le =
     let parts = and_parts _ _ may in
     and_from _ _ parts.0 (and_from _ _ parts.1 (and_from _ _ (le-leb 1 k some) (le-leb k (length (server_link w).up) le)))
 
-takes_on : (readers : Readers) (w : World) (read : List ℕ) → IsServing w → may_feed w.server ≡ true
+takes_on : (w : World) (read : List ℕ) → IsServing w → may_feed w.server ≡ true
     → take (length read) (server_link w).up ≡ read
-    → after readers (event.Up (length read)) w ≡ server_joined w (serving_fed read w.server) w.server.out (length read)
-takes_on readers w [] h may front =
-    begun_on readers w h ∙ ap (λ (f : Framing). server_joined w (record (w.server) { input = f }) w.server.out 0)
+    → after (event.Up (length read)) w ≡ server_joined w (serving_fed read w.server) w.server.out (length read)
+takes_on w [] h may front =
+    begun_on w h ∙ ap (λ (f : Framing). server_joined w (record (w.server) { input = f }) w.server.out 0)
     (sym (fed_none w.server.input))
-takes_on readers w (x ∷ xs) h may front =
+takes_on w (x ∷ xs) h may front =
     let k : ℕ = length (x ∷ xs) in
-    done_now readers (event.Up k) w (some_up w k may (omega arith) (fits (x ∷ xs) (server_link w).up front))
+    done_now (event.Up k) w (some_up w k may (omega arith) (fits (x ∷ xs) (server_link w).up front))
     ∙ (λ i. record {
       client = w.client;
       server = record (w.server) { input = fed w.server.input (front i); out = h.out i };
@@ -200,28 +201,28 @@ writes_on w e f more k h last = λ i. record {
   written = w.written;
 }
 
-reads_on : (readers : Readers) (w : World) (e : ServerEnd) (k : ℕ) → IsServing w → e.server.last ≡ w.server.server.last
+reads_on : (w : World) (e : ServerEnd) (k : ℕ) → IsServing w → e.server.last ≡ w.server.server.last
     → e.input.fault ≡ None → e.server.on ≡ true → is_line (next_of e.input.rest) ≡ true
-    → after readers event.ServerReads (server_joined w e e.out k)
-    ≡ server_joined w (serving_read readers e) (serving_read readers e).out k
-reads_on readers w e k h last fine on is =
-    let f : ServerEnd = serving_read readers (record e { out = [] }) in
-    done_now readers event.ServerReads (server_joined w e e.out k) (and_from _ _ on (and_from _ _ (ap is_none fine) is))
+    → after event.ServerReads (server_joined w e e.out k)
+    ≡ server_joined w (serving_read e) (serving_read e).out k
+reads_on w e k h last fine on is =
+    let f : ServerEnd = serving_read (record e { out = [] }) in
+    done_now event.ServerReads (server_joined w e e.out k) (and_from _ _ on (and_from _ _ (ap is_none fine) is))
     ∙ (writes_on w e f f.out k h last
-    ∙ ap (λ (x : ServerEnd). server_joined w x x.out k) (sym (served_more readers e (next_of e.input.rest) is)))
+    ∙ ap (λ (x : ServerEnd). server_joined w x x.out k) (sym (served_more e (next_of e.input.rest) is)))
 
-turns_on : (readers : Readers) (w : World) (e : ServerEnd) (k : ℕ) → IsServing w → e.server.last ≡ w.server.server.last
+turns_on : (w : World) (e : ServerEnd) (k : ℕ) → IsServing w → e.server.last ≡ w.server.server.last
     → may_turn e.server ≡ true
-    → after readers event.ServerTurn (server_joined w e e.out k) ≡ server_joined w (serving_turned e) (serving_turned e).out k
-turns_on readers w e k h last may =
-    done_now readers event.ServerTurn (server_joined w e e.out k) may
+    → after event.ServerTurn (server_joined w e e.out k) ≡ server_joined w (serving_turned e) (serving_turned e).out k
+turns_on w e k h last may =
+    done_now event.ServerTurn (server_joined w e e.out k) may
     ∙ writes_on w e (serving_turned e) (reply_bytes (server_turned e.server).said) k h last
 
-ends_on : (readers : Readers) (w : World) (e : ServerEnd) (k : ℕ) (o : Outcome) → IsServing w → e.server.last ≡ w.server.server.last
+ends_on : (w : World) (e : ServerEnd) (k : ℕ) (o : Outcome) → IsServing w → e.server.last ≡ w.server.server.last
     → may_end e.server.running o ≡ true
-    → after readers (event.Machine o) (server_joined w e e.out k) ≡ server_joined w (serving_machined o e) (serving_machined o e).out k
-ends_on readers w e k o h last may =
-    done_now readers (event.Machine o) (server_joined w e e.out k) may
+    → after (event.Machine o) (server_joined w e e.out k) ≡ server_joined w (serving_machined o e) (serving_machined o e).out k
+ends_on w e k o h last may =
+    done_now (event.Machine o) (server_joined w e e.out k) may
     ∙ writes_on w e (serving_machined o e) (reply_bytes (server_machined e.server o).said) k h last
 
 -- ---- what the server has to do
@@ -246,71 +247,71 @@ next_none answer w idle none =
 -- ---- the turn
 
 -- besides: the server stays on its connection and meets no fault
-record Hears (readers : Readers) (w : World) (read written : List ℕ) (e : ServerEnd) : Type 0 where
+record Hears (w : World) (read written : List ℕ) (e : ServerEnd) : Type 0 where
   pub fed : World
-  pub came : after readers (event.Up (length read)) w ≡ fed
-  pub so_far : SoFar readers event.ServerReads fed (server_joined w e e.out (length read))
+  pub came : after (event.Up (length read)) w ≡ fed
+  pub so_far : SoFar event.ServerReads fed (server_joined w e e.out (length read))
   pub none : written ≡ []
   pub last : e.server.last ≡ w.server.server.last
   pub fine : e.input.fault ≡ None
 
 -- and it has read all
-record Works (readers : Readers) (answer : Job → ℕ → Outcome) (w : World) (read written : List ℕ) (e : ServerEnd) : Type 0 where
+record Works (answer : Job → ℕ → Outcome) (w : World) (read written : List ℕ) (e : ServerEnd) : Type 0 where
   pub fed : World
-  pub came : after readers (event.Up (length read)) w ≡ fed
+  pub came : after (event.Up (length read)) w ≡ fed
   pub first : ServerEnd
-  pub heard : SoFar readers event.ServerReads fed (server_joined w first first.out (length read))
+  pub heard : SoFar event.ServerReads fed (server_joined w first first.out (length read))
   pub all : can event.ServerReads (server_joined w first first.out (length read)) ≡ false
-  pub so_far : Worked readers answer (server_joined w first first.out (length read)) (server_joined w e (written ++ e.out) (length read))
+  pub so_far : Worked answer (server_joined w first first.out (length read)) (server_joined w e (written ++ e.out) (length read))
   pub last : e.server.last ≡ w.server.server.last
 
 -- and where it writes it has done all
-record Whole (readers : Readers) (answer : Job → ℕ → Outcome) (w : World) (read written : List ℕ) (e : ServerEnd) : Type 0 where
-  pub works : Works readers answer w read written e
+record Whole (answer : Job → ℕ → Outcome) (w : World) (read written : List ℕ) (e : ServerEnd) : Type 0 where
+  pub works : Works answer w read written e
   pub done : working (ending answer (server_joined w e (written ++ e.out) (length read)))
       (server_joined w e (written ++ e.out) (length read))
       ≡ None
 
-abbrev Goes : Readers → (Job → ℕ → Outcome) → World → Stage → List ℕ → List ℕ → ServerEnd → Type 0
-Goes readers answer w Taking read written e = Hears readers w read written e
-Goes readers answer w Reading read written e = Hears readers w read written e
-Goes readers answer w Writing read written e = Whole readers answer w read written e
-Goes readers answer w _ read written e = Works readers answer w read written e
+abbrev Goes : (Job → ℕ → Outcome) → World → Stage → List ℕ → List ℕ → ServerEnd → Type 0
+Goes answer w Taking read written e = Hears w read written e
+Goes answer w Reading read written e = Hears w read written e
+Goes answer w Writing read written e = Whole answer w read written e
+Goes answer w _ read written e = Works answer w read written e
 
-plays : (readers : Readers) (answer : Job → ℕ → Outcome) (least : ℕ) (w : World) (stage : Stage) (read written : List ℕ) (e : ServerEnd)
+plays : (answer : Job → ℕ → Outcome) (least : ℕ) (w : World) (stage : Stage) (read written : List ℕ) (e : ServerEnd)
     → IsServing w → AreFit answer → take (length read) (server_link w).up ≡ read
-    → ServerTurn readers answer least w.server stage read written e → Goes readers answer w stage read written e
-plays readers answer least w _ _ _ _ h fit front begins = record {
+    → ServerTurn answer least w.server stage read written e → Goes answer w stage read written e
+plays answer least w _ _ _ _ h fit front begins = record {
   fed = server_joined w w.server w.server.out 0;
-  came = begun_on readers w h;
-  so_far = not_yet readers event.ServerReads (server_joined w w.server w.server.out 0) (server_joined w w.server w.server.out 0) refl;
+  came = begun_on w h;
+  so_far = not_yet event.ServerReads (server_joined w w.server w.server.out 0) (server_joined w w.server w.server.out 0) refl;
   none = refl;
   last = refl;
   fine = h.fine;
 }
-plays readers answer least w _ _ _ _ h fit front (takes read may) =
+plays answer least w _ _ _ _ h fit front (takes read may) =
     let v : World = server_joined w (serving_fed read w.server) w.server.out (length read) in record {
       fed = v;
-      came = takes_on readers w read h may front;
-      so_far = not_yet readers event.ServerReads v v refl;
+      came = takes_on w read h may front;
+      so_far = not_yet event.ServerReads v v refl;
       none = refl;
       last = refl;
       fine = fed_fine w.server.input.fault w.server.input.rest read ∙ h.fine;
     }
-plays readers answer least w _ _ _ _ h fit front (has e read t enough) = plays readers answer least w Taking read [] e h fit front t
-plays readers answer least w _ _ _ _ h fit front (reads e read t on is) =
-    let p : Hears readers w read [] e = plays readers answer least w Reading read [] e h fit front t in record {
+plays answer least w _ _ _ _ h fit front (has e read t enough) = plays answer least w Taking read [] e h fit front t
+plays answer least w _ _ _ _ h fit front (reads e read t on is) =
+    let p : Hears w read [] e = plays answer least w Reading read [] e h fit front t in record {
       fed = p.fed;
       came = p.came;
-      so_far = once_more readers event.ServerReads p.fed (server_joined w e e.out (length read))
-          (server_joined w (serving_read readers e) (serving_read readers e).out (length read)) p.so_far
-          (and_from _ _ on (and_from _ _ (ap is_none p.fine) is)) (reads_on readers w e (length read) h p.last p.fine on is);
+      so_far = once_more event.ServerReads p.fed (server_joined w e e.out (length read))
+          (server_joined w (serving_read e) (serving_read e).out (length read)) p.so_far
+          (and_from _ _ on (and_from _ _ (ap is_none p.fine) is)) (reads_on w e (length read) h p.last p.fine on is);
       none = refl;
-      last = served_last readers e (next_of e.input.rest) ∙ p.last;
-      fine = served_fine readers e (next_of e.input.rest) is ∙ p.fine;
+      last = served_last e (next_of e.input.rest) ∙ p.last;
+      fine = served_fine e (next_of e.input.rest) is ∙ p.fine;
     }
-plays readers answer least w _ _ _ _ h fit front (knows e read t none) =
-    let p : Hears readers w read [] e = plays readers answer least w Reading read [] e h fit front t in
+plays answer least w _ _ _ _ h fit front (knows e read t none) =
+    let p : Hears w read [] e = plays answer least w Reading read [] e h fit front t in
     let v : World = server_joined w e e.out (length read) in record {
       fed = p.fed;
       came = p.came;
@@ -318,128 +319,128 @@ plays readers answer least w _ _ _ _ h fit front (knows e read t none) =
       heard = p.so_far;
       all = ap (λ (f : Front). e.server.on && (is_none e.input.fault && is_line f)) none
           ∙ never_none e.server.on (is_none e.input.fault);
-      so_far = no_work readers answer v v refl;
+      so_far = no_work answer v v refl;
       last = p.last;
     }
-plays readers answer least w _ _ _ _ h fit front (turns e read t may) =
-    let p : Works readers answer w read [] e = plays readers answer least w Working read [] e h fit front t in record {
+plays answer least w _ _ _ _ h fit front (turns e read t may) =
+    let p : Works answer w read [] e = plays answer least w Working read [] e h fit front t in record {
       fed = p.fed;
       came = p.came;
       first = p.first;
       heard = p.heard;
       all = p.all;
-      so_far = more_work readers answer event.ServerTurn (server_joined w p.first p.first.out (length read))
+      so_far = more_work answer event.ServerTurn (server_joined w p.first p.first.out (length read))
           (server_joined w e e.out (length read)) (server_joined w (serving_turned e) (serving_turned e).out (length read)) p.so_far
-          (next_turn answer (server_joined w e e.out (length read)) may) (turns_on readers w e (length read) h p.last may);
+          (next_turn answer (server_joined w e e.out (length read)) may) (turns_on w e (length read) h p.last may);
       last = (turned_moves e.server).1.last ∙ p.last;
     }
-plays readers answer least w _ _ _ _ h fit front (ends e read j t is) =
-    let p : Works readers answer w read [] e = plays readers answer least w Working read [] e h fit front t in
+plays answer least w _ _ _ _ h fit front (ends e read j t is) =
+    let p : Works answer w read [] e = plays answer least w Working read [] e h fit front t in
     let o : Outcome = answer j (contact_count e.server.ledger) in record {
       fed = p.fed;
       came = p.came;
       first = p.first;
       heard = p.heard;
       all = p.all;
-      so_far = more_work readers answer (event.Machine o) (server_joined w p.first p.first.out (length read))
+      so_far = more_work answer (event.Machine o) (server_joined w p.first p.first.out (length read))
           (server_joined w e e.out (length read)) (server_joined w (serving_machined o e) (serving_machined o e).out (length read)) p.so_far
           (next_end answer (server_joined w e e.out (length read)) j is)
-          (ends_on readers w e (length read) o h p.last
+          (ends_on w e (length read) o h p.last
           (may_end_by e.server.frame e.server.running j o is (fit j (contact_count e.server.ledger))));
       last = (machined_moves e.server o).1.last ∙ p.last;
     }
-plays readers answer least w _ _ _ _ h fit front (writes e read count t idle none within) =
-    let p : Works readers answer w read [] e = plays readers answer least w Working read [] e h fit front t in record {
+plays answer least w _ _ _ _ h fit front (writes e read count t idle none within) =
+    let p : Works answer w read [] e = plays answer least w Working read [] e h fit front t in record {
       works = record {
         fed = p.fed;
         came = p.came;
         first = p.first;
         heard = p.heard;
         all = p.all;
-        so_far = subst (λ (x : List ℕ). Worked readers answer (server_joined w p.first p.first.out (length read))
+        so_far = subst (λ (x : List ℕ). Worked answer (server_joined w p.first p.first.out (length read))
             (server_joined w e x (length read))) (sym (take-append-drop count e.out)) p.so_far;
         last = p.last;
       };
       done = next_none answer (server_joined w e (take count e.out ++ drop count e.out) (length read)) idle none;
     }
 
-abbrev Turns : Readers → (Job → ℕ → Outcome) → World → (cut : Bool) → ℕ → World → Type 0
-Turns readers answer w cut count v = TurnLeads readers (IsServerTurn readers answer count) cut w v
+abbrev Turns : (Job → ℕ → Outcome) → World → (cut : Bool) → ℕ → World → Type 0
+Turns answer w cut count v = TurnLeads (IsServerTurn answer count) cut w v
 
-heard_leads : (readers : Readers) (answer : Job → ℕ → Outcome) (w : World) (read written : List ℕ) (e : ServerEnd)
-    → Hears readers w read written e → Turns readers answer w true (length read) (server_joined w e (written ++ e.out) (length read))
-heard_leads readers answer w read written e p =
-    subst (λ (x : List ℕ). Turns readers answer w true (length read) (server_joined w e (x ++ e.out) (length read))) (sym p.none)
-    (heard_only readers answer (length read) w p.fed (server_joined w e e.out (length read)) p.came p.so_far)
+heard_leads : (answer : Job → ℕ → Outcome) (w : World) (read written : List ℕ) (e : ServerEnd)
+    → Hears w read written e → Turns answer w true (length read) (server_joined w e (written ++ e.out) (length read))
+heard_leads answer w read written e p =
+    subst (λ (x : List ℕ). Turns answer w true (length read) (server_joined w e (x ++ e.out) (length read))) (sym p.none)
+    (heard_only answer (length read) w p.fed (server_joined w e e.out (length read)) p.came p.so_far)
 
-worked_leads : (readers : Readers) (answer : Job → ℕ → Outcome) (w : World) (read written : List ℕ) (e : ServerEnd) (cut : Bool)
-    → (p : Works readers answer w read written e)
-    → AreWork readers answer cut (server_joined w p.first p.first.out (length read)) p.so_far.events
-    → Turns readers answer w cut (length read) (server_joined w e (written ++ e.out) (length read))
-worked_leads readers answer w read written e cut p work =
-    served_whole readers answer (length read) cut w p.fed (server_joined w p.first p.first.out (length read))
+worked_leads : (answer : Job → ℕ → Outcome) (w : World) (read written : List ℕ) (e : ServerEnd) (cut : Bool)
+    → (p : Works answer w read written e)
+    → AreWork answer cut (server_joined w p.first p.first.out (length read)) p.so_far.events
+    → Turns answer w cut (length read) (server_joined w e (written ++ e.out) (length read))
+worked_leads answer w read written e cut p work =
+    served_whole answer (length read) cut w p.fed (server_joined w p.first p.first.out (length read))
     (server_joined w e (written ++ e.out) (length read)) p.came p.heard p.all p.so_far work
 
-goes_leads : (readers : Readers) (answer : Job → ℕ → Outcome) (w : World) (stage : Stage) (read written : List ℕ) (e : ServerEnd)
-    → Goes readers answer w stage read written e
-    → Turns readers answer w true (length read) (server_joined w e (written ++ e.out) (length read))
-goes_leads readers answer w Taking read written e g = heard_leads readers answer w read written e g
-goes_leads readers answer w Reading read written e g = heard_leads readers answer w read written e g
-goes_leads readers answer w Stage.Sending read written e g = worked_leads readers answer w read written e true g g.so_far.are
-goes_leads readers answer w Working read written e g = worked_leads readers answer w read written e true g g.so_far.are
-goes_leads readers answer w Writing read written e g = worked_leads readers answer w read written e true g.works g.works.so_far.are
+goes_leads : (answer : Job → ℕ → Outcome) (w : World) (stage : Stage) (read written : List ℕ) (e : ServerEnd)
+    → Goes answer w stage read written e
+    → Turns answer w true (length read) (server_joined w e (written ++ e.out) (length read))
+goes_leads answer w Taking read written e g = heard_leads answer w read written e g
+goes_leads answer w Reading read written e g = heard_leads answer w read written e g
+goes_leads answer w Stage.Sending read written e g = worked_leads answer w read written e true g g.so_far.are
+goes_leads answer w Working read written e g = worked_leads answer w read written e true g g.so_far.are
+goes_leads answer w Writing read written e g = worked_leads answer w read written e true g.works g.works.so_far.are
 
 -- how far a server's turn has come, in events
-pub serving_joins : (readers : Readers) (answer : Job → ℕ → Outcome) → AreFit answer → (least : ℕ) (w : World) (stage : Stage)
+pub serving_joins : (answer : Job → ℕ → Outcome) → AreFit answer → (least : ℕ) (w : World) (stage : Stage)
     (read written : List ℕ) (e : ServerEnd) → w.server.out ≡ [] → w.server.input.fault ≡ None
     → 1 ≤ w.server.server.last → w.server.server.last ≤ length w.links
-    → take (length read) (server_link w).up ≡ read → ServerTurn readers answer least w.server stage read written e
-    → TurnLeads readers (IsServerTurn readers answer (length read)) true w (server_joined w e (written ++ e.out) (length read))
-serving_joins readers answer fit least w stage read written e out fine from to front t =
-    goes_leads readers answer w stage read written e
-    (plays readers answer least w stage read written e (record { out = out; fine = fine; from = from; to = to }) fit front t)
+    → take (length read) (server_link w).up ≡ read → ServerTurn answer least w.server stage read written e
+    → TurnLeads (IsServerTurn answer (length read)) true w (server_joined w e (written ++ e.out) (length read))
+serving_joins answer fit least w stage read written e out fine from to front t =
+    goes_leads answer w stage read written e
+    (plays answer least w stage read written e (record { out = out; fine = fine; from = from; to = to }) fit front t)
 
 -- a turn in which the server writes is whole
-pub serving_whole : (readers : Readers) (answer : Job → ℕ → Outcome) → AreFit answer → (least : ℕ) (w : World)
+pub serving_whole : (answer : Job → ℕ → Outcome) → AreFit answer → (least : ℕ) (w : World)
     (read written : List ℕ) (e : ServerEnd) → w.server.out ≡ [] → w.server.input.fault ≡ None
     → 1 ≤ w.server.server.last → w.server.server.last ≤ length w.links
-    → take (length read) (server_link w).up ≡ read → ServerTurn readers answer least w.server Writing read written e
-    → TurnLeads readers (IsServerTurn readers answer (length read)) false w (server_joined w e (written ++ e.out) (length read))
-serving_whole readers answer fit least w read written e out fine from to front t =
-    let p : Whole readers answer w read written e =
-    plays readers answer least w Writing read written e (record { out = out; fine = fine; from = from; to = to }) fit front t in
-    worked_leads readers answer w read written e false p.works
-    (all_worked readers answer (server_joined w p.works.first p.works.first.out (length read))
+    → take (length read) (server_link w).up ≡ read → ServerTurn answer least w.server Writing read written e
+    → TurnLeads (IsServerTurn answer (length read)) false w (server_joined w e (written ++ e.out) (length read))
+serving_whole answer fit least w read written e out fine from to front t =
+    let p : Whole answer w read written e =
+    plays answer least w Writing read written e (record { out = out; fine = fine; from = from; to = to }) fit front t in
+    worked_leads answer w read written e false p.works
+    (all_worked answer (server_joined w p.works.first p.works.first.out (length read))
     (server_joined w e (written ++ e.out) (length read)) p.works.so_far p.done)
 
 -- the server leaves its connection behind events that have led so far
-pub serving_leaves : (readers : Readers) (w : World) (events : List Event) (e : ServerEnd) (text : List ℕ) (count : ℕ)
-    → run_of readers events w ≡ server_joined w e text count → e.server.on ≡ true
-    → run_of readers (events ++ event.ServerLeaves ∷ []) w ≡ record (server_joined w e text count) { server = serving_left e }
-serving_leaves readers w events e text count leads on =
-    run_append readers events (event.ServerLeaves ∷ []) w
-    ∙ (ap (after readers event.ServerLeaves) leads ∙ done_now readers event.ServerLeaves (server_joined w e text count) on)
+pub serving_leaves : (w : World) (events : List Event) (e : ServerEnd) (text : List ℕ) (count : ℕ)
+    → run_of events w ≡ server_joined w e text count → e.server.on ≡ true
+    → run_of (events ++ event.ServerLeaves ∷ []) w ≡ record (server_joined w e text count) { server = serving_left e }
+serving_leaves w events e text count leads on =
+    run_append events (event.ServerLeaves ∷ []) w
+    ∙ (ap (after event.ServerLeaves) leads ∙ done_now event.ServerLeaves (server_joined w e text count) on)
 
 -- where a server reads, and from then on, as many bytes have come in as were asked for
 abbrev Enough : Stage → ℕ → List ℕ → Type 0
 Enough Taking least read = Unit {0}
 Enough _ least read = least ≤ length read
 
-enough_came : (readers : Readers) (answer : Job → ℕ → Outcome) (least : ℕ) (s : ServerEnd) (stage : Stage) (read written : List ℕ)
-    (e : ServerEnd) → ServerTurn readers answer least s stage read written e → Enough stage least read
-enough_came readers answer least s _ _ _ _ begins = tt
-enough_came readers answer least s _ _ _ _ (takes read may) = tt
-enough_came readers answer least s _ _ _ _ (has e read t enough) = enough
-enough_came readers answer least s _ _ _ _ (reads e read t on is) = enough_came readers answer least s Reading read [] e t
-enough_came readers answer least s _ _ _ _ (knows e read t none) = enough_came readers answer least s Reading read [] e t
-enough_came readers answer least s _ _ _ _ (turns e read t may) = enough_came readers answer least s Working read [] e t
-enough_came readers answer least s _ _ _ _ (ends e read j t is) = enough_came readers answer least s Working read [] e t
-enough_came readers answer least s _ _ _ _ (writes e read count t idle none within) =
-    enough_came readers answer least s Working read [] e t
+enough_came : (answer : Job → ℕ → Outcome) (least : ℕ) (s : ServerEnd) (stage : Stage) (read written : List ℕ)
+    (e : ServerEnd) → ServerTurn answer least s stage read written e → Enough stage least read
+enough_came answer least s _ _ _ _ begins = tt
+enough_came answer least s _ _ _ _ (takes read may) = tt
+enough_came answer least s _ _ _ _ (has e read t enough) = enough
+enough_came answer least s _ _ _ _ (reads e read t on is) = enough_came answer least s Reading read [] e t
+enough_came answer least s _ _ _ _ (knows e read t none) = enough_came answer least s Reading read [] e t
+enough_came answer least s _ _ _ _ (turns e read t may) = enough_came answer least s Working read [] e t
+enough_came answer least s _ _ _ _ (ends e read j t is) = enough_came answer least s Working read [] e t
+enough_came answer least s _ _ _ _ (writes e read count t idle none within) =
+    enough_came answer least s Working read [] e t
 
-pub serving_enough : (readers : Readers) (answer : Job → ℕ → Outcome) (least : ℕ) (s : ServerEnd) (read written : List ℕ) (e : ServerEnd)
-    → ServerTurn readers answer least s Writing read written e → least ≤ length read
-serving_enough readers answer least s read written e t = enough_came readers answer least s Writing read written e t
+pub serving_enough : (answer : Job → ℕ → Outcome) (least : ℕ) (s : ServerEnd) (read written : List ℕ) (e : ServerEnd)
+    → ServerTurn answer least s Writing read written e → least ≤ length read
+serving_enough answer least s read written e t = enough_came answer least s Writing read written e t
 
 -- ---- behind a turn from a world to which events have led
 
@@ -454,41 +455,41 @@ reached_serving w c on =
     }
 
 -- the events of the whole, and the world behind them
-record Reaches (readers : Readers) (v w : World) : Type 0 where
+record Reaches (v w : World) : Type 0 where
   pub events : List Event
-  pub leads : run_of readers events v ≡ w
+  pub leads : run_of events v ≡ w
 
-serving_reaches : (readers : Readers) → AreReaders readers → (answer : Job → ℕ → Outcome) → AreFit answer → (least : ℕ) (w : World)
+serving_reaches : (answer : Job → ℕ → Outcome) → AreFit answer → (least : ℕ) (w : World)
     (stage : Stage) (read written : List ℕ) (e : ServerEnd) (program : Meaning) (rack : List (List ℕ)) (window : ℕ) (events : List Event)
-    → IsProgram program → window ≤ 16 → w ≡ run_of readers events (start program rack window) → w.server.server.on ≡ true
-    → take (length read) (server_link w).up ≡ read → ServerTurn readers answer least w.server stage read written e
-    → Reaches readers (start program rack window) (server_joined w e (written ++ e.out) (length read))
-serving_reaches readers are answer fit least w stage read written e program rack window events is few reached on front t =
+    → IsProgram program → window ≤ 16 → w ≡ run_of events (start program rack window) → w.server.server.on ≡ true
+    → take (length read) (server_link w).up ≡ read → ServerTurn answer least w.server stage read written e
+    → Reaches (start program rack window) (server_joined w e (written ++ e.out) (length read))
+serving_reaches answer fit least w stage read written e program rack window events is few reached on front t =
     let c : IsCarried w =
-    subst IsCarried (sym reached) (run_carried readers are events (start program rack window) (start_carried program rack window is few)) in
-    let s : Turns readers answer w true (length read) (server_joined w e (written ++ e.out) (length read)) =
-    goes_leads readers answer w stage read written e
-    (plays readers answer least w stage read written e (reached_serving w c on) fit front t) in record {
+    subst IsCarried (sym reached) (run_carried events (start program rack window) (start_carried program rack window is few)) in
+    let s : Turns answer w true (length read) (server_joined w e (written ++ e.out) (length read)) =
+    goes_leads answer w stage read written e
+    (plays answer least w stage read written e (reached_serving w c on) fit front t) in record {
       events = events ++ s.events;
-      leads = run_append readers events s.events (start program rack window) ∙ (ap (run_of readers s.events) (sym reached) ∙ s.leads);
+      leads = run_append events s.events (start program rack window) ∙ (ap (run_of s.events) (sym reached) ∙ s.leads);
     }
 
-pub serving_sound : (readers : Readers) → AreReaders readers → (answer : Job → ℕ → Outcome) → AreFit answer → (least : ℕ) (w : World)
+pub serving_sound : (answer : Job → ℕ → Outcome) → AreFit answer → (least : ℕ) (w : World)
     (stage : Stage) (read written : List ℕ) (e : ServerEnd) (program : Meaning) (rack : List (List ℕ)) (window : ℕ) (events : List Event)
-    → IsProgram program → window ≤ 16 → w ≡ run_of readers events (start program rack window) → w.server.server.on ≡ true
-    → take (length read) (server_link w).up ≡ read → ServerTurn readers answer least w.server stage read written e
+    → IsProgram program → window ≤ 16 → w ≡ run_of events (start program rack window) → w.server.server.on ≡ true
+    → take (length read) (server_link w).up ≡ read → ServerTurn answer least w.server stage read written e
     → Sound program.features w.client.client.table.tally.features e.server.ledger
-serving_sound readers are answer fit least w stage read written e program rack window events is few reached on front t =
-    let r = serving_reaches readers are answer fit least w stage read written e program rack window events is few reached on front t in
+serving_sound answer fit least w stage read written e program rack window events is few reached on front t =
+    let r = serving_reaches answer fit least w stage read written e program rack window events is few reached on front t in
     subst (λ (v : World). Sound program.features v.client.client.table.tally.features v.server.server.ledger) r.leads
-    (always_sound readers are program rack window r.events is few)
+    (always_sound program rack window r.events is few)
 
-pub serving_told : (readers : Readers) → AreReaders readers → (answer : Job → ℕ → Outcome) → AreFit answer → (least : ℕ) (w : World)
+pub serving_told : (answer : Job → ℕ → Outcome) → AreFit answer → (least : ℕ) (w : World)
     (stage : Stage) (read written : List ℕ) (e : ServerEnd) (program : Meaning) (rack : List (List ℕ)) (window : ℕ) (events : List Event)
-    → IsProgram program → window ≤ 16 → w ≡ run_of readers events (start program rack window) → w.server.server.on ≡ true
-    → take (length read) (server_link w).up ≡ read → ServerTurn readers answer least w.server stage read written e
+    → IsProgram program → window ≤ 16 → w ≡ run_of events (start program rack window) → w.server.server.on ≡ true
+    → take (length read) (server_link w).up ≡ read → ServerTurn answer least w.server stage read written e
     → Told w.client.client.table.tally.counted e.server.ledger w.client.client.last
-serving_told readers are answer fit least w stage read written e program rack window events is few reached on front t =
-    let r = serving_reaches readers are answer fit least w stage read written e program rack window events is few reached on front t in
+serving_told answer fit least w stage read written e program rack window events is few reached on front t =
+    let r = serving_reaches answer fit least w stage read written e program rack window events is few reached on front t in
     subst (λ (v : World). Told v.client.client.table.tally.counted v.server.server.ledger v.client.client.last) r.leads
-    (always_told readers are program rack window r.events is few)
+    (always_told program rack window r.events is few)

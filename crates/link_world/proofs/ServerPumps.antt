@@ -10,7 +10,6 @@ use Rattle.line_framing.specs.Next.{Front, next_of}
 use Rattle.line_framing.specs.Framing.{IsLineDue, IsSound, Framing, fed, fed_behind}
 use Rattle.line_framing.specs.declared.faults.FramingFault.{FramingFault}
 use Rattle.contact_ledger.specs.Ledgers.{contact_count}
-use Rattle.protocol_model.specs.Lines.{Readers, AreReaders}
 use Rattle.protocol_model.specs.Server.{Server, running_job, may_end}
 use Rattle.protocol_model.specs.Ends.{ServerEnd, serving_fed, serving_read, serving_turned, serving_machined, serving_taken, serving_left}
 use Rattle.protocol_model.specs.Ends.{new_client_end, front_served}
@@ -18,7 +17,6 @@ use Rattle.protocol_model.specs.World.{World, is_line}
 use Rattle.protocol_model.specs.declared.lines.Line.{Line}
 use Rattle.protocol_model.specs.declared.machine.Job.{Job}
 use Rattle.protocol_model.specs.declared.machine.Outcome.{Outcome}
-use Rattle.protocol_model.proofs.written_lines.ReadersExist.{some_are_readers}
 use Rattle.server_core.specs.Serving.{Serving, with_end, may_feed, may_turn, IsFeedFault, IsReadFault}
 use Rattle.server_core.specs.Steady.{IsRunnable}
 use Rattle.server_core.specs.declared.faults.ServerFault.{ServerFault}
@@ -115,7 +113,7 @@ pub record ServerLinesRead (a b : Serving) (budget now : ℕ) : Type 0 where
 
 pub server_lines_none : (s : Serving) (budget : ℕ) → ServerLinesRead s s budget budget
 server_lines_none s budget = record {
-  goes = λ answer. record { setup = refl; turn = λ readers are least start read t. (t, omega arith) };
+  goes = λ answer. record { setup = refl; turn = λ least start read t. (t, omega arith) };
   counted = omega arith;
 }
 
@@ -124,9 +122,9 @@ pub goes_less : (answer : Job → ℕ → Outcome) (stage : Stage) (budget now t
     → ServerGoesOn answer stage budget now a b → then ≤ now → ServerGoesOn answer stage budget then a b
 goes_less answer stage budget now then a b h less = record {
   setup = h.setup;
-  turn = λ readers are least start read t.
-      let p : (u : ServerTurn readers answer least start stage read [] b.end) × (now + steps_made u ≤ budget + steps_made t) =
-      h.turn readers are least start read t in
+  turn = λ least start read t.
+      let p : (u : ServerTurn answer least start stage read [] b.end) × (now + steps_made u ≤ budget + steps_made t) =
+      h.turn least start read t in
       let before = p.1 in (p.0, omega (arith, before, less));
 }
 
@@ -135,28 +133,28 @@ line_there (Ok None) due = absurd (false≢true due)
 line_there (Ok (Some found)) due = refl
 line_there (Err why) due = absurd due
 
-served_rest : (readers : Readers) (e : ServerEnd) (f : Front) → next_of e.input.rest ≡ f → IsLineDue f
-    → length (front_served readers e f).input.rest + 2 ≤ length e.input.rest
-served_rest readers e (Ok None) is line = absurd (false≢true line)
-served_rest readers e (Ok (Some (found, rest))) is line = two_less e.input (Ok (Some (found, rest))) is line
-served_rest readers e (Err why) is line = absurd line
+served_rest : (e : ServerEnd) (f : Front) → next_of e.input.rest ≡ f → IsLineDue f
+    → length (front_served e f).input.rest + 2 ≤ length e.input.rest
+served_rest e (Ok None) is line = absurd (false≢true line)
+served_rest e (Ok (Some (found, rest))) is line = two_less e.input (Ok (Some (found, rest))) is line
+served_rest e (Err why) is line = absurd line
 
 pub server_lines_more : (a b c : Serving) (budget now then : ℕ) → ServerLinesRead a b budget now → now ≡ then + 1
     → b.end.server.on ≡ true → IsLineDue (next_of b.end.input.rest)
-    → ((readers : Readers) → AreReaders readers → c ≡ with_end b (serving_read readers b.end)) → ServerLinesRead a c budget then
+    → (c ≡ with_end b (serving_read b.end)) → ServerLinesRead a c budget then
 server_lines_more a b c budget now then h step on is same =
     let less : length c.end.input.rest + 2 ≤ length b.end.input.rest =
-    subst (λ (s : Serving). length s.end.input.rest + 2 ≤ length b.end.input.rest) (sym (same some_are_readers.0 some_are_readers.1))
-    (served_rest some_are_readers.0 b.end (next_of b.end.input.rest) refl is) in
+    subst (λ (s : Serving). length s.end.input.rest + 2 ≤ length b.end.input.rest) (sym (same))
+    (served_rest b.end (next_of b.end.input.rest) refl is) in
     let before = h.counted in record {
       goes = λ answer. record {
-        setup = ap (λ (s : Serving). s.setup) (same some_are_readers.0 some_are_readers.1) ∙ (h.goes answer).setup;
-        turn = λ readers are least start read t.
-            let p : (u : ServerTurn readers answer least start Reading read [] b.end) × (now + steps_made u ≤ budget + steps_made t) =
-            (h.goes answer).turn readers are least start read t in
+        setup = ap (λ (s : Serving). s.setup) (same) ∙ (h.goes answer).setup;
+        turn = λ least start read t.
+            let p : (u : ServerTurn answer least start Reading read [] b.end) × (now + steps_made u ≤ budget + steps_made t) =
+            (h.goes answer).turn least start read t in
             let few = p.1 in
-            subst (λ (s : Serving). (u : ServerTurn readers answer least start Reading read [] s.end)
-            × (then + steps_made u ≤ budget + steps_made t)) (sym (same readers are))
+            subst (λ (s : Serving). (u : ServerTurn answer least start Reading read [] s.end)
+            × (then + steps_made u ≤ budget + steps_made t)) (sym (same))
             (reads b.end read p.0 on (line_there (next_of b.end.input.rest) is), omega (arith, few, step));
       };
       counted = omega (arith, before, less, step);
@@ -229,14 +227,14 @@ server_stops_asking a b why answer least bound calls left taken same sound r = r
     written = [];
     lost = [];
     last = a.end;
-    turn = λ readers are. begins;
+    turn = begins;
     leaves = ap (λ (s : Serving). serving_left s.end) same;
     consumed = Consumes-nil left;
     is_lost = none_lost (of_server why);
     appended = Appends-nil taken;
     why = asked_why least bound left a.end why (length a.end.input.rest) sound r;
   };
-  within = λ readers are. omega arith;
+  within = omega arith;
 }
 
 take_why : (least bound read held : ℕ) (left_now : Option (List ℕ)) (e : ServerEnd) (f : PumpFault ServerFault)
@@ -264,14 +262,14 @@ server_stops_taking a b c f answer least bound calls calls_now left left_now tak
     written = [];
     lost = s.lost;
     last = serving_fed s.read a.end;
-    turn = λ readers are. takes s.read may;
+    turn = takes s.read may;
     leaves = ap (λ (x : Serving). serving_left x.end) (fed_now a b c s.read same s.fed);
     consumed = s.consumed;
     is_lost = s.is_lost;
     appended = Appends-nil taken;
     why = take_why least bound (length s.read) (length a.end.input.rest) left_now (serving_fed s.read a.end) f s.why;
   };
-  within = λ readers are. omega (arith, most);
+  within = omega (arith, most);
 }
 
 few : (a c : Serving) (read : List ℕ) → c ≡ with_end a (serving_fed read a.end)
@@ -280,24 +278,22 @@ few a c read same = subst (λ (s : Serving). length s.end.input.rest ≤ length 
     (longer a.end.input.fault a.end.input.rest read)
 
 has_come : (a c : Serving) (answer : Job → ℕ → Outcome) (least come : ℕ) (read : List ℕ) → may_feed a.end ≡ true
-    → c ≡ with_end a (serving_fed read a.end) → come ≡ length read → least ≤ come → (readers : Readers)
-    → (t : ServerTurn readers answer least a.end Reading read [] c.end) × (steps_made t ≡ 0)
-has_come a c answer least come read may same many enough readers =
-    let t : (t : ServerTurn readers answer least a.end Taking read [] c.end) × (steps_made t ≡ 0) =
-    subst (λ (s : Serving). (t : ServerTurn readers answer least a.end Taking read [] s.end) × (steps_made t ≡ 0)) (sym same)
+    → c ≡ with_end a (serving_fed read a.end) → come ≡ length read → least ≤ come → (t : ServerTurn answer least a.end Reading read [] c.end) × (steps_made t ≡ 0)
+has_come a c answer least come read may same many enough =
+    let t : (t : ServerTurn answer least a.end Taking read [] c.end) × (steps_made t ≡ 0) =
+    subst (λ (s : Serving). (t : ServerTurn answer least a.end Taking read [] s.end) × (steps_made t ≡ 0)) (sym same)
     (takes read may, refl) in
     (has c.end read t.0 (omega (arith, many, enough)), t.1)
 
 -- bytes have come, and it has gone on from there
 comes_on : (a b c d : Serving) (answer : Job → ℕ → Outcome) (least bound mid late come : ℕ) (left left_now : Option (List ℕ))
     → may_feed a.end ≡ true → b ≡ with_end a (serving_fed [] a.end) → (s : ServerCame b c left left_now bound mid come) → least ≤ come
-    → ServerGoesOn answer Reading mid late c d → (readers : Readers) → AreReaders readers
-    → (t : ServerTurn readers answer least a.end Reading s.read [] d.end) × (late + steps_made t ≤ mid)
-comes_on a b c d answer least bound mid late come left left_now may same s enough goes readers are =
-    let t : (t : ServerTurn readers answer least a.end Reading s.read [] c.end) × (steps_made t ≡ 0) =
-    has_come a c answer least come s.read may (fed_now a b c s.read same s.fed) s.count_is enough readers in
-    let u : (u : ServerTurn readers answer least a.end Reading s.read [] d.end) × (late + steps_made u ≤ mid + steps_made t.0) =
-    goes.turn readers are least a.end s.read t.0 in
+    → ServerGoesOn answer Reading mid late c d → (t : ServerTurn answer least a.end Reading s.read [] d.end) × (late + steps_made t ≤ mid)
+comes_on a b c d answer least bound mid late come left left_now may same s enough goes =
+    let t : (t : ServerTurn answer least a.end Reading s.read [] c.end) × (steps_made t ≡ 0) =
+    has_come a c answer least come s.read may (fed_now a b c s.read same s.fed) s.count_is enough in
+    let u : (u : ServerTurn answer least a.end Reading s.read [] d.end) × (late + steps_made u ≤ mid + steps_made t.0) =
+    goes.turn least a.end s.read t.0 in
     let none = t.1 in
     let few = u.1 in (u.0, omega (arith, none, few))
 
@@ -322,7 +318,7 @@ server_stops_reading a b c d f answer least bound calls calls_now mid come left 
     written = [];
     lost = [];
     last = r.last.end;
-    turn = λ readers are. (read_on readers are).0;
+    turn = (read_on).0;
     leaves = r.same;
     consumed = subst (Consumes left left_now) (sym (append-nil s.read)) s.consumed;
     is_lost = none_lost f;
@@ -330,11 +326,10 @@ server_stops_reading a b c d f answer least bound calls calls_now mid come left 
     why = read_why least bound mid (length s.read) (length a.end.input.rest) (length c.end.input.rest) left_now r.last.end f s.counted
         (few a c s.read (fed_now a b c s.read same s.fed)) r.why;
   };
-  within = λ readers are. let steps = (read_on readers are).1 in omega (arith, most, steps);
+  within = let steps = (read_on).1 in omega (arith, most, steps);
 }
   where
-    read_on : (readers : Readers) → AreReaders readers
-        → (t : ServerTurn readers answer least a.end Reading s.read [] r.last.end) × (0 + steps_made t ≤ mid)
+    read_on : (t : ServerTurn answer least a.end Reading s.read [] r.last.end) × (0 + steps_made t ≤ mid)
     read_on = comes_on a b c r.last answer least bound mid 0 come left left_now may same s enough (r.goes answer)
 
 pub reads_in : (a b c d : Serving) (least bound calls calls_now mid late come : ℕ) (left left_now : Option (List ℕ)) → may_feed a.end ≡ true
@@ -347,9 +342,9 @@ reads_in a b c d least bound calls calls_now mid late come left left_now may sam
     let before = s.counted in record {
       read = s.read;
       setup = (goes (λ job n. Outcome.Fault)).setup ∙ ap (λ (x : Serving). x.setup) (fed_now a b c s.read same s.fed);
-      turn = λ readers are answer.
-          let p : (t : ServerTurn readers answer least a.end Reading s.read [] d.end) × (late + steps_made t ≤ mid) =
-          comes_on a b c d answer least bound mid late come left left_now may same s enough (goes answer) readers are in
+      turn = λ answer.
+          let p : (t : ServerTurn answer least a.end Reading s.read [] d.end) × (late + steps_made t ≤ mid) =
+          comes_on a b c d answer least bound mid late come left left_now may same s enough (goes answer) in
           let steps = p.1 in (p.0, omega (arith, most_calls, steps));
       none = none;
       consumed = s.consumed;
@@ -364,7 +359,7 @@ abbrev pub beside : ServerEnd → World
 beside e = record { client = new_client_end (record { features = []; steps = [] }) [] 1; server = e; links = []; written = [] }
 
 pub works_none : (answer : Job → ℕ → Outcome) (budget : ℕ) (s : Serving) → ServerGoesOn answer Working budget budget s s
-works_none answer budget s = record { setup = refl; turn = λ readers are least start read t. (t, omega arith) }
+works_none answer budget s = record { setup = refl; turn = λ least start read t. (t, omega arith) }
 
 pub works_same : (answer : Job → ℕ → Outcome) (a b : Serving) → b ≡ a → ServerGoesOn answer Working 1 0 a b
 works_same answer a b same = subst (ServerGoesOn answer Working 1 0 a) (sym same)
@@ -374,11 +369,11 @@ pub works_on : (answer : Job → ℕ → Outcome) (budget now then : ℕ) (a b c
     → now ≡ then + 1 → ServerGoesOn answer Working 1 0 b c → ServerGoesOn answer Working budget then a c
 works_on answer budget now then a b c p step q = record {
   setup = q.setup ∙ p.setup;
-  turn = λ readers are least start read t.
-      let u : (u : ServerTurn readers answer least start Working read [] b.end) × (now + steps_made u ≤ budget + steps_made t) =
-      p.turn readers are least start read t in
-      let v : (v : ServerTurn readers answer least start Working read [] c.end) × (0 + steps_made v ≤ 1 + steps_made u.0) =
-      q.turn readers are least start read u.0 in
+  turn = λ least start read t.
+      let u : (u : ServerTurn answer least start Working read [] b.end) × (now + steps_made u ≤ budget + steps_made t) =
+      p.turn least start read t in
+      let v : (v : ServerTurn answer least start Working read [] c.end) × (0 + steps_made v ≤ 1 + steps_made u.0) =
+      q.turn least start read u.0 in
       let before = u.1 in
       let one = v.1 in (v.0, omega (arith, before, one, step));
 }
@@ -386,7 +381,7 @@ works_on answer budget now then a b c p step q = record {
 pub works_turn : (answer : Job → ℕ → Outcome) (a b : Serving) → may_turn a.end.server ≡ true → b ≡ with_end a (serving_turned a.end)
     → ServerGoesOn answer Working 1 0 a b
 works_turn answer a b may same = subst (ServerGoesOn answer Working 1 0 a) (sym same)
-    (record { setup = refl; turn = λ readers are least start read t. (turns a.end read t may, omega arith) })
+    (record { setup = refl; turn = λ least start read t. (turns a.end read t may, omega arith) })
 
 pub works_end : (answer : Job → ℕ → Outcome) (a b : Serving) (o : Outcome)
     → Some o ≡ option_map (λ job. answer job (contact_count a.end.server.ledger)) (running_job a.end.server)
@@ -399,7 +394,7 @@ works_end answer a b o is same = go (running_job a.end.server) refl is
     go (Some job) e found =
         let ended : o ≡ answer job (contact_count a.end.server.ledger) = cc in
         subst (ServerGoesOn answer Working 1 0 a) (sym (same ∙ ap (λ (x : Outcome). with_end a (serving_machined x a.end)) ended))
-        (record { setup = refl; turn = λ readers are least start read t. (ends a.end read job t e, omega arith) })
+        (record { setup = refl; turn = λ least start read t. (ends a.end read job t e, omega arith) })
 
 fewer : (r q : Option Line) (m n : ℕ) → one_if r + 2 * m < one_if q + 2 * n → steps_of_one r + 2 * m < steps_of_one q + 2 * n
 fewer None None m n h = h
@@ -421,14 +416,14 @@ pub turn_fewer : (a b : Serving) → may_turn a.end.server ≡ true → b ≡ wi
     → steps_of b.end.server < steps_of a.end.server
 turn_fewer a b may same = subst (λ (s : Serving). steps_of s.end.server < steps_of a.end.server) (sym same)
     (fewer (serving_turned a.end).server.running a.end.server.running (length (serving_turned a.end).server.waiting)
-    (length a.end.server.waiting) (turn_less some_are_readers.0 (beside a.end) may))
+    (length a.end.server.waiting) (turn_less (beside a.end) may))
 
 pub end_fewer : (a b : Serving) (o : Outcome) → may_end a.end.server.running o ≡ true
     → ((line : Line) → a.end.server.running ≡ Some line → IsRunnable a.end.server line) → b ≡ with_end a (serving_machined o a.end)
     → steps_of b.end.server < steps_of a.end.server
 end_fewer a b o may fine same = subst (λ (s : Serving). steps_of s.end.server < steps_of a.end.server) (sym same)
     (fewer (serving_machined o a.end).server.running a.end.server.running (length (serving_machined o a.end).server.waiting)
-    (length a.end.server.waiting) (machine_less some_are_readers.0 (beside a.end) o may fine))
+    (length a.end.server.waiting) (machine_less (beside a.end) o may fine))
 
 steps_most : (running : Option Line) (n : ℕ) → n ≤ 64 → steps_of_one running + 2 * n ≤ 129
 steps_most None n few = omega (arith, few)
@@ -446,7 +441,7 @@ pub serving_stopped_beside : (more : ℕ) (answer : Job → ℕ → Outcome) (bo
     → ServerStoppedWithin answer bound (calls + more) (calls_now + more) least old new left left_now taken taken_now f
 serving_stopped_beside more answer bound calls calls_now least old new left left_now taken taken_now f s = record {
   front = s.front;
-  within = λ readers are. let before = s.within readers are in omega (arith, before);
+  within = let before = s.within in omega (arith, before);
 }
 
 work_why : (least bound mid read held : ℕ) (left_now : Option (List ℕ)) (e : ServerEnd) (f : PumpFault ServerFault)
@@ -461,13 +456,12 @@ work_why least bound mid read held left_now e fault.Memory most r = tt
 -- it has read, and has worked on from there
 works_from : (a b c : Serving) (answer : Job → ℕ → Outcome) (least bound calls calls_now mid late come : ℕ)
     (left left_now : Option (List ℕ)) (h : ReadIn least calls calls_now a b left left_now bound mid come)
-    → ServerGoesOn answer Working mid late b c → (readers : Readers) → AreReaders readers
-    → (t : ServerTurn readers answer least a.end Working h.read [] c.end) × (calls_now + late + steps_made t ≤ calls + bound)
-works_from a b c answer least bound calls calls_now mid late come left left_now h goes readers are =
-    let t : (t : ServerTurn readers answer least a.end Reading h.read [] b.end) × (calls_now + mid + steps_made t ≤ calls + bound) =
-    h.turn readers are answer in
-    let u : (u : ServerTurn readers answer least a.end Working h.read [] c.end) × (late + steps_made u ≤ mid + steps_made t.0) =
-    goes.turn readers are least a.end h.read (knows b.end h.read t.0 h.none) in
+    → ServerGoesOn answer Working mid late b c → (t : ServerTurn answer least a.end Working h.read [] c.end) × (calls_now + late + steps_made t ≤ calls + bound)
+works_from a b c answer least bound calls calls_now mid late come left left_now h goes =
+    let t : (t : ServerTurn answer least a.end Reading h.read [] b.end) × (calls_now + mid + steps_made t ≤ calls + bound) =
+    h.turn answer in
+    let u : (u : ServerTurn answer least a.end Working h.read [] c.end) × (late + steps_made u ≤ mid + steps_made t.0) =
+    goes.turn least a.end h.read (knows b.end h.read t.0 h.none) in
     let before = t.1 in
     let few = u.1 in (u.0, omega (arith, before, few))
 
@@ -482,18 +476,17 @@ server_stops_working a b c f answer least bound calls calls_now more mid late co
     written = [];
     lost = [];
     last = c.end;
-    turn = λ readers are. (work_on readers are).0;
+    turn = (work_on).0;
     leaves = refl;
     consumed = subst (Consumes left left_now) (sym (append-nil h.read)) h.consumed;
     is_lost = none_lost f;
     appended = Appends-nil taken;
     why = work_why least bound mid (length h.read) (length a.end.input.rest) left_now c.end f h.counted r;
   };
-  within = λ readers are. let steps = (work_on readers are).1 in omega (arith, steps);
+  within = let steps = (work_on).1 in omega (arith, steps);
 }
   where
-    work_on : (readers : Readers) → AreReaders readers
-        → (t : ServerTurn readers answer least a.end Working h.read [] c.end) × (calls_now + late + steps_made t ≤ calls + bound)
+    work_on : (t : ServerTurn answer least a.end Working h.read [] c.end) × (calls_now + late + steps_made t ≤ calls + bound)
     work_on = works_from a b c answer least bound calls calls_now mid late come left left_now h goes
 
 idle_turn : (s : Server) → has_work s ≡ false → may_turn s ≡ false
@@ -535,7 +528,7 @@ server_stops_writing a b c f answer least bound calls calls_now pushes pushes_no
         written = take p.count c.end.out;
         lost = [];
         last = serving_taken p.count c.end;
-        turn = λ readers are. writes c.end h.read p.count (work_on readers are).0 (idle_turn c.end.server idle)
+        turn = writes c.end h.read p.count (work_on).0 (idle_turn c.end.server idle)
             (idle_job c.end.server idle) p.within;
         leaves = refl;
         consumed = subst (Consumes left left_now) (sym (append-nil h.read)) h.consumed;
@@ -544,11 +537,10 @@ server_stops_writing a b c f answer least bound calls calls_now pushes pushes_no
         why = push_why least bound mid late (length h.read) (length (take p.count c.end.out)) (length a.end.input.rest) p.count left_now
             (serving_taken p.count c.end) f h.counted work (length-take-le p.count c.end.out p.within) p.why;
       };
-      within = λ readers are. let steps = (work_on readers are).1 in omega (arith, steps, most);
+      within = let steps = (work_on).1 in omega (arith, steps, most);
     }
   where
-    work_on : (readers : Readers) → AreReaders readers
-        → (t : ServerTurn readers answer least a.end Working h.read [] c.end) × (calls_now + late + steps_made t ≤ calls + bound)
+    work_on : (t : ServerTurn answer least a.end Working h.read [] c.end) × (calls_now + late + steps_made t ≤ calls + bound)
     work_on = works_from a b c answer least bound calls calls_now mid late come left left_now h goes
 
     p : Pushed c.end.out taken taken_now late f
@@ -566,18 +558,17 @@ has_served a b c d answer least bound calls calls_now pushes pushes_now mid late
       whole = record {
         read = h.read;
         written = c.end.out;
-        turn = λ readers are. (wrote readers are).0;
+        turn = (wrote).0;
         all = ap (λ (s : Serving). s.end.out) same ∙ nothing gone c.end.out is;
         consumed = h.consumed;
         appended = subst (Appends taken taken_now) are appended;
         read_is = h.count_is;
         written_is = is;
       };
-      within = λ readers are. let steps = (wrote readers are).1 in omega (arith, steps, most);
+      within = let steps = (wrote).1 in omega (arith, steps, most);
     }
   where
-    work_on : (readers : Readers) → AreReaders readers
-        → (t : ServerTurn readers answer least a.end Working h.read [] c.end) × (calls_now + late + steps_made t ≤ calls + bound)
+    work_on : (t : ServerTurn answer least a.end Working h.read [] c.end) × (calls_now + late + steps_made t ≤ calls + bound)
     work_on = works_from a b c answer least bound calls calls_now mid late come left left_now h goes
 
     whole : (n : ℕ) (bytes : List ℕ) → n ≡ length bytes → take n bytes ≡ bytes
@@ -588,14 +579,13 @@ has_served a b c d answer least bound calls calls_now pushes pushes_now mid late
     nothing n [] is = ap (λ (k : ℕ). drop k []) is
     nothing n (x ∷ xs) is = ap (λ (k : ℕ). drop k (x ∷ xs)) is ∙ nothing (length xs) xs refl
 
-    wrote : (readers : Readers) → AreReaders readers
-        → (t : ServerTurn readers answer least a.end Writing h.read c.end.out d.end) × (calls_now + late + steps_made t ≤ calls + bound)
-    wrote readers are =
-        let t : (t : ServerTurn readers answer least a.end Working h.read [] c.end) × (calls_now + late + steps_made t ≤ calls + bound) =
-        work_on readers are in
-        subst (λ (s : Serving). (t : ServerTurn readers answer least a.end Writing h.read c.end.out s.end)
+    wrote : (t : ServerTurn answer least a.end Writing h.read c.end.out d.end) × (calls_now + late + steps_made t ≤ calls + bound)
+    wrote =
+        let t : (t : ServerTurn answer least a.end Working h.read [] c.end) × (calls_now + late + steps_made t ≤ calls + bound) =
+        work_on in
+        subst (λ (s : Serving). (t : ServerTurn answer least a.end Writing h.read c.end.out s.end)
         × (calls_now + late + steps_made t ≤ calls + bound)) (sym same)
-        (subst (λ (xs : List ℕ). (t : ServerTurn readers answer least a.end Writing h.read xs (serving_taken gone c.end))
+        (subst (λ (xs : List ℕ). (t : ServerTurn answer least a.end Writing h.read xs (serving_taken gone c.end))
         × (calls_now + late + steps_made t ≤ calls + bound)) (whole gone c.end.out is)
         (writes c.end h.read gone t.0 (idle_turn c.end.server idle) (idle_job c.end.server idle) (omega (arith, is)), t.1))
 

@@ -5,11 +5,9 @@ use Rattle.std.proofs.Common.{append_assoc, append-nil, length-append, Option, S
 use Rattle.std.specs.Io.KnownBytes.{Appends, Consumes}
 use Rattle.std.proofs.KnownBytes.{Consumes-nil, Consumes-trans, Appends-nil, Appends-trans}
 use Rattle.line_framing.specs.Next.{Front, next_of}
-use Rattle.protocol_model.specs.Lines.{Readers}
 use Rattle.protocol_model.specs.Ends.{ServerEnd, front_served, serving_left}
 use Rattle.protocol_model.specs.declared.machine.Job.{Job}
 use Rattle.protocol_model.specs.declared.machine.Outcome.{Outcome}
-use Rattle.protocol_model.proofs.written_lines.ReadersExist.{some_are_readers}
 use Rattle.server_core.specs.declared.faults.ServerFault.{ServerFault}
 use Rattle.link_world.specs.declared.pumps.Moved.{Moved}
 use Rattle.link_world.specs.declared.pumps.PumpFault.{PumpFault}
@@ -25,27 +23,27 @@ use Rattle.link_world.proofs.ClientRuns.{left_fewer}
 -- ---- a server's turn
 
 -- a line that is read leaves no more than there was
-served_fewer : (readers : Readers) (e : ServerEnd) (f : Front) → next_of e.input.rest ≡ f
-    → length (front_served readers e f).input.rest ≤ length e.input.rest
-served_fewer readers e (Ok None) is = omega arith
-served_fewer readers e (Ok (Some (line, rest))) is = left_fewer e.input (Ok (Some (line, rest))) is
-served_fewer readers e (Err why) is = omega arith
+served_fewer : (e : ServerEnd) (f : Front) → next_of e.input.rest ≡ f
+    → length (front_served e f).input.rest ≤ length e.input.rest
+served_fewer e (Ok None) is = omega arith
+served_fewer e (Ok (Some (line, rest))) is = left_fewer e.input (Ok (Some (line, rest))) is
+served_fewer e (Err why) is = omega arith
 
 -- no more is held than was held and came in
-turn_held : (readers : Readers) (answer : Job → ℕ → Outcome) (least : ℕ) (start : ServerEnd) (stage : Stage) (read written : List ℕ)
-    (e : ServerEnd) → ServerTurn readers answer least start stage read written e
+turn_held : (answer : Job → ℕ → Outcome) (least : ℕ) (start : ServerEnd) (stage : Stage) (read written : List ℕ)
+    (e : ServerEnd) → ServerTurn answer least start stage read written e
     → length e.input.rest ≤ length start.input.rest + length read
-turn_held readers answer least start _ _ _ _ begins = omega arith
-turn_held readers answer least start _ _ _ _ (takes read may) = longer start.input.fault start.input.rest read
-turn_held readers answer least start _ _ _ _ (has e read t enough) = turn_held readers answer least start Taking read [] e t
-turn_held readers answer least start _ _ _ _ (reads e read t on is) =
-    let before = turn_held readers answer least start Reading read [] e t in
-    let fewer = served_fewer readers e (next_of e.input.rest) refl in omega (arith, before, fewer)
-turn_held readers answer least start _ _ _ _ (knows e read t none) = turn_held readers answer least start Reading read [] e t
-turn_held readers answer least start _ _ _ _ (turns e read t may) = turn_held readers answer least start Working read [] e t
-turn_held readers answer least start _ _ _ _ (ends e read job t is) = turn_held readers answer least start Working read [] e t
-turn_held readers answer least start _ _ _ _ (writes e read count t still none within) =
-    turn_held readers answer least start Working read [] e t
+turn_held answer least start _ _ _ _ begins = omega arith
+turn_held answer least start _ _ _ _ (takes read may) = longer start.input.fault start.input.rest read
+turn_held answer least start _ _ _ _ (has e read t enough) = turn_held answer least start Taking read [] e t
+turn_held answer least start _ _ _ _ (reads e read t on is) =
+    let before = turn_held answer least start Reading read [] e t in
+    let fewer = served_fewer e (next_of e.input.rest) refl in omega (arith, before, fewer)
+turn_held answer least start _ _ _ _ (knows e read t none) = turn_held answer least start Reading read [] e t
+turn_held answer least start _ _ _ _ (turns e read t may) = turn_held answer least start Working read [] e t
+turn_held answer least start _ _ _ _ (ends e read job t is) = turn_held answer least start Working read [] e t
+turn_held answer least start _ _ _ _ (writes e read count t still none within) =
+    turn_held answer least start Working read [] e t
 
 -- as many bytes as were asked for have come in, once lines are read
 abbrev Enough : Stage → ℕ → ℕ → Type 0
@@ -55,17 +53,17 @@ Enough Reading least count = least ≤ count
 Enough Working least count = least ≤ count
 Enough Writing least count = least ≤ count
 
-turn_enough : (readers : Readers) (answer : Job → ℕ → Outcome) (least : ℕ) (start : ServerEnd) (stage : Stage) (read written : List ℕ)
-    (e : ServerEnd) → ServerTurn readers answer least start stage read written e → Enough stage least (length read)
-turn_enough readers answer least start _ _ _ _ begins = tt
-turn_enough readers answer least start _ _ _ _ (takes read may) = tt
-turn_enough readers answer least start _ _ _ _ (has e read t enough) = enough
-turn_enough readers answer least start _ _ _ _ (reads e read t on is) = turn_enough readers answer least start Reading read [] e t
-turn_enough readers answer least start _ _ _ _ (knows e read t none) = turn_enough readers answer least start Reading read [] e t
-turn_enough readers answer least start _ _ _ _ (turns e read t may) = turn_enough readers answer least start Working read [] e t
-turn_enough readers answer least start _ _ _ _ (ends e read job t is) = turn_enough readers answer least start Working read [] e t
-turn_enough readers answer least start _ _ _ _ (writes e read count t still none within) =
-    turn_enough readers answer least start Working read [] e t
+turn_enough : (answer : Job → ℕ → Outcome) (least : ℕ) (start : ServerEnd) (stage : Stage) (read written : List ℕ)
+    (e : ServerEnd) → ServerTurn answer least start stage read written e → Enough stage least (length read)
+turn_enough answer least start _ _ _ _ begins = tt
+turn_enough answer least start _ _ _ _ (takes read may) = tt
+turn_enough answer least start _ _ _ _ (has e read t enough) = enough
+turn_enough answer least start _ _ _ _ (reads e read t on is) = turn_enough answer least start Reading read [] e t
+turn_enough answer least start _ _ _ _ (knows e read t none) = turn_enough answer least start Reading read [] e t
+turn_enough answer least start _ _ _ _ (turns e read t may) = turn_enough answer least start Working read [] e t
+turn_enough answer least start _ _ _ _ (ends e read job t is) = turn_enough answer least start Working read [] e t
+turn_enough answer least start _ _ _ _ (writes e read count t still none within) =
+    turn_enough answer least start Working read [] e t
 
 -- ---- turns of a server
 
@@ -104,17 +102,17 @@ server_goes answer now n old mid new left left_mid left_now taken taken_mid take
   run = run.goes n h.read h.written mid new left_mid left_now taken_mid taken_now moved h.run m;
   consumed = Consumes-trans left left_mid left_now h.read m.read h.consumed m.consumed;
   appended = Appends-trans taken taken_mid taken_now h.written m.written h.appended m.appended;
-  many = let some = turn_enough some_are_readers.0 answer 1 mid Writing m.read m.written new turn in
+  many = let some = turn_enough answer 1 mid Writing m.read m.written new turn in
       let many = h.many in let total = length-append h.read m.read in omega (arith, some, many, total);
-  held = let then = turn_held some_are_readers.0 answer 1 mid Writing m.read m.written new turn in
+  held = let then = turn_held answer 1 mid Writing m.read m.written new turn in
       let before = h.held in let total = length-append h.read m.read in omega (arith, then, before, total);
 }
   where
     m : ServerMoved answer 1 mid new left_mid left_now taken_mid taken_now moved
     m = subst (λ (a : Job → ℕ → Outcome). ServerMoved a 1 mid new left_mid left_now taken_mid taken_now moved) same by
 
-    turn : ServerTurn some_are_readers.0 answer 1 mid Writing m.read m.written new
-    turn = m.turn some_are_readers.0 some_are_readers.1
+    turn : ServerTurn answer 1 mid Writing m.read m.written new
+    turn = m.turn
 
 -- the fault of a turn is one of the run
 why_of_run : (read written held r w held_now : ℕ) (left_now : Option (List ℕ)) (e : ServerEnd) (f : PumpFault ServerFault)

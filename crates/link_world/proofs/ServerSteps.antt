@@ -3,7 +3,6 @@ use Rattle.std.proofs.Common.{◌≡◌, ℕ, ◌≤◌, ◌<◌, Bool, true, fa
 use Rattle.std.proofs.Common.{length-append}
 use Rattle.std.proofs.lemmas.Bool.{false≢true, and_parts, and_from, ltb-true, le-leb, leb-true}
 use Rattle.contact_ledger.specs.Ledgers.{connection_most}
-use Rattle.protocol_model.specs.Lines.{Readers, AreReaders}
 use Rattle.protocol_model.specs.Ends.{ClientEnd, ServerEnd, serving_accepted, serving_left, serving_restarted}
 use Rattle.protocol_model.specs.World.{World, no_link, start, can, happens, after, run_of}
 use Rattle.protocol_model.specs.declared.events.Event.{Event}
@@ -18,38 +17,38 @@ use Rattle.link_world.proofs.Reached.{reached_more, links_long}
 
 -- ---- no more connections than have numbers are made
 
-within : (readers : Readers) (e : Event) (w : World) → can e w ≡ true → length w.links ≡ w.client.client.last
+within : (e : Event) (w : World) → can e w ≡ true → length w.links ≡ w.client.client.last
     → length w.links ≤ connection_most
-    → length (happens readers e w).links ≤ connection_most
-within readers event.Connect w may same le =
+    → length (happens e w).links ≤ connection_most
+within event.Connect w may same le =
     let below : w.client.client.last < connection_most = ltb-true w.client.client.last connection_most (and_parts _ _ may).1 in
     omega (arith, length-append w.links (no_link ∷ []), same, below)
-within readers (event.Accept n) w may same le = le
-within readers event.ClientSends w may same le = subst (λ (n : ℕ). n ≤ connection_most) (sym (link_long w.links w.client.client.last _)) le
-within readers (event.Up k) w may same le = subst (λ (n : ℕ). n ≤ connection_most) (sym (link_long w.links w.server.server.last _)) le
-within readers event.ServerReads w may same le = subst (λ (n : ℕ). n ≤ connection_most) (sym (link_long w.links w.server.server.last _)) le
-within readers event.ServerTurn w may same le = subst (λ (n : ℕ). n ≤ connection_most) (sym (link_long w.links w.server.server.last _)) le
-within readers (event.Machine outcome) w may same le = subst (λ (n : ℕ). n ≤ connection_most)
+within (event.Accept n) w may same le = le
+within event.ClientSends w may same le = subst (λ (n : ℕ). n ≤ connection_most) (sym (link_long w.links w.client.client.last _)) le
+within (event.Up k) w may same le = subst (λ (n : ℕ). n ≤ connection_most) (sym (link_long w.links w.server.server.last _)) le
+within event.ServerReads w may same le = subst (λ (n : ℕ). n ≤ connection_most) (sym (link_long w.links w.server.server.last _)) le
+within event.ServerTurn w may same le = subst (λ (n : ℕ). n ≤ connection_most) (sym (link_long w.links w.server.server.last _)) le
+within (event.Machine outcome) w may same le = subst (λ (n : ℕ). n ≤ connection_most)
     (sym (link_long w.links w.server.server.last _)) le
-within readers (event.Down k) w may same le = subst (λ (n : ℕ). n ≤ connection_most) (sym (link_long w.links w.client.client.last _)) le
-within readers event.ClientReads w may same le = le
-within readers event.ClientLeaves w may same le = le
-within readers event.ServerLeaves w may same le = le
-within readers event.Abort w may same le = subst (λ (n : ℕ). n ≤ connection_most) (sym (link_long w.links w.client.client.last _)) le
-within readers event.Resume w may same le = le
-within readers (event.ClientRestart k) w may same le = le
-within readers event.ServerRestart w may same le = le
+within (event.Down k) w may same le = subst (λ (n : ℕ). n ≤ connection_most) (sym (link_long w.links w.client.client.last _)) le
+within event.ClientReads w may same le = le
+within event.ClientLeaves w may same le = le
+within event.ServerLeaves w may same le = le
+within event.Abort w may same le = subst (λ (n : ℕ). n ≤ connection_most) (sym (link_long w.links w.client.client.last _)) le
+within event.Resume w may same le = le
+within (event.ClientRestart k) w may same le = le
+within event.ServerRestart w may same le = le
 
-runs_within : (readers : Readers) → AreReaders readers → (es : List Event) (w : World) → IsCarried w → length w.links ≤ connection_most
-    → length (run_of readers es w).links ≤ connection_most
-runs_within readers are [] w h le = le
-runs_within readers are (e ∷ es) w h le = go (can e w) refl
-    (λ (x : World) (c : IsCarried x) (l : length x.links ≤ connection_most). runs_within readers are es x c l)
+runs_within : (es : List Event) (w : World) → IsCarried w → length w.links ≤ connection_most
+    → length (run_of es w).links ≤ connection_most
+runs_within [] w h le = le
+runs_within (e ∷ es) w h le = go (can e w) refl
+    (λ (x : World) (c : IsCarried x) (l : length x.links ≤ connection_most). runs_within es x c l)
   where
     go : (b : Bool) → can e w ≡ b → ((x : World) → IsCarried x → length x.links ≤ connection_most
-        → length (run_of readers es x).links ≤ connection_most) → length (run_of readers es (cond b (happens readers e w) w)).links
+        → length (run_of es x).links ≤ connection_most) → length (run_of es (cond b (happens e w) w)).links
         ≤ connection_most
-    go true may later = later (happens readers e w) (happens_carried readers are e w h may) (within readers e w may h.wired.made le)
+    go true may later = later (happens e w) (happens_carried e w h may) (within e w may h.wired.made le)
     go false never later = later w h le
 
 pub connections_few : (client : ClientEnd) (server : Serving) (cs : List Connection) (written : List ℕ)
@@ -57,7 +56,7 @@ pub connections_few : (client : ClientEnd) (server : Serving) (cs : List Connect
 connections_few client server cs written h =
     let few : length (links_of cs) ≤ connection_most =
     subst (λ (w : World). length w.links ≤ connection_most) (sym h.reached)
-    (runs_within h.readers h.are h.events (start h.program server.setup.tools h.window)
+    (runs_within h.events (start h.program server.setup.tools h.window)
     (start_carried h.program server.setup.tools h.window h.is_program h.few) (omega arith)) in
     omega (arith, few, links_long cs)
 
@@ -65,11 +64,11 @@ connections_few client server cs written h =
 
 alone : (client : ClientEnd) (server : Serving) (after : ServerEnd) (cs : List Connection) (written : List ℕ) (e : Event)
     → IsReached (seen client server cs written) → can e (seen client server cs written).world ≡ true
-    → ((readers : Readers) → AreReaders readers → record (seen client server cs written).world { server = after }
-    ≡ happens readers e (seen client server cs written).world) → IsReached (seen client (with_end server after) cs written)
+    → (record (seen client server cs written).world { server = after }
+    ≡ happens e (seen client server cs written).world) → IsReached (seen client (with_end server after) cs written)
 alone client server after cs written e h may is =
     reached_more (seen client server cs written) (seen client (with_end server after) cs written) e h may
-    (λ readers are. ap (λ (w : World). with_world (seen client server cs written) w) (is readers are))
+    (ap (λ (w : World). with_world (seen client server cs written) w) (is))
 
 accept_may : (number : ℕ) (client : ClientEnd) (server : Serving) (cs : List Connection) (written : List ℕ)
     → may_accept number server.end.server ≡ true → number ≤ length cs
@@ -119,18 +118,18 @@ pub accept_reached : (number : ℕ) (client : ClientEnd) (server after : Serving
 accept_reached number client server after cs written h may le is =
     subst (λ (s : Serving). IsReached (seen client s cs written)) (sym is)
     (alone client server (serving_accepted number server.end) cs written (event.Accept number) h
-    (accept_may number client server cs written may le) (λ readers are. refl))
+    (accept_may number client server cs written may le) (refl))
 
 pub left_reached : (client : ClientEnd) (server after : Serving) (cs : List Connection) (written : List ℕ)
     → IsReached (seen client server cs written)
     → server.end.server.on ≡ true → after ≡ with_end server (serving_left server.end) → IsReached (seen client after cs written)
 left_reached client server after cs written h may is =
     subst (λ (s : Serving). IsReached (seen client s cs written)) (sym is)
-    (alone client server (serving_left server.end) cs written event.ServerLeaves h may (λ readers are. refl))
+    (alone client server (serving_left server.end) cs written event.ServerLeaves h may (refl))
 
 pub restart_reached : (client : ClientEnd) (server after : Serving) (cs : List Connection) (written : List ℕ)
     → IsReached (seen client server cs written)
     → after ≡ with_end server (serving_restarted server.end) → IsReached (seen client after cs written)
 restart_reached client server after cs written h is =
     subst (λ (s : Serving). IsReached (seen client s cs written)) (sym is)
-    (alone client server (serving_restarted server.end) cs written event.ServerRestart h refl (λ readers are. refl))
+    (alone client server (serving_restarted server.end) cs written event.ServerRestart h refl (refl))

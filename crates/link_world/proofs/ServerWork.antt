@@ -7,7 +7,6 @@ use Rattle.fixed_um.specs.declared.lengths.Point.{Point}
 use Rattle.dme_line.specs.declared.tags.Tag.{Tag}
 use Rattle.dme_line.specs.declared.commands.Command.{Command}
 use Rattle.dme_line.specs.declared.commands.Command.TheVariants as command
-use Rattle.protocol_model.specs.Lines.{Readers}
 use Rattle.protocol_model.specs.Plan.{is_empty}
 use Rattle.protocol_model.specs.Server.{Server, Answer, carried, carried_out, taken, turned_to, refusal, machined, finished, touched}
 use Rattle.protocol_model.specs.Server.{has_outcome, first_failing, checks, in_volume, offset}
@@ -63,9 +62,9 @@ turned_few : (s : Server) (ws : List Waiting) → not (is_empty ws) ≡ true →
 turned_few s [] some = absurd (false≢true some)
 turned_few s (w ∷ ws) some = let few = taken_few s w ws (refusal s w.reading) in omega (arith, few)
 
-pub turn_less : (readers : Readers) (w : World) → can event.ServerTurn w ≡ true
-    → work_left (happens readers event.ServerTurn w) < work_left w
-turn_less readers w may =
+pub turn_less : (w : World) → can event.ServerTurn w ≡ true
+    → work_left (happens event.ServerTurn w) < work_left w
+turn_less w may =
     let s : Server = w.server.server in
     let few = turned_few s s.waiting (and_parts _ _ may).1 in
     let most = one_most (turned_to s s.waiting).server.running in omega (arith, few, most)
@@ -138,7 +137,7 @@ end_less s o (Some line) is may fine =
     let idle : one_if (machined s o (Some line)).server.running ≡ 0 = ap one_if e.idle in
     omega (arith, few, idle)
 
-pub machine_less : (readers : Readers) (w : World) (o : Outcome) → can (event.Machine o) w ≡ true
+pub machine_less : (w : World) (o : Outcome) → can (event.Machine o) w ≡ true
     → ((line : Line) → w.server.server.running ≡ Some line → IsRunnable w.server.server line)
-    → work_left (happens readers (event.Machine o) w) < work_left w
-machine_less readers w o may fine = end_less w.server.server o w.server.server.running refl may fine
+    → work_left (happens (event.Machine o) w) < work_left w
+machine_less w o may fine = end_less w.server.server o w.server.server.running refl may fine

@@ -2,7 +2,6 @@
 use Rattle.std.proofs.Common.{◌≡◌, inl, inr, Bool, true, false, ◌||◌, List, [], ◌++◌, refl, sym, ◌∙◌, ap, subst, Option, Some, None, Result}
 use Rattle.std.proofs.Common.{Ok, Err, IfSome, IsErr, rules}
 use Rattle.std.proofs.lemmas.Bool.{false≢true}
-use Rattle.protocol_model.specs.Lines.{Readers, AreReaders}
 use Rattle.protocol_model.specs.World.{World}
 use Rattle.protocol_model.specs.declared.events.Event.{Event}
 use Rattle.link_world.specs.Links.{Linked}
@@ -21,9 +20,9 @@ either_told a None es fs first then = tt
 either_told a (Some b) es fs first then =
     ap (λ (x : Bool). x || b) first ∙ (ap (λ (x : Bool). is_any es || x) then ∙ sym (any_append es fs))
 
-pub then_more : (readers : Readers) (A B : Bool → World → List Event → Type 0) (cut a : Bool) (told : Option Bool) (l k m : Linked)
-    → Makes readers A false (Some a) l k → Makes readers B cut told k m → Makes readers (Then readers A B) cut (either a told) l m
-then_more readers A B cut a told l k m first then = record {
+pub then_more : (A B : Bool → World → List Event → Type 0) (cut a : Bool) (told : Option Bool) (l k m : Linked)
+    → Makes A false (Some a) l k → Makes B cut told k m → Makes (Then A B) cut (either a told) l m
+then_more A B cut a told l k m first then = record {
   events = first.events ++ then.events;
   made = record {
     front = first.events;
@@ -31,13 +30,13 @@ then_more readers A B cut a told l k m first then = record {
     whole = refl;
     parts = inl (first.made, subst (λ (x : Linked). B cut x.world then.events) first.leads then.made);
   };
-  leads = leads_more readers l k m first.events then.events first.leads then.leads;
+  leads = leads_more l k m first.events then.events first.leads then.leads;
   told_is = either_told a told first.events then.events first.told_is then.told_is;
 }
 
-pub then_cut : (readers : Readers) (A B : Bool → World → List Event → Type 0) (l m : Linked) → Makes readers A true None l m
-    → Makes readers (Then readers A B) true None l m
-then_cut readers A B l m h = record {
+pub then_cut : (A B : Bool → World → List Event → Type 0) (l m : Linked) → Makes A true None l m
+    → Makes (Then A B) true None l m
+then_cut A B l m h = record {
   events = h.events;
   made = record { front = h.events; back = []; whole = sym (nothing_behind h.events); parts = inr (refl, h.made, refl) };
   leads = h.leads;
@@ -49,13 +48,13 @@ then_cut readers A B l m h = record {
 
 -- ---- a call that was cut
 
-pub tells_cut : {E : Type 0} (r : Result Bool E) (are : Readers → Bool → World → List Event → Type 0) (l m : Linked) → IsErr r
-    → ((readers : Readers) → AreReaders readers → Makes readers (are readers) true None l m) → Tells r are l m
+pub tells_cut : {E : Type 0} (r : Result Bool E) (are : Bool → World → List Event → Type 0) (l m : Linked) → IsErr r
+    → Makes are true None l m → Tells r are l m
 tells_cut (Ok b) are l m is h = absurd (false≢true is)
 tells_cut (Err fault) are l m is h = h
 
-pub part_cut : {E : Type 0} (r : Result (Unit {0}) E) (are : Readers → Bool → World → List Event → Type 0) (l m : Linked) → IsErr r
-    → ((readers : Readers) → AreReaders readers → Makes readers (are readers) true None l m) → PlaysPart r are l m
+pub part_cut : {E : Type 0} (r : Result (Unit {0}) E) (are : Bool → World → List Event → Type 0) (l m : Linked) → IsErr r
+    → Makes are true None l m → PlaysPart r are l m
 part_cut (Ok b) are l m is h = absurd (false≢true is)
 part_cut (Err fault) are l m is h = h
 

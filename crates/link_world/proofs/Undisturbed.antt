@@ -2,72 +2,70 @@
 use Rattle.std.proofs.Common.{◌≡◌, ℕ, ◌≤◌, Bool, true, false, cond, List, [], ◌∷◌, refl, sym, ◌∙◌, ap, subst}
 use Rattle.std.proofs.lemmas.Bool.{false≢true}
 use Rattle.dmis_program.specs.Programs.{IsProgram}
-use Rattle.protocol_model.specs.Lines.{Readers, AreReaders}
 use Rattle.protocol_model.specs.World.{World, start, can, happens, run_of}
 use Rattle.protocol_model.specs.declared.events.Event.{Event}
 use Rattle.protocol_model.specs.Undisturbed.{AreUndisturbed, AreFirstLines, acts_planned, AreFirstActs, acts_in, AreFirstOf}
 use Rattle.protocol_model.proofs.whole_run.Carrying.{IsCarried}
-use Rattle.protocol_model.proofs.written_lines.ReadersExist.{some_are_readers}
 use Rattle.protocol_model.proofs.whole_run.SameProgram.{run_same}
 use Rattle.protocol_model.proofs.undisturbed_run.UndisturbedRun.{undisturbed_lines, undisturbed_acts, undisturbed_counts}
 use Rattle.link_world.specs.Claims.{IsNew, first_plan}
 use Rattle.link_world.specs.Links.{Linked, IsReached}
-use Rattle.link_world.specs.Runs.{Answer, Happened, Refused, Wanting, Follows, wanting, HasRun}
+use Rattle.link_world.specs.Runs.{Answer, Happened, Refused, Wanting, Follows, wanting, HasRun, FollowsPlan}
 use Rattle.link_world.proofs.Reached.{carried}
 
 -- ---- the events that happened
 
-pub after_can : (readers : Readers) (e : Event) (w : World) (b : Bool) → can e w ≡ b → b ≡ true
-    → cond b (happens readers e w) w ≡ happens readers e w
-after_can readers e w true is may = refl
-after_can readers e w false is may = absurd (false≢true may)
+pub after_can : (e : Event) (w : World) (b : Bool) → can e w ≡ b → b ≡ true
+    → cond b (happens e w) w ≡ happens e w
+after_can e w true is may = refl
+after_can e w false is may = absurd (false≢true may)
 
-after_cannot : (readers : Readers) (e : Event) (w : World) (b : Bool) → can e w ≡ b → b ≡ false → cond b (happens readers e w) w ≡ w
-after_cannot readers e w true is never = absurd (false≢true (sym never))
-after_cannot readers e w false is never = refl
+after_cannot : (e : Event) (w : World) (b : Bool) → can e w ≡ b → b ≡ false → cond b (happens e w) w ≡ w
+after_cannot e w true is never = absurd (false≢true (sym never))
+after_cannot e w false is never = refl
 
 -- those of a list of which none disturbs, that lead from one world to another
-record Quietly (readers : Readers) (w v : World) : Type 0 where
+record Quietly (w v : World) : Type 0 where
   pub events : List Event
   pub quiet : AreUndisturbed events
-  pub leads : v ≡ run_of readers events w
+  pub leads : v ≡ run_of events w
 
-quietly : (readers : Readers) (w v : World) (events : List Event) (xs : List Answer) → AreUndisturbed events → Follows readers w events xs v
-    → Quietly readers w v
-quietly readers w v [] [] q h = record { events = []; quiet = tt; leads = h }
-quietly readers w v [] (x ∷ xs) q h = absurd h
-quietly readers w v (e ∷ es) [] q h = absurd h
-quietly readers w v (e ∷ es) (Happened ∷ xs) q h =
-    let more : Quietly readers (happens readers e w) v = quietly readers (happens readers e w) v es xs q.1 h.1 in record {
+quietly : (w v : World) (events : List Event) (xs : List Answer) → AreUndisturbed events → Follows w events xs v
+    → Quietly w v
+quietly w v [] [] q h = record { events = []; quiet = tt; leads = h }
+quietly w v [] (x ∷ xs) q h = absurd h
+quietly w v (e ∷ es) [] q h = absurd h
+quietly w v (e ∷ es) (Happened ∷ xs) q h =
+    let more : Quietly (happens e w) v = quietly (happens e w) v es xs q.1 h.1 in record {
       events = e ∷ more.events;
       quiet = (q.0, more.quiet);
-      leads = more.leads ∙ ap (run_of readers more.events) (sym (after_can readers e w (can e w) refl h.0));
+      leads = more.leads ∙ ap (run_of more.events) (sym (after_can e w (can e w) refl h.0));
     }
-quietly readers w v (e ∷ es) (Refused ∷ xs) q h = quietly readers w v es xs q.1 h.1
-quietly readers w v (e ∷ es) (Wanting ∷ xs) q h = quietly readers w v es xs q.1 h.2
+quietly w v (e ∷ es) (Refused ∷ xs) q h = quietly w v es xs q.1 h.1
+quietly w v (e ∷ es) (Wanting ∷ xs) q h = quietly w v es xs q.1 h.2
 
 -- where memory sufficed, all events lead there
-all_lead : (readers : Readers) (w v : World) (events : List Event) (xs : List Answer) → wanting xs ≡ 0 → Follows readers w events xs v
-    → v ≡ run_of readers events w
-all_lead readers w v [] [] none h = h
-all_lead readers w v [] (x ∷ xs) none h = absurd h
-all_lead readers w v (e ∷ es) [] none h = absurd h
-all_lead readers w v (e ∷ es) (Happened ∷ xs) none h =
-    all_lead readers (happens readers e w) v es xs none h.1 ∙ ap (run_of readers es) (sym (after_can readers e w (can e w) refl h.0))
-all_lead readers w v (e ∷ es) (Refused ∷ xs) none h =
-    all_lead readers w v es xs none h.1 ∙ ap (run_of readers es) (sym (after_cannot readers e w (can e w) refl h.0))
-all_lead readers w v (e ∷ es) (Wanting ∷ xs) none h = absurd (cc)
+all_lead : (w v : World) (events : List Event) (xs : List Answer) → wanting xs ≡ 0 → Follows w events xs v
+    → v ≡ run_of events w
+all_lead w v [] [] none h = h
+all_lead w v [] (x ∷ xs) none h = absurd h
+all_lead w v (e ∷ es) [] none h = absurd h
+all_lead w v (e ∷ es) (Happened ∷ xs) none h =
+    all_lead (happens e w) v es xs none h.1 ∙ ap (run_of es) (sym (after_can e w (can e w) refl h.0))
+all_lead w v (e ∷ es) (Refused ∷ xs) none h =
+    all_lead w v es xs none h.1 ∙ ap (run_of es) (sym (after_cannot e w (can e w) refl h.0))
+all_lead w v (e ∷ es) (Wanting ∷ xs) none h = absurd (cc)
 
-pub run_leads : (readers : Readers) (w v : World) (events : List Event) (done not_now memory : ℕ)
-    → HasRun readers w events v done not_now memory → memory ≡ 0 → v ≡ run_of readers events w
-run_leads readers w v events done not_now memory h none = all_lead readers w v events h.answers (h.memory_are ∙ none) h.leads
+pub run_leads : (w v : World) (events : List Event) (done not_now memory : ℕ)
+    → HasRun w events v done not_now memory → memory ≡ 0 → v ≡ run_of events w
+run_leads w v events done not_now memory h none = all_lead w v events h.answers (h.memory_are ∙ none) h.leads
 
 -- ---- the program and the window of a world to which events have led
 
 pub program_is : (l : Linked) → IsReached l → IsProgram l.world.client.client.program
 program_is l h =
     subst IsProgram (sym (ap (λ (w : World). w.client.client.program) h.reached
-    ∙ run_same h.readers h.events (start h.program l.setup.tools h.window))) h.is_program
+    ∙ run_same h.events (start h.program l.setup.tools h.window))) h.is_program
 
 pub window_few : (l : Linked) → IsReached l → l.world.client.client.window ≤ 16
 window_few l h = let c : IsCarried l.world = carried l h in c.inv.window
@@ -75,40 +73,48 @@ window_few l h = let c : IsCarried l.world = carried l h in c.inv.window
 -- ---- the claims
 
 abbrev Runs : Linked → World → List Event → ℕ → ℕ → ℕ → Type 0
-Runs l v events done not_now memory = (readers : Readers) → AreReaders readers → HasRun readers l.world events v done not_now memory
+Runs l v events done not_now memory = HasRun l.world events v done not_now memory
 
 ran : (l : Linked) (v : World) (events : List Event) (done not_now memory : ℕ) → Runs l v events done not_now memory → AreUndisturbed events
-    → Quietly some_are_readers.0 l.world v
-ran l v events done not_now memory h q = let r = h some_are_readers.0 some_are_readers.1
-    in quietly some_are_readers.0 l.world v events r.answers q r.leads
+    → Quietly l.world v
+ran l v events done not_now memory h q = let r = h
+    in quietly l.world v events r.answers q r.leads
 
-from_new : (l : Linked) (v : World) → IsNew l.world → (q : Quietly some_are_readers.0 l.world v)
-    → run_of some_are_readers.0 q.events (start l.world.client.client.program l.world.server.server.rack l.world.client.client.window) ≡ v
-from_new l v new q = sym (q.leads ∙ ap (run_of some_are_readers.0 q.events) new)
+from_new : (l : Linked) (v : World) → IsNew l.world → (q : Quietly l.world v)
+    → run_of q.events (start l.world.client.client.program l.world.server.server.rack l.world.client.client.window) ≡ v
+from_new l v new q = sym (q.leads ∙ ap (run_of q.events) new)
 
-pub new_lines : (l : Linked) (v : World) (events : List Event) (done not_now memory : ℕ) → IsReached l → Runs l v events done not_now memory
+new_lines : (l : Linked) (v : World) (events : List Event) (done not_now memory : ℕ) → IsReached l → Runs l v events done not_now memory
     → IsNew l.world → AreUndisturbed events
     → AreFirstLines v.written (first_plan l.world)
 new_lines l v events done not_now memory h runs new quiet =
-    let q : Quietly some_are_readers.0 l.world v = ran l v events done not_now memory runs quiet in
+    let q : Quietly l.world v = ran l v events done not_now memory runs quiet in
     subst (λ (w : World). AreFirstLines w.written (first_plan l.world)) (from_new l v new q)
-    (undisturbed_lines some_are_readers.0 some_are_readers.1 l.world.client.client.program l.world.server.server.rack
+    (undisturbed_lines l.world.client.client.program l.world.server.server.rack
     l.world.client.client.window q.events (program_is l h) (window_few l h) q.quiet)
 
-pub new_acts : (l : Linked) (v : World) (events : List Event) (done not_now memory : ℕ) → IsReached l → Runs l v events done not_now memory
+new_acts : (l : Linked) (v : World) (events : List Event) (done not_now memory : ℕ) → IsReached l → Runs l v events done not_now memory
     → IsNew l.world → AreUndisturbed events
     → AreFirstActs (acts_in v.server.server.ledger) (acts_planned (first_plan l.world))
 new_acts l v events done not_now memory h runs new quiet =
-    let q : Quietly some_are_readers.0 l.world v = ran l v events done not_now memory runs quiet in
+    let q : Quietly l.world v = ran l v events done not_now memory runs quiet in
     subst (λ (w : World). AreFirstActs (acts_in w.server.server.ledger) (acts_planned (first_plan l.world))) (from_new l v new q)
-    (undisturbed_acts some_are_readers.0 some_are_readers.1 l.world.client.client.program l.world.server.server.rack
+    (undisturbed_acts l.world.client.client.program l.world.server.server.rack
     l.world.client.client.window q.events (program_is l h) (window_few l h) q.quiet)
 
-pub new_counts : (l : Linked) (v : World) (events : List Event) (done not_now memory : ℕ) → IsReached l
+new_counts : (l : Linked) (v : World) (events : List Event) (done not_now memory : ℕ) → IsReached l
     → Runs l v events done not_now memory → IsNew l.world → AreUndisturbed events
     → AreFirstOf v.client.client.table.tally.counted (acts_in v.server.server.ledger)
 new_counts l v events done not_now memory h runs new quiet =
-    let q : Quietly some_are_readers.0 l.world v = ran l v events done not_now memory runs quiet in
+    let q : Quietly l.world v = ran l v events done not_now memory runs quiet in
     subst (λ (w : World). AreFirstOf w.client.client.table.tally.counted (acts_in w.server.server.ledger)) (from_new l v new q)
-    (undisturbed_counts some_are_readers.0 some_are_readers.1 l.world.client.client.program l.world.server.server.rack
+    (undisturbed_counts l.world.client.client.program l.world.server.server.rack
     l.world.client.client.window q.events (program_is l h) (window_few l h) q.quiet)
+
+pub new_follows : (l : Linked) (v : World) (events : List Event) (done not_now memory : ℕ) → IsReached l
+    → Runs l v events done not_now memory → IsNew l.world → AreUndisturbed events → FollowsPlan (first_plan l.world) v
+new_follows l v events done not_now memory h runs new quiet = record {
+  lines = new_lines l v events done not_now memory h runs new quiet;
+  acts = new_acts l v events done not_now memory h runs new quiet;
+  counted = new_counts l v events done not_now memory h runs new quiet;
+}

@@ -13,11 +13,11 @@ use Rattle.dme_line.specs.declared.responses.Mark.{Mark as Marked}
 use Rattle.dme_line.specs.declared.responses.Mark.TheVariants as mark
 use Rattle.dme_line.specs.declared.responses.Response.{Response}
 use Rattle.dme_line.specs.declared.responses.NotResponse.{NotResponse}
+use Rattle.protocol_model.specs.Readings.{response_of, point_of, homed_of}
 use Rattle.fixed_um.specs.declared.lengths.Point.{Point}
 use Rattle.line_framing.specs.Next.{Front, next_of}
 use Rattle.line_framing.specs.declared.faults.FramingFault.TheVariants as framing
 use Rattle.protocol_model.specs.Replies.{Mark, tag_is}
-use Rattle.protocol_model.specs.Lines.{Readers}
 use Rattle.protocol_model.specs.Open.{Effect, Heard, heard_in}
 use Rattle.protocol_model.specs.Client.{Client, Table, Tally, sends_next, next_number, client_hears, client_read, heard_on, heard_standard}
 use Rattle.protocol_model.specs.Client.{heard_event, tallied, counted_next, measured, passed_over, without_homing, tells_homed, is_homing}
@@ -131,40 +131,40 @@ homed_few : (c : Client) (t : Tag) (r : Result Bool NotHomedText) → Few c (giv
 homed_few c t (Ok homed) = read_few c t (Mark.Given (datum.Homed homed))
 homed_few c t (Err why) = given_up c _
 
-for_few : (readers : Readers) (c : Client) (t : Tag) (text : List ℕ) (k : Kind) → Few c (given_for readers c t text k)
-for_few readers c t text kind.PtMeas = point_few c t (readers.point text)
-for_few readers c t text kind.IsHomed = homed_few c t (readers.homed text)
-for_few readers c t text kind.StartSession = given_up c _
-for_few readers c t text kind.EndSession = given_up c _
-for_few readers c t text kind.ClearAllErrors = given_up c _
-for_few readers c t text kind.Home = given_up c _
-for_few readers c t text kind.OnPtMeasReport = given_up c _
-for_few readers c t text kind.GoTo = given_up c _
-for_few readers c t text kind.ChangeTool = given_up c _
-for_few readers c t text kind.SetCsyTransformation = given_up c _
-for_few readers c t text kind.SetCoordSystem = given_up c _
-for_few readers c t text kind.AbortE = given_up c _
+for_few : (c : Client) (t : Tag) (text : List ℕ) (k : Kind) → Few c (given_for c t text k)
+for_few c t text kind.PtMeas = point_few c t (point_of text)
+for_few c t text kind.IsHomed = homed_few c t (homed_of text)
+for_few c t text kind.StartSession = given_up c _
+for_few c t text kind.EndSession = given_up c _
+for_few c t text kind.ClearAllErrors = given_up c _
+for_few c t text kind.Home = given_up c _
+for_few c t text kind.OnPtMeasReport = given_up c _
+for_few c t text kind.GoTo = given_up c _
+for_few c t text kind.ChangeTool = given_up c _
+for_few c t text kind.SetCsyTransformation = given_up c _
+for_few c t text kind.SetCoordSystem = given_up c _
+for_few c t text kind.AbortE = given_up c _
 
-under_few : (readers : Readers) (c : Client) (t : Tag) (text : List ℕ) (kind : Option Kind) → Few c (given_under readers c t text kind)
-under_few readers c t text None = given_up c _
-under_few readers c t text (Some k) = for_few readers c t text k
+under_few : (c : Client) (t : Tag) (text : List ℕ) (kind : Option Kind) → Few c (given_under c t text kind)
+under_few c t text None = given_up c _
+under_few c t text (Some k) = for_few c t text k
 
-response_few : (readers : Readers) (c : Client) (t : Tag) (m : Marked) → Few c (response_read readers c t m)
-response_few readers c t mark.Ack = read_few c t Mark.Ack
-response_few readers c t (mark.Given text) = one_of c (tag_is t (tag.Event 0)) c (given_under readers c t text (held_under t c))
-    (none_more c) (under_few readers c t text (held_under t c))
-response_few readers c t mark.Done = read_few c t Mark.Done
-response_few readers c t (mark.Error text) = read_few c t Mark.Error
+response_few : (c : Client) (t : Tag) (m : Marked) → Few c (response_read c t m)
+response_few c t mark.Ack = read_few c t Mark.Ack
+response_few c t (mark.Given text) = one_of c (tag_is t (tag.Event 0)) c (given_under c t text (held_under t c))
+    (none_more c) (under_few c t text (held_under t c))
+response_few c t mark.Done = read_few c t Mark.Done
+response_few c t (mark.Error text) = read_few c t Mark.Error
 
-line_few : (readers : Readers) (c : Client) (r : Result Response NotResponse) → Few c (line_read readers c r)
-line_few readers c (Ok r) = response_few readers c r.tag r.mark
-line_few readers c (Err refused) = given_up c _
+line_few : (c : Client) (r : Result Response NotResponse) → Few c (line_read c r)
+line_few c (Ok r) = response_few c r.tag r.mark
+line_few c (Err refused) = given_up c _
 
-pub front_few : (readers : Readers) (c : Client) (f : Front) → Few c (front_read readers c f)
-front_few readers c (Ok None) = none_more c
-front_few readers c (Ok (Some (line, rest))) = line_few readers c (readers.response line)
-front_few readers c (Err framing.LineTooLong) = given_up c _
-front_few readers c (Err framing.BadByte) = given_up c _
+pub front_few : (c : Client) (f : Front) → Few c (front_read c f)
+front_few c (Ok None) = none_more c
+front_few c (Ok (Some (line, rest))) = line_few c (response_of line)
+front_few c (Err framing.LineTooLong) = given_up c _
+front_few c (Err framing.BadByte) = given_up c _
 
 -- ---- sending
 
@@ -198,39 +198,39 @@ abbrev pub AreCalm : List Event → Type 0
 AreCalm [] = Unit {0}
 AreCalm (e ∷ es) = (is_calm e ≡ true) × AreCalm es
 
-happens_few : (readers : Readers) (e : Event) (w : World) → is_calm e ≡ true → unsent (happens readers e w) ≤ unsent w
-happens_few readers event.ClientSends w calm =
+happens_few : (e : Event) (w : World) → is_calm e ≡ true → unsent (happens e w) ≤ unsent w
+happens_few event.ClientSends w calm =
     sends_few w.client.client w.client.client.table.tally.unsent (next_number tag.Std w.client.client.table.standard w.client.client.drawn) refl
-happens_few readers (event.Up n) w calm = same_few (unsent w)
-happens_few readers event.ServerReads w calm = same_few (unsent w)
-happens_few readers event.ServerTurn w calm = same_few (unsent w)
-happens_few readers (event.Machine o) w calm = same_few (unsent w)
-happens_few readers (event.Down n) w calm = same_few (unsent w)
-happens_few readers event.ClientReads w calm = (front_few readers w.client.client (next_of w.client.input.rest)).unsent
-happens_few readers event.Connect w calm = absurd (false≢true calm)
-happens_few readers (event.Accept n) w calm = absurd (false≢true calm)
-happens_few readers event.ClientLeaves w calm = absurd (false≢true calm)
-happens_few readers event.ServerLeaves w calm = absurd (false≢true calm)
-happens_few readers event.Abort w calm = absurd (false≢true calm)
-happens_few readers event.Resume w calm = absurd (false≢true calm)
-happens_few readers (event.ClientRestart n) w calm = absurd (false≢true calm)
-happens_few readers event.ServerRestart w calm = absurd (false≢true calm)
+happens_few (event.Up n) w calm = same_few (unsent w)
+happens_few event.ServerReads w calm = same_few (unsent w)
+happens_few event.ServerTurn w calm = same_few (unsent w)
+happens_few (event.Machine o) w calm = same_few (unsent w)
+happens_few (event.Down n) w calm = same_few (unsent w)
+happens_few event.ClientReads w calm = (front_few w.client.client (next_of w.client.input.rest)).unsent
+happens_few event.Connect w calm = absurd (false≢true calm)
+happens_few (event.Accept n) w calm = absurd (false≢true calm)
+happens_few event.ClientLeaves w calm = absurd (false≢true calm)
+happens_few event.ServerLeaves w calm = absurd (false≢true calm)
+happens_few event.Abort w calm = absurd (false≢true calm)
+happens_few event.Resume w calm = absurd (false≢true calm)
+happens_few (event.ClientRestart n) w calm = absurd (false≢true calm)
+happens_few event.ServerRestart w calm = absurd (false≢true calm)
 
-after_few : (readers : Readers) (e : Event) (w : World) (b : Bool) → is_calm e ≡ true
-    → unsent (cond b (happens readers e w) w) ≤ unsent w
-after_few readers e w true calm = happens_few readers e w calm
-after_few readers e w false calm = same_few (unsent w)
+after_few : (e : Event) (w : World) (b : Bool) → is_calm e ≡ true
+    → unsent (cond b (happens e w) w) ≤ unsent w
+after_few e w true calm = happens_few e w calm
+after_few e w false calm = same_few (unsent w)
 
-pub run_few : (readers : Readers) (es : List Event) (w : World) → AreCalm es → unsent (run_of readers es w) ≤ unsent w
-run_few readers [] w calm = same_few (unsent w)
-run_few readers (e ∷ es) w calm =
-    let one : unsent (after readers e w) ≤ unsent w = after_few readers e w (can e w) calm.0 in
-    let more : unsent (run_of readers es (after readers e w)) ≤ unsent (after readers e w) = run_few readers es (after readers e w) calm.1 in
+pub run_few : (es : List Event) (w : World) → AreCalm es → unsent (run_of es w) ≤ unsent w
+run_few [] w calm = same_few (unsent w)
+run_few (e ∷ es) w calm =
+    let one : unsent (after e w) ≤ unsent w = after_few e w (can e w) calm.0 in
+    let more : unsent (run_of es (after e w)) ≤ unsent (after e w) = run_few es (after e w) calm.1 in
     omega (arith, one, more)
 
-pub sent_less : (readers : Readers) (w : World) → can event.ClientSends w ≡ true
-    → (happens readers event.ClientSends w).client.client.state ≢ State.Faulted
-    → unsent (happens readers event.ClientSends w) < unsent w
-sent_less readers w may fine =
+pub sent_less : (w : World) → can event.ClientSends w ≡ true
+    → (happens event.ClientSends w).client.client.state ≢ State.Faulted
+    → unsent (happens event.ClientSends w) < unsent w
+sent_less w may fine =
     sends_less w.client.client _ _ w.client.client.table.tally.unsent
     (next_number tag.Std w.client.client.table.standard w.client.client.drawn) refl may fine

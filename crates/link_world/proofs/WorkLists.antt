@@ -1,7 +1,6 @@
 -- What the server does, one thing after another.
 use Rattle.std.proofs.Common.{◌≡◌, ◌<◌, Bool, true, false, cond, List, [], ◌∷◌, ◌++◌, ℕ, sym, ◌∙◌, ap, subst, Option, Some, None}
 use Rattle.contact_ledger.specs.Ledgers.{contact_count}
-use Rattle.protocol_model.specs.Lines.{Readers, AreReaders}
 use Rattle.protocol_model.specs.Server.{running_job}
 use Rattle.protocol_model.specs.World.{World, can, happens, after, run_of}
 use Rattle.protocol_model.specs.declared.lines.Line.{Line}
@@ -9,7 +8,6 @@ use Rattle.protocol_model.specs.declared.machine.Job.{Job}
 use Rattle.protocol_model.specs.declared.machine.Outcome.{Outcome}
 use Rattle.protocol_model.specs.declared.events.Event.{Event}
 use Rattle.protocol_model.specs.declared.events.Event.TheVariants as event
-use Rattle.protocol_model.proofs.written_lines.ReadersExist.{some_are_readers}
 use Rattle.server_core.specs.Steady.{IsRunnable}
 use Rattle.link_world.specs.Links.{Linked, with_world}
 use Rattle.protocol_model.specs.Rounds.{AreWork, ending, ended, working}
@@ -18,39 +16,39 @@ use Rattle.link_world.proofs.EventLists.{any_more, leads_more, done_now}
 use Rattle.link_world.proofs.ServerWork.{work_left, turn_less, machine_less}
 
 -- so far
-abbrev pub Working : Readers → (Job → ℕ → Outcome) → Bool → World → List Event → Type 0
-Working readers answer cut w es = AreWork readers answer true w es
+abbrev pub Working : (Job → ℕ → Outcome) → Bool → World → List Event → Type 0
+Working answer cut w es = AreWork answer true w es
 
 -- what is next
 abbrev pub next : (Job → ℕ → Outcome) → World → Option Event
 next answer w = working (ending answer w) w
 
-work_more : (readers : Readers) (answer : Job → ℕ → Outcome) (e : Event) (w : World) (es : List Event) → AreWork readers answer true w es
-    → next answer (run_of readers es w) ≡ Some e → AreWork readers answer true w (es ++ e ∷ [])
-work_more readers answer e w [] h is = (is, tt)
-work_more readers answer e w (f ∷ fs) h is = (h.0, work_more readers answer e (after readers f w) fs h.1 is)
+work_more : (answer : Job → ℕ → Outcome) (e : Event) (w : World) (es : List Event) → AreWork answer true w es
+    → next answer (run_of es w) ≡ Some e → AreWork answer true w (es ++ e ∷ [])
+work_more answer e w [] h is = (is, tt)
+work_more answer e w (f ∷ fs) h is = (h.0, work_more answer e (after f w) fs h.1 is)
 
-work_ends : (readers : Readers) (answer : Job → ℕ → Outcome) (w : World) (es : List Event) → AreWork readers answer true w es
-    → next answer (run_of readers es w) ≡ None → AreWork readers answer false w es
-work_ends readers answer w [] h is = is
-work_ends readers answer w (f ∷ fs) h is = (h.0, work_ends readers answer (after readers f w) fs h.1 is)
+work_ends : (answer : Job → ℕ → Outcome) (w : World) (es : List Event) → AreWork answer true w es
+    → next answer (run_of es w) ≡ None → AreWork answer false w es
+work_ends answer w [] h is = is
+work_ends answer w (f ∷ fs) h is = (h.0, work_ends answer (after f w) fs h.1 is)
 
-pub working_more : (readers : Readers) (answer : Job → ℕ → Outcome) (e : Event) (b : Bool) (l k m : Linked)
-    → Makes readers (Working readers answer) false (Some b) l k → next answer k.world ≡ Some e
-    → m ≡ with_world k (after readers e k.world) → Makes readers (Working readers answer) false (Some true) l m
-working_more readers answer e b l k m h is leads = record {
+pub working_more : (answer : Job → ℕ → Outcome) (e : Event) (b : Bool) (l k m : Linked)
+    → Makes (Working answer) false (Some b) l k → next answer k.world ≡ Some e
+    → m ≡ with_world k (after e k.world) → Makes (Working answer) false (Some true) l m
+working_more answer e b l k m h is leads = record {
   events = h.events ++ e ∷ [];
-  made = work_more readers answer e l.world h.events h.made (subst (λ (x : Linked). next answer x.world ≡ Some e) h.leads is);
-  leads = leads_more readers l k m h.events (e ∷ []) h.leads leads;
+  made = work_more answer e l.world h.events h.made (subst (λ (x : Linked). next answer x.world ≡ Some e) h.leads is);
+  leads = leads_more l k m h.events (e ∷ []) h.leads leads;
   told_is = any_more h.events e;
 }
 
-pub working_ends : (readers : Readers) (answer : Job → ℕ → Outcome) (b : Bool) (l k : Linked)
-    → Makes readers (Working readers answer) false (Some b) l k → next answer k.world ≡ None
-    → Makes readers (AreWork readers answer) false (Some b) l k
-working_ends readers answer b l k h is = record {
+pub working_ends : (answer : Job → ℕ → Outcome) (b : Bool) (l k : Linked)
+    → Makes (Working answer) false (Some b) l k → next answer k.world ≡ None
+    → Makes (AreWork answer) false (Some b) l k
+working_ends answer b l k h is = record {
   events = h.events;
-  made = work_ends readers answer l.world h.events h.made (subst (λ (x : Linked). next answer x.world ≡ None) h.leads is);
+  made = work_ends answer l.world h.events h.made (subst (λ (x : Linked). next answer x.world ≡ None) h.leads is);
   leads = h.leads;
   told_is = h.told_is;
 }
@@ -61,28 +59,27 @@ turn_only : (e : Event) (w : World) (b : Bool) → cond {A = Option Event} b (So
 turn_only e w true is = cc
 turn_only e w false is = absurd (cc)
 
-next_less : (readers : Readers) (answer : Job → ℕ → Outcome) (e : Event) (w : World) (job : Option Job)
+next_less : (answer : Job → ℕ → Outcome) (e : Event) (w : World) (job : Option Job)
     → working (ended answer (contact_count w.server.server.ledger) job) w ≡ Some e → can e w ≡ true
     → ((line : Line) → w.server.server.running ≡ Some line → IsRunnable w.server.server line)
-    → work_left (happens readers e w) < work_left w
-next_less readers answer e w None is may fine =
+    → work_left (happens e w) < work_left w
+next_less answer e w None is may fine =
     let same : e ≡ event.ServerTurn = turn_only e w (can event.ServerTurn w) is in
-    subst (λ (x : Event). work_left (happens readers x w) < work_left w) (sym same)
-    (turn_less readers w (subst (λ (x : Event). can x w ≡ true) same may))
-next_less readers answer e w (Some job) is may fine =
+    subst (λ (x : Event). work_left (happens x w) < work_left w) (sym same)
+    (turn_less w (subst (λ (x : Event). can x w ≡ true) same may))
+next_less answer e w (Some job) is may fine =
     let same : e ≡ event.Machine (answer job (contact_count w.server.server.ledger)) = cc in
-    subst (λ (x : Event). work_left (happens readers x w) < work_left w) (sym same)
-    (machine_less readers w (answer job (contact_count w.server.server.ledger)) (subst (λ (x : Event). can x w ≡ true) same may) fine)
+    subst (λ (x : Event). work_left (happens x w) < work_left w) (sym same)
+    (machine_less w (answer job (contact_count w.server.server.ledger)) (subst (λ (x : Event). can x w ≡ true) same may) fine)
 
 pub work_less : (answer : Job → ℕ → Outcome) (e : Event) (l m : Linked) → next answer l.world ≡ Some e → can e l.world ≡ true
     → ((line : Line) → l.world.server.server.running ≡ Some line → IsRunnable l.world.server.server line)
-    → ((readers : Readers) → AreReaders readers → m ≡ with_world l (after readers e l.world)) → work_left m.world < work_left l.world
+    → (m ≡ with_world l (after e l.world)) → work_left m.world < work_left l.world
 work_less answer e l m is may fine leads =
-    let readers : Readers = some_are_readers.0 in
-    let same : m.world ≡ happens readers e l.world = ap (λ (k : Linked). k.world) (leads readers some_are_readers.1)
-    ∙ done_now readers e l.world may in
+    let same : m.world ≡ happens e l.world = ap (λ (k : Linked). k.world) (leads)
+    ∙ done_now e l.world may in
     subst (λ (w : World). work_left w < work_left l.world) (sym same)
-    (next_less readers answer e l.world (running_job l.world.server.server) is may fine)
+    (next_less answer e l.world (running_job l.world.server.server) is may fine)
 
 -- what is next, as the machine answered at first
 pub next_is : (now first : Job → ℕ → Outcome) (w : World) (o : Option Event) → now ≡ first → next now w ≡ o → next first w ≡ o

@@ -1,10 +1,10 @@
--- What is promised of a world after any events, and when none is made (this profile).
-use Rattle.std.specs.Prelude.{◌≡◌, ◌≢◌, Bool, true, false, None, List}
+-- What is promised of a world after any events, what an event answers, and when no world is made (this profile).
+use Rattle.std.specs.Prelude.{◌≡◌, ◌≢◌, Bool, true, false, None, List, Result, Ok, Err}
 use Rattle.dmis_program.specs.Meaning.{Meaning}
 use Rattle.tool_rack.specs.Setups.{SetupValue}
 use Rattle.protocol_model.specs.Claims.{Sound, Told}
 use Rattle.protocol_model.specs.Plan.{plan}
-use Rattle.protocol_model.specs.World.{World, start}
+use Rattle.protocol_model.specs.World.{World, start, can}
 use Rattle.protocol_model.specs.declared.events.Event.{Event}
 use Rattle.protocol_model.specs.declared.plans.Planned.{Planned}
 use Rattle.protocol_model.specs.declared.plans.Start.{Start}
@@ -18,17 +18,15 @@ use Rattle.link_world.specs.declared.faults.WorldFault.TheVariants as world_faul
 use Rattle.link_world.specs.declared.faults.NewFault.{NewFault}
 use Rattle.link_world.specs.declared.faults.NewFault.TheVariants as fault
 
--- the features that the client holds are true of what the server did
-abbrev pub IsSound : World → Type 0
-IsSound w = Sound w.client.client.program.features w.client.client.table.tally.features w.server.server.ledger
-
--- what the client has counted on its connection is a front of what the server did there
-abbrev pub IsTold : World → Type 0
-IsTold w = Told w.client.client.table.tally.counted w.server.server.ledger w.client.client.last
-
--- the client is not Faulted, and the server has met no framing fault
-pub record DoNotDisagree (w : World) : Type 0 where
+-- the headline, of a world after any events
+pub record Headline (w : World) : Type 0 where
+  -- the features that the client holds are the first of its program, each with the points of an unbroken run of the server's contacts
+  pub features : Sound w.client.client.program.features w.client.client.table.tally.features w.server.server.ledger
+  -- what the client has counted on its connection is a prefix of what the server did there
+  pub counted : Told w.client.client.table.tally.counted w.server.server.ledger w.client.client.last
+  -- the client has met no line and no mark that is unexpected
   pub client : w.client.client.state ≢ State.Faulted
+  -- the server has met no framing fault
   pub server : w.server.input.fault ≡ None
 
 -- a program and a setup are handed back for the window's sake
@@ -49,12 +47,6 @@ IsNew w = w ≡ start w.client.client.program w.server.server.rack w.client.clie
 abbrev pub first_plan : World → List Planned
 first_plan w = plan w.client.client.program 0 Start.NewConnection
 
--- the events by which a side reads a line
-abbrev pub reads : Event → Bool
-reads Event.ServerReads = true
-reads Event.ClientReads = true
-reads _ = false
-
 -- the events that may want memory: all but to take a connection, to leave one, and to begin again
 abbrev pub takes_memory : Event → Bool
 takes_memory (Event.Accept n) = false
@@ -63,6 +55,12 @@ takes_memory Event.ServerLeaves = false
 takes_memory (Event.ClientRestart k) = false
 takes_memory Event.ServerRestart = false
 takes_memory _ = true
+
+-- the answer to an event: it happens only if it can, is refused exactly if it cannot, and memory is missing only if it can and takes some
+abbrev pub IsAnswer : Event → World → Result (Unit {0}) WorldFault → Type 0
+IsAnswer e w (Ok u) = can e w ≡ true
+IsAnswer e w (Err world_fault.NotNow) = can e w ≡ false
+IsAnswer e w (Err world_fault.Memory) = (can e w ≡ true) × (takes_memory e ≡ true)
 
 -- why an event of the client does not happen, by why its call is refused
 abbrev pub refused_by : ClientFault → WorldFault

@@ -1,6 +1,5 @@
 -- Turns over ports as lists of the events of a world (this profile).
 use Rattle.std.specs.Prelude.{◌≡◌, ℕ, Bool, true, false, Option, List, [], ◌∷◌, ◌++◌, length, take, drop}
-use Rattle.protocol_model.specs.Lines.{Readers}
 use Rattle.protocol_model.specs.Ends.{ClientEnd, ServerEnd}
 use Rattle.protocol_model.specs.World.{World, client_link, server_link, with_link, run_of}
 use Rattle.protocol_model.specs.declared.events.Event.{Event}
@@ -19,23 +18,23 @@ use Rattle.link_world.specs.ServerPumps.{ServerMoved, ServerStopped}
 
 -- a client's turn as events: it sends while it can, so many bytes come down, where any do, and it reads while it can; one that is cut is a
 -- front of that
-abbrev pub IsClientTurn : Readers → ℕ → Bool → World → List Event → Type 0
-IsClientTurn readers count =
-    Then readers (AreWhile readers event.ClientSends) (
-    Then readers (λ cut w. IsOne (possible (event.Down count) w) cut) (AreWhile readers event.ClientReads))
+abbrev pub IsClientTurn : ℕ → Bool → World → List Event → Type 0
+IsClientTurn count =
+    Then (AreWhile event.ClientSends) (
+    Then (λ cut w. IsOne (possible (event.Down count) w) cut) (AreWhile event.ClientReads))
 
 -- a server's turn as events: so many bytes come up, where any do, it reads while it can, and it does all that it has to do, as its machine
 -- answers; one that is cut is a front of that
-abbrev pub IsServerTurn : Readers → (Job → ℕ → Outcome) → ℕ → Bool → World → List Event → Type 0
-IsServerTurn readers answer count =
-    Then readers (λ cut w. IsOne (possible (event.Up count) w) cut) (
-    Then readers (AreWhile readers event.ServerReads) (AreWork readers answer))
+abbrev pub IsServerTurn : (Job → ℕ → Outcome) → ℕ → Bool → World → List Event → Type 0
+IsServerTurn answer count =
+    Then (λ cut w. IsOne (possible (event.Up count) w) cut) (
+    Then (AreWhile event.ServerReads) (AreWork answer))
 
 -- a turn as events leads from one world to another
-pub record TurnLeads (readers : Readers) (is : Bool → World → List Event → Type 0) (cut : Bool) (w v : World) : Type 0 where
+pub record TurnLeads (is : Bool → World → List Event → Type 0) (cut : Bool) (w v : World) : Type 0 where
   pub events : List Event
   pub made : is cut w events
-  pub leads : run_of readers events w ≡ v
+  pub leads : run_of events w ≡ v
 
 -- a world whose client is as this end, but that it has nothing to send: this text has joined its connection, and so many bytes have come
 -- down
@@ -117,40 +116,40 @@ pub record IsWorldOf (w : World) (p : Pumped) : Type 0 where
   pub down : AreOnWay p.server.server.on p.down (client_link w).down
 
 -- a call as events: the whole turn of a side, or a front of one and its leaving; a call of a side that has left is none
-pub data IsCall (readers : Readers) (answer : Job → ℕ → Outcome) (w : World) : List Event → Type 0 where
-  no_event : IsCall readers answer w []
-  client_turn : (count : ℕ) (events : List Event) → IsClientTurn readers count false w events → IsCall readers answer w events
-  client_left : (count : ℕ) (events : List Event) → IsClientTurn readers count true w events
-      → IsCall readers answer w (events ++ event.ClientLeaves ∷ [])
-  server_turn : (count : ℕ) (events : List Event) → IsServerTurn readers answer count false w events → IsCall readers answer w events
-  server_left : (count : ℕ) (events : List Event) → IsServerTurn readers answer count true w events
-      → IsCall readers answer w (events ++ event.ServerLeaves ∷ [])
+pub data IsCall (answer : Job → ℕ → Outcome) (w : World) : List Event → Type 0 where
+  no_event : IsCall answer w []
+  client_turn : (count : ℕ) (events : List Event) → IsClientTurn count false w events → IsCall answer w events
+  client_left : (count : ℕ) (events : List Event) → IsClientTurn count true w events
+      → IsCall answer w (events ++ event.ClientLeaves ∷ [])
+  server_turn : (count : ℕ) (events : List Event) → IsServerTurn answer count false w events → IsCall answer w events
+  server_left : (count : ℕ) (events : List Event) → IsServerTurn answer count true w events
+      → IsCall answer w (events ++ event.ServerLeaves ∷ [])
 
 -- calls as events, one behind another
-pub data AreCalls (readers : Readers) (answer : Job → ℕ → Outcome) (w : World) : List Event → Type 0 where
-  no_call : AreCalls readers answer w []
-  one_more : (events more : List Event) → AreCalls readers answer w events → IsCall readers answer (run_of readers events w) more
-      → AreCalls readers answer w (events ++ more)
+pub data AreCalls (answer : Job → ℕ → Outcome) (w : World) : List Event → Type 0 where
+  no_call : AreCalls answer w []
+  one_more : (events more : List Event) → AreCalls answer w events → IsCall answer (run_of events w) more
+      → AreCalls answer w (events ++ more)
 
 -- calls as events lead a world there
-pub record IsOneWorld (readers : Readers) (answer : Job → ℕ → Outcome) (w : World) (p : Pumped) : Type 0 where
+pub record IsOneWorld (answer : Job → ℕ → Outcome) (w : World) (p : Pumped) : Type 0 where
   pub events : List Event
-  pub are : AreCalls readers answer w events
-  pub is : IsWorldOf (run_of readers events w) p
+  pub are : AreCalls answer w events
+  pub is : IsWorldOf (run_of events w) p
 
 -- ---- against any peer
 
 -- calls of a client, one after another: those of its pump, each whole or stopped, with whatever bounds and over whatever ports, and between
 -- them its own, as one that comes to the next connection
-pub data ClientCalls (readers : Readers) (start : ClientEnd) : ClientEnd → Type 0 where
-  not_called : ClientCalls readers start start
-  moves : (e f : ClientEnd) (least : ℕ) (left left_now taken taken_now : Option (List ℕ)) (moved : Moved) → ClientCalls readers start e
-      → ClientMoved least e f left left_now taken taken_now moved → ClientCalls readers start f
+pub data ClientCalls (start : ClientEnd) : ClientEnd → Type 0 where
+  not_called : ClientCalls start start
+  moves : (e f : ClientEnd) (least : ℕ) (left left_now taken taken_now : Option (List ℕ)) (moved : Moved) → ClientCalls start e
+      → ClientMoved least e f left left_now taken taken_now moved → ClientCalls start f
   stops : (e f : ClientEnd) (least bound : ℕ) (left left_now taken taken_now : Option (List ℕ)) (fault : PumpFault ClientFault)
-      → ClientCalls readers start e → ClientStopped least bound e f left left_now taken taken_now fault → ClientCalls readers start f
-  called : (e : ClientEnd) (call : Call) → ClientCalls readers start e → ClientCalls readers start (behind_call readers call e)
+      → ClientCalls start e → ClientStopped least bound e f left left_now taken taken_now fault → ClientCalls start f
+  called : (e : ClientEnd) (call : Call) → ClientCalls start e → ClientCalls start (behind_call call e)
 
 -- a list of a client's own calls leads there
-pub record AreOwnCalls (readers : Readers) (start e : ClientEnd) : Type 0 where
+pub record AreOwnCalls (start e : ClientEnd) : Type 0 where
   pub calls : List Call
-  pub lead : e ≡ behind_calls readers calls start
+  pub lead : e ≡ behind_calls calls start

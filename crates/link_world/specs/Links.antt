@@ -3,7 +3,6 @@ use Rattle.std.specs.Prelude.{◌≡◌, ℕ, ◌≤◌, List, [], ◌∷◌, �
 use Rattle.dmis_program.specs.Meaning.{Meaning}
 use Rattle.dmis_program.specs.Programs.{IsProgram}
 use Rattle.tool_rack.specs.Setups.{SetupValue}
-use Rattle.protocol_model.specs.Lines.{Readers, AreReaders}
 use Rattle.protocol_model.specs.Ends.{ClientEnd, ServerEnd}
 use Rattle.protocol_model.specs.World.{World, Link, start, run_of}
 use Rattle.protocol_model.specs.declared.events.Event.{Event}
@@ -70,11 +69,9 @@ with_world l w = record { setup = l.setup; world = w }
 
 -- a list of events leads to it from a world in which nothing has happened
 pub record IsReached (l : Linked) : Type 0 where
-  pub readers : Readers
-  pub are : AreReaders readers
   pub program : Meaning
   pub is_program : IsProgram program
   pub window : ℕ
   pub few : window ≤ window_most
   pub events : List Event
-  pub reached : l.world ≡ run_of readers events (start program l.setup.tools window)
+  pub reached : l.world ≡ run_of events (start program l.setup.tools window)

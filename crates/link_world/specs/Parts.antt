@@ -1,6 +1,5 @@
 -- What calls say of the parts of a schedule that they play (this profile).
 use Rattle.std.specs.Prelude.{◌≡◌, Bool, true, false, Option, Some, None, List, [], ◌∷◌, Result, Ok, Err, IfSome}
-use Rattle.protocol_model.specs.Lines.{Readers, AreReaders}
 use Rattle.protocol_model.specs.World.{World, run_of}
 use Rattle.protocol_model.specs.declared.events.Event.{Event}
 use Rattle.protocol_model.specs.declared.events.Event.TheVariants as event
@@ -19,19 +18,19 @@ repeats event.ClientReads = true
 repeats _ = false
 
 -- events of a part of a schedule, whole or cut, lead from one world to another; whether there are any, where that is told
-pub record Makes (readers : Readers) (are : Bool → World → List Event → Type 0) (cut : Bool) (told : Option Bool) (l m : Linked) : Type 0
+pub record Makes (are : Bool → World → List Event → Type 0) (cut : Bool) (told : Option Bool) (l m : Linked) : Type 0
   where
     pub events : List Event
     pub made : are cut l.world events
-    pub leads : m ≡ with_world l (run_of readers events l.world)
+    pub leads : m ≡ with_world l (run_of events l.world)
     pub told_is : IfSome told (λ busy. busy ≡ is_any events)
 
 -- a call played a part whole, and told whether there was any event; or it wanted memory, and cut the part
-abbrev pub Tells : {E : Type 0} → Result Bool E → (Readers → Bool → World → List Event → Type 0) → Linked → Linked → Type 0
-Tells (Ok busy) are l m = (readers : Readers) → AreReaders readers → Makes readers (are readers) false (Some busy) l m
-Tells (Err fault) are l m = (readers : Readers) → AreReaders readers → Makes readers (are readers) true None l m
+abbrev pub Tells : {E : Type 0} → Result Bool E → (Bool → World → List Event → Type 0) → Linked → Linked → Type 0
+Tells (Ok busy) are l m = Makes are false (Some busy) l m
+Tells (Err fault) are l m = Makes are true None l m
 
 -- the same of a call that tells nothing
-abbrev pub PlaysPart : {E : Type 0} → Result (Unit {0}) E → (Readers → Bool → World → List Event → Type 0) → Linked → Linked → Type 0
-PlaysPart (Ok u) are l m = (readers : Readers) → AreReaders readers → Makes readers (are readers) false None l m
-PlaysPart (Err fault) are l m = (readers : Readers) → AreReaders readers → Makes readers (are readers) true None l m
+abbrev pub PlaysPart : {E : Type 0} → Result (Unit {0}) E → (Bool → World → List Event → Type 0) → Linked → Linked → Type 0
+PlaysPart (Ok u) are l m = Makes are false None l m
+PlaysPart (Err fault) are l m = Makes are true None l m

@@ -1,7 +1,6 @@
 -- What calls say of the parts of a turn (this profile). A budget is how many steps may still be made.
 use Rattle.std.specs.Prelude.{◌≡◌, ℕ, ◌+◌, ◌*◌, ◌<◌, ◌≤◌, ⊤, Option, List, [], ◌++◌, length, take}
 use Rattle.std.specs.Io.KnownBytes.{Appends, Consumes, IsAtEnd}
-use Rattle.protocol_model.specs.Lines.{Readers, AreReaders}
 use Rattle.protocol_model.specs.Ends.{ClientEnd, end_fed}
 use Rattle.client_core.specs.declared.faults.ClientFault.{ClientFault}
 use Rattle.link_world.specs.declared.pumps.PumpFault.{PumpFault}
@@ -30,19 +29,19 @@ IsPullFault budget left_now _ = ⊥
 
 -- a stage of a client's turn goes on from one end to another, whatever the turn was before
 abbrev pub GoesOn : Stage → List ℕ → List ℕ → ClientEnd → ClientEnd → Type 0
-GoesOn stage read written old new = (readers : Readers) → AreReaders readers → (least : ℕ) (start : ClientEnd)
-    → ClientTurn readers least start stage read written old → ClientTurn readers least start stage read written new
+GoesOn stage read written old new = (least : ℕ) (start : ClientEnd)
+    → ClientTurn least start stage read written old → ClientTurn least start stage read written new
 
 -- a client's turn that reads goes on, and each line has taken a step of the budget
 abbrev pub ReadsOn : (budget budget_now : ℕ) → ClientEnd → ClientEnd → Type 0
-ReadsOn budget budget_now old new = (readers : Readers) → AreReaders readers → (least : ℕ) (start : ClientEnd) (read written : List ℕ)
-    → (turn : ClientTurn readers least start Reading read written old)
-    → (further : ClientTurn readers least start Reading read written new) × (budget_now + lines_read further ≤ budget + lines_read turn)
+ReadsOn budget budget_now old new = (least : ℕ) (start : ClientEnd) (read written : List ℕ)
+    → (turn : ClientTurn least start Reading read written old)
+    → (further : ClientTurn least start Reading read written new) × (budget_now + lines_read further ≤ budget + lines_read turn)
 
 -- a client has sent all that was due, and all that it had written went out, each step one byte or more
 pub record AllOut (old new : ClientEnd) (taken taken_now : Option (List ℕ)) (budget budget_now count : ℕ) : Type 0 where
   pub written : List ℕ
-  pub turn : (readers : Readers) → AreReaders readers → (least : ℕ) → ClientTurn readers least old Writing [] written new
+  pub turn : (least : ℕ) → ClientTurn least old Writing [] written new
   pub out : new.out ≡ []
   pub held : new.input ≡ old.input
   pub appended : Appends taken taken_now written

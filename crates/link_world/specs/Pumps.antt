@@ -2,7 +2,6 @@
 use Rattle.std.specs.Prelude.{◌≡◌, ℕ, ◌+◌, ◌*◌, ◌<◌, ◌≤◌, true, ⊤, Option, None, Some, List, [], ◌++◌, length, take, is_some, Ok, Err}
 use Rattle.std.specs.Io.KnownBytes.{Appends, Consumes, IsAtEnd}
 use Rattle.line_framing.specs.Next.{Front, next_of}
-use Rattle.protocol_model.specs.Lines.{Readers, AreReaders}
 use Rattle.protocol_model.specs.Client.{due}
 use Rattle.protocol_model.specs.Ends.{ClientEnd, end_sent, end_taken, end_fed, end_read, end_left}
 use Rattle.protocol_model.specs.World.{is_any}
@@ -30,18 +29,18 @@ pub data Stage : Type 0 where
 
 -- a client's turn that has come so far, with the bytes that came in and those that went out, in this order: the client sends while a command
 -- is due; all that it has written goes out; bytes come in, at least so many; it reads what stands at their front
-pub data ClientTurn (readers : Readers) (least : ℕ) (start : ClientEnd) : Stage → List ℕ → List ℕ → ClientEnd → Type 0 where
-  begins : ClientTurn readers least start Sending [] [] start
-  sends : (e : ClientEnd) → ClientTurn readers least start Sending [] [] e → is_some (due e.client) ≡ true
-      → ClientTurn readers least start Sending [] [] (end_sent e)
-  writes : (e : ClientEnd) (count : ℕ) → ClientTurn readers least start Sending [] [] e → due e.client ≡ None → count ≤ length e.out
-      → ClientTurn readers least start Writing [] (take count e.out) (end_taken count e)
-  takes : (e : ClientEnd) (read written : List ℕ) → ClientTurn readers least start Writing [] written e → e.out ≡ []
-      → may_read e.client ≡ true → ClientTurn readers least start Taking read written (end_fed read e)
-  has : (e : ClientEnd) (read written : List ℕ) → ClientTurn readers least start Taking read written e → least ≤ length read
-      → ClientTurn readers least start Reading read written e
-  reads : (e : ClientEnd) (read written : List ℕ) → ClientTurn readers least start Reading read written e → may_read e.client ≡ true
-      → is_any (next_of e.input.rest) ≡ true → ClientTurn readers least start Reading read written (end_read readers e)
+pub data ClientTurn (least : ℕ) (start : ClientEnd) : Stage → List ℕ → List ℕ → ClientEnd → Type 0 where
+  begins : ClientTurn least start Sending [] [] start
+  sends : (e : ClientEnd) → ClientTurn least start Sending [] [] e → is_some (due e.client) ≡ true
+      → ClientTurn least start Sending [] [] (end_sent e)
+  writes : (e : ClientEnd) (count : ℕ) → ClientTurn least start Sending [] [] e → due e.client ≡ None → count ≤ length e.out
+      → ClientTurn least start Writing [] (take count e.out) (end_taken count e)
+  takes : (e : ClientEnd) (read written : List ℕ) → ClientTurn least start Writing [] written e → e.out ≡ []
+      → may_read e.client ≡ true → ClientTurn least start Taking read written (end_fed read e)
+  has : (e : ClientEnd) (read written : List ℕ) → ClientTurn least start Taking read written e → least ≤ length read
+      → ClientTurn least start Reading read written e
+  reads : (e : ClientEnd) (read written : List ℕ) → ClientTurn least start Reading read written e → may_read e.client ≡ true
+      → is_any (next_of e.input.rest) ≡ true → ClientTurn least start Reading read written (end_read e)
 
 -- how many lines stand at a front as its next: bytes that are no line are none
 abbrev pub next_lines : Front → ℕ
@@ -50,8 +49,8 @@ next_lines (Ok (Some found)) = 1
 next_lines (Err why) = 0
 
 -- how many lines a client's turn that has come so far has read
-abbrev pub lines_read : {readers : Readers} {least : ℕ} {start : ClientEnd} {stage : Stage} {read written : List ℕ} {e : ClientEnd}
-    → ClientTurn readers least start stage read written e → ℕ
+abbrev pub lines_read : {least : ℕ} {start : ClientEnd} {stage : Stage} {read written : List ℕ} {e : ClientEnd}
+    → ClientTurn least start stage read written e → ℕ
 lines_read begins = 0
 lines_read (sends e t is) = lines_read t
 lines_read (writes e count t none within) = lines_read t
@@ -64,7 +63,7 @@ lines_read (reads e read written t may is) = lines_read t + next_lines (next_of 
 pub record ClientMoved (least : ℕ) (old new : ClientEnd) (left left_now taken taken_now : Option (List ℕ)) (moved : Moved) : Type 0 where
   pub read : List ℕ
   pub written : List ℕ
-  pub turn : (readers : Readers) → AreReaders readers → ClientTurn readers least old Reading read written new
+  pub turn : ClientTurn least old Reading read written new
   pub may : may_read new.client ≡ true
   pub all : next_of new.input.rest ≡ Ok None
   pub consumed : Consumes left left_now read
@@ -77,7 +76,7 @@ pub record ClientMovedWithin (bound calls calls_now least : ℕ) (old new : Clie
     (moved : Moved) : Type 0
   where
     pub whole : ClientMoved least old new left left_now taken taken_now moved
-    pub within : (readers : Readers) (are : AreReaders readers) → calls_now + lines_read (whole.turn readers are) ≤ calls + bound
+    pub within : calls_now + lines_read (whole.turn) ≤ calls + bound
 
 -- the client has refused: for want of memory, or as it refuses to read and to send
 abbrev pub HasRefused : ClientEnd → PumpFault ClientFault → Type 0
@@ -110,7 +109,7 @@ pub record ClientStopped (least bound : ℕ) (old new : ClientEnd) (left left_no
     pub written : List ℕ
     pub lost : List ℕ
     pub last : ClientEnd
-    pub turn : (readers : Readers) → AreReaders readers → ClientTurn readers least old stage read written last
+    pub turn : ClientTurn least old stage read written last
     pub leaves : new ≡ end_left last
     pub consumed : Consumes left left_now (read ++ lost)
     pub is_lost : IsLost fault lost
@@ -122,4 +121,4 @@ pub record ClientStoppedWithin (bound calls calls_now least : ℕ) (old new : Cl
     (fault : PumpFault ClientFault) : Type 0
   where
     pub front : ClientStopped least bound old new left left_now taken taken_now fault
-    pub within : (readers : Readers) (are : AreReaders readers) → calls_now + lines_read (front.turn readers are) ≤ calls + bound
+    pub within : calls_now + lines_read (front.turn) ≤ calls + bound

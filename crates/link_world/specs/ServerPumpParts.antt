@@ -3,7 +3,6 @@ use Rattle.std.specs.Prelude.{◌≡◌, ℕ, ◌+◌, ◌*◌, ◌≤◌, Bool,
 use Rattle.std.specs.Prelude.{Ok}
 use Rattle.std.specs.Io.KnownBytes.{Consumes}
 use Rattle.line_framing.specs.Next.{next_of}
-use Rattle.protocol_model.specs.Lines.{Readers, AreReaders}
 use Rattle.protocol_model.specs.Server.{Server, running_job}
 use Rattle.protocol_model.specs.Ends.{ServerEnd, serving_fed, serving_left}
 use Rattle.protocol_model.specs.declared.lines.Line.{Line}
@@ -21,9 +20,9 @@ use Rattle.link_world.specs.ServerPumps.{ServerTurn, steps_made, IsServerRefusal
 -- setup stays
 pub record ServerGoesOn (answer : Job → ℕ → Outcome) (stage : Stage) (budget budget_now : ℕ) (old new : Serving) : Type 0 where
   pub setup : new.setup ≡ old.setup
-  pub turn : (readers : Readers) → AreReaders readers → (least : ℕ) (start : ServerEnd) (read : List ℕ)
-      → (turn : ServerTurn readers answer least start stage read [] old.end)
-      → (further : ServerTurn readers answer least start stage read [] new.end)
+  pub turn : (least : ℕ) (start : ServerEnd) (read : List ℕ)
+      → (turn : ServerTurn answer least start stage read [] old.end)
+      → (further : ServerTurn answer least start stage read [] new.end)
       × (budget_now + steps_made further ≤ budget + steps_made turn)
 
 -- a server was fed what was pulled, and each step gave one byte or more
@@ -67,8 +66,8 @@ pub record ReadIn (least calls calls_now : ℕ) (old new : Serving) (left left_n
   where
     pub read : List ℕ
     pub setup : new.setup ≡ old.setup
-    pub turn : (readers : Readers) → AreReaders readers → (answer : Job → ℕ → Outcome)
-        → (turn : ServerTurn readers answer least old.end Reading read [] new.end)
+    pub turn : (answer : Job → ℕ → Outcome)
+        → (turn : ServerTurn answer least old.end Reading read [] new.end)
         × (calls_now + budget_now + steps_made turn ≤ calls + budget)
     pub none : next_of new.end.input.rest ≡ Ok None
     pub consumed : Consumes left left_now read

@@ -3,7 +3,6 @@ use Rattle.std.specs.Prelude.{◌≡◌, ℕ, ◌+◌, ◌*◌, ◌<◌, ◌≤�
 use Rattle.std.specs.Io.KnownBytes.{Appends, Consumes, IsAtEnd}
 use Rattle.line_framing.specs.Next.{next_of}
 use Rattle.contact_ledger.specs.Ledgers.{contact_count}
-use Rattle.protocol_model.specs.Lines.{Readers, AreReaders}
 use Rattle.protocol_model.specs.Server.{running_job}
 use Rattle.protocol_model.specs.Ends.{ServerEnd, serving_fed, serving_read, serving_turned, serving_machined, serving_taken, serving_left}
 use Rattle.protocol_model.specs.World.{is_line}
@@ -20,29 +19,29 @@ use Rattle.link_world.specs.Pumps.{Stage, Writing, Taking, Reading, Working, IsL
 -- a server's turn that has come so far, with the bytes that came in and those that went out, in this order: bytes come in, at least so many;
 -- the server reads each whole line; while it can, it ends what runs as its machine answers, and lets what waits have its turn; and all that
 -- it has answered goes out
-pub data ServerTurn (readers : Readers) (answer : Job → ℕ → Outcome) (least : ℕ) (start : ServerEnd)
+pub data ServerTurn (answer : Job → ℕ → Outcome) (least : ℕ) (start : ServerEnd)
     : Stage → List ℕ → List ℕ → ServerEnd → Type 0 where
-  begins : ServerTurn readers answer least start Taking [] [] start
-  takes : (read : List ℕ) → may_feed start ≡ true → ServerTurn readers answer least start Taking read [] (serving_fed read start)
-  has : (e : ServerEnd) (read : List ℕ) → ServerTurn readers answer least start Taking read [] e → least ≤ length read
-      → ServerTurn readers answer least start Reading read [] e
-  reads : (e : ServerEnd) (read : List ℕ) → ServerTurn readers answer least start Reading read [] e → e.server.on ≡ true
-      → is_line (next_of e.input.rest) ≡ true → ServerTurn readers answer least start Reading read [] (serving_read readers e)
-  knows : (e : ServerEnd) (read : List ℕ) → ServerTurn readers answer least start Reading read [] e → next_of e.input.rest ≡ Ok None
-      → ServerTurn readers answer least start Working read [] e
-  turns : (e : ServerEnd) (read : List ℕ) → ServerTurn readers answer least start Working read [] e → may_turn e.server ≡ true
-      → ServerTurn readers answer least start Working read [] (serving_turned e)
-  ends : (e : ServerEnd) (read : List ℕ) (job : Job) → ServerTurn readers answer least start Working read [] e
+  begins : ServerTurn answer least start Taking [] [] start
+  takes : (read : List ℕ) → may_feed start ≡ true → ServerTurn answer least start Taking read [] (serving_fed read start)
+  has : (e : ServerEnd) (read : List ℕ) → ServerTurn answer least start Taking read [] e → least ≤ length read
+      → ServerTurn answer least start Reading read [] e
+  reads : (e : ServerEnd) (read : List ℕ) → ServerTurn answer least start Reading read [] e → e.server.on ≡ true
+      → is_line (next_of e.input.rest) ≡ true → ServerTurn answer least start Reading read [] (serving_read e)
+  knows : (e : ServerEnd) (read : List ℕ) → ServerTurn answer least start Reading read [] e → next_of e.input.rest ≡ Ok None
+      → ServerTurn answer least start Working read [] e
+  turns : (e : ServerEnd) (read : List ℕ) → ServerTurn answer least start Working read [] e → may_turn e.server ≡ true
+      → ServerTurn answer least start Working read [] (serving_turned e)
+  ends : (e : ServerEnd) (read : List ℕ) (job : Job) → ServerTurn answer least start Working read [] e
       → running_job e.server ≡ Some job
-      → ServerTurn readers answer least start Working read [] (serving_machined (answer job (contact_count e.server.ledger)) e)
-  writes : (e : ServerEnd) (read : List ℕ) (count : ℕ) → ServerTurn readers answer least start Working read [] e
+      → ServerTurn answer least start Working read [] (serving_machined (answer job (contact_count e.server.ledger)) e)
+  writes : (e : ServerEnd) (read : List ℕ) (count : ℕ) → ServerTurn answer least start Working read [] e
       → may_turn e.server ≡ false → running_job e.server ≡ None → count ≤ length e.out
-      → ServerTurn readers answer least start Writing read (take count e.out) (serving_taken count e)
+      → ServerTurn answer least start Writing read (take count e.out) (serving_taken count e)
 
 -- how many lines a server's turn that has come so far has read, how often what waits had its turn, and how often what ran has ended,
 -- together
-abbrev pub steps_made : {readers : Readers} {answer : Job → ℕ → Outcome} {least : ℕ} {start : ServerEnd} {stage : Stage}
-    {read written : List ℕ} {e : ServerEnd} → ServerTurn readers answer least start stage read written e → ℕ
+abbrev pub steps_made : {answer : Job → ℕ → Outcome} {least : ℕ} {start : ServerEnd} {stage : Stage}
+    {read written : List ℕ} {e : ServerEnd} → ServerTurn answer least start stage read written e → ℕ
 steps_made begins = 0
 steps_made (takes read may) = 0
 steps_made (has e read t enough) = steps_made t
@@ -59,7 +58,7 @@ pub record ServerMoved (answer : Job → ℕ → Outcome) (least : ℕ) (old new
   where
     pub read : List ℕ
     pub written : List ℕ
-    pub turn : (readers : Readers) → AreReaders readers → ServerTurn readers answer least old Writing read written new
+    pub turn : ServerTurn answer least old Writing read written new
     pub all : new.out ≡ []
     pub consumed : Consumes left left_now read
     pub appended : Appends taken taken_now written
@@ -72,7 +71,7 @@ pub record ServerMovedWithin (answer : Job → ℕ → Outcome) (bound calls cal
     (left left_now taken taken_now : Option (List ℕ)) (moved : Moved) : Type 0
   where
     pub whole : ServerMoved answer least old new left left_now taken taken_now moved
-    pub within : (readers : Readers) (are : AreReaders readers) → calls_now + steps_made (whole.turn readers are) ≤ calls + bound
+    pub within : calls_now + steps_made (whole.turn) ≤ calls + bound
 
 -- a server's refusal as the fault of a pump: want of memory is a fault of its own
 abbrev pub of_server : ServerFault → PumpFault ServerFault
@@ -104,7 +103,7 @@ pub record ServerStopped (answer : Job → ℕ → Outcome) (least bound : ℕ) 
     pub written : List ℕ
     pub lost : List ℕ
     pub last : ServerEnd
-    pub turn : (readers : Readers) → AreReaders readers → ServerTurn readers answer least old stage read written last
+    pub turn : ServerTurn answer least old stage read written last
     pub leaves : new ≡ serving_left last
     pub consumed : Consumes left left_now (read ++ lost)
     pub is_lost : IsLost fault lost
@@ -116,4 +115,4 @@ pub record ServerStoppedWithin (answer : Job → ℕ → Outcome) (bound calls c
     (left left_now taken taken_now : Option (List ℕ)) (fault : PumpFault ServerFault) : Type 0
   where
     pub front : ServerStopped answer least bound old new left left_now taken taken_now fault
-    pub within : (readers : Readers) (are : AreReaders readers) → calls_now + steps_made (front.turn readers are) ≤ calls + bound
+    pub within : calls_now + steps_made (front.turn) ≤ calls + bound

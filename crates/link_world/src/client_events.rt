@@ -8,7 +8,6 @@ ghost use Rattle.protocol_model.specs.Ends.{end_sent, end_aborted, end_fed, end_
 ghost use Rattle.protocol_model.specs.World.{can, has_some, connected, client_writes, moved_down};
 ghost use Rattle.protocol_model.specs.declared.events.Event.TheVariants as event;
 ghost use Rattle.client_core.specs.Clients.{is_faulted, may_read};
-ghost use Rattle.client_core.specs.Reads.{LeadsRead};
 ghost use Rattle.link_world.specs.Events.{HappensIf, HappensIff};
 ghost use Rattle.link_world.specs.Links.{link_of_connection, with_up, fewer_down, quiet_client, with_world};
 
@@ -202,9 +201,9 @@ impl World {
     /// The client reads a line.
     pub(crate) fn client_reads(&mut self) -> Result<(), WorldFault>
         ensures can { HappensIf result (can event.ClientReads self.old.world) }
-        ensures world { LeadsRead result self.old self.new
-            (λ readers. with_world self.old (record self.old.world
-            { client = end_read readers self.old.world.client })) }
+        ensures world { Leads result self.old self.new
+            (with_world self.old (record self.old.world
+            { client = end_read self.old.world.client })) }
     {
         if !self.client.is_on() {
             return Err(WorldFault::NotNow);

@@ -5,7 +5,6 @@ ghost use Rattle.std.specs.Result.{IsErrOf};
 ghost use Rattle.protocol_model.specs.Client.{due};
 ghost use Rattle.protocol_model.specs.Finishing.{CanFinish, CanMeasure, HasMeasured, rejoined, plan_left};
 ghost use Rattle.protocol_model.specs.PlainExecution.{as_measured, plain_execution};
-ghost use Rattle.protocol_model.specs.Lines.{Readers, AreReaders};
 ghost use Rattle.protocol_model.specs.Plan.{plan};
 ghost use Rattle.protocol_model.specs.Rounds.{IsRound};
 ghost use Rattle.protocol_model.specs.World.{start};
@@ -15,8 +14,8 @@ ghost use Rattle.client_core.specs.Always.{FitsState};
 ghost use Rattle.client_core.specs.Clients.{is_window};
 ghost use Rattle.link_world.specs.Links.{with_world};
 ghost use Rattle.link_world.specs.Parts.{Makes};
-ghost use Rattle.link_world.specs.Finishing.{commands_most, IsSameKind, AreFirstOfJoining, AreTurns, Finishes, Stops, IsQuietRun};
-ghost use Rattle.link_world.specs.Claims.{IsSound, IsTold, DoNotDisagree, HandsBack, IsWant};
+ghost use Rattle.link_world.specs.Finishing.{commands_most, IsSameKind, AreFirstOfJoining, AreTurns, Finishes, Stops, IsFinish, IsQuietRun};
+ghost use Rattle.link_world.specs.Claims.{Headline, HandsBack, IsWant};
 
 use crate::faults::{NewFault, WorldFault};
 use crate::machines::Machine;
@@ -54,10 +53,8 @@ impl World {
 
     /// Both ends leave, each where it stands on a connection, and come to the next. Only want of memory is an `Err`.
     fn rejoin(&mut self) -> Result<(), AllocError>
-        ensures joined { OnOk result ((readers : Readers) → AreReaders readers
-            → self.new ≡ with_world self.old (rejoined readers self.old.world)) }
-        ensures cut { OnErr result ((readers : Readers) → AreReaders readers
-            → Makes readers AreFirstOfJoining true None self.old self.new) }
+        ensures joined { OnOk result (self.new ≡ with_world self.old (rejoined self.old.world)) }
+        ensures cut { OnErr result (Makes AreFirstOfJoining true None self.old self.new) }
     {
         let number = self.connections.len() as u64 + 1;
         self.attempt(Event::ClientLeaves)?;
@@ -77,17 +74,14 @@ impl World {
     /// A quiet round that begins with a command that is due. Only want of memory is an `Err`.
     fn turn<M: Machine>(&mut self, machine: &mut M) -> Result<(), AllocError>
         requires due { is_some (due self.old.world.client.client) ≡ true }
-        ensures made { OnOk result ((readers : Readers) → AreReaders readers
-            → Makes readers (IsRound readers (M.answers machine.old)) false (Some true)
+        ensures made { OnOk result (Makes (IsRound (M.answers machine.old)) false (Some true)
             self.old self.new) }
-        ensures cut { OnErr result ((readers : Readers) → AreReaders readers
-            → Makes readers (IsRound readers (M.answers machine.old)) true None
+        ensures cut { OnErr result (Makes (IsRound (M.answers machine.old)) true None
             self.old self.new) }
         ensures fewer { OnOk result (length self.new.world.client.client.table.tally.unsent
             < length self.old.world.client.client.table.tally.unsent) }
         ensures still { OnOk result (due self.new.world.client.client ≡ None
-            → (readers : Readers) → AreReaders readers
-            → IsRound readers (M.answers machine.old) false self.new.world []) }
+            → IsRound (M.answers machine.old) false self.new.world []) }
         ensures keeps { M.answers machine.new ≡ M.answers machine.old }
     {
         let _known = &self.alloc;
@@ -99,11 +93,9 @@ impl World {
     fn turns<M: Machine>(&mut self, machine: &mut M) -> Result<usize, AllocError>
         requires due { is_some (due self.old.world.client.client) ≡ true }
         requires short { length self.old.world.client.client.table.tally.unsent ≤ commands_most }
-        ensures made { IfOk result (λ turns. (readers : Readers) → AreReaders readers
-            → Makes readers (AreTurns readers (M.answers machine.old) turns) false None
-            self.old self.new) }
-        ensures cut { OnErr result ((readers : Readers) → AreReaders readers
-            → Makes readers (AreTurns readers (M.answers machine.old) 0) true None
+        ensures made { IfOk result (λ turns.
+            Makes (AreTurns (M.answers machine.old) turns) false None self.old self.new) }
+        ensures cut { OnErr result (Makes (AreTurns (M.answers machine.old) 0) true None
             self.old self.new) }
         ensures few { IfOk result (λ turns.
             turns ≤ length self.old.world.client.client.table.tally.unsent) }
@@ -122,15 +114,15 @@ impl World {
         ensures can { OnOk result (CanFinish self.old.world) }
         ensures not_now { IsErrOf result WorldFault.NotNow ↔ ¬ (CanFinish self.old.world) }
         ensures unchanged { IsErrOf result WorldFault.NotNow → self.new ≡ self.old }
-        ensures finishes { IfOk result (λ turns. (readers : Readers) → AreReaders readers
-            → Finishes readers (M.answers machine.old) turns self.old.world self.new.world) }
+        ensures finishes { IfOk result (λ turns.
+            Finishes (M.answers machine.old) turns self.old.world self.new.world) }
         ensures few { IfOk result (λ turns. turns ≤ length (plan_left self.old.world)) }
         ensures done { OnOk result (CanMeasure (M.answers machine.old) self.old.world
             → self.new.world.client.client.state ≡ state.Done) }
         ensures measured { OnOk result (CanMeasure (M.answers machine.old) self.old.world
             → HasMeasured (M.answers machine.old) self.old.world self.new.world) }
-        ensures memory { IsErrOf result WorldFault.Memory → (readers : Readers) → AreReaders readers
-            → Stops readers (M.answers machine.old) self.old.world self.new.world }
+        ensures memory { IsErrOf result WorldFault.Memory → CanFinish self.old.world
+            × Stops (M.answers machine.old) self.old.world self.new.world }
         ensures keeps { M.answers machine.new ≡ M.answers machine.old }
         ensures same { IsSameKind self.old self.new }
     {
@@ -154,30 +146,10 @@ impl World {
     /// `NotNow` exactly where the client is Done or has made 4,000,000,000 connections, and then nothing has changed. On `Memory` the first
     /// of these events have happened, and it may be called again.
     pub fn finish<M: Machine>(&mut self, machine: &mut M) -> Result<usize, WorldFault>
-        // When it is done, and when it is refused.
-        ensures can { OnOk result (CanFinish self.old.world) }
-        ensures not_now { IsErrOf result WorldFault.NotNow ↔ ¬ (CanFinish self.old.world) }
-        ensures unchanged { IsErrOf result WorldFault.NotNow → self.new ≡ self.old }
-
-        // What it does.
-        ensures finishes { IfOk result (λ turns. (readers : Readers) → AreReaders readers
-            → Finishes readers (M.answers machine.old) turns self.old.world self.new.world) }
-        ensures few { IfOk result (λ turns. turns ≤ length (plan_left self.old.world)) }
-        ensures done { OnOk result (CanMeasure (M.answers machine.old) self.old.world
-            → self.new.world.client.client.state ≡ state.Done) }
-        ensures measured { OnOk result (CanMeasure (M.answers machine.old) self.old.world
-            → HasMeasured (M.answers machine.old) self.old.world self.new.world) }
-        ensures memory { IsErrOf result WorldFault.Memory → (readers : Readers) → AreReaders readers
-            → Stops readers (M.answers machine.old) self.old.world self.new.world }
+        ensures always { Headline self.new.world }
+        ensures ends { IsFinish (M.answers machine.old) self.old result self.new }
         ensures keeps { M.answers machine.new ≡ M.answers machine.old }
-
-        // What no event changes.
-        ensures same { IsSameKind self.old self.new }
-
-        // What holds after any events.
-        ensures sound { IsSound self.new.world }
-        ensures told { IsTold self.new.world }
-        ensures agree { DoNotDisagree self.new.world }
+        ensures fixed { IsSameKind self.old self.new }
     {
         let turns = self.bring_to_end(machine);
         let _ledger = self.ledger();
@@ -202,8 +174,8 @@ impl World {
     /// What `finish` does, where it can, and what is told of it. Only want of memory is an `Err`.
     fn finish_told<M: Machine>(&mut self, machine: &mut M) -> Result<Quiet, AllocError>
         requires { CanFinish self.old.world }
-        ensures finishes { IfOk result (λ quiet. (readers : Readers) → AreReaders readers
-            → Finishes readers (M.answers machine.old) quiet.turns self.old.world self.new.world) }
+        ensures finishes { IfOk result (λ quiet.
+            Finishes (M.answers machine.old) quiet.turns self.old.world self.new.world) }
         ensures few { IfOk result (λ quiet. quiet.turns ≤ length (plan_left self.old.world)) }
         ensures done { OnOk result (CanMeasure (M.answers machine.old) self.old.world
             → self.new.world.client.client.state ≡ state.Done) }
@@ -213,11 +185,11 @@ impl World {
         ensures features { IfOk result (λ quiet.
             quiet.features ≡ self.new.world.client.client.table.tally.features) }
         ensures keeps { M.answers machine.new ≡ M.answers machine.old }
-        ensures sound { IsSound self.new.world }
-        ensures told { IsTold self.new.world }
-        ensures agree { DoNotDisagree self.new.world }
+        ensures always { Headline self.new.world }
     {
-        match self.finish(machine) {
+        let ended = self.bring_to_end(machine);
+        let _ledger = self.ledger();
+        match ended {
             Ok(turns) => {
                 let quiet = self.quiet_told(turns)?;
                 Ok(quiet)
@@ -245,8 +217,8 @@ pub fn quiet_run<M: Machine>(
     machine: &mut M,
 ) -> Result<Quiet, NewFault>
     // What it leaves, and when there is no run.
-    ensures ran { IfOk result (λ quiet. (readers : Readers) → AreReaders readers
-        → IsQuietRun readers (M.answers machine.old) program setup.tools window quiet) }
+    ensures ran { IfOk result (λ quiet.
+        IsQuietRun (M.answers machine.old) program setup.tools window quiet) }
     ensures few { IfOk result (λ quiet. quiet.turns ≤ length (plan program 0 NewConnection)) }
     ensures done { IfOk result (λ quiet.
         CanMeasure (M.answers machine.old) (start program setup.tools window)

@@ -11,7 +11,6 @@ ghost use Rattle.line_framing.specs.Next.{next_of};
 ghost use Rattle.protocol_model.specs.Claims.{Sound, Told};
 ghost use Rattle.protocol_model.specs.Ends.{ClientEnd, ServerEnd};
 ghost use Rattle.protocol_model.specs.Ends.{new_client_end, end_left, serving_left};
-ghost use Rattle.protocol_model.specs.Lines.{Readers, AreReaders};
 ghost use Rattle.protocol_model.specs.World.{World, client_link, server_link, start, run_of};
 ghost use Rattle.protocol_model.specs.declared.events.Event.{Event as OneEvent};
 ghost use Rattle.protocol_model.specs.declared.events.Event.TheVariants as event;
@@ -41,51 +40,49 @@ ghost use Rattle.link_world.specs.Joined.{ClientCalls, AreOwnCalls};
 /// - `sound`, `told`: where a list of events has led to the world, what `every_run` claims holds of the client behind its turn.
 #[tactic(auto, using(crate::proofs::ClientJoins::turn_joins, crate::proofs::ClientJoins::turn_whole, crate::proofs::ClientJoins::turn_written, crate::proofs::ClientJoins::turn_enough, crate::proofs::ClientJoins::turn_leaves, crate::proofs::ClientJoins::turn_sound, crate::proofs::ClientJoins::turn_told))]
 pub fn turns_of_a_client_are_events()
-    ensures joined { (readers : Readers) (least : ℕ) (w : World) (stage : Stage)
+    ensures joined { (least : ℕ) (w : World) (stage : Stage)
         (read written : List ℕ) (e : ClientEnd)
         → w.client.out ≡ [] → 1 ≤ w.client.client.last → w.client.client.last ≤ length w.links
         → take (length read) (client_link w).down ≡ read
-        → ClientTurn readers least w.client stage read written e
-        → TurnLeads readers (IsClientTurn readers (length read)) true w
+        → ClientTurn least w.client stage read written e
+        → TurnLeads (IsClientTurn (length read)) true w
         (client_joined w e (written ++ e.out) (length read)) }
-    ensures whole { (readers : Readers) (least : ℕ) (w : World)
+    ensures whole { (least : ℕ) (w : World)
         (read written : List ℕ) (e : ClientEnd)
         → w.client.out ≡ [] → 1 ≤ w.client.client.last → w.client.client.last ≤ length w.links
         → take (length read) (client_link w).down ≡ read
-        → ClientTurn readers least w.client Reading read written e
+        → ClientTurn least w.client Reading read written e
         → next_of e.input.rest ≡ Ok None
-        → TurnLeads readers (IsClientTurn readers (length read)) false w
+        → TurnLeads (IsClientTurn (length read)) false w
         (client_joined w e written (length read)) }
-    ensures written { (readers : Readers) (least : ℕ) (w : World)
+    ensures written { (least : ℕ) (w : World)
         (read written : List ℕ) (e : ClientEnd)
         → w.client.out ≡ [] → 1 ≤ w.client.client.last → w.client.client.last ≤ length w.links
         → take (length read) (client_link w).down ≡ read
-        → ClientTurn readers least w.client Reading read written e → e.out ≡ [] }
-    ensures enough { (readers : Readers) (least : ℕ) (first : ClientEnd)
+        → ClientTurn least w.client Reading read written e → e.out ≡ [] }
+    ensures enough { (least : ℕ) (first : ClientEnd)
         (read written : List ℕ) (e : ClientEnd)
-        → ClientTurn readers least first Reading read written e → least ≤ length read }
-    ensures leaves { (readers : Readers) (w : World) (events : List OneEvent) (e : ClientEnd)
+        → ClientTurn least first Reading read written e → least ≤ length read }
+    ensures leaves { (w : World) (events : List OneEvent) (e : ClientEnd)
         (text : List ℕ) (count : ℕ)
-        → run_of readers events w ≡ client_joined w e text count → e.client.on ≡ true
-        → run_of readers (events ++ event.ClientLeaves ∷ []) w
+        → run_of events w ≡ client_joined w e text count → e.client.on ≡ true
+        → run_of (events ++ event.ClientLeaves ∷ []) w
         ≡ record (client_joined w e text count) { client = end_left e } }
-    ensures sound { (readers : Readers) → AreReaders readers
-        → (least : ℕ) (w : World) (stage : Stage) (read written : List ℕ) (e : ClientEnd)
+    ensures sound { (least : ℕ) (w : World) (stage : Stage) (read written : List ℕ) (e : ClientEnd)
         (program : Meaning) (rack : List (List ℕ)) (window : ℕ) (events : List OneEvent)
         → IsProgram program → window ≤ 16
-        → w ≡ run_of readers events (start program rack window)
+        → w ≡ run_of events (start program rack window)
         → w.client.out ≡ [] → 1 ≤ w.client.client.last → w.client.client.last ≤ length w.links
         → take (length read) (client_link w).down ≡ read
-        → ClientTurn readers least w.client stage read written e
+        → ClientTurn least w.client stage read written e
         → Sound program.features e.client.table.tally.features w.server.server.ledger }
-    ensures told { (readers : Readers) → AreReaders readers
-        → (least : ℕ) (w : World) (stage : Stage) (read written : List ℕ) (e : ClientEnd)
+    ensures told { (least : ℕ) (w : World) (stage : Stage) (read written : List ℕ) (e : ClientEnd)
         (program : Meaning) (rack : List (List ℕ)) (window : ℕ) (events : List OneEvent)
         → IsProgram program → window ≤ 16
-        → w ≡ run_of readers events (start program rack window)
+        → w ≡ run_of events (start program rack window)
         → w.client.out ≡ [] → 1 ≤ w.client.client.last → w.client.client.last ≤ length w.links
         → take (length read) (client_link w).down ≡ read
-        → ClientTurn readers least w.client stage read written e
+        → ClientTurn least w.client stage read written e
         → Told e.client.table.tally.counted w.server.server.ledger e.client.last }
 {}
 
@@ -104,49 +101,47 @@ pub fn turns_of_a_client_are_events()
 /// - `fit`: the answers of the simulated machine fit the jobs.
 #[tactic(auto, using(crate::proofs::ServerJoins::serving_joins, crate::proofs::ServerJoins::serving_whole, crate::proofs::ServerJoins::serving_enough, crate::proofs::ServerJoins::serving_leaves, crate::proofs::ServerJoins::serving_sound, crate::proofs::ServerJoins::serving_told, crate::proofs::ServerJoins::simulated_fits))]
 pub fn turns_of_a_server_are_events()
-    ensures joined { (readers : Readers) (answer : OneJob → ℕ → OneOutcome) → AreFit answer
+    ensures joined { (answer : OneJob → ℕ → OneOutcome) → AreFit answer
         → (least : ℕ) (w : World) (stage : Stage) (read written : List ℕ) (e : ServerEnd)
         → w.server.out ≡ [] → w.server.input.fault ≡ None
         → 1 ≤ w.server.server.last → w.server.server.last ≤ length w.links
         → take (length read) (server_link w).up ≡ read
-        → ServerTurn readers answer least w.server stage read written e
-        → TurnLeads readers (IsServerTurn readers answer (length read)) true w
+        → ServerTurn answer least w.server stage read written e
+        → TurnLeads (IsServerTurn answer (length read)) true w
         (server_joined w e (written ++ e.out) (length read)) }
-    ensures whole { (readers : Readers) (answer : OneJob → ℕ → OneOutcome) → AreFit answer
+    ensures whole { (answer : OneJob → ℕ → OneOutcome) → AreFit answer
         → (least : ℕ) (w : World) (read written : List ℕ) (e : ServerEnd)
         → w.server.out ≡ [] → w.server.input.fault ≡ None
         → 1 ≤ w.server.server.last → w.server.server.last ≤ length w.links
         → take (length read) (server_link w).up ≡ read
-        → ServerTurn readers answer least w.server Writing read written e
-        → TurnLeads readers (IsServerTurn readers answer (length read)) false w
+        → ServerTurn answer least w.server Writing read written e
+        → TurnLeads (IsServerTurn answer (length read)) false w
         (server_joined w e (written ++ e.out) (length read)) }
-    ensures enough { (readers : Readers) (answer : OneJob → ℕ → OneOutcome) (least : ℕ)
+    ensures enough { (answer : OneJob → ℕ → OneOutcome) (least : ℕ)
         (first : ServerEnd) (read written : List ℕ) (e : ServerEnd)
-        → ServerTurn readers answer least first Writing read written e → least ≤ length read }
-    ensures leaves { (readers : Readers) (w : World) (events : List OneEvent) (e : ServerEnd)
+        → ServerTurn answer least first Writing read written e → least ≤ length read }
+    ensures leaves { (w : World) (events : List OneEvent) (e : ServerEnd)
         (text : List ℕ) (count : ℕ)
-        → run_of readers events w ≡ server_joined w e text count → e.server.on ≡ true
-        → run_of readers (events ++ event.ServerLeaves ∷ []) w
+        → run_of events w ≡ server_joined w e text count → e.server.on ≡ true
+        → run_of (events ++ event.ServerLeaves ∷ []) w
         ≡ record (server_joined w e text count) { server = serving_left e } }
-    ensures sound { (readers : Readers) → AreReaders readers
-        → (answer : OneJob → ℕ → OneOutcome) → AreFit answer
+    ensures sound { (answer : OneJob → ℕ → OneOutcome) → AreFit answer
         → (least : ℕ) (w : World) (stage : Stage) (read written : List ℕ) (e : ServerEnd)
         (program : Meaning) (rack : List (List ℕ)) (window : ℕ) (events : List OneEvent)
         → IsProgram program → window ≤ 16
-        → w ≡ run_of readers events (start program rack window)
+        → w ≡ run_of events (start program rack window)
         → w.server.server.on ≡ true
         → take (length read) (server_link w).up ≡ read
-        → ServerTurn readers answer least w.server stage read written e
+        → ServerTurn answer least w.server stage read written e
         → Sound program.features w.client.client.table.tally.features e.server.ledger }
-    ensures told { (readers : Readers) → AreReaders readers
-        → (answer : OneJob → ℕ → OneOutcome) → AreFit answer
+    ensures told { (answer : OneJob → ℕ → OneOutcome) → AreFit answer
         → (least : ℕ) (w : World) (stage : Stage) (read written : List ℕ) (e : ServerEnd)
         (program : Meaning) (rack : List (List ℕ)) (window : ℕ) (events : List OneEvent)
         → IsProgram program → window ≤ 16
-        → w ≡ run_of readers events (start program rack window)
+        → w ≡ run_of events (start program rack window)
         → w.server.server.on ≡ true
         → take (length read) (server_link w).up ≡ read
-        → ServerTurn readers answer least w.server stage read written e
+        → ServerTurn answer least w.server stage read written e
         → Told w.client.client.table.tally.counted e.server.ledger w.client.client.last }
     ensures fit { (shifts : List OnePoint) → AreFit (simulated shifts) }
 {}
@@ -163,37 +158,33 @@ pub fn turns_of_a_server_are_events()
 /// - `front`: a source that holds a front of the bytes on their way gives the first of them.
 #[tactic(auto, using(crate::proofs::PumpJoins::pumps_join, crate::proofs::PumpJoins::pumps_sound, crate::proofs::PumpJoins::pumps_told, crate::proofs::PumpJoins::pumps_agree, crate::proofs::PumpJoins::source_front))]
 pub fn two_pumps_are_a_world()
-    ensures world { (readers : Readers) → AreReaders readers
-        → (answer : OneJob → ℕ → OneOutcome) → AreFit answer → (w : World) (p : Pumped)
+    ensures world { (answer : OneJob → ℕ → OneOutcome) → AreFit answer → (w : World) (p : Pumped)
         (program : Meaning) (rack : List (List ℕ)) (window : ℕ) (events : List OneEvent)
         → IsProgram program → window ≤ 16
-        → w ≡ run_of readers events (start program rack window)
+        → w ≡ run_of events (start program rack window)
         → w.client.client.on ≡ true → w.server.server.on ≡ true
         → w.server.server.last ≡ w.client.client.last
-        → PumpCalls answer (pumped_of w) p → IsOneWorld readers answer w p }
-    ensures sound { (readers : Readers) → AreReaders readers
-        → (answer : OneJob → ℕ → OneOutcome) → AreFit answer → (w : World) (p : Pumped)
+        → PumpCalls answer (pumped_of w) p → IsOneWorld answer w p }
+    ensures sound { (answer : OneJob → ℕ → OneOutcome) → AreFit answer → (w : World) (p : Pumped)
         (program : Meaning) (rack : List (List ℕ)) (window : ℕ) (events : List OneEvent)
         → IsProgram program → window ≤ 16
-        → w ≡ run_of readers events (start program rack window)
+        → w ≡ run_of events (start program rack window)
         → w.client.client.on ≡ true → w.server.server.on ≡ true
         → w.server.server.last ≡ w.client.client.last
         → PumpCalls answer (pumped_of w) p
         → Sound program.features p.client.client.table.tally.features p.server.server.ledger }
-    ensures told { (readers : Readers) → AreReaders readers
-        → (answer : OneJob → ℕ → OneOutcome) → AreFit answer → (w : World) (p : Pumped)
+    ensures told { (answer : OneJob → ℕ → OneOutcome) → AreFit answer → (w : World) (p : Pumped)
         (program : Meaning) (rack : List (List ℕ)) (window : ℕ) (events : List OneEvent)
         → IsProgram program → window ≤ 16
-        → w ≡ run_of readers events (start program rack window)
+        → w ≡ run_of events (start program rack window)
         → w.client.client.on ≡ true → w.server.server.on ≡ true
         → w.server.server.last ≡ w.client.client.last
         → PumpCalls answer (pumped_of w) p
         → Told p.client.client.table.tally.counted p.server.server.ledger p.client.client.last }
-    ensures agree { (readers : Readers) → AreReaders readers
-        → (answer : OneJob → ℕ → OneOutcome) → AreFit answer → (w : World) (p : Pumped)
+    ensures agree { (answer : OneJob → ℕ → OneOutcome) → AreFit answer → (w : World) (p : Pumped)
         (program : Meaning) (rack : List (List ℕ)) (window : ℕ) (events : List OneEvent)
         → IsProgram program → window ≤ 16
-        → w ≡ run_of readers events (start program rack window)
+        → w ≡ run_of events (start program rack window)
         → w.client.client.on ≡ true → w.server.server.on ≡ true
         → w.server.server.last ≡ w.client.client.last
         → PumpCalls answer (pumped_of w) p
@@ -211,11 +202,10 @@ pub fn two_pumps_are_a_world()
 ///   their labels and their counts of points.
 #[tactic(auto, using(crate::proofs::PeerJoins::pumped_calls, crate::proofs::PeerJoins::pumped_features))]
 pub fn a_pumped_client_holds_first_features()
-    ensures calls { (readers : Readers) → AreReaders readers → (first e : ClientEnd)
-        → ClientCalls readers first e → AreOwnCalls readers first e }
-    ensures features { (readers : Readers) → AreReaders readers
-        → (program : Meaning) (kept : List OneFeature) (window : ℕ) (e : ClientEnd)
+    ensures calls { (first e : ClientEnd)
+        → ClientCalls first e → AreOwnCalls first e }
+    ensures features { (program : Meaning) (kept : List OneFeature) (window : ℕ) (e : ClientEnd)
         → IsProgram program → are_ours program.features kept ≡ true
-        → ClientCalls readers (new_client_end program kept window) e
+        → ClientCalls (new_client_end program kept window) e
         → are_ours program.features e.client.table.tally.features ≡ true }
 {}

@@ -4,7 +4,6 @@ ghost use Rattle.std.specs.Prelude.{◌≡◌, ◌≤◌, ℕ, List, false, leng
 ghost use Rattle.dmis_program.specs.Meaning.{Meaning};
 ghost use Rattle.dmis_program.specs.Programs.{IsProgram};
 ghost use Rattle.protocol_model.specs.Ends.{serving_left};
-ghost use Rattle.protocol_model.specs.Lines.{Readers, AreReaders};
 ghost use Rattle.protocol_model.specs.Plan.{plan};
 ghost use Rattle.protocol_model.specs.Undisturbed.{AreUndisturbed, AreFirstLines, followed, met};
 ghost use Rattle.protocol_model.specs.World.{Link, run_of};
@@ -23,16 +22,15 @@ ghost use Rattle.server_core.specs.Calls.{Call, reached};
 /// The events are the calls of both ends: each is, by their contracts, one function of `protocol_model`'s `Ends` (this profile).
 #[tactic(auto, using(crate::proofs::HomedOff::off_is_left, crate::proofs::HomedOff::homed_off_lines))]
 pub fn homed_servers_are_not_homed_again()
-    ensures left { (readers : Readers) (rack : List (List ℕ)) (calls : List Call)
-        → (reached readers rack calls).server.on ≡ false
-        → serving_left (reached readers rack calls) ≡ reached readers rack calls }
-    ensures lines { (readers : Readers) → AreReaders readers
-        → (rack : List (List ℕ)) (calls : List Call)
-        → (reached readers rack calls).server.homed ≡ true
+    ensures left { (rack : List (List ℕ)) (calls : List Call)
+        → (reached rack calls).server.on ≡ false
+        → serving_left (reached rack calls) ≡ reached rack calls }
+    ensures lines { (rack : List (List ℕ)) (calls : List Call)
+        → (reached rack calls).server.homed ≡ true
         → (program : Meaning) (window : ℕ) (links : List Link) (events : List OneEvent)
-        → length links ≡ (reached readers rack calls).server.last
+        → length links ≡ (reached rack calls).server.last
         → IsProgram program → window ≤ 16 → AreUndisturbed events
-        → AreFirstLines (run_of readers events
-        (met program window (reached readers rack calls) links)).written
+        → AreFirstLines (run_of events
+        (met program window (reached rack calls) links)).written
         (followed true (plan program 0 Start.NewConnection)) }
 {}

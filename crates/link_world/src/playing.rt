@@ -1,13 +1,13 @@
 // Parts of schedules, each as one call of a world.
 
 ghost use Rattle.std.specs.Prelude.{◌≡◌, true, false, length, Some, OnOk, OnErr, IfOk, IfSome, is_ok};
-ghost use Rattle.protocol_model.specs.Lines.{Readers, AreReaders};
 ghost use Rattle.protocol_model.specs.World.{can, after, client_link, server_link};
 ghost use Rattle.link_world.specs.Links.{with_world};
 ghost use Rattle.protocol_model.specs.Rounds.{AreWhile, IsOne, all_up, all_down, ending};
 ghost use Rattle.link_world.specs.Schedules.{AreMade, ArePlayed, Plays};
 ghost use Rattle.link_world.specs.Parts.{repeats, Tells, PlaysPart};
-ghost use Rattle.link_world.specs.Claims.{IsSound, IsTold, DoNotDisagree};
+ghost use Rattle.link_world.specs.Claims.{Headline};
+ghost use Rattle.link_world.specs.Finishing.{IsSameKind};
 ghost use Rattle.link_world.specs.Machines.{simulated};
 
 use crate::faults::WorldFault;
@@ -22,8 +22,7 @@ impl World {
     /// An event happens, if it can, and it is told whether it did. Only want of memory is an `Err`, and then nothing has changed.
     pub(crate) fn attempt(&mut self, event: Event) -> Result<bool, AllocError>
         ensures told { IfOk result (λ happened. happened ≡ can event self.old.world) }
-        ensures ok { OnOk result ((readers : Readers) → AreReaders readers
-            → self.new ≡ with_world self.old (after readers event self.old.world)) }
+        ensures ok { OnOk result (self.new ≡ with_world self.old (after event self.old.world)) }
         ensures err { OnErr result (self.new ≡ self.old) }
     {
         match self.step(event) {
@@ -36,7 +35,7 @@ impl World {
     /// An event that is repeated happens while it can: a client sends, a server reads, or a client reads.
     pub(crate) fn repeat(&mut self, event: Event) -> Result<bool, AllocError>
         requires { repeats event ≡ true }
-        ensures { Tells result (λ readers. AreWhile readers event) self.old self.new }
+        ensures { Tells result (AreWhile event) self.old self.new }
     {
         let mut busy = false;
         loop {
@@ -70,7 +69,7 @@ impl World {
 
     /// All bytes that wait for the server move up to it.
     pub(crate) fn up_all(&mut self) -> Result<bool, AllocError>
-        ensures { Tells result (λ readers cut world. IsOne (all_up world) cut)
+        ensures { Tells result (λ cut world. IsOne (all_up world) cut)
             self.old self.new }
     {
         let count = self.waiting_up();
@@ -79,7 +78,7 @@ impl World {
 
     /// All bytes that wait for the client move down to it.
     pub(crate) fn down_all(&mut self) -> Result<bool, AllocError>
-        ensures { Tells result (λ readers cut world. IsOne (all_down world) cut)
+        ensures { Tells result (λ cut world. IsOne (all_down world) cut)
             self.old self.new }
     {
         let count = self.waiting_down();
@@ -99,7 +98,7 @@ impl World {
 
     /// An event happens, if it can.
     fn once(&mut self, event: Event) -> Result<(), AllocError>
-        ensures { PlaysPart result (λ readers cut world. IsOne (Some event) cut)
+        ensures { PlaysPart result (λ cut world. IsOne (Some event) cut)
             self.old self.new }
     {
         self.attempt(event)?;
@@ -108,7 +107,7 @@ impl World {
 
     /// What runs ends as the machine answers, where something runs.
     fn auto<M: Machine>(&mut self, machine: &mut M) -> Result<(), AllocError>
-        ensures made { PlaysPart result (λ readers cut world.
+        ensures made { PlaysPart result (λ cut world.
             IsOne (ending (M.answers machine.old) world) cut) self.old self.new }
         ensures keeps { M.answers machine.new ≡ M.answers machine.old }
     {
@@ -124,8 +123,8 @@ impl World {
         instruction: Instruction,
         machine: &mut M,
     ) -> Result<(), AllocError>
-        ensures made { PlaysPart result (λ readers.
-            AreMade readers (M.answers machine.old) instruction) self.old self.new }
+        ensures made { PlaysPart result (AreMade (M.answers machine.old) instruction)
+            self.old self.new }
         ensures keeps { M.answers machine.new ≡ M.answers machine.old }
     {
         match instruction {
@@ -146,8 +145,8 @@ impl World {
         instructions: &[Instruction],
         machine: &mut M,
     ) -> Result<(), AllocError>
-        ensures made { PlaysPart result (λ readers.
-            ArePlayed readers (M.answers machine.old) instructions.now) self.old self.new }
+        ensures made { PlaysPart result (ArePlayed (M.answers machine.old) instructions.now)
+            self.old self.new }
         ensures keeps { M.answers machine.new ≡ M.answers machine.old }
     {
         for instruction in instructions {
@@ -174,24 +173,14 @@ impl Schedule {
     #[tactic(auto, using(crate::proofs::Instructions::played_behind))]
     pub fn play(&self, world: &mut World) -> Result<(), AllocError>
         // What the instructions made of the world.
-        ensures ok { OnOk result ((readers : Readers) → AreReaders readers
-            → Plays readers (simulated world.old.setup.shifts) self.now false
+        ensures ok { OnOk result (Plays (simulated world.old.setup.shifts) self.now false
             world.old.world world.new.world) }
-        ensures memory { OnErr result ((readers : Readers) → AreReaders readers
-            → Plays readers (simulated world.old.setup.shifts) self.now true
+        ensures memory { OnErr result (Plays (simulated world.old.setup.shifts) self.now true
             world.old.world world.new.world) }
 
-        // What no event changes.
-        ensures setup { world.new.setup ≡ world.old.setup }
-        ensures program { world.new.world.client.client.program
-            ≡ world.old.world.client.client.program }
-        ensures window { world.new.world.client.client.window
-            ≡ world.old.world.client.client.window }
-
-        // What holds after any events.
-        ensures sound { IsSound world.new.world }
-        ensures told { IsTold world.new.world }
-        ensures agree { DoNotDisagree world.new.world }
+        // What no event changes, and what holds after any events.
+        ensures fixed { IsSameKind world.old world.new }
+        ensures always { Headline world.new.world }
     {
         let _known = &world.alloc;
         let mut machine = Simulated::new(world.alloc, world.setup())?;

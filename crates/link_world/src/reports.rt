@@ -4,7 +4,7 @@ ghost use Rattle.std.specs.Prelude.{◌≡◌, ◌≢◌, [], length, IfOk, Matc
 ghost use Rattle.contact_ledger.specs.Ledgers.{HaveOrigins};
 ghost use Rattle.protocol_model.specs.Claims.{Sound};
 ghost use Rattle.protocol_model.specs.declared.states.State.TheVariants.{Faulted};
-ghost use Rattle.link_world.specs.Claims.{IsSound, IsTold, DoNotDisagree};
+ghost use Rattle.link_world.specs.Claims.{Headline};
 ghost use Rattle.link_world.specs.Reports.{reported};
 
 use crate::world::World;
@@ -130,7 +130,7 @@ pub fn report_of(
 
 impl World {
     /// What the world shows. Its features are true of what the server did, and its state is never Faulted. Only want of memory is an `Err`.
-    #[tactic(auto, using(crate::proofs::Reached::sound, crate::proofs::Reached::told, crate::proofs::Reached::agree))]
+    #[tactic(auto, using(crate::proofs::Reached::sound))]
     pub fn report(&self) -> Result<Report, AllocError>
         // What is shown.
         ensures state { IfOk result (λ report.
@@ -149,9 +149,7 @@ impl World {
         ensures never_faulted { IfOk result (λ report. report.state ≢ Faulted) }
 
         // What holds of the world after any events.
-        ensures sound { IsSound self.now.world }
-        ensures told { IsTold self.now.world }
-        ensures agree { DoNotDisagree self.now.world }
+        ensures always { Headline self.now.world }
     {
         report_of(self.alloc, &self.client, Some(self.server.ledger()))
     }

@@ -40,7 +40,7 @@ impl World {
 
     /// The server does all that it has to do: turns and ends while there is one.
     pub(crate) fn work<M: Machine>(&mut self, machine: &mut M) -> Result<bool, AllocError>
-        ensures made { Tells result (λ readers. AreWork readers (M.answers machine.old))
+        ensures made { Tells result (AreWork (M.answers machine.old))
             self.old self.new }
         ensures keeps { M.answers machine.new ≡ M.answers machine.old }
     {
@@ -55,7 +55,7 @@ impl World {
     /// A quiet round: the client sends all that is due, all of it comes to the server, which reads it all and does it all, and all answers
     /// come to the client, which reads them all. It is told whether anything was done.
     pub(crate) fn quiet_round<M: Machine>(&mut self, machine: &mut M) -> Result<bool, AllocError>
-        ensures made { Tells result (λ readers. IsRound readers (M.answers machine.old))
+        ensures made { Tells result (IsRound (M.answers machine.old))
             self.old self.new }
         ensures keeps { M.answers machine.new ≡ M.answers machine.old }
     {
@@ -74,8 +74,8 @@ impl World {
         count: u32,
         machine: &mut M,
     ) -> Result<(), AllocError>
-        ensures made { PlaysPart result (λ readers.
-            AreCounted readers (M.answers machine.old) count) self.old self.new }
+        ensures made { PlaysPart result (AreCounted (M.answers machine.old) count)
+            self.old self.new }
         ensures keeps { M.answers machine.new ≡ M.answers machine.old }
     {
         for _round in 0..count {
@@ -86,7 +86,7 @@ impl World {
 
     /// Quiet rounds until one does nothing, at most `ROUNDS_MAX`. Only want of memory is an `Err`.
     pub(crate) fn quiet<M: Machine>(&mut self, machine: &mut M) -> Result<(), AllocError>
-        ensures made { PlaysPart result (λ readers. AreQuiet readers (M.answers machine.old))
+        ensures made { PlaysPart result (AreQuiet (M.answers machine.old))
             self.old self.new }
         ensures keeps { M.answers machine.new ≡ M.answers machine.old }
     {

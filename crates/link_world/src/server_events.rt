@@ -9,7 +9,6 @@ ghost use Rattle.protocol_model.specs.Ends.{serving_accepted, serving_fed, servi
 ghost use Rattle.protocol_model.specs.World.{can, is_line, has_some, server_writes, moved_up};
 ghost use Rattle.protocol_model.specs.declared.events.Event.TheVariants as event;
 ghost use Rattle.server_core.specs.Serving.{with_end, may_turn};
-ghost use Rattle.client_core.specs.Reads.{LeadsRead};
 ghost use Rattle.link_world.specs.Events.{HappensIf, HappensIff};
 ghost use Rattle.link_world.specs.Links.{StandsOn, link_of_connection, with_down, fewer_up, quiet_server, with_world};
 
@@ -37,11 +36,11 @@ fn read_line(server: &mut Server, connection: &mut Connection) -> Result<(), Wor
     requires on { server.old.end.server.on ≡ true }
     requires lines { (why : OneFault) → next_of server.old.end.input.rest ≡ Err why → ⊥ }
     ensures can { HappensIf result (is_line (next_of server.old.end.input.rest)) }
-    ensures server { LeadsRead result server.old server.new
-        (λ readers. with_end server.old (quiet_server (serving_read readers server.old.end))) }
-    ensures link { LeadsRead result (link_of_connection connection.old)
+    ensures server { Leads result server.old server.new
+        (with_end server.old (quiet_server (serving_read server.old.end))) }
+    ensures link { Leads result (link_of_connection connection.old)
         (link_of_connection connection.new)
-        (λ readers. with_down connection.old (serving_read readers server.old.end).out) }
+        (with_down connection.old (serving_read server.old.end).out) }
 {
     if !server.has_line() {
         return Err(WorldFault::NotNow);
@@ -158,9 +157,9 @@ impl World {
     /// The server reads a line.
     pub(crate) fn server_reads(&mut self) -> Result<(), WorldFault>
         ensures can { HappensIf result (can event.ServerReads self.old.world) }
-        ensures world { LeadsRead result self.old self.new
-            (λ readers. with_world self.old (server_writes self.old.world
-            (serving_read readers self.old.world.server))) }
+        ensures world { Leads result self.old self.new
+            (with_world self.old (server_writes self.old.world
+            (serving_read self.old.world.server))) }
     {
         let Some(at) = server_place(&self.server, &self.connections) else {
             return Err(WorldFault::NotNow);

@@ -1,19 +1,19 @@
 // Both ends and the connections between them.
 
 ghost use Rattle.std.specs.Prelude.{◌≡◌, ◌↔◌, ◌⊎◌, ◌+◌, length, true, false, [], IsOk, IsErrAnd, IfOk, IfErr, OnOk, OnErr, MatchOption, None, Some};
+ghost use Rattle.fixed_um.specs.Calls.{Leads};
 ghost use Rattle.std.specs.Result.{IsErrOf};
 ghost use Rattle.std.specs.List.{AllByRecursion};
 ghost use Rattle.contact_ledger.specs.FeatureTexts.{CanBeWritten};
-ghost use Rattle.protocol_model.specs.Lines.{Readers, AreReaders};
 ghost use Rattle.protocol_model.specs.Server.{running_job};
-ghost use Rattle.protocol_model.specs.World.{start, can, happens, run_of};
-ghost use Rattle.protocol_model.specs.Undisturbed.{AreUndisturbed, AreFirstLines, acts_planned, AreFirstActs, acts_in, AreFirstOf};
-ghost use Rattle.client_core.specs.Reads.{LeadsRead};
+ghost use Rattle.protocol_model.specs.World.{start, can, happens};
+ghost use Rattle.protocol_model.specs.Undisturbed.{AreUndisturbed};
 ghost use Rattle.link_world.specs.Events.{HappensIf};
 ghost use Rattle.client_core.specs.Clients.{is_window};
 ghost use Rattle.link_world.specs.Links.{with_world};
-ghost use Rattle.link_world.specs.Runs.{HasRun};
-ghost use Rattle.link_world.specs.Claims.{IsSound, IsTold, DoNotDisagree, IsNew, first_plan, HandsBack, IsWant, takes_memory, reads};
+ghost use Rattle.link_world.specs.Runs.{IsRun, FollowsPlan};
+ghost use Rattle.link_world.specs.Claims.{Headline, IsAnswer, IsNew, first_plan, HandsBack, IsWant, takes_memory};
+ghost use Rattle.link_world.specs.Finishing.{IsSameKind};
 
 use crate::connection::Connection;
 use crate::faults::{NewFault, WorldFault};
@@ -78,9 +78,7 @@ impl World {
 
         // What holds before any event.
         ensures untouched { IfOk result (λ world. IsNew world.world) }
-        ensures sound { IfOk result (λ world. IsSound world.world) }
-        ensures told { IfOk result (λ world. IsTold world.world) }
-        ensures agree { IfOk result (λ world. DoNotDisagree world.world) }
+        ensures always { IfOk result (λ world. Headline world.world) }
     {
         match Client::new(alloc, program, FeatureLedger::new(alloc), window) {
             Ok(client) => match Server::new(alloc, setup) {
@@ -102,10 +100,8 @@ impl World {
     fn happen(&mut self, event: Event) -> Result<(), WorldFault>
         ensures can { HappensIf result (can event self.old.world) }
         ensures takes { IsErrOf result WorldFault.Memory → takes_memory event ≡ true }
-        ensures world { LeadsRead result self.old self.new
-            (λ readers. with_world self.old (happens readers event self.old.world)) }
-        ensures unread { reads event ≡ false → OnOk result ((readers : Readers)
-            → self.new ≡ with_world self.old (happens readers event self.old.world)) }
+        ensures world { Leads result self.old self.new
+            (with_world self.old (happens event self.old.world)) }
     {
         match event {
             Event::Connect => self.connect(),
@@ -133,10 +129,8 @@ impl World {
     fn happen_traced(&mut self, event: Event) -> Result<(), WorldFault>
         ensures can { HappensIf result (can event self.old.world) }
         ensures takes { IsErrOf result WorldFault.Memory → takes_memory event ≡ true }
-        ensures world { LeadsRead result self.old self.new
-            (λ readers. with_world self.old (happens readers event self.old.world)) }
-        ensures unread { reads event ≡ false → OnOk result ((readers : Readers)
-            → self.new ≡ with_world self.old (happens readers event self.old.world)) }
+        ensures world { Leads result self.old self.new
+            (with_world self.old (happens event self.old.world)) }
     {
         if !self.trace.is_on() {
             return self.happen(event);
@@ -147,76 +141,40 @@ impl World {
         Ok(())
     }
 
-    /// An event happens, if it can. `NotNow` exactly where it cannot; `Memory` only where it can; neither changes anything. To take or to leave
-    /// a connection and to begin again wants no memory.
-    #[tactic(auto, using(crate::proofs::Reached::sound, crate::proofs::Reached::told, crate::proofs::Reached::agree))]
+    /// An event happens, if it can. `NotNow` exactly if it cannot; `Memory` only if it can; neither changes anything. To take or to leave a
+    /// connection and to begin again takes no memory.
+    ///
+    /// - `always`: what is claimed of every world, whatever has happened to it;
+    /// - `answer`: when the event happens, and when it is refused;
+    /// - `leads`: what it does;
+    /// - `fixed`: the setup, the program and the window stay as they are.
     pub fn step(&mut self, event: Event) -> Result<(), WorldFault>
-        // When the event happens, and when it is refused.
-        ensures can { OnOk result (can event self.old.world ≡ true) }
-        ensures not_now { IsErrOf result WorldFault.NotNow ↔ (can event self.old.world ≡ false) }
-        ensures memory { IsErrOf result WorldFault.Memory → can event self.old.world ≡ true }
-        ensures takes { IsErrOf result WorldFault.Memory → takes_memory event ≡ true }
-        ensures owed { can event self.old.world ≡ true → takes_memory event ≡ false → IsOk result }
-
-        // What it does; only what reads a line speaks of readers.
-        ensures ok { OnOk result ((readers : Readers) → AreReaders readers
-            → self.new ≡ with_world self.old (happens readers event self.old.world)) }
-        ensures unread { reads event ≡ false → OnOk result ((readers : Readers)
-            → self.new ≡ with_world self.old (happens readers event self.old.world)) }
-        ensures err { OnErr result (self.new ≡ self.old) }
-
-        // What no event changes.
-        ensures setup { self.new.setup ≡ self.old.setup }
-        ensures program { self.new.world.client.client.program
-            ≡ self.old.world.client.client.program }
-        ensures window { self.new.world.client.client.window ≡ self.old.world.client.client.window }
-
-        // What holds after any events.
-        ensures sound { IsSound self.new.world }
-        ensures told { IsTold self.new.world }
-        ensures agree { DoNotDisagree self.new.world }
+        ensures always { Headline self.new.world }
+        ensures answer { IsAnswer event self.old.world result }
+        ensures leads { Leads result self.old self.new
+            (with_world self.old (happens event self.old.world)) }
+        ensures fixed { IsSameKind self.old self.new }
     {
         let done = self.happen_traced(event);
         let _known = &self.alloc;
         done
     }
 
-    /// Events happen, one after another; those that cannot, and those for which memory is wanting, change nothing. It answers how many
-    /// happened, could not happen, and wanted memory.
+    /// Events happen, one after another; those that cannot, and those that find no memory, change nothing. It answers how many of them
+    /// happened, could not happen, and found no memory.
     ///
-    /// Where nothing has happened yet and none of the events disturbs, what the client has written is a first part of the plan's lines, what
-    /// the server did are the first of the plan's acts, and what is counted is a front of them, whichever of the events were not possible or
-    /// wanted memory.
-    #[tactic(auto, using(crate::proofs::Reached::sound, crate::proofs::Reached::told, crate::proofs::Reached::agree))]
+    /// - `always`: what is claimed of every world, whatever has happened to it;
+    /// - `ran`: what became of each event;
+    /// - `fixed`: the setup, the program and the window stay as they are;
+    /// - `undisturbed`: where nothing has happened yet and none of the events disturbs, what the client has written are the first lines of
+    ///   the plan, what the server did are the first of its acts, and what is counted is a prefix of them, whichever of the events were not
+    ///   possible or found no memory.
     pub fn run(&mut self, events: &[Event]) -> RunCount
-        // What became of each event.
-        ensures run { (readers : Readers) → AreReaders readers
-            → HasRun readers self.old.world events.now self.new.world
-            result.done result.not_now result.memory }
-        ensures all { result.done + result.not_now + result.memory ≡ length events.now }
-        ensures runs { result.memory ≡ 0 → (readers : Readers) → AreReaders readers
-            → self.new.world ≡ run_of readers events.now self.old.world }
-
-        // What no event changes.
-        ensures setup { self.new.setup ≡ self.old.setup }
-        ensures program { self.new.world.client.client.program
-            ≡ self.old.world.client.client.program }
-        ensures window { self.new.world.client.client.window ≡ self.old.world.client.client.window }
-
-        // What comes of events of which none disturbs, from a new world.
-        ensures lines { IsNew self.old.world → AreUndisturbed events.now
-            → AreFirstLines self.new.world.written (first_plan self.old.world) }
-        ensures acts { IsNew self.old.world → AreUndisturbed events.now
-            → AreFirstActs (acts_in self.new.world.server.server.ledger)
-            (acts_planned (first_plan self.old.world)) }
-        ensures counted { IsNew self.old.world → AreUndisturbed events.now
-            → AreFirstOf self.new.world.client.client.table.tally.counted
-            (acts_in self.new.world.server.server.ledger) }
-
-        // What holds after any events.
-        ensures sound { IsSound self.new.world }
-        ensures told { IsTold self.new.world }
-        ensures agree { DoNotDisagree self.new.world }
+        ensures always { Headline self.new.world }
+        ensures ran { IsRun self.old.world events.now self.new.world result }
+        ensures fixed { IsSameKind self.old self.new }
+        ensures undisturbed { IsNew self.old.world → AreUndisturbed events.now
+            → FollowsPlan (first_plan self.old.world) self.new.world }
     {
         let _known = &self.alloc;
         let mut count = RunCount {
@@ -258,22 +216,18 @@ impl World {
 
     /// What the server did, with the numbers of the connections: the features that the client holds are true of it, what the client has
     /// counted is a front of it on its connection, and neither side has met a line or a mark that has no place.
-    #[tactic(auto, using(crate::proofs::Reached::sound, crate::proofs::Reached::told, crate::proofs::Reached::agree))]
     pub fn ledger(&self) -> &ServerLedger
         ensures value { result.now ≡ self.now.world.server.server.ledger }
-        ensures sound { IsSound self.now.world }
-        ensures told { IsTold self.now.world }
-        ensures agree { DoNotDisagree self.now.world }
+        ensures always { Headline self.now.world }
     {
         let _known = &self.alloc;
         self.server.ledger()
     }
 
     /// The features that the client holds: they are true of what the server did, and can be written to a file.
-    #[tactic(auto, using(crate::proofs::Reached::sound))]
     pub fn features(&self) -> &[Feature]
         ensures value { result.now ≡ self.now.world.client.client.table.tally.features }
-        ensures sound { IsSound self.now.world }
+        ensures always { Headline self.now.world }
         ensures writable { AllByRecursion CanBeWritten
             self.now.world.client.client.table.tally.features }
     {
@@ -282,20 +236,18 @@ impl World {
     }
 
     /// The acts that the client has counted on its connection, or on the last one where it has left: a front of what the server did there.
-    #[tactic(auto, using(crate::proofs::Reached::told))]
     pub fn counted(&self) -> &[Act]
         ensures value { result.now ≡ self.now.world.client.client.table.tally.counted }
-        ensures told { IsTold self.now.world }
+        ensures always { Headline self.now.world }
     {
         let _known = &self.alloc;
         self.client.counted()
     }
 
     /// The client's state, which is never Faulted.
-    #[tactic(auto, using(crate::proofs::Reached::agree))]
     pub fn state(&self) -> State
         ensures value { result ≡ self.now.world.client.client.state }
-        ensures agree { DoNotDisagree self.now.world }
+        ensures always { Headline self.now.world }
     {
         let _known = &self.alloc;
         self.client.state()

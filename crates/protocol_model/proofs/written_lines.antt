@@ -1,7 +1,5 @@
--- Lines that can be written, what they read back as, and functions that read.
+-- Lines that can be written, and what they read back as.
 pub mod Writable
 pub mod PlainClient
 pub mod Streams
 pub mod LineTaking
-pub mod Deciding
-pub mod ReadersExist

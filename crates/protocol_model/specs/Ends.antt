@@ -13,12 +13,13 @@ use Rattle.dme_line.specs.declared.responses.Response.{Response}
 use Rattle.dme_line.specs.declared.responses.NotResponse.{NotResponse}
 use Rattle.dme_line.specs.declared.points.NotPoint.{NotPoint}
 use Rattle.dme_line.specs.declared.homed.NotHomedText.{NotHomedText}
+use Rattle.protocol_model.specs.Readings.{command_of, response_of, point_of, homed_of}
 use Rattle.contact_ledger.specs.declared.features.Feature.{Feature}
 use Rattle.line_framing.specs.Next.{Front, next_of}
 use Rattle.line_framing.specs.Framing.{Framing, no_bytes, fed, left_by}
 use Rattle.line_framing.specs.declared.faults.FramingFault.TheVariants as framing
 use Rattle.protocol_model.specs.Replies.{Mark, tag_is}
-use Rattle.protocol_model.specs.Lines.{Readers, command_bytes, reply_bytes, reading_of}
+use Rattle.protocol_model.specs.Lines.{command_bytes, reply_bytes, reading_of}
 use Rattle.protocol_model.specs.Client.{Client, Sends, new_client, faulted, client_connected, client_sent, client_aborted, client_resumed}
 use Rattle.protocol_model.specs.Client.{client_read, client_left, client_restarted}
 use Rattle.protocol_model.specs.Server.{Server, Answer, new_server, server_accepted, server_read, server_turned, server_machined}
@@ -81,43 +82,43 @@ given_homed c t (Ok homed) = client_read c t (Mark.Given (datum.Homed homed))
 given_homed c t (Err why) = faulted Cause.NotResponse c
 
 -- a data text for a command of this kind: it has no place where the command asks for no data
-abbrev pub given_for : Readers → Client → Tag → List ℕ → Kind → Client
-given_for readers c t text kind.PtMeas = given_point c t (readers.point text)
-given_for readers c t text kind.IsHomed = given_homed c t (readers.homed text)
-given_for readers c t text _ = faulted Cause.OutOfOrder c
+abbrev pub given_for : Client → Tag → List ℕ → Kind → Client
+given_for c t text kind.PtMeas = given_point c t (point_of text)
+given_for c t text kind.IsHomed = given_homed c t (homed_of text)
+given_for c t text _ = faulted Cause.OutOfOrder c
 
 -- a data text for the command that is held under its tag, if one is
-abbrev pub given_under : Readers → Client → Tag → List ℕ → Option Kind → Client
-given_under readers c t text None = faulted Cause.UnknownTag c
-given_under readers c t text (Some kind) = given_for readers c t text kind
+abbrev pub given_under : Client → Tag → List ℕ → Option Kind → Client
+given_under c t text None = faulted Cause.UnknownTag c
+given_under c t text (Some kind) = given_for c t text kind
 
 -- a data text under a tag; what comes on the event tag number 0 changes nothing
-abbrev pub given : Readers → Client → Tag → List ℕ → Client
-given readers c t text = if tag_is t (Event 0) then c else given_under readers c t text (held_under t c)
+abbrev pub given : Client → Tag → List ℕ → Client
+given c t text = if tag_is t (Event 0) then c else given_under c t text (held_under t c)
 
 -- a response is read
-abbrev pub response_read : Readers → Client → Tag → Marked → Client
-response_read readers c t mark.Ack = client_read c t Mark.Ack
-response_read readers c t (mark.Given text) = given readers c t text
-response_read readers c t mark.Done = client_read c t Mark.Done
-response_read readers c t (mark.Error text) = client_read c t Mark.Error
+abbrev pub response_read : Client → Tag → Marked → Client
+response_read c t mark.Ack = client_read c t Mark.Ack
+response_read c t (mark.Given text) = given c t text
+response_read c t mark.Done = client_read c t Mark.Done
+response_read c t (mark.Error text) = client_read c t Mark.Error
 
 -- a line is read as a response, or is none
-abbrev pub line_read : Readers → Client → Result Response NotResponse → Client
-line_read readers c (Ok r) = response_read readers c r.tag r.mark
-line_read readers c (Err refused) = faulted Cause.NotResponse c
+abbrev pub line_read : Client → Result Response NotResponse → Client
+line_read c (Ok r) = response_read c r.tag r.mark
+line_read c (Err refused) = faulted Cause.NotResponse c
 
 -- what stands at the front of the bytes: nothing whole, a line, or a fault, which ends the client's reading
-abbrev pub front_read : Readers → Client → Front → Client
-front_read readers c (Ok None) = c
-front_read readers c (Ok (Some (line, rest))) = line_read readers c (readers.response line)
-front_read readers c (Err framing.LineTooLong) = faulted Cause.LineTooLong c
-front_read readers c (Err framing.BadByte) = faulted Cause.BadByte c
+abbrev pub front_read : Client → Front → Client
+front_read c (Ok None) = c
+front_read c (Ok (Some (line, rest))) = line_read c (response_of line)
+front_read c (Err framing.LineTooLong) = faulted Cause.LineTooLong c
+front_read c (Err framing.BadByte) = faulted Cause.BadByte c
 
 -- what stands at the front is read
-abbrev pub end_read : Readers → ClientEnd → ClientEnd
-end_read readers e = record {
-  client = front_read readers e.client (next_of e.input.rest);
+abbrev pub end_read : ClientEnd → ClientEnd
+end_read e = record {
+  client = front_read e.client (next_of e.input.rest);
   input = left_by (next_of e.input.rest) e.input;
   out = e.out;
 }
@@ -163,15 +164,15 @@ abbrev pub with_answer : ServerEnd → Framing → Answer → ServerEnd
 with_answer e input a = record { server = a.server; input = input; out = e.out ++ reply_bytes a.said }
 
 -- what stands at the front of the bytes: nothing whole, a line, or a fault, behind which nothing is read until the connection is left
-abbrev pub front_served : Readers → ServerEnd → Front → ServerEnd
-front_served readers e (Ok None) = e
-front_served readers e (Ok (Some (line, rest))) = with_answer e (record (e.input) { rest = rest })
-    (server_read e.server (reading_of (readers.command line)))
-front_served readers e (Err why) = record e { input = record (e.input) { fault = Some why } }
+abbrev pub front_served : ServerEnd → Front → ServerEnd
+front_served e (Ok None) = e
+front_served e (Ok (Some (line, rest))) = with_answer e (record (e.input) { rest = rest })
+    (server_read e.server (reading_of (command_of line)))
+front_served e (Err why) = record e { input = record (e.input) { fault = Some why } }
 
 -- what stands at the front is read
-abbrev pub serving_read : Readers → ServerEnd → ServerEnd
-serving_read readers e = front_served readers e (next_of e.input.rest)
+abbrev pub serving_read : ServerEnd → ServerEnd
+serving_read e = front_served e (next_of e.input.rest)
 
 -- the first waiting command has its turn
 abbrev pub serving_turned : ServerEnd → ServerEnd

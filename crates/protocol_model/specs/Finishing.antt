@@ -9,7 +9,6 @@ use Rattle.dmis_program.specs.declared.steps.Step.{Step}
 use Rattle.dmis_program.specs.declared.steps.Step.TheVariants as step
 use Rattle.contact_ledger.specs.Ledgers.{connection_most, contact_count}
 use Rattle.contact_ledger.specs.declared.features.Feature.{Feature}
-use Rattle.protocol_model.specs.Lines.{Readers}
 use Rattle.protocol_model.specs.Plan.{plan}
 use Rattle.protocol_model.specs.PlainExecution.{touch_job, plain_execution, as_measured}
 use Rattle.protocol_model.specs.Server.{in_volume, offset}
@@ -35,8 +34,8 @@ abbrev pub rejoining : World → List Event
 rejoining w = ClientLeaves ∷ ServerLeaves ∷ Connect ∷ Accept (suc w.client.client.last) ∷ []
 
 -- the world behind that
-abbrev pub rejoined : Readers → World → World
-rejoined readers w = run_of readers (rejoining w) w
+abbrev pub rejoined : World → World
+rejoined w = run_of (rejoining w) w
 
 -- the plan for what is left to measure
 abbrev pub plan_left : World → List Planned

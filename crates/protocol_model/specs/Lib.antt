@@ -5,6 +5,7 @@ pub mod Client
 pub mod Server
 pub mod Claims
 pub mod Typed
+pub mod Readings
 pub mod Lines
 pub mod Streams
 pub mod Ends

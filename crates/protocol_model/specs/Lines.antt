@@ -2,20 +2,15 @@
 -- profile's).
 use Rattle.std.specs.Prelude.{ℕ, Bool, List, [], ◌∷◌, Result, Ok, Err}
 use Rattle.fixed_um.specs.declared.lengths.Point.{Point}
-use Rattle.dme_line.specs.Points.{written_point, ReadsPoint}
-use Rattle.dme_line.specs.Homed.{written_homed, ReadsHomed}
+use Rattle.dme_line.specs.Points.{written_point}
+use Rattle.dme_line.specs.Homed.{written_homed}
 use Rattle.dme_line.specs.Written.{written_command}
-use Rattle.dme_line.specs.CommandText.{ReadsCommand}
-use Rattle.dme_line.specs.Responses.{written_response, ReadsResponse}
+use Rattle.dme_line.specs.Responses.{written_response}
 use Rattle.dme_line.specs.Errors.{written_error}
 use Rattle.dme_line.specs.declared.tags.Tag.{Tag}
 use Rattle.dme_line.specs.declared.commands.Command.{Command}
 use Rattle.dme_line.specs.declared.reading.LineFault.{LineFault}
 use Rattle.dme_line.specs.declared.responses.Mark.TheVariants as mark
-use Rattle.dme_line.specs.declared.responses.Response.{Response}
-use Rattle.dme_line.specs.declared.responses.NotResponse.{NotResponse}
-use Rattle.dme_line.specs.declared.points.NotPoint.{NotPoint}
-use Rattle.dme_line.specs.declared.homed.NotHomedText.{NotHomedText}
 use Rattle.line_framing.specs.Content.{line_bytes}
 use Rattle.protocol_model.specs.Replies.{Reading, Reply}
 use Rattle.protocol_model.specs.declared.held.Datum.{Datum}
@@ -55,21 +50,6 @@ command_bytes ls = line_bytes (command_texts ls)
 -- the same of replies
 abbrev pub reply_bytes : List Reply → List ℕ
 reply_bytes rs = line_bytes (reply_texts rs)
-
--- functions that read the lines of commands and of responses, and the texts of data lines: points, and whether the machine is homed
-pub record Readers : Type 0 where
-  pub command : List ℕ → Result (Tag × Command) LineFault
-  pub response : List ℕ → Result Response NotResponse
-  pub point : List ℕ → Result Point NotPoint
-  pub homed : List ℕ → Result Bool NotHomedText
-
--- they read as the interface says
-pub record AreReaders (r : Readers) : Type 0 where
-  pub command : (line : List ℕ) → ReadsCommand line (r.command line)
-  -- a line of no response is told to be none
-  pub response : (line : List ℕ) → ReadsResponse line (r.response line)
-  pub point : (text : List ℕ) → ReadsPoint text (r.point text)
-  pub homed : (text : List ℕ) → ReadsHomed text (r.homed text)
 
 -- what the server reads of a line
 abbrev pub reading_of : Result (Tag × Command) LineFault → Reading

@@ -3,7 +3,6 @@
 use Rattle.std.specs.Prelude.{◌≡◌, ◌≢◌, ◌⊎◌, ℕ, Bool, true, false, if◌then◌else◌, Option, Some, None, List, [], ◌∷◌, ◌++◌, length, All}
 use Rattle.std.specs.List.{flat_map}
 use Rattle.contact_ledger.specs.Ledgers.{contact_count}
-use Rattle.protocol_model.specs.Lines.{Readers}
 use Rattle.protocol_model.specs.Server.{running_job}
 use Rattle.protocol_model.specs.World.{World, can, happens, after, run_of, client_link, server_link}
 use Rattle.protocol_model.specs.declared.events.Event.{Event}
@@ -22,17 +21,17 @@ IsOne None cut events = events ≡ []
 IsOne (Some e) cut events = (events ≡ e ∷ []) ⊎ ((cut ≡ true) × (events ≡ []))
 
 -- an event, again and again while it can happen
-abbrev pub AreWhile : Readers → Event → Bool → World → List Event → Type 0
-AreWhile readers e cut w [] = MayEnd cut (can e w ≡ false)
-AreWhile readers e cut w (f ∷ fs) = (f ≡ e) × (can e w ≡ true) × AreWhile readers e cut (happens readers e w) fs
+abbrev pub AreWhile : Event → Bool → World → List Event → Type 0
+AreWhile e cut w [] = MayEnd cut (can e w ≡ false)
+AreWhile e cut w (f ∷ fs) = (f ≡ e) × (can e w ≡ true) × AreWhile e cut (happens e w) fs
 
 -- one list behind another: the second in the world that the first leaves; where the first is cut, there is no second
-pub record Then (readers : Readers) (A B : Bool → World → List Event → Type 0) (cut : Bool) (w : World) (events : List Event) : Type 0
+pub record Then (A B : Bool → World → List Event → Type 0) (cut : Bool) (w : World) (events : List Event) : Type 0
   where
     pub front : List Event
     pub back : List Event
     pub whole : events ≡ front ++ back
-    pub parts : (A false w front × B cut (run_of readers front w) back) ⊎ ((cut ≡ true) × A true w front × (back ≡ []))
+    pub parts : (A false w front × B cut (run_of front w) back) ⊎ ((cut ≡ true) × A true w front × (back ≡ []))
 
 -- an event where it can happen
 abbrev pub possible : Event → World → Option Event
@@ -59,35 +58,35 @@ working (Some e) w = Some e
 working None w = possible event.ServerTurn w
 
 -- turns and ends while there is one
-abbrev pub AreWork : Readers → (Job → ℕ → Outcome) → Bool → World → List Event → Type 0
-AreWork readers answer cut w [] = MayEnd cut (working (ending answer w) w ≡ None)
-AreWork readers answer cut w (e ∷ es) = (working (ending answer w) w ≡ Some e) × AreWork readers answer cut (after readers e w) es
+abbrev pub AreWork : (Job → ℕ → Outcome) → Bool → World → List Event → Type 0
+AreWork answer cut w [] = MayEnd cut (working (ending answer w) w ≡ None)
+AreWork answer cut w (e ∷ es) = (working (ending answer w) w ≡ Some e) × AreWork answer cut (after e w) es
 
 -- a quiet round: the client sends all that is due, all of it comes to the server, which reads it all and does it all, and all answers come
 -- to the client, which reads them all
-abbrev pub IsRound : Readers → (Job → ℕ → Outcome) → Bool → World → List Event → Type 0
-IsRound readers answer =
-    Then readers (AreWhile readers event.ClientSends) (
-    Then readers (λ cut w. IsOne (all_up w) cut) (
-    Then readers (AreWhile readers event.ServerReads) (
-    Then readers (AreWork readers answer) (
-    Then readers (λ cut w. IsOne (all_down w) cut) (AreWhile readers event.ClientReads)))))
+abbrev pub IsRound : (Job → ℕ → Outcome) → Bool → World → List Event → Type 0
+IsRound answer =
+    Then (AreWhile event.ClientSends) (
+    Then (λ cut w. IsOne (all_up w) cut) (
+    Then (AreWhile event.ServerReads) (
+    Then (AreWork answer) (
+    Then (λ cut w. IsOne (all_down w) cut) (AreWhile event.ClientReads)))))
 
 -- whole rounds, one behind another
-abbrev pub AreRounds : Readers → (Job → ℕ → Outcome) → World → List (List Event) → Type 0
-AreRounds readers answer w [] = Unit {0}
-AreRounds readers answer w (r ∷ rs) = IsRound readers answer false w r × AreRounds readers answer (run_of readers r w) rs
+abbrev pub AreRounds : (Job → ℕ → Outcome) → World → List (List Event) → Type 0
+AreRounds answer w [] = Unit {0}
+AreRounds answer w (r ∷ rs) = IsRound answer false w r × AreRounds answer (run_of r w) rs
 
 -- the events of rounds, one behind another
 abbrev pub all_of : List (List Event) → List Event
 all_of rounds = flat_map (λ r. r) rounds
 
 -- rounds of which each does something
-pub record AreBusy (readers : Readers) (answer : Job → ℕ → Outcome) (w : World) (rounds : List (List Event)) : Type 0 where
-  pub are : AreRounds readers answer w rounds
+pub record AreBusy (answer : Job → ℕ → Outcome) (w : World) (rounds : List (List Event)) : Type 0 where
+  pub are : AreRounds answer w rounds
   pub busy : All (λ r. r ≢ []) rounds
 
 -- they are all that do something: the round behind them does nothing
-pub record AreAllBusy (readers : Readers) (answer : Job → ℕ → Outcome) (w : World) (rounds : List (List Event)) : Type 0 where
-  pub busy : AreBusy readers answer w rounds
-  pub still : IsRound readers answer false (run_of readers (all_of rounds) w) []
+pub record AreAllBusy (answer : Job → ℕ → Outcome) (w : World) (rounds : List (List Event)) : Type 0 where
+  pub busy : AreBusy answer w rounds
+  pub still : IsRound answer false (run_of (all_of rounds) w) []

@@ -5,7 +5,6 @@ use Rattle.std.specs.List.{slice_index_or}
 use Rattle.dmis_program.specs.Meaning.{Meaning}
 use Rattle.contact_ledger.specs.Ledgers.{connection_most}
 use Rattle.line_framing.specs.Next.{Front, next_of}
-use Rattle.protocol_model.specs.Lines.{Readers}
 use Rattle.protocol_model.specs.Plan.{is_empty}
 use Rattle.protocol_model.specs.Client.{due, is_apart, may_abort, may_resume}
 use Rattle.protocol_model.specs.Server.{may_end}
@@ -135,28 +134,28 @@ can (ClientRestart k) w = nat_le k (length w.client.client.table.tally.features)
 can ServerRestart w = true
 
 -- what an event does
-abbrev pub happens : Readers → Event → World → World
-happens readers Connect w = connected w
-happens readers (Accept n) w = record w { server = serving_accepted n w.server }
-happens readers ClientSends w = client_writes w (end_sent w.client)
-happens readers (Up k) w = moved_up k w
-happens readers ServerReads w = server_writes w (serving_read readers w.server)
-happens readers ServerTurn w = server_writes w (serving_turned w.server)
-happens readers (Machine outcome) w = server_writes w (serving_machined outcome w.server)
-happens readers (Down k) w = moved_down k w
-happens readers ClientReads w = record w { client = end_read readers w.client }
-happens readers ClientLeaves w = record w { client = end_left w.client }
-happens readers ServerLeaves w = record w { server = serving_left w.server }
-happens readers Abort w = client_writes w (end_aborted w.client)
-happens readers Resume w = record w { client = end_resumed w.client }
-happens readers (ClientRestart k) w = record w { client = end_restarted k w.client }
-happens readers ServerRestart w = record w { server = serving_restarted w.server }
+abbrev pub happens : Event → World → World
+happens Connect w = connected w
+happens (Accept n) w = record w { server = serving_accepted n w.server }
+happens ClientSends w = client_writes w (end_sent w.client)
+happens (Up k) w = moved_up k w
+happens ServerReads w = server_writes w (serving_read w.server)
+happens ServerTurn w = server_writes w (serving_turned w.server)
+happens (Machine outcome) w = server_writes w (serving_machined outcome w.server)
+happens (Down k) w = moved_down k w
+happens ClientReads w = record w { client = end_read w.client }
+happens ClientLeaves w = record w { client = end_left w.client }
+happens ServerLeaves w = record w { server = serving_left w.server }
+happens Abort w = client_writes w (end_aborted w.client)
+happens Resume w = record w { client = end_resumed w.client }
+happens (ClientRestart k) w = record w { client = end_restarted k w.client }
+happens ServerRestart w = record w { server = serving_restarted w.server }
 
 -- an event that cannot happen changes nothing
-abbrev pub after : Readers → Event → World → World
-after readers e w = if can e w then happens readers e w else w
+abbrev pub after : Event → World → World
+after e w = if can e w then happens e w else w
 
 -- events, one after another
-abbrev pub run_of : Readers → List Event → World → World
-run_of readers [] w = w
-run_of readers (e ∷ es) w = run_of readers es (after readers e w)
+abbrev pub run_of : List Event → World → World
+run_of [] w = w
+run_of (e ∷ es) w = run_of es (after e w)

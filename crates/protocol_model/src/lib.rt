@@ -12,9 +12,9 @@
 //! - `positions`: where a plan goes on in the steps of a program
 //! - `tags`: the number of the tag that is drawn next
 //! - `streams`: what a stream of written lines hands out
-//! - `readers`: that lines can be read as the interface says
 //! - `undisturbed`: what is written, done and counted in a run that nothing disturbs
 //! - `quiet`: a broken link is brought to its end by quiet rounds, in a stated number of them
+//! - `readings`: that each line is read as the interface says
 //! - `rows`: worked rows, as examples that the definitions compute
 //! - `origins`: worked rows of where features come from
 //! - `homing`: worked rows of the question whether the machine is homed
@@ -35,7 +35,7 @@ pub mod plan_laws;
 pub mod plans;
 pub mod positions;
 pub mod quiet;
-pub mod readers;
+pub mod readings;
 pub mod replies;
 pub mod rows;
 pub mod states;
@@ -56,7 +56,7 @@ pub use positions::plans_go_on_behind_the_last_touch;
 pub use quiet::{
     programs_in_reach_have_plans_in_reach, quiet_rounds_are_few, quiet_rounds_measure_what_is_left,
 };
-pub use readers::readers_exist;
+pub use readings::each_line_is_read;
 pub use replies::table_accepts_the_language;
 pub use states::{Cause, State};
 pub use streams::{commands_come_in_order, responses_come_in_order};

@@ -3,7 +3,6 @@
 ghost use Rattle.std.specs.Prelude.{◌≡◌, ◌≤◌, ℕ, List, length};
 ghost use Rattle.dmis_program.specs.Meaning.{Meaning};
 ghost use Rattle.dmis_program.specs.Programs.{IsProgram};
-ghost use Rattle.protocol_model.specs.Lines.{Readers, AreReaders};
 ghost use Rattle.protocol_model.specs.World.{start, run_of};
 ghost use Rattle.protocol_model.specs.Rounds.{all_of, AreBusy, AreAllBusy};
 ghost use Rattle.protocol_model.specs.Finishing.{CanFinish, rejoined, plan_left, CanMeasure, HasMeasured, AreInReach, StepsInReach};
@@ -21,14 +20,13 @@ ghost use Rattle.protocol_model.specs.declared.states.State.TheVariants as State
 /// - `bounded`: of these rounds, however the machine ends what it is asked, at most as many do something as the plan for what is left has
 ///   commands.
 pub fn quiet_rounds_are_few()
-    ensures bounded { (readers : Readers) → AreReaders readers
-        → (answer : OneJob → ℕ → OneOutcome) (program : Meaning) (rack : List (List ℕ))
+    ensures bounded { (answer : OneJob → ℕ → OneOutcome) (program : Meaning) (rack : List (List ℕ))
         (window : ℕ) (events : List OneEvent) (rounds : List (List OneEvent))
         → IsProgram program → window ≤ 16
-        → CanFinish (run_of readers events (start program rack window))
-        → AreBusy readers answer
-        (rejoined readers (run_of readers events (start program rack window))) rounds
-        → length rounds ≤ length (plan_left (run_of readers events (start program rack window))) }
+        → CanFinish (run_of events (start program rack window))
+        → AreBusy answer
+        (rejoined (run_of events (start program rack window))) rounds
+        → length rounds ≤ length (plan_left (run_of events (start program rack window))) }
 {}
 
 /// The same, where the window is at least 1, the rack has each tool, each target lies in the volume, and the machine does what it is asked:
@@ -37,27 +35,25 @@ pub fn quiet_rounds_are_few()
 /// - `features`: it holds the features that it held before, unchanged, and then those of the plain execution of what was left, its touches
 ///   numbered from the server's count of contacts on. Nothing else depends on what went wrong before.
 pub fn quiet_rounds_measure_what_is_left()
-    ensures done { (readers : Readers) → AreReaders readers
-        → (answer : OneJob → ℕ → OneOutcome) (program : Meaning) (rack : List (List ℕ))
+    ensures done { (answer : OneJob → ℕ → OneOutcome) (program : Meaning) (rack : List (List ℕ))
         (window : ℕ) (events : List OneEvent) (rounds : List (List OneEvent))
         → IsProgram program → 1 ≤ window → window ≤ 16
-        → CanFinish (run_of readers events (start program rack window))
-        → CanMeasure answer (run_of readers events (start program rack window))
-        → AreAllBusy readers answer
-        (rejoined readers (run_of readers events (start program rack window))) rounds
-        → (run_of readers (all_of rounds) (rejoined readers
-        (run_of readers events (start program rack window)))).client.client.state ≡ State.Done }
-    ensures features { (readers : Readers) → AreReaders readers
-        → (answer : OneJob → ℕ → OneOutcome) (program : Meaning) (rack : List (List ℕ))
+        → CanFinish (run_of events (start program rack window))
+        → CanMeasure answer (run_of events (start program rack window))
+        → AreAllBusy answer
+        (rejoined (run_of events (start program rack window))) rounds
+        → (run_of (all_of rounds) (rejoined
+        (run_of events (start program rack window)))).client.client.state ≡ State.Done }
+    ensures features { (answer : OneJob → ℕ → OneOutcome) (program : Meaning) (rack : List (List ℕ))
         (window : ℕ) (events : List OneEvent) (rounds : List (List OneEvent))
         → IsProgram program → 1 ≤ window → window ≤ 16
-        → CanFinish (run_of readers events (start program rack window))
-        → CanMeasure answer (run_of readers events (start program rack window))
-        → AreAllBusy readers answer
-        (rejoined readers (run_of readers events (start program rack window))) rounds
-        → HasMeasured answer (run_of readers events (start program rack window))
-        (run_of readers (all_of rounds) (rejoined readers
-        (run_of readers events (start program rack window)))) }
+        → CanFinish (run_of events (start program rack window))
+        → CanMeasure answer (run_of events (start program rack window))
+        → AreAllBusy answer
+        (rejoined (run_of events (start program rack window))) rounds
+        → HasMeasured answer (run_of events (start program rack window))
+        (run_of (all_of rounds) (rejoined
+        (run_of events (start program rack window)))) }
 {}
 
 /// What the rack and the volume give to the steps of a program they give to each plan for what is left of it: where the rack has each tool

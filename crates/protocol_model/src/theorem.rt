@@ -3,7 +3,6 @@
 ghost use Rattle.std.specs.Prelude.{◌≡◌, ◌≢◌, ◌≤◌, ℕ, List, None};
 ghost use Rattle.dmis_program.specs.Meaning.{Meaning};
 ghost use Rattle.dmis_program.specs.Programs.{IsProgram};
-ghost use Rattle.protocol_model.specs.Lines.{Readers, AreReaders};
 ghost use Rattle.protocol_model.specs.declared.states.State.TheVariants as State;
 ghost use Rattle.protocol_model.specs.Claims.{Sound, Told};
 ghost use Rattle.protocol_model.specs.World.{World, start, run_of};
@@ -18,27 +17,23 @@ ghost use Rattle.protocol_model.specs.declared.events.Event.{Event};
 /// - the client is not Faulted, and the server has met no framing fault.
 ///
 /// Connections may be left by either side at any byte, commands may fail, be aborted and be begun again, tags come round, and both
-/// sides may restart. Commands are read, as lines and point texts are, by any functions that read as the interface says.
+/// sides may restart.
 #[tactic(auto, using(crate::proofs::whole_run::WholeRun::always_sound, crate::proofs::whole_run::WholeRun::always_told, crate::proofs::whole_run::WholeRun::never_faulted_run, crate::proofs::whole_run::WholeRun::no_framing_fault))]
 pub fn every_run()
-    ensures sound { (readers : Readers) → AreReaders readers
-        → (program : Meaning) (rack : List (List ℕ)) (window : ℕ) (events : List Event)
+    ensures sound { (program : Meaning) (rack : List (List ℕ)) (window : ℕ) (events : List Event)
         → IsProgram program → window ≤ 16
-        → Sound program.features (run_of readers events
+        → Sound program.features (run_of events
         (start program rack window)).client.client.table.tally.features
-        (run_of readers events (start program rack window)).server.server.ledger }
-    ensures told { (readers : Readers) → AreReaders readers
-        → (program : Meaning) (rack : List (List ℕ)) (window : ℕ) (events : List Event)
+        (run_of events (start program rack window)).server.server.ledger }
+    ensures told { (program : Meaning) (rack : List (List ℕ)) (window : ℕ) (events : List Event)
         → IsProgram program → window ≤ 16
-        → Told (run_of readers events (start program rack window)).client.client.table.tally.counted
-        (run_of readers events (start program rack window)).server.server.ledger
-        (run_of readers events (start program rack window)).client.client.last }
-    ensures client { (readers : Readers) → AreReaders readers
-        → (program : Meaning) (rack : List (List ℕ)) (window : ℕ) (events : List Event)
+        → Told (run_of events (start program rack window)).client.client.table.tally.counted
+        (run_of events (start program rack window)).server.server.ledger
+        (run_of events (start program rack window)).client.client.last }
+    ensures client { (program : Meaning) (rack : List (List ℕ)) (window : ℕ) (events : List Event)
         → IsProgram program → window ≤ 16
-        → (run_of readers events (start program rack window)).client.client.state ≢ State.Faulted }
-    ensures server { (readers : Readers) → AreReaders readers
-        → (program : Meaning) (rack : List (List ℕ)) (window : ℕ) (events : List Event)
+        → (run_of events (start program rack window)).client.client.state ≢ State.Faulted }
+    ensures server { (program : Meaning) (rack : List (List ℕ)) (window : ℕ) (events : List Event)
         → IsProgram program → window ≤ 16
-        → (run_of readers events (start program rack window)).server.input.fault ≡ None }
+        → (run_of events (start program rack window)).server.input.fault ≡ None }
 {}

@@ -3,7 +3,6 @@
 ghost use Rattle.std.specs.Prelude.{◌≡◌, ◌≤◌, ℕ, List, [], false, true};
 ghost use Rattle.dmis_program.specs.Meaning.{Meaning};
 ghost use Rattle.dmis_program.specs.Programs.{IsProgram};
-ghost use Rattle.protocol_model.specs.Lines.{Readers, AreReaders};
 ghost use Rattle.protocol_model.specs.Plan.{plan};
 ghost use Rattle.protocol_model.specs.Ends.{ServerEnd};
 ghost use Rattle.protocol_model.specs.World.{Link, start, run_of};
@@ -26,23 +25,20 @@ ghost use Rattle.protocol_model.specs.declared.plans.Start.TheVariants as Start;
 /// A tool that is not in the rack, or a place outside the volume, may stop the run before the plan is done. Commands are read, as lines and
 /// point texts are, by any functions that read as the interface says.
 pub fn undisturbed_prefixes()
-    ensures lines { (readers : Readers) → AreReaders readers
-        → (program : Meaning) (rack : List (List ℕ)) (window : ℕ) (events : List Event)
+    ensures lines { (program : Meaning) (rack : List (List ℕ)) (window : ℕ) (events : List Event)
         → IsProgram program → window ≤ 16 → AreUndisturbed events
-        → AreFirstLines (run_of readers events (start program rack window)).written
+        → AreFirstLines (run_of events (start program rack window)).written
         (plan program 0 Start.NewConnection) }
-    ensures acts { (readers : Readers) → AreReaders readers
-        → (program : Meaning) (rack : List (List ℕ)) (window : ℕ) (events : List Event)
+    ensures acts { (program : Meaning) (rack : List (List ℕ)) (window : ℕ) (events : List Event)
         → IsProgram program → window ≤ 16 → AreUndisturbed events
-        → AreFirstActs (acts_in (run_of readers events
+        → AreFirstActs (acts_in (run_of events
         (start program rack window)).server.server.ledger)
         (acts_planned (plan program 0 Start.NewConnection)) }
-    ensures counted { (readers : Readers) → AreReaders readers
-        → (program : Meaning) (rack : List (List ℕ)) (window : ℕ) (events : List Event)
+    ensures counted { (program : Meaning) (rack : List (List ℕ)) (window : ℕ) (events : List Event)
         → IsProgram program → window ≤ 16 → AreUndisturbed events
-        → AreFirstOf (run_of readers events (start program rack
+        → AreFirstOf (run_of events (start program rack
         window)).client.client.table.tally.counted
-        (acts_in (run_of readers events (start program rack window)).server.server.ledger) }
+        (acts_in (run_of events (start program rack window)).server.server.ledger) }
 {}
 
 /// A machine that is homed is not homed again. After every such list of events from a new client and a server that is on no connection
@@ -53,11 +49,10 @@ pub fn undisturbed_prefixes()
 /// - `no_homing`: no command of that plan homes the machine;
 /// - `whole`: where the machine is not homed, a plan is followed whole.
 pub fn homed_machines_are_not_homed_again()
-    ensures lines { (readers : Readers) → AreReaders readers
-        → (program : Meaning) (window : ℕ) (server : ServerEnd) (links : List Link)
+    ensures lines { (program : Meaning) (window : ℕ) (server : ServerEnd) (links : List Link)
         (events : List Event) → IsProgram program → window ≤ 16 → IsHomedOff server links
         → AreUndisturbed events
-        → AreFirstLines (run_of readers events (met program window server links)).written
+        → AreFirstLines (run_of events (met program window server links)).written
         (followed true (plan program 0 Start.NewConnection)) }
     ensures no_homing { (program : Meaning) (completed : ℕ) (start : Begin)
         → homings_of (followed true (plan program completed start)) ≡ [] }

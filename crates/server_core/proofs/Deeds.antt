@@ -12,7 +12,7 @@ use Rattle.dme_line.specs.declared.commands.Command.{Command}
 use Rattle.dme_line.specs.declared.commands.Command.TheVariants as command
 use Rattle.protocol_model.specs.declared.lines.Misread.{Misread}
 use Rattle.protocol_model.specs.Replies.{Reply}
-use Rattle.protocol_model.specs.Lines.{Readers, reply_bytes}
+use Rattle.protocol_model.specs.Lines.{reply_bytes}
 use Rattle.protocol_model.specs.Claims.{Made, contacts}
 use Rattle.protocol_model.specs.Server.{Server, Answer, offset, in_volume, first_failing, checks, refusal, carried_out, carried, taken}
 use Rattle.protocol_model.specs.Server.{turned_to, server_turned, finished, touched, machined, server_machined, may_end}
@@ -137,18 +137,18 @@ machine_done e ended true =
     with_bytes (end_deed e.server ended e.server.running) e (server_machined e.server ended) (machined_done e.server ended e.server.running)
 machine_done e ended false = refl
 
-pub call_done : (readers : Readers) (call : Call) (e : ServerEnd) → IsDone (deed_of call e) e (behind_call readers call e)
-call_done readers (Accept n) e = chosen (λ (f : ServerEnd). f.server.ledger ≡ e.server.ledger) (possible (Accept n) e) _ _ (λ b. refl)
+pub call_done : (call : Call) (e : ServerEnd) → IsDone (deed_of call e) e (behind_call call e)
+call_done (Accept n) e = chosen (λ (f : ServerEnd). f.server.ledger ≡ e.server.ledger) (possible (Accept n) e) _ _ (λ b. refl)
     (λ b. refl)
-call_done readers (Feed bytes) e = chosen (λ (f : ServerEnd). f.server.ledger ≡ e.server.ledger) (possible (Feed bytes) e) _ _ (λ b. refl)
+call_done (Feed bytes) e = chosen (λ (f : ServerEnd). f.server.ledger ≡ e.server.ledger) (possible (Feed bytes) e) _ _ (λ b. refl)
     (λ b. refl)
-call_done readers ReadOne e = chosen (λ (f : ServerEnd). f.server.ledger ≡ e.server.ledger) (possible ReadOne e) _ _
-    (λ b. read_keeps readers e) (λ b. refl)
-call_done readers Turn e = turn_done e (may_turn e.server) refl
-call_done readers (Machine ended) e = machine_done e ended (may_end e.server.running ended)
-call_done readers Leave e = refl
-call_done readers Restart e = refl
-call_done readers (Sent count) e = chosen (λ (f : ServerEnd). f.server.ledger ≡ e.server.ledger) (possible (Sent count) e) _ _ (λ b. refl)
+call_done ReadOne e = chosen (λ (f : ServerEnd). f.server.ledger ≡ e.server.ledger) (possible ReadOne e) _ _
+    (λ b. read_keeps e) (λ b. refl)
+call_done Turn e = turn_done e (may_turn e.server) refl
+call_done (Machine ended) e = machine_done e ended (may_end e.server.running ended)
+call_done Leave e = refl
+call_done Restart e = refl
+call_done (Sent count) e = chosen (λ (f : ServerEnd). f.server.ledger ≡ e.server.ledger) (possible (Sent count) e) _ _ (λ b. refl)
     (λ b. refl)
 
 -- ---- which calls
@@ -290,34 +290,34 @@ target_in_volume e ended made h commanded =
     subst (λ (frame : Frame). in_volume (point_sum made.target (offset frame)) ≡ true) (sym commanded.frame)
     (not_false _ (touch_passes e.server made.target made.dir (h.orderly.running _ commanded.ran).1).target)
 
-pub contact_of_call : (readers : Readers) (call : Call) (e : ServerEnd) (made : Made) → IsSteady e
-    → contacts (behind_call readers call e).server.ledger ≡ contacts e.server.ledger ++ made ∷ [] → IsContactOf e call made
-contact_of_call readers (Accept n) e made h =
+pub contact_of_call : (call : Call) (e : ServerEnd) (made : Made) → IsSteady e
+    → contacts (behind_call call e).server.ledger ≡ contacts e.server.ledger ++ made ∷ [] → IsContactOf e call made
+contact_of_call (Accept n) e made h =
     chosen (λ (f : ServerEnd). contacts f.server.ledger ≡ contacts e.server.ledger ++ made ∷ []
     → IsContactOf e (Accept n) made) (possible (Accept n) e) (serving_accepted n e) e
     (λ b. no_contact e (serving_accepted n e) (Accept n) made refl) (λ b. no_contact e e (Accept n) made refl)
-contact_of_call readers (Feed bytes) e made h =
+contact_of_call (Feed bytes) e made h =
     chosen (λ (f : ServerEnd). contacts f.server.ledger ≡ contacts e.server.ledger ++ made ∷ []
     → IsContactOf e (Feed bytes) made) (possible (Feed bytes) e) (serving_fed bytes e) e
     (λ b. no_contact e (serving_fed bytes e) (Feed bytes) made refl) (λ b. no_contact e e (Feed bytes) made refl)
-contact_of_call readers ReadOne e made h =
+contact_of_call ReadOne e made h =
     chosen (λ (f : ServerEnd). contacts f.server.ledger ≡ contacts e.server.ledger ++ made ∷ []
-    → IsContactOf e ReadOne made) (possible ReadOne e) (done_by readers ReadOne e) e
-    (λ b. no_contact e (done_by readers ReadOne e) ReadOne made (ap contacts (read_keeps readers e)))
+    → IsContactOf e ReadOne made) (possible ReadOne e) (done_by ReadOne e) e
+    (λ b. no_contact e (done_by ReadOne e) ReadOne made (ap contacts (read_keeps e)))
     (λ b. no_contact e e ReadOne made refl)
-contact_of_call readers Turn e made h =
+contact_of_call Turn e made h =
     chosen (λ (f : ServerEnd). contacts f.server.ledger ≡ contacts e.server.ledger ++ made ∷ []
     → IsContactOf e Turn made) (possible Turn e) (serving_turned e) e
     (λ b. no_contact e (serving_turned e) Turn made (turned_no_contact e.server)) (λ b. no_contact e e Turn made refl)
-contact_of_call readers (Machine ended) e made h =
+contact_of_call (Machine ended) e made h =
     chosen (λ (f : ServerEnd). contacts f.server.ledger ≡ contacts e.server.ledger ++ made ∷ []
     → IsContactOf e (Machine ended) made) (possible (Machine ended) e) (serving_machined ended e) e
     (λ b longer. let commanded : IsCommanded e ended made = machined_as_commanded ended e made longer in
     record { ended = ended; is_end = refl; commanded = commanded; target = target_in_volume e ended made h commanded })
     (λ b. no_contact e e (Machine ended) made refl)
-contact_of_call readers Leave e made h = no_contact e (serving_left e) Leave made refl
-contact_of_call readers Restart e made h = no_contact e (serving_restarted e) Restart made refl
-contact_of_call readers (Sent count) e made h =
+contact_of_call Leave e made h = no_contact e (serving_left e) Leave made refl
+contact_of_call Restart e made h = no_contact e (serving_restarted e) Restart made refl
+contact_of_call (Sent count) e made h =
     chosen (λ (f : ServerEnd). contacts f.server.ledger ≡ contacts e.server.ledger ++ made ∷ []
     → IsContactOf e (Sent count) made) (possible (Sent count) e) (serving_taken count e) e
     (λ b. no_contact e (serving_taken count e) (Sent count) made refl) (λ b. no_contact e e (Sent count) made refl)

@@ -9,10 +9,11 @@ use Rattle.dme_line.specs.declared.tags.Tag.{Tag}
 use Rattle.dme_line.specs.declared.commands.Command.{Command}
 use Rattle.dme_line.specs.declared.commands.Command.TheVariants as command
 use Rattle.dme_line.specs.declared.reading.LineFault.TheVariants as fault
+use Rattle.protocol_model.specs.Readings.{command_of}
 use Rattle.contact_ledger.specs.declared.acts.Act.TheVariants as act
 use Rattle.line_framing.specs.Next.{Front, next_of}
 use Rattle.protocol_model.specs.Replies.{Reading}
-use Rattle.protocol_model.specs.Lines.{Readers, reading_of}
+use Rattle.protocol_model.specs.Lines.{reading_of}
 use Rattle.protocol_model.specs.Server.{Server, Answer, runs_under, waits_under, is_abort, is_clear, stands, fresh, tagged, server_read}
 use Rattle.protocol_model.specs.Server.{refusal, carried_out, carried, taken, turned_to, finished, touched, machined, may_end}
 use Rattle.protocol_model.specs.Ends.{ServerEnd, front_served, serving_accepted, serving_fed, serving_read, serving_turned}
@@ -55,10 +56,10 @@ read_homed s (Err fault.NoTag) = refl
 read_homed s (Err (fault.UnknownCommand t)) = tagged_homed s t (Err misread.UnknownCommand)
 read_homed s (Err (fault.BadArguments t k)) = tagged_homed s t (Err (misread.BadArguments k))
 
-front_homed : (readers : Readers) (e : ServerEnd) (front : Front) → (front_served readers e front).server.homed ≡ e.server.homed
-front_homed readers e (Ok None) = refl
-front_homed readers e (Ok (Some (line, rest))) = read_homed e.server (reading_of (readers.command line))
-front_homed readers e (Err why) = refl
+front_homed : (e : ServerEnd) (front : Front) → (front_served e front).server.homed ≡ e.server.homed
+front_homed e (Ok None) = refl
+front_homed e (Ok (Some (line, rest))) = read_homed e.server (reading_of (command_of line))
+front_homed e (Err why) = refl
 
 -- ---- a turn
 
@@ -166,28 +167,28 @@ fault_homed s (Some line) = refl
 abbrev As : Call → ServerEnd → ServerEnd → Type 0
 As call e f = f.server.homed ≡ homed_behind call e
 
-pub call_homed : (readers : Readers) (call : Call) (e : ServerEnd) → (behind_call readers call e).server.homed ≡ homed_behind call e
-call_homed readers (Accept n) e = chosen (As (Accept n) e) (possible (Accept n) e) (serving_accepted n e) e (λ may. refl) (λ may. refl)
-call_homed readers (Feed bytes) e = chosen (As (Feed bytes) e) (possible (Feed bytes) e) (serving_fed bytes e) e (λ may. refl) (λ may. refl)
-call_homed readers ReadOne e = chosen (As ReadOne e) (possible ReadOne e) (serving_read readers e) e
-    (λ may. front_homed readers e (next_of e.input.rest)) (λ may. refl)
-call_homed readers Turn e = turn_homed e (may_turn e.server)
-call_homed readers (Machine Outcome.Done) e =
+pub call_homed : (call : Call) (e : ServerEnd) → (behind_call call e).server.homed ≡ homed_behind call e
+call_homed (Accept n) e = chosen (As (Accept n) e) (possible (Accept n) e) (serving_accepted n e) e (λ may. refl) (λ may. refl)
+call_homed (Feed bytes) e = chosen (As (Feed bytes) e) (possible (Feed bytes) e) (serving_fed bytes e) e (λ may. refl) (λ may. refl)
+call_homed ReadOne e = chosen (As ReadOne e) (possible ReadOne e) (serving_read e) e
+    (λ may. front_homed e (next_of e.input.rest)) (λ may. refl)
+call_homed Turn e = turn_homed e (may_turn e.server)
+call_homed (Machine Outcome.Done) e =
     chosen (As (Machine Outcome.Done) e) (possible (Machine Outcome.Done) e) (serving_machined Outcome.Done e) e
     (λ may. done_homed e.server e.server.running)
     (λ may. ap (λ (b : Bool). b || e.server.homed) (sym (not_done e.server.running may)))
-call_homed readers (Machine (Outcome.Touched at)) e =
+call_homed (Machine (Outcome.Touched at)) e =
     chosen (As (Machine (Outcome.Touched at)) e) (possible (Machine (Outcome.Touched at)) e) (serving_machined (Outcome.Touched at) e) e
     (λ may. touch_homed e.server at e.server.running) (λ may. refl)
-call_homed readers (Machine Outcome.Missed) e =
+call_homed (Machine Outcome.Missed) e =
     chosen (As (Machine Outcome.Missed) e) (possible (Machine Outcome.Missed) e) (serving_machined Outcome.Missed e) e
     (λ may. missed_homed e.server e.server.running) (λ may. refl)
-call_homed readers (Machine Outcome.Fault) e =
+call_homed (Machine Outcome.Fault) e =
     chosen (As (Machine Outcome.Fault) e) (possible (Machine Outcome.Fault) e) (serving_machined Outcome.Fault e) e
     (λ may. fault_homed e.server e.server.running) (λ may. refl)
-call_homed readers Leave e = refl
-call_homed readers Restart e = refl
-call_homed readers (Sent count) e = chosen (As (Sent count) e) (possible (Sent count) e) (serving_taken count e) e
+call_homed Leave e = refl
+call_homed Restart e = refl
+call_homed (Sent count) e = chosen (As (Sent count) e) (possible (Sent count) e) (serving_taken count e) e
     (λ may. refl) (λ may. refl)
 
 -- ---- what is told

@@ -4,10 +4,11 @@ use Rattle.fixed_um.specs.declared.lengths.Point.{Point}
 use Rattle.dme_line.specs.declared.tags.Tag.{Tag}
 use Rattle.dme_line.specs.declared.commands.Command.{Command}
 use Rattle.dme_line.specs.declared.commands.Command.TheVariants as command
+use Rattle.protocol_model.specs.Readings.{command_of}
 use Rattle.contact_ledger.specs.declared.acts.Act.{Act}
 use Rattle.contact_ledger.specs.declared.acts.Act.TheVariants as act
 use Rattle.line_framing.specs.Next.{Front, next_of}
-use Rattle.protocol_model.specs.Lines.{Readers, reading_of}
+use Rattle.protocol_model.specs.Lines.{reading_of}
 use Rattle.protocol_model.specs.Claims.{contacts}
 use Rattle.protocol_model.specs.Server.{Server, Answer, frame_of, refusal, carried_out, carried, taken, turned_to, server_turned, finished}
 use Rattle.protocol_model.specs.Server.{touched, machined}
@@ -21,14 +22,14 @@ use Rattle.server_core.specs.Acting.{with_act, IsOneMore}
 
 -- ---- a line that is read appends nothing
 
-front_keeps : (readers : Readers) (e : ServerEnd) (front : Front) → (front_served readers e front).server.ledger ≡ e.server.ledger
-front_keeps readers e (Ok None) = refl
-front_keeps readers e (Ok (Some (line, rest))) = (read_moves e.server (reading_of (readers.command line))).ledger
+front_keeps : (e : ServerEnd) (front : Front) → (front_served e front).server.ledger ≡ e.server.ledger
+front_keeps e (Ok None) = refl
+front_keeps e (Ok (Some (line, rest))) = (read_moves e.server (reading_of (command_of line))).ledger
     ∙ append-nil e.server.ledger
-front_keeps readers e (Err why) = refl
+front_keeps e (Err why) = refl
 
-pub read_keeps : (readers : Readers) (e : ServerEnd) → (serving_read readers e).server.ledger ≡ e.server.ledger
-read_keeps readers e = front_keeps readers e (next_of e.input.rest)
+pub read_keeps : (e : ServerEnd) → (serving_read e).server.ledger ≡ e.server.ledger
+read_keeps e = front_keeps e (next_of e.input.rest)
 
 -- ---- a turn appends the choice of a frame, whether the machine is homed, or nothing
 

@@ -9,7 +9,7 @@ use Rattle.dme_line.specs.declared.reading.LineFault.{LineFault}
 use Rattle.dme_line.specs.declared.reading.LineFault.TheVariants as fault
 use Rattle.dme_line.proofs.ReadWritable.{read_is_writable}
 use Rattle.dme_line.proofs.OneCommand.{one_command_reading}
-use Rattle.protocol_model.specs.Lines.{Readers, AreReaders}
+use Rattle.protocol_model.specs.Readings.{command_of, reads_command}
 use Rattle.protocol_model.proofs.plan.PlanLaws.{in_volume}
 use Rattle.server_core.specs.Kept.{IsLineFit}
 
@@ -26,6 +26,6 @@ read_is_fit line (Err (fault.UnknownCommand t)) h = tag_of_numbered t h.2.tagged
 read_is_fit line (Err (fault.BadArguments t k)) h = tag_of_numbered t h.2.tagged.numbered
 
 -- all that read commands as the interface says read a line in one way
-pub one_reading : (line : List ℕ) (reading : Result (Tag × Command) LineFault) (readers : Readers) → ReadsCommand line reading
-    → AreReaders readers → readers.command line ≡ reading
-one_reading line reading readers read are = one_command_reading line (readers.command line) reading (are.command line) read
+pub one_reading : (line : List ℕ) (reading : Result (Tag × Command) LineFault) → ReadsCommand line reading
+    → command_of line ≡ reading
+one_reading line reading read = one_command_reading line (command_of line) reading (reads_command line) read

@@ -10,11 +10,12 @@ use Rattle.dme_line.specs.declared.commands.Command.TheVariants as command
 use Rattle.protocol_model.specs.declared.lines.Misread.{Misread}
 use Rattle.protocol_model.specs.declared.lines.Misread.TheVariants as misread
 use Rattle.dme_line.specs.declared.reading.LineFault.TheVariants as fault
+use Rattle.protocol_model.specs.Readings.{command_of}
 use Rattle.line_framing.specs.Next.{Front, next_of}
 use Rattle.line_framing.specs.Framing.{fed_behind}
 use Rattle.line_framing.specs.declared.faults.FramingFault.{FramingFault}
 use Rattle.protocol_model.specs.Replies.{Reading}
-use Rattle.protocol_model.specs.Lines.{Readers, AreReaders, reading_of}
+use Rattle.protocol_model.specs.Lines.{reading_of}
 use Rattle.protocol_model.specs.Server.{Server, Answer, runs_under, waits_under, is_abort, is_clear, stands, fresh}
 use Rattle.protocol_model.specs.Server.{tagged, server_read, refusal, carried_out, carried, taken, turned_to, server_turned, finished}
 use Rattle.protocol_model.specs.Server.{touched, machined, may_end}
@@ -35,66 +36,65 @@ use Rattle.protocol_model.specs.Claims.{Made, contacts}
 
 -- ---- what holds at any time
 
-call_steady : (readers : Readers) (call : Call) (e : ServerEnd) → IsSteady e → IsSteady (behind_call readers call e)
-call_steady readers (Accept n) e h = chosen IsSteady (possible (Accept n) e) _ _ (λ may. accepted_steady n e may h) (λ may. h)
-call_steady readers (Feed bytes) e h = chosen IsSteady (possible (Feed bytes) e) _ _ (λ may. fed_steady bytes e may h) (λ may. h)
-call_steady readers ReadOne e h = chosen IsSteady (possible ReadOne e) _ _ (λ may. read_steady readers e may h) (λ may. h)
-call_steady readers Turn e h = chosen IsSteady (possible Turn e) _ _ (λ may. turned_steady e may h) (λ may. h)
-call_steady readers (Machine ended) e h = chosen IsSteady (possible (Machine ended) e) _ _ (λ may. machined_steady ended e may h) (λ may. h)
-call_steady readers Leave e h = left_steady e h
-call_steady readers Restart e h = restarted_steady e h
-call_steady readers (Sent count) e h = chosen IsSteady (possible (Sent count) e) _ _ (λ may. taken_steady count e h) (λ may. h)
+call_steady : (call : Call) (e : ServerEnd) → IsSteady e → IsSteady (behind_call call e)
+call_steady (Accept n) e h = chosen IsSteady (possible (Accept n) e) _ _ (λ may. accepted_steady n e may h) (λ may. h)
+call_steady (Feed bytes) e h = chosen IsSteady (possible (Feed bytes) e) _ _ (λ may. fed_steady bytes e may h) (λ may. h)
+call_steady ReadOne e h = chosen IsSteady (possible ReadOne e) _ _ (λ may. read_steady e may h) (λ may. h)
+call_steady Turn e h = chosen IsSteady (possible Turn e) _ _ (λ may. turned_steady e may h) (λ may. h)
+call_steady (Machine ended) e h = chosen IsSteady (possible (Machine ended) e) _ _ (λ may. machined_steady ended e may h) (λ may. h)
+call_steady Leave e h = left_steady e h
+call_steady Restart e h = restarted_steady e h
+call_steady (Sent count) e h = chosen IsSteady (possible (Sent count) e) _ _ (λ may. taken_steady count e h) (λ may. h)
 
 abbrev Standard : ServerEnd → Type 0
 Standard e = AreStandard e.server.waiting
 
-call_standard : (readers : Readers) (call : Call) (e : ServerEnd) → AreReaders readers → Standard e → Standard (behind_call readers call e)
-call_standard readers (Accept n) e are h = chosen Standard (possible (Accept n) e) (serving_accepted n e) e (λ may. h) (λ may. h)
-call_standard readers (Feed bytes) e are h = chosen Standard (possible (Feed bytes) e) (serving_fed bytes e) e (λ may. h) (λ may. h)
-call_standard readers ReadOne e are h = chosen Standard (possible ReadOne e) (serving_read readers e) e
-    (λ may. read_standard readers e are h) (λ may. h)
-call_standard readers Turn e are h = chosen Standard (possible Turn e) (serving_turned e) e (λ may. turned_standard e.server h) (λ may. h)
-call_standard readers (Machine ended) e are h =
+call_standard : (call : Call) (e : ServerEnd) → Standard e → Standard (behind_call call e)
+call_standard (Accept n) e h = chosen Standard (possible (Accept n) e) (serving_accepted n e) e (λ may. h) (λ may. h)
+call_standard (Feed bytes) e h = chosen Standard (possible (Feed bytes) e) (serving_fed bytes e) e (λ may. h) (λ may. h)
+call_standard ReadOne e h = chosen Standard (possible ReadOne e) (serving_read e) e
+    (λ may. read_standard e h) (λ may. h)
+call_standard Turn e h = chosen Standard (possible Turn e) (serving_turned e) e (λ may. turned_standard e.server h) (λ may. h)
+call_standard (Machine ended) e h =
     chosen Standard (possible (Machine ended) e) (serving_machined ended e) e (λ may. machined_standard e.server ended h) (λ may. h)
-call_standard readers Leave e are h = tt
-call_standard readers Restart e are h = tt
-call_standard readers (Sent count) e are h = chosen Standard (possible (Sent count) e) (serving_taken count e) e (λ may. h) (λ may. h)
+call_standard Leave e h = tt
+call_standard Restart e h = tt
+call_standard (Sent count) e h = chosen Standard (possible (Sent count) e) (serving_taken count e) e (λ may. h) (λ may. h)
 
-calls_steady : (readers : Readers) (calls : List Call) (e : ServerEnd) → IsSteady e → IsSteady (behind_calls readers calls e)
-calls_steady readers [] e h = h
-calls_steady readers (call ∷ calls) e h = calls_steady readers calls (behind_call readers call e) (call_steady readers call e h)
+calls_steady : (calls : List Call) (e : ServerEnd) → IsSteady e → IsSteady (behind_calls calls e)
+calls_steady [] e h = h
+calls_steady (call ∷ calls) e h = calls_steady calls (behind_call call e) (call_steady call e h)
 
-calls_standard : (readers : Readers) (calls : List Call) (e : ServerEnd) → AreReaders readers → Standard e
-    → Standard (behind_calls readers calls e)
-calls_standard readers [] e are h = h
-calls_standard readers (call ∷ calls) e are h = calls_standard readers calls (behind_call readers call e) are
-    (call_standard readers call e are h)
+calls_standard : (calls : List Call) (e : ServerEnd) → Standard e
+    → Standard (behind_calls calls e)
+calls_standard [] e h = h
+calls_standard (call ∷ calls) e h = calls_standard calls (behind_call call e)
+    (call_standard call e h)
 
-pub reached_steady : (readers : Readers) (tools : List (List ℕ)) (calls : List Call) → IsSteady (reached readers tools calls)
-reached_steady readers tools calls = calls_steady readers calls (new_server_end tools) (new_steady tools)
+pub reached_steady : (tools : List (List ℕ)) (calls : List Call) → IsSteady (reached tools calls)
+reached_steady tools calls = calls_steady calls (new_server_end tools) (new_steady tools)
 
-pub reached_serving : (readers : Readers) (tools : List (List ℕ)) (calls : List Call) → AreReaders readers
-    → IsServing (reached readers tools calls)
-reached_serving readers tools calls are =
-    record { steady = reached_steady readers tools calls; standard = calls_standard readers calls (new_server_end tools) are tt }
+pub reached_serving : (tools : List (List ℕ)) (calls : List Call) → IsServing (reached tools calls)
+reached_serving tools calls =
+    record { steady = reached_steady tools calls; standard = calls_standard calls (new_server_end tools) tt }
 
 -- ---- one act
 
-pub one_act : (readers : Readers) (tools : List (List ℕ)) (calls : List Call) (call : Call)
-    → IsDone (deed_of call (reached readers tools calls)) (reached readers tools calls)
-    (behind_call readers call (reached readers tools calls))
-one_act readers tools calls call = call_done readers call (reached readers tools calls)
+pub one_act : (tools : List (List ℕ)) (calls : List Call) (call : Call)
+    → IsDone (deed_of call (reached tools calls)) (reached tools calls)
+    (behind_call call (reached tools calls))
+one_act tools calls call = call_done call (reached tools calls)
 
-pub act_is_due : (readers : Readers) (tools : List (List ℕ)) (calls : List Call) (call : Call)
-    → is_some (deed_of call (reached readers tools calls)) ≡ completes_act call (reached readers tools calls)
-act_is_due readers tools calls call = act_due call (reached readers tools calls) (reached_steady readers tools calls)
+pub act_is_due : (tools : List (List ℕ)) (calls : List Call) (call : Call)
+    → is_some (deed_of call (reached tools calls)) ≡ completes_act call (reached tools calls)
+act_is_due tools calls call = act_due call (reached tools calls) (reached_steady tools calls)
 
-pub contact_is_commanded : (readers : Readers) (tools : List (List ℕ)) (calls : List Call) (call : Call) (made : Made)
-    → contacts (behind_call readers call (reached readers tools calls)).server.ledger ≡ contacts (reached readers tools calls).server.ledger
+pub contact_is_commanded : (tools : List (List ℕ)) (calls : List Call) (call : Call) (made : Made)
+    → contacts (behind_call call (reached tools calls)).server.ledger ≡ contacts (reached tools calls).server.ledger
     ++ made ∷ []
-    → IsContactOf (reached readers tools calls) call made
-contact_is_commanded readers tools calls call made longer =
-    contact_of_call readers call (reached readers tools calls) made (reached_steady readers tools calls) longer
+    → IsContactOf (reached tools calls) call made
+contact_is_commanded tools calls call made longer =
+    contact_of_call call (reached tools calls) made (reached_steady tools calls) longer
 
 -- ---- what runs in the error state
 
@@ -148,11 +148,11 @@ read_came line s (Err fault.NoTag) few = as_before line s
 read_came line s (Err (fault.UnknownCommand t)) few = tagged_came line s t (Err misread.UnknownCommand) few
 read_came line s (Err (fault.BadArguments t k)) few = tagged_came line s t (Err (misread.BadArguments k)) few
 
-front_came : (readers : Readers) (line : Line) (e : ServerEnd) (front : Front) → length e.server.waiting ≤ 64
-    → (front_served readers e front).server.error ≡ true → (front_served readers e front).server.running ≡ Some line → Before line e.server
-front_came readers line e (Ok None) few = as_before line e.server
-front_came readers line e (Ok (Some (text, rest))) few = read_came line e.server (reading_of (readers.command text)) few
-front_came readers line e (Err why) few = as_before line e.server
+front_came : (line : Line) (e : ServerEnd) (front : Front) → length e.server.waiting ≤ 64
+    → (front_served e front).server.error ≡ true → (front_served e front).server.running ≡ Some line → Before line e.server
+front_came line e (Ok None) few = as_before line e.server
+front_came line e (Ok (Some (text, rest))) few = read_came line e.server (reading_of (command_of text)) few
+front_came line e (Err why) few = as_before line e.server
 
 carried_error : (s : Server) (t : Tag) (c : Command) → (carried_out s t c).server.error ≡ s.error
 carried_error s t command.StartSession = refl
@@ -238,147 +238,147 @@ by_reading line e (inr h) = inr (refl, record { calm = h.0; runs = h.1; full = h
 by_other : (call : Call) (line : Line) (e : ServerEnd) → Ran line e.server → BeforeCall call line e
 by_other call line e h = inl (record { error = h.0; runs = h.1 })
 
-came_by : (readers : Readers) (call : Call) (line : Line) (e : ServerEnd) → IsSteady e → CameBy call line e (behind_call readers call e)
-came_by readers (Accept n) line e h =
+came_by : (call : Call) (line : Line) (e : ServerEnd) → IsSteady e → CameBy call line e (behind_call call e)
+came_by (Accept n) line e h =
     chosen (CameBy (Accept n) line e) (possible (Accept n) e) (serving_accepted n e) e (λ may. same_by (Accept n) line e)
     (λ may. same_by (Accept n) line e)
-came_by readers (Feed bytes) line e h =
+came_by (Feed bytes) line e h =
     chosen (CameBy (Feed bytes) line e) (possible (Feed bytes) e) (serving_fed bytes e) e (λ may. same_by (Feed bytes) line e)
     (λ may. same_by (Feed bytes) line e)
-came_by readers ReadOne line e h =
-    chosen (CameBy ReadOne line e) (possible ReadOne e) (serving_read readers e) e
-    (λ may error runs. by_reading line e (front_came readers line e (next_of e.input.rest) h.orderly.few error runs))
+came_by ReadOne line e h =
+    chosen (CameBy ReadOne line e) (possible ReadOne e) (serving_read e) e
+    (λ may error runs. by_reading line e (front_came line e (next_of e.input.rest) h.orderly.few error runs))
     (λ may. same_by ReadOne line e)
-came_by readers Turn line e h =
+came_by Turn line e h =
     chosen (CameBy Turn line e) (possible Turn e) (serving_turned e) e
     (λ may error runs. by_other Turn line e
     (turned_came line e.server (nothing_runs e.server.running ((and_parts _ _ may).0)) h.orderly.quiet error runs))
     (λ may. same_by Turn line e)
-came_by readers (Machine ended) line e h =
+came_by (Machine ended) line e h =
     chosen (CameBy (Machine ended) line e) (possible (Machine ended) e) (serving_machined ended e) e
     (λ may error runs. by_other (Machine ended) line e (machined_came line e.server ended e.server.running error runs))
     (λ may. same_by (Machine ended) line e)
-came_by readers Leave line e h = λ error runs. absurd (none_some None line refl runs)
-came_by readers Restart line e h = λ error runs. absurd (none_some None line refl runs)
-came_by readers (Sent count) line e h =
+came_by Leave line e h = λ error runs. absurd (none_some None line refl runs)
+came_by Restart line e h = λ error runs. absurd (none_some None line refl runs)
+came_by (Sent count) line e h =
     chosen (CameBy (Sent count) line e) (possible (Sent count) e) (serving_taken count e) e (λ may. same_by (Sent count) line e)
     (λ may. same_by (Sent count) line e)
 
 -- ---- over lists of calls
 
-calls_more : (readers : Readers) (calls more : List Call) (e : ServerEnd)
-    → behind_calls readers (calls ++ more) e ≡ behind_calls readers more (behind_calls readers calls e)
-calls_more readers [] more e = refl
-calls_more readers (call ∷ calls) more e = calls_more readers calls more (behind_call readers call e)
+calls_more : (calls more : List Call) (e : ServerEnd)
+    → behind_calls (calls ++ more) e ≡ behind_calls more (behind_calls calls e)
+calls_more [] more e = refl
+calls_more (call ∷ calls) more e = calls_more calls more (behind_call call e)
 
-stays_more : (readers : Readers) (line : Line) (call : Call) (calls : List Call) (e : ServerEnd) → StaysInError readers line calls e
-    → RunsInError line (behind_call readers call (behind_calls readers calls e)) → StaysInError readers line (calls ++ call ∷ []) e
-stays_more readers line call [] e h last = (h, last)
-stays_more readers line call (c ∷ calls) e h last = (h.0, stays_more readers line call calls (behind_call readers c e) h.1 last)
+stays_more : (line : Line) (call : Call) (calls : List Call) (e : ServerEnd) → StaysInError line calls e
+    → RunsInError line (behind_call call (behind_calls calls e)) → StaysInError line (calls ++ call ∷ []) e
+stays_more line call [] e h last = (h, last)
+stays_more line call (c ∷ calls) e h last = (h.0, stays_more line call calls (behind_call c e) h.1 last)
 
-abbrev RanAll : Readers → List (List ℕ) → List Call → Type 0
-RanAll readers tools calls =
-    (line : Line) → (reached readers tools calls).server.error ≡ true → (reached readers tools calls).server.running ≡ Some line
-    → RanBefore readers tools calls line
+abbrev RanAll : List (List ℕ) → List Call → Type 0
+RanAll tools calls =
+    (line : Line) → (reached tools calls).server.error ≡ true → (reached tools calls).server.running ≡ Some line
+    → RanBefore tools calls line
 
 -- one call more
-goes_on : (readers : Readers) (tools : List (List ℕ)) (calls : List Call) (call : Call) (line : Line)
-    → RunsInError line (behind_call readers call (reached readers tools calls)) → RanBefore readers tools calls line
-    → RanBefore readers tools (calls ++ call ∷ []) line
-goes_on readers tools calls call line last h =
-    let here : reached readers tools calls ≡ behind_calls readers h.since (behind_call readers ReadOne (reached readers tools h.before)) =
-    ap (reached readers tools) h.parts ∙ calls_more readers h.before (ReadOne ∷ h.since) (new_server_end tools) in
+goes_on : (tools : List (List ℕ)) (calls : List Call) (call : Call) (line : Line)
+    → RunsInError line (behind_call call (reached tools calls)) → RanBefore tools calls line
+    → RanBefore tools (calls ++ call ∷ []) line
+goes_on tools calls call line last h =
+    let here : reached tools calls ≡ behind_calls h.since (behind_call ReadOne (reached tools h.before)) =
+    ap (reached tools) h.parts ∙ calls_more h.before (ReadOne ∷ h.since) (new_server_end tools) in
     record {
       before = h.before;
       since = h.since ++ call ∷ [];
       parts = ap (λ (l : List Call). l ++ call ∷ []) h.parts ∙ append_assoc h.before (ReadOne ∷ h.since) (call ∷ []);
       full = h.full;
-      stays = stays_more readers line call h.since (behind_call readers ReadOne (reached readers tools h.before)) h.stays
-          (subst (λ (e : ServerEnd). RunsInError line (behind_call readers call e)) here last);
+      stays = stays_more line call h.since (behind_call ReadOne (reached tools h.before)) h.stays
+          (subst (λ (e : ServerEnd). RunsInError line (behind_call call e)) here last);
     }
 
-enters : (readers : Readers) (tools : List (List ℕ)) (calls : List Call) (call : Call) (line : Line)
-    → RunsInError line (behind_call readers call (reached readers tools calls)) → call ≡ ReadOne → IsFull line (reached readers tools calls)
-    → RanBefore readers tools (calls ++ call ∷ []) line
-enters readers tools calls call line last is full = record {
+enters : (tools : List (List ℕ)) (calls : List Call) (call : Call) (line : Line)
+    → RunsInError line (behind_call call (reached tools calls)) → call ≡ ReadOne → IsFull line (reached tools calls)
+    → RanBefore tools (calls ++ call ∷ []) line
+enters tools calls call line last is full = record {
   before = calls;
   since = [];
   parts = ap (λ (c : Call). calls ++ c ∷ []) is;
   full = full;
-  stays = subst (λ (c : Call). RunsInError line (behind_call readers c (reached readers tools calls))) is last;
+  stays = subst (λ (c : Call). RunsInError line (behind_call c (reached tools calls))) is last;
 }
 
-next_ran : (readers : Readers) (tools : List (List ℕ)) (calls : List Call) (call : Call) (line : Line) → RanAll readers tools calls
-    → RunsInError line (behind_call readers call (reached readers tools calls)) → BeforeCall call line (reached readers tools calls)
-    → RanBefore readers tools (calls ++ call ∷ []) line
-next_ran readers tools calls call line all last (inl h) = goes_on readers tools calls call line last (all line h.error h.runs)
-next_ran readers tools calls call line all last (inr h) = enters readers tools calls call line last h.0 h.1
+next_ran : (tools : List (List ℕ)) (calls : List Call) (call : Call) (line : Line) → RanAll tools calls
+    → RunsInError line (behind_call call (reached tools calls)) → BeforeCall call line (reached tools calls)
+    → RanBefore tools (calls ++ call ∷ []) line
+next_ran tools calls call line all last (inl h) = goes_on tools calls call line last (all line h.error h.runs)
+next_ran tools calls call line all last (inr h) = enters tools calls call line last h.0 h.1
 
-more_ran : (readers : Readers) (tools : List (List ℕ)) (calls : List Call) (call : Call) → RanAll readers tools calls
-    → RanAll readers tools (calls ++ call ∷ [])
-more_ran readers tools calls call all line error runs =
-    let here : reached readers tools (calls ++ call ∷ []) ≡ behind_call readers call (reached readers tools calls) =
-    calls_more readers calls (call ∷ []) (new_server_end tools) in
-    let last : RunsInError line (behind_call readers call (reached readers tools calls)) =
+more_ran : (tools : List (List ℕ)) (calls : List Call) (call : Call) → RanAll tools calls
+    → RanAll tools (calls ++ call ∷ [])
+more_ran tools calls call all line error runs =
+    let here : reached tools (calls ++ call ∷ []) ≡ behind_call call (reached tools calls) =
+    calls_more calls (call ∷ []) (new_server_end tools) in
+    let last : RunsInError line (behind_call call (reached tools calls)) =
     subst (RunsInError line) here (record { error = error; runs = runs }) in
-    next_ran readers tools calls call line all last
-    (came_by readers call line (reached readers tools calls) (reached_steady readers tools calls) last.error last.runs)
+    next_ran tools calls call line all last
+    (came_by call line (reached tools calls) (reached_steady tools calls) last.error last.runs)
 
-all_ran : (readers : Readers) (tools : List (List ℕ)) (calls more : List Call) → RanAll readers tools calls
-    → RanAll readers tools (calls ++ more)
-all_ran readers tools calls [] h = subst (RanAll readers tools) (sym (append-nil calls)) h
-all_ran readers tools calls (call ∷ more) h =
-    subst (RanAll readers tools) (append_assoc calls (call ∷ []) more)
-    (all_ran readers tools (calls ++ call ∷ []) more (more_ran readers tools calls call h))
+all_ran : (tools : List (List ℕ)) (calls more : List Call) → RanAll tools calls
+    → RanAll tools (calls ++ more)
+all_ran tools calls [] h = subst (RanAll tools) (sym (append-nil calls)) h
+all_ran tools calls (call ∷ more) h =
+    subst (RanAll tools) (append_assoc calls (call ∷ []) more)
+    (all_ran tools (calls ++ call ∷ []) more (more_ran tools calls call h))
 
-new_ran : (readers : Readers) (tools : List (List ℕ)) → RanAll readers tools []
-new_ran readers tools line error runs = absurd (false≢true error)
+new_ran : (tools : List (List ℕ)) → RanAll tools []
+new_ran tools line error runs = absurd (false≢true error)
 
-pub ran_before : (readers : Readers) (tools : List (List ℕ)) (calls : List Call) (line : Line)
-    → (reached readers tools calls).server.error ≡ true
-    → (reached readers tools calls).server.running ≡ Some line → RanBefore readers tools calls line
-ran_before readers tools calls = all_ran readers tools [] calls (new_ran readers tools)
+pub ran_before : (tools : List (List ℕ)) (calls : List Call) (line : Line)
+    → (reached tools calls).server.error ≡ true
+    → (reached tools calls).server.running ≡ Some line → RanBefore tools calls line
+ran_before tools calls = all_ran tools [] calls (new_ran tools)
 
 -- ---- acts in the error state
 
-end_of_earlier : (readers : Readers) (tools : List (List ℕ)) (calls : List Call) (ended : Outcome) (running : Option Line)
-    → (reached readers tools calls).server.running ≡ running → (reached readers tools calls).server.error ≡ true
+end_of_earlier : (tools : List (List ℕ)) (calls : List Call) (ended : Outcome) (running : Option Line)
+    → (reached tools calls).server.running ≡ running → (reached tools calls).server.error ≡ true
     → may_end running ended ≡ true
-    → IsEndOfEarlier readers tools calls (Machine ended)
-end_of_earlier readers tools calls ended None is error may = absurd (false≢true may)
-end_of_earlier readers tools calls ended (Some line) is error may =
-    record { ended = ended; is_end = refl; line = line; runs = is; ran = ran_before readers tools calls line error is }
+    → IsEndOfEarlier tools calls (Machine ended)
+end_of_earlier tools calls ended None is error may = absurd (false≢true may)
+end_of_earlier tools calls ended (Some line) is error may =
+    record { ended = ended; is_end = refl; line = line; runs = is; ran = ran_before tools calls line error is }
 
-pub act_in_error : (readers : Readers) (tools : List (List ℕ)) (calls : List Call) (call : Call)
-    → (reached readers tools calls).server.error ≡ true
-    → completes_act call (reached readers tools calls) ≡ true → IsEndOfEarlier readers tools calls call
-act_in_error readers tools calls (Accept n) error completes = absurd (false≢true completes)
-act_in_error readers tools calls (Feed bytes) error completes = absurd (false≢true completes)
-act_in_error readers tools calls ReadOne error completes = absurd (false≢true completes)
-act_in_error readers tools calls Turn error completes =
-    absurd (empty_waits (reached readers tools calls).server.waiting ((and_parts _ _ ((and_parts _ _ completes).0)).1)
-    ((reached_steady readers tools calls).orderly.quiet error))
-act_in_error readers tools calls (Machine Outcome.Done) error completes =
-    end_of_earlier readers tools calls Outcome.Done (reached readers tools calls).server.running refl error completes
-act_in_error readers tools calls (Machine (Outcome.Touched at)) error completes =
-    end_of_earlier readers tools calls (Outcome.Touched at) (reached readers tools calls).server.running refl error completes
-act_in_error readers tools calls (Machine Outcome.Missed) error completes = absurd (false≢true completes)
-act_in_error readers tools calls (Machine Outcome.Fault) error completes = absurd (false≢true completes)
-act_in_error readers tools calls Leave error completes = absurd (false≢true completes)
-act_in_error readers tools calls Restart error completes = absurd (false≢true completes)
-act_in_error readers tools calls (Sent count) error completes = absurd (false≢true completes)
+pub act_in_error : (tools : List (List ℕ)) (calls : List Call) (call : Call)
+    → (reached tools calls).server.error ≡ true
+    → completes_act call (reached tools calls) ≡ true → IsEndOfEarlier tools calls call
+act_in_error tools calls (Accept n) error completes = absurd (false≢true completes)
+act_in_error tools calls (Feed bytes) error completes = absurd (false≢true completes)
+act_in_error tools calls ReadOne error completes = absurd (false≢true completes)
+act_in_error tools calls Turn error completes =
+    absurd (empty_waits (reached tools calls).server.waiting ((and_parts _ _ ((and_parts _ _ completes).0)).1)
+    ((reached_steady tools calls).orderly.quiet error))
+act_in_error tools calls (Machine Outcome.Done) error completes =
+    end_of_earlier tools calls Outcome.Done (reached tools calls).server.running refl error completes
+act_in_error tools calls (Machine (Outcome.Touched at)) error completes =
+    end_of_earlier tools calls (Outcome.Touched at) (reached tools calls).server.running refl error completes
+act_in_error tools calls (Machine Outcome.Missed) error completes = absurd (false≢true completes)
+act_in_error tools calls (Machine Outcome.Fault) error completes = absurd (false≢true completes)
+act_in_error tools calls Leave error completes = absurd (false≢true completes)
+act_in_error tools calls Restart error completes = absurd (false≢true completes)
+act_in_error tools calls (Sent count) error completes = absurd (false≢true completes)
 
 -- ---- a framing fault
 
-read_again : (readers : Readers) (e : ServerEnd) (why : FramingFault) (front : Front) → next_of e.input.rest ≡ front → front ≡ Err why
+read_again : (e : ServerEnd) (why : FramingFault) (front : Front) → next_of e.input.rest ≡ front → front ≡ Err why
     → e.input.fault ≡ Some why
-    → (front_served readers e front).input ≡ e.input
-read_again readers e why (Ok None) is fault kept = refl
-read_again readers e why (Ok (Some found)) is fault kept = absurd (not_fault fault)
+    → (front_served e front).input ≡ e.input
+read_again e why (Ok None) is fault kept = refl
+read_again e why (Ok (Some found)) is fault kept = absurd (not_fault fault)
   where
     not_fault : ◌≡◌ {A = Front} (Ok (Some found)) (Err why) → ⊥
     not_fault e = cc
-read_again readers e why (Err other) is fault kept =
+read_again e why (Err other) is fault kept =
     ap (λ (f : Option FramingFault). record (e.input) { fault = f }) (ap Some (one_reason fault) ∙ sym kept)
   where
     one_reason : ◌≡◌ {A = Front} (Err other) (Err why) → other ≡ why
@@ -392,32 +392,32 @@ fed_again None why rest piece kept = absurd (none_is kept)
     none_is : ◌≡◌ {A = Option FramingFault} None (Some why) → ⊥
     none_is e = cc
 
-call_keeps_fault : (readers : Readers) (call : Call) (e : ServerEnd) (why : FramingFault) → next_of e.input.rest ≡ Err why
+call_keeps_fault : (call : Call) (e : ServerEnd) (why : FramingFault) → next_of e.input.rest ≡ Err why
     → e.input.fault ≡ Some why
-    → gives_up call ≡ false → (behind_call readers call e).input ≡ e.input
-call_keeps_fault readers (Accept n) e why front kept stays =
+    → gives_up call ≡ false → (behind_call call e).input ≡ e.input
+call_keeps_fault (Accept n) e why front kept stays =
     chosen (λ (f : ServerEnd). f.input ≡ e.input) (possible (Accept n) e) (serving_accepted n e) e (λ may. refl) (λ may. refl)
-call_keeps_fault readers (Feed bytes) e why front kept stays =
+call_keeps_fault (Feed bytes) e why front kept stays =
     chosen (λ (f : ServerEnd). f.input ≡ e.input) (possible (Feed bytes) e) (serving_fed bytes e) e
     (λ may. fed_again e.input.fault why e.input.rest bytes kept) (λ may. refl)
-call_keeps_fault readers ReadOne e why front kept stays =
-    chosen (λ (f : ServerEnd). f.input ≡ e.input) (possible ReadOne e) (serving_read readers e) e
-    (λ may. read_again readers e why (next_of e.input.rest) refl front kept) (λ may. refl)
-call_keeps_fault readers Turn e why front kept stays =
+call_keeps_fault ReadOne e why front kept stays =
+    chosen (λ (f : ServerEnd). f.input ≡ e.input) (possible ReadOne e) (serving_read e) e
+    (λ may. read_again e why (next_of e.input.rest) refl front kept) (λ may. refl)
+call_keeps_fault Turn e why front kept stays =
     chosen (λ (f : ServerEnd). f.input ≡ e.input) (possible Turn e) (serving_turned e) e (λ may. refl) (λ may. refl)
-call_keeps_fault readers (Machine ended) e why front kept stays =
+call_keeps_fault (Machine ended) e why front kept stays =
     chosen (λ (f : ServerEnd). f.input ≡ e.input) (possible (Machine ended) e) (serving_machined ended e) e (λ may. refl) (λ may. refl)
-call_keeps_fault readers Leave e why front kept stays = absurd (false≢true (sym stays))
-call_keeps_fault readers Restart e why front kept stays = absurd (false≢true (sym stays))
-call_keeps_fault readers (Sent count) e why front kept stays =
+call_keeps_fault Leave e why front kept stays = absurd (false≢true (sym stays))
+call_keeps_fault Restart e why front kept stays = absurd (false≢true (sym stays))
+call_keeps_fault (Sent count) e why front kept stays =
     chosen (λ (f : ServerEnd). f.input ≡ e.input) (possible (Sent count) e) (serving_taken count e) e (λ may. refl) (λ may. refl)
 
-pub kept_fault_stands : (readers : Readers) (tools : List (List ℕ)) (calls : List Call) (why : FramingFault)
-    → (reached readers tools calls).input.fault ≡ Some why → next_of (reached readers tools calls).input.rest ≡ Err why
-kept_fault_stands readers tools calls why kept = (reached_steady readers tools calls).sound.kept why kept
+pub kept_fault_stands : (tools : List (List ℕ)) (calls : List Call) (why : FramingFault)
+    → (reached tools calls).input.fault ≡ Some why → next_of (reached tools calls).input.rest ≡ Err why
+kept_fault_stands tools calls why kept = (reached_steady tools calls).sound.kept why kept
 
-pub fault_is_kept : (readers : Readers) (tools : List (List ℕ)) (calls : List Call) (call : Call) (why : FramingFault)
-    → (reached readers tools calls).input.fault ≡ Some why → gives_up call ≡ false
-    → (behind_call readers call (reached readers tools calls)).input ≡ (reached readers tools calls).input
-fault_is_kept readers tools calls call why kept stays =
-    call_keeps_fault readers call (reached readers tools calls) why (kept_fault_stands readers tools calls why kept) kept stays
+pub fault_is_kept : (tools : List (List ℕ)) (calls : List Call) (call : Call) (why : FramingFault)
+    → (reached tools calls).input.fault ≡ Some why → gives_up call ≡ false
+    → (behind_call call (reached tools calls)).input ≡ (reached tools calls).input
+fault_is_kept tools calls call why kept stays =
+    call_keeps_fault call (reached tools calls) why (kept_fault_stands tools calls why kept) kept stays

@@ -4,17 +4,17 @@ use Rattle.std.proofs.lemmas.Bool.{false≢true}
 use Rattle.line_framing.specs.Next.{Front, next_of}
 use Rattle.line_framing.specs.Framing.{Framing}
 use Rattle.line_framing.specs.declared.faults.FramingFault.{FramingFault}
-use Rattle.protocol_model.specs.Lines.{Readers, AreReaders, reading_of, reply_bytes}
+use Rattle.protocol_model.specs.Lines.{reading_of, reply_bytes}
 use Rattle.protocol_model.specs.Server.{Server, Answer, server_read, server_turned, server_machined, may_end}
 use Rattle.protocol_model.specs.Ends.{ServerEnd, front_served, serving_accepted, serving_fed, serving_left, serving_restarted}
 use Rattle.protocol_model.specs.Ends.{serving_taken, new_server_end}
 use Rattle.protocol_model.specs.declared.machine.Outcome.{Outcome}
-use Rattle.protocol_model.proofs.written_lines.ReadersExist.{some_are_readers}
 use Rattle.server_core.specs.Serving.{Controlled, with_answered, may_accept, may_feed, may_turn}
 use Rattle.server_core.specs.Steady.{IsSteady, AreStandard, IsServing}
 use Rattle.server_core.proofs.Steadies.{new_steady, accepted_steady, fed_steady, fault_steady, read_steady, turned_steady, machined_steady}
 use Rattle.server_core.proofs.Steadies.{left_steady, restarted_steady, taken_steady}
 use Rattle.server_core.proofs.Standards.{front_standard, turned_standard, machined_standard}
+use Rattle.protocol_model.specs.Readings.{command_of}
 
 -- a server with its bytes, of which all holds that holds at any time
 abbrev pub Holds : Server → Framing → List ℕ → Type 0
@@ -77,22 +77,21 @@ turned_holds r b d input out mid more is said same silent h room may =
 
 -- a line that was read, and taken off the front of the bytes
 pub read_holds : {A B : Type 0} (r : Result A B) (b d : Controlled) (input now left : Framing) (out mid more line rest : List ℕ)
-    → OnOk r ((readers : Readers) → AreReaders readers → d ≡ with_answered b (server_read b.server (reading_of (readers.command line))))
-    → OnOk r ((readers : Readers) → AreReaders readers → more ≡ mid
-    ++ reply_bytes (server_read b.server (reading_of (readers.command line))).said)
+    → OnOk r (d ≡ with_answered b (server_read b.server (reading_of (command_of line))))
+    → OnOk r (more ≡ mid
+    ++ reply_bytes (server_read b.server (reading_of (command_of line))).said)
     → left ≡ record now { rest = rest } → Holds b.server input out → mid ≡ out → now ≡ input → is_err r ≡ false
     → next_of now.rest ≡ Ok (Some (line, rest)) → b.server.on ≡ true → Holds d.server left more
 read_holds (Err y) b d input now left out mid more line rest is said parts h room same no_error front on =
     absurd (false≢true (sym no_error))
 read_holds (Ok x) b d input now left out mid more line rest is said parts h room same no_error front on =
-    let some : (readers : Readers) × AreReaders readers = some_are_readers in
     let e : ServerEnd = record { server = b.server; input = input; out = out } in
-    let served : ServerEnd = front_served some.0 e (Ok (Some (line, rest))) in
-    let steady : IsSteady served = subst (λ (f : Front). IsSteady (front_served some.0 e f))
-    (sym (ap (λ (f : Framing). next_of f.rest) same) ∙ front) (read_steady some.0 e on h.steady) in
-    let standard : AreStandard served.server.waiting = front_standard some.0 e (Ok (Some (line, rest))) some.1 h.standard in
-    subst (λ (c : Controlled). Holds c.server left more) (sym (is some.0 some.1))
+    let served : ServerEnd = front_served e (Ok (Some (line, rest))) in
+    let steady : IsSteady served = subst (λ (f : Front). IsSteady (front_served e f))
+    (sym (ap (λ (f : Framing). next_of f.rest) same) ∙ front) (read_steady e on h.steady) in
+    let standard : AreStandard served.server.waiting = front_standard e (Ok (Some (line, rest))) h.standard in
+    subst (λ (c : Controlled). Holds c.server left more) (sym is)
     (subst (λ (f : Framing). Holds served.server f more) (sym (parts ∙ ap (λ (f : Framing). record f { rest = rest }) same))
     (subst (λ (l : List ℕ). Holds served.server (record input { rest = rest }) l)
-    (sym (said some.0 some.1 ∙ ap (λ (l : List ℕ). l ++ reply_bytes (server_read b.server (reading_of (some.0.command line))).said) room))
+    (sym (said ∙ ap (λ (l : List ℕ). l ++ reply_bytes (server_read b.server (reading_of (command_of line))).said) room))
     (record { steady = steady; standard = standard })))

@@ -12,8 +12,9 @@ use Rattle.protocol_model.specs.declared.lines.Misread.{Misread}
 use Rattle.protocol_model.specs.declared.lines.Misread.TheVariants as misread
 use Rattle.dme_line.specs.declared.reading.LineFault.TheVariants as fault
 use Rattle.dme_line.proofs.ReadWritable.{read_is_writable}
+use Rattle.protocol_model.specs.Readings.{command_of, reads_command}
 use Rattle.line_framing.specs.Next.{Front, next_of}
-use Rattle.protocol_model.specs.Lines.{Readers, AreReaders, reading_of}
+use Rattle.protocol_model.specs.Lines.{reading_of}
 use Rattle.protocol_model.specs.Server.{Server, Answer, runs_under, waits_under, is_abort, is_clear, stands, fresh, tagged, server_read}
 use Rattle.protocol_model.specs.Server.{refusal, carried_out, carried, taken, turned_to, server_turned, finished, touched, machined}
 use Rattle.protocol_model.specs.Server.{server_machined}
@@ -67,15 +68,15 @@ reading_standard s line (Err (fault.UnknownCommand t)) reads h =
 reading_standard s line (Err (fault.BadArguments t k)) reads h =
     tagged_standard s t (Err (misread.BadArguments k)) tt h
 
-pub front_standard : (readers : Readers) (e : ServerEnd) (front : Front) → AreReaders readers → AreStandard e.server.waiting
-    → AreStandard (front_served readers e front).server.waiting
-front_standard readers e (Ok None) are h = h
-front_standard readers e (Ok (Some (line, rest))) are h = reading_standard e.server line (readers.command line) (are.command line) h
-front_standard readers e (Err why) are h = h
+pub front_standard : (e : ServerEnd) (front : Front) → AreStandard e.server.waiting
+    → AreStandard (front_served e front).server.waiting
+front_standard e (Ok None) h = h
+front_standard e (Ok (Some (line, rest))) h = reading_standard e.server line (command_of line) (reads_command line) h
+front_standard e (Err why) h = h
 
-pub read_standard : (readers : Readers) (e : ServerEnd) → AreReaders readers → AreStandard e.server.waiting
-    → AreStandard (serving_read readers e).server.waiting
-read_standard readers e are h = front_standard readers e (next_of e.input.rest) are h
+pub read_standard : (e : ServerEnd) → AreStandard e.server.waiting
+    → AreStandard (serving_read e).server.waiting
+read_standard e h = front_standard e (next_of e.input.rest) h
 
 carried_standard : (s : Server) (t : Tag) (c : Command) → AreStandard s.waiting → Waits (carried_out s t c)
 carried_standard s t command.StartSession h = h

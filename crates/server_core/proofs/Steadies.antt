@@ -12,6 +12,7 @@ use Rattle.dme_line.specs.declared.commands.Command.TheVariants as command
 use Rattle.protocol_model.specs.declared.lines.Misread.{Misread}
 use Rattle.protocol_model.specs.declared.lines.Misread.TheVariants as misread
 use Rattle.dme_line.specs.declared.reading.LineFault.TheVariants as fault
+use Rattle.protocol_model.specs.Readings.{command_of}
 use Rattle.contact_ledger.specs.Ledgers.{connection_most, IsConnection}
 use Rattle.contact_ledger.specs.declared.acts.Act.{Act}
 use Rattle.protocol_model.specs.Plan.{is_empty}
@@ -19,7 +20,7 @@ use Rattle.line_framing.specs.Next.{Front, next_of}
 use Rattle.line_framing.specs.Framing.{IsSound, no_bytes, fed_behind}
 use Rattle.line_framing.specs.declared.faults.FramingFault.{FramingFault}
 use Rattle.protocol_model.specs.Replies.{Reading}
-use Rattle.protocol_model.specs.Lines.{Readers, reading_of}
+use Rattle.protocol_model.specs.Lines.{reading_of}
 use Rattle.protocol_model.specs.Server.{Server, Answer, runs_under, waits_under, is_abort, is_clear, stands, fresh, tagged, server_read}
 use Rattle.protocol_model.specs.Server.{refusal, first_failing, checks, carried_out, carried, taken, turned_to, server_turned, finished}
 use Rattle.protocol_model.specs.Server.{touched, machined, server_machined, may_end}
@@ -265,20 +266,20 @@ fault_steady e why is on h =
     on_steady e _ [] on h (record { on = refl; last = refl; ledger = sym (append-nil e.server.ledger) }) h.orderly
     (record { kept = λ other kept. is ∙ ap Err (one_fault why other kept) })
 
-front_steady : (readers : Readers) (e : ServerEnd) (front : Front) → next_of e.input.rest ≡ front → e.server.on ≡ true → IsSteady e
-    → IsSteady (front_served readers e front)
-front_steady readers e (Ok None) is on h = h
-front_steady readers e (Ok (Some (line, rest))) is on h =
-    on_steady e _ [] on h (read_moves e.server (reading_of (readers.command line)))
-    (read_orderly e.server (reading_of (readers.command line)) h.orderly)
+front_steady : (e : ServerEnd) (front : Front) → next_of e.input.rest ≡ front → e.server.on ≡ true → IsSteady e
+    → IsSteady (front_served e front)
+front_steady e (Ok None) is on h = h
+front_steady e (Ok (Some (line, rest))) is on h =
+    on_steady e _ [] on h (read_moves e.server (reading_of (command_of line)))
+    (read_orderly e.server (reading_of (command_of line)) h.orderly)
     (record { kept = λ why kept. absurd (no why (sym is ∙ h.sound.kept why kept)) })
   where
     no : (why : FramingFault) → ◌≡◌ {A = Front} (Ok (Some (line, rest))) (Err why) → ⊥
     no why e = cc
-front_steady readers e (Err why) is on h = fault_steady e why is on h
+front_steady e (Err why) is on h = fault_steady e why is on h
 
-pub read_steady : (readers : Readers) (e : ServerEnd) → e.server.on ≡ true → IsSteady e → IsSteady (serving_read readers e)
-read_steady readers e on h = front_steady readers e (next_of e.input.rest) refl on h
+pub read_steady : (e : ServerEnd) → e.server.on ≡ true → IsSteady e → IsSteady (serving_read e)
+read_steady e on h = front_steady e (next_of e.input.rest) refl on h
 
 pub turned_steady : (e : ServerEnd) → may_turn e.server ≡ true → IsSteady e → IsSteady (serving_turned e)
 turned_steady e may h =

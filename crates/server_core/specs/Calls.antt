@@ -10,7 +10,7 @@ use Rattle.dme_line.specs.declared.commands.Command.TheVariants as command
 use Rattle.contact_ledger.specs.declared.acts.Act.{Act}
 use Rattle.contact_ledger.specs.declared.acts.Act.TheVariants as act
 use Rattle.protocol_model.specs.Replies.{Reply}
-use Rattle.protocol_model.specs.Lines.{Readers, reply_bytes}
+use Rattle.protocol_model.specs.Lines.{reply_bytes}
 use Rattle.protocol_model.specs.Claims.{Made}
 use Rattle.protocol_model.specs.Server.{Server, offset, in_volume, frame_of, may_end, refusal}
 use Rattle.protocol_model.specs.Ends.{ServerEnd, new_server_end, serving_accepted, serving_fed, serving_read, serving_turned}
@@ -49,28 +49,28 @@ possible Restart e = true
 possible (Sent count) e = nat_le count (length e.out)
 
 -- what a call does
-abbrev pub done_by : Readers → Call → ServerEnd → ServerEnd
-done_by readers (Accept n) e = serving_accepted n e
-done_by readers (Feed bytes) e = serving_fed bytes e
-done_by readers ReadOne e = serving_read readers e
-done_by readers Turn e = serving_turned e
-done_by readers (Machine ended) e = serving_machined ended e
-done_by readers Leave e = serving_left e
-done_by readers Restart e = serving_restarted e
-done_by readers (Sent count) e = serving_taken count e
+abbrev pub done_by : Call → ServerEnd → ServerEnd
+done_by (Accept n) e = serving_accepted n e
+done_by (Feed bytes) e = serving_fed bytes e
+done_by ReadOne e = serving_read e
+done_by Turn e = serving_turned e
+done_by (Machine ended) e = serving_machined ended e
+done_by Leave e = serving_left e
+done_by Restart e = serving_restarted e
+done_by (Sent count) e = serving_taken count e
 
 -- a call that is not possible changes nothing
-abbrev pub behind_call : Readers → Call → ServerEnd → ServerEnd
-behind_call readers call e = if possible call e then done_by readers call e else e
+abbrev pub behind_call : Call → ServerEnd → ServerEnd
+behind_call call e = if possible call e then done_by call e else e
 
 -- calls, one after another
-abbrev pub behind_calls : Readers → List Call → ServerEnd → ServerEnd
-behind_calls readers [] e = e
-behind_calls readers (call ∷ calls) e = behind_calls readers calls (behind_call readers call e)
+abbrev pub behind_calls : List Call → ServerEnd → ServerEnd
+behind_calls [] e = e
+behind_calls (call ∷ calls) e = behind_calls calls (behind_call call e)
 
 -- a server with these tools behind these calls, the first of them made of a new one
-abbrev pub reached : Readers → List (List ℕ) → List Call → ServerEnd
-reached readers tools calls = behind_calls readers calls (new_server_end tools)
+abbrev pub reached : List (List ℕ) → List Call → ServerEnd
+reached tools calls = behind_calls calls (new_server_end tools)
 
 -- the two calls that give a connection up
 abbrev pub gives_up : Call → Bool
@@ -193,9 +193,9 @@ pub record RunsInError (line : Line) (e : ServerEnd) : Type 0 where
   pub runs : e.server.running ≡ Some line
 
 -- it is so now and behind each of the calls
-abbrev pub StaysInError : Readers → Line → List Call → ServerEnd → Type 0
-StaysInError readers line [] e = RunsInError line e
-StaysInError readers line (call ∷ calls) e = RunsInError line e × StaysInError readers line calls (behind_call readers call e)
+abbrev pub StaysInError : Line → List Call → ServerEnd → Type 0
+StaysInError line [] e = RunsInError line e
+StaysInError line (call ∷ calls) e = RunsInError line e × StaysInError line calls (behind_call call e)
 
 -- a server not in the error state on which this command runs while 64 wait
 pub record IsFull (line : Line) (e : ServerEnd) : Type 0 where
@@ -205,17 +205,17 @@ pub record IsFull (line : Line) (e : ServerEnd) : Type 0 where
 
 -- the command that runs behind these calls ran already when the error state was entered, by a line that was read while 64 waited, and has
 -- run in it since
-pub record RanBefore (readers : Readers) (tools : List (List ℕ)) (calls : List Call) (line : Line) : Type 0 where
+pub record RanBefore (tools : List (List ℕ)) (calls : List Call) (line : Line) : Type 0 where
   pub before : List Call
   pub since : List Call
   pub parts : calls ≡ before ++ ReadOne ∷ since
-  pub full : IsFull line (reached readers tools before)
-  pub stays : StaysInError readers line since (behind_call readers ReadOne (reached readers tools before))
+  pub full : IsFull line (reached tools before)
+  pub stays : StaysInError line since (behind_call ReadOne (reached tools before))
 
 -- a call completes an act in the error state only as the end of a command that ran before the error
-pub record IsEndOfEarlier (readers : Readers) (tools : List (List ℕ)) (calls : List Call) (call : Call) : Type 0 where
+pub record IsEndOfEarlier (tools : List (List ℕ)) (calls : List Call) (call : Call) : Type 0 where
   pub ended : Outcome
   pub is_end : call ≡ Machine ended
   pub line : Line
-  pub runs : (reached readers tools calls).server.running ≡ Some line
-  pub ran : RanBefore readers tools calls line
+  pub runs : (reached tools calls).server.running ≡ Some line
+  pub ran : RanBefore tools calls line

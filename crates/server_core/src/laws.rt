@@ -1,7 +1,6 @@
 // What follows from the definitions for the ledger of a server. Each function has laws for its contract and does nothing.
 
 ghost use Rattle.std.specs.Prelude.{◌≡◌, ℕ, Bool, List, [], ◌∷◌, ◌++◌, ◌*◌, None, Some, Err, is_some, true, false};
-ghost use Rattle.protocol_model.specs.Lines.{Readers, AreReaders};
 ghost use Rattle.protocol_model.specs.Claims.{Made, contacts};
 ghost use Rattle.protocol_model.specs.Ends.{ServerEnd, new_server_end, serving_accepted, serving_fed, serving_read, serving_turned, serving_machined, serving_left, serving_restarted, serving_taken};
 ghost use Rattle.protocol_model.specs.declared.machine.Outcome.{Outcome as OneOutcome};
@@ -11,7 +10,7 @@ ghost use Rattle.line_framing.specs.Next.{next_of};
 ghost use Rattle.line_framing.specs.declared.faults.FramingFault.{FramingFault as OneFault};
 ghost use Rattle.protocol_model.specs.declared.lines.Line.{Line as OneLine};
 ghost use Rattle.contact_ledger.specs.declared.acts.Act.TheVariants as act;
-ghost use Rattle.server_core.specs.Steady.{IsSteady, IsServing};
+ghost use Rattle.server_core.specs.Steady.{IsServing};
 ghost use Rattle.server_core.specs.Calls.{Call, Deed, reached, behind_call, gives_up, completes_act, deed_of, homed_behind, IsDone, IsContactOf, RanBefore, IsEndOfEarlier};
 
 use crate::answers::ANSWER_MAX;
@@ -24,8 +23,8 @@ pub fn ledger_only_grows()
         → (serving_accepted n e).server.ledger ≡ e.server.ledger }
     ensures fed { (bytes : List ℕ) (e : ServerEnd)
         → (serving_fed bytes e).server.ledger ≡ e.server.ledger }
-    ensures read { (readers : Readers) (e : ServerEnd)
-        → (serving_read readers e).server.ledger ≡ e.server.ledger }
+    ensures read { (e : ServerEnd)
+        → (serving_read e).server.ledger ≡ e.server.ledger }
     ensures turned { (e : ServerEnd) → IsOneMore e.server.last e.server.ledger
         (serving_turned e).server.ledger }
     ensures machined { (ended : OneOutcome) (e : ServerEnd)
@@ -55,8 +54,8 @@ pub fn one_call_answers_at_most()
     ensures lines { answer_most ≡ 132 * answer_line_most }
 {}
 
-/// One act, exactly at its completing call. For every list of calls from a new server, whatever bytes are fed and whatever functions read the
-/// lines, and for each further call (a call that is not possible changes nothing):
+/// One act, exactly at its completing call. For every list of calls from a new server, whatever bytes are fed, and for each
+/// further call (a call that is not possible changes nothing):
 ///
 /// - `acts`: a call that completes an act appends just this act, on the present connection, and answers the lines of its command and its
 ///   completion, nothing else; for a touch and for `IsHomed` the data line stands before it. Behind it nothing runs. No other call changes the ledger;
@@ -68,25 +67,25 @@ pub fn one_call_answers_at_most()
 /// - `ran`: whatever runs in the error state is such a command (this profile).
 #[tactic(auto, using(crate::proofs::Reached::one_act, crate::proofs::Reached::act_is_due, crate::proofs::Reached::contact_is_commanded, crate::proofs::Reached::act_in_error, crate::proofs::Reached::ran_before))]
 pub fn one_act_at_its_completing_call()
-    ensures acts { (readers : Readers) (tools : List (List ℕ)) (calls : List Call) (call : Call)
-        → IsDone (deed_of call (reached readers tools calls)) (reached readers tools calls)
-        (behind_call readers call (reached readers tools calls)) }
-    ensures due { (readers : Readers) (tools : List (List ℕ)) (calls : List Call) (call : Call)
-        → is_some (deed_of call (reached readers tools calls))
-        ≡ completes_act call (reached readers tools calls) }
-    ensures contacts { (readers : Readers) (tools : List (List ℕ)) (calls : List Call) (call : Call)
+    ensures acts { (tools : List (List ℕ)) (calls : List Call) (call : Call)
+        → IsDone (deed_of call (reached tools calls)) (reached tools calls)
+        (behind_call call (reached tools calls)) }
+    ensures due { (tools : List (List ℕ)) (calls : List Call) (call : Call)
+        → is_some (deed_of call (reached tools calls))
+        ≡ completes_act call (reached tools calls) }
+    ensures contacts { (tools : List (List ℕ)) (calls : List Call) (call : Call)
         (made : Made)
-        → contacts (behind_call readers call (reached readers tools calls)).server.ledger
-        ≡ contacts (reached readers tools calls).server.ledger ++ made ∷ []
-        → IsContactOf (reached readers tools calls) call made }
-    ensures error { (readers : Readers) (tools : List (List ℕ)) (calls : List Call) (call : Call)
-        → (reached readers tools calls).server.error ≡ true
-        → completes_act call (reached readers tools calls) ≡ true
-        → IsEndOfEarlier readers tools calls call }
-    ensures ran { (readers : Readers) (tools : List (List ℕ)) (calls : List Call) (line : OneLine)
-        → (reached readers tools calls).server.error ≡ true
-        → (reached readers tools calls).server.running ≡ Some line
-        → RanBefore readers tools calls line }
+        → contacts (behind_call call (reached tools calls)).server.ledger
+        ≡ contacts (reached tools calls).server.ledger ++ made ∷ []
+        → IsContactOf (reached tools calls) call made }
+    ensures error { (tools : List (List ℕ)) (calls : List Call) (call : Call)
+        → (reached tools calls).server.error ≡ true
+        → completes_act call (reached tools calls) ≡ true
+        → IsEndOfEarlier tools calls call }
+    ensures ran { (tools : List (List ℕ)) (calls : List Call) (line : OneLine)
+        → (reached tools calls).server.error ≡ true
+        → (reached tools calls).server.running ≡ Some line
+        → RanBefore tools calls line }
 {}
 
 /// The machine is homed where it is done with a `Home`, and by nothing else. It stays so until the turn of a `Home` that is not refused, or
@@ -95,33 +94,29 @@ pub fn one_act_at_its_completing_call()
 #[tactic(auto, using(crate::proofs::Homings::call_homed, crate::proofs::Homings::homed_is_told))]
 pub fn homed_by_home_alone()
     ensures new { (tools : List (List ℕ)) → (new_server_end tools).server.homed ≡ false }
-    ensures each { (readers : Readers) (call : Call) (e : ServerEnd)
-        → (behind_call readers call e).server.homed ≡ homed_behind call e }
+    ensures each { (call : Call) (e : ServerEnd)
+        → (behind_call call e).server.homed ≡ homed_behind call e }
     ensures told { (call : Call) (e : ServerEnd) (deed : Deed) (told : Bool)
         → deed_of call e ≡ Some deed → deed.act ≡ act.HomedIs told → told ≡ e.server.homed }
 {}
 
-/// What `view` says to hold at any time holds behind every list of calls from a new server: `steady` whatever functions read the lines, and
-/// `standard`, where they read as the interface says, that all that waits has standard tags.
-#[tactic(auto, using(crate::proofs::Reached::reached_steady, crate::proofs::Reached::reached_serving))]
+/// What `view` says to hold at any time holds after every list of calls from a new server (this profile).
+#[tactic(auto, using(crate::proofs::Reached::reached_serving))]
 pub fn what_holds_behind_every_list_of_calls()
-    ensures steady { (readers : Readers) (tools : List (List ℕ)) (calls : List Call)
-        → IsSteady (reached readers tools calls) }
-    ensures standard { (readers : Readers) (tools : List (List ℕ)) (calls : List Call)
-        → AreReaders readers → IsServing (reached readers tools calls) }
+    ensures { (tools : List (List ℕ)) (calls : List Call) → IsServing (reached tools calls) }
 {}
 
 /// A framing fault that a server has met is kept by each call but `leave` and `restart`, and stands at the front of the bytes: so each later
 /// `feed` and `read_one` answers it, until the connection is given up (this profile).
 #[tactic(auto, using(crate::proofs::Reached::kept_fault_stands, crate::proofs::Reached::fault_is_kept))]
 pub fn framing_fault_is_kept()
-    ensures stands { (readers : Readers) (tools : List (List ℕ)) (calls : List Call)
+    ensures stands { (tools : List (List ℕ)) (calls : List Call)
         (why : OneFault)
-        → (reached readers tools calls).input.fault ≡ Some why
-        → next_of (reached readers tools calls).input.rest ≡ Err why }
-    ensures kept { (readers : Readers) (tools : List (List ℕ)) (calls : List Call) (call : Call)
+        → (reached tools calls).input.fault ≡ Some why
+        → next_of (reached tools calls).input.rest ≡ Err why }
+    ensures kept { (tools : List (List ℕ)) (calls : List Call) (call : Call)
         (why : OneFault)
-        → (reached readers tools calls).input.fault ≡ Some why → gives_up call ≡ false
-        → (behind_call readers call (reached readers tools calls)).input
-        ≡ (reached readers tools calls).input }
+        → (reached tools calls).input.fault ≡ Some why → gives_up call ≡ false
+        → (behind_call call (reached tools calls)).input
+        ≡ (reached tools calls).input }
 {}

@@ -3,7 +3,8 @@
 ghost use Rattle.std.specs.Prelude.{◌≡◌, ◌≤◌, ◌+◌, ◌++◌, ◌||◌, true, option_map, ◌∷◌, [], length, vec_len, vec_capacity, Err, OnOk, OnErr};
 ghost use Rattle.dme_line.specs.Tags.{IsTag, is_event_tag};
 ghost use Rattle.dme_line.specs.Errors.{number_of};
-ghost use Rattle.protocol_model.specs.Lines.{Readers, AreReaders, reply_bytes, reading_of};
+ghost use Rattle.protocol_model.specs.Readings.{command_of};
+ghost use Rattle.protocol_model.specs.Lines.{reply_bytes, reading_of};
 ghost use Rattle.protocol_model.specs.Replies.{Reply};
 ghost use Rattle.protocol_model.specs.Server as server;
 ghost use Rattle.fixed_um.specs.Calls.{HasRoom};
@@ -162,12 +163,10 @@ impl Controller {
     #[tactic(auto, using(crate::proofs::LinesRead::read_is_fit, crate::proofs::LinesRead::one_reading))]
     pub(crate) fn read_line(&mut self, out: &mut Vec<u8>, line: &[u8]) -> Result<(), AllocError>
         requires may { MayHear self.old out.old }
-        ensures controller { OnOk result ((readers : Readers) → AreReaders readers
-            → self.new ≡ with_answered self.old (server.server_read self.old.server
-            (reading_of (readers.command line.now)))) }
-        ensures text { OnOk result ((readers : Readers) → AreReaders readers
-            → out.new.items ≡ out.old.items ++ reply_bytes
-            (server.server_read self.old.server (reading_of (readers.command line.now))).said) }
+        ensures controller { OnOk result (self.new ≡ with_answered self.old
+            (server.server_read self.old.server (reading_of (command_of line.now)))) }
+        ensures text { OnOk result (out.new.items ≡ out.old.items ++ reply_bytes
+            (server.server_read self.old.server (reading_of (command_of line.now))).said) }
         ensures err { OnErr result ((self.new ≡ self.old) × (out.new.items ≡ out.old.items)) }
         ensures len { IsBounded out.old out.new }
     {

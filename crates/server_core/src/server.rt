@@ -9,7 +9,6 @@ ghost use Rattle.protocol_model.specs.declared.lines.Line.{Line as OneLine};
 ghost use Rattle.contact_ledger.specs.Ledgers.{IsConnection, connection_most};
 ghost use Rattle.server_core.specs.Steady.{IsOff, IsRunnable, AreStandard};
 ghost use Rattle.contact_ledger.specs.Ledgers.{AreOnConnections};
-ghost use Rattle.protocol_model.specs.Lines.{Readers, AreReaders};
 ghost use Rattle.protocol_model.specs.Server.{may_end, running_job};
 ghost use Rattle.protocol_model.specs.Ends.{serving_accepted, serving_fed, serving_read, serving_turned, serving_machined, serving_left, serving_restarted, serving_taken};
 ghost use Rattle.line_framing.specs.declared.faults.FramingFault.{FramingFault as OneFault};
@@ -113,8 +112,7 @@ impl Server {
     /// connection; `Framing` where what stands at the front is no line, from then on until the connection is left; `Memory` for a line alone.
     #[tactic(auto, using(crate::proofs::Servings::fault_holds))]
     pub fn read_one(&mut self) -> Result<bool, ServerFault>
-        ensures ok { OnOk result ((readers : Readers) → AreReaders readers
-            → self.new ≡ with_end self.old (serving_read readers self.old.end)) }
+        ensures ok { OnOk result (self.new ≡ with_end self.old (serving_read self.old.end)) }
         ensures read { IfOk result (λ read. IsTrue read
             ↔ IsLineDue (next_of self.old.end.input.rest)) }
         ensures nothing { (result ≡ Ok false) ↔ ((self.old.end.server.on ≡ true)

@@ -7,13 +7,14 @@ use Rattle.dmis_program.specs.Meaning.{Meaning}
 use Rattle.dmis_program.specs.Programs.{IsProgram}
 use Rattle.dmis_program.specs.declared.features.Wanted.{Wanted}
 use Rattle.dme_line.specs.declared.commands.Command.{Command}
+use Rattle.protocol_model.specs.Readings.{command_of}
 use Rattle.contact_ledger.specs.Ledgers.{contact_count}
 use Rattle.contact_ledger.specs.declared.acts.Act.{Act}
 use Rattle.contact_ledger.specs.declared.features.Feature.{Feature}
 use Rattle.line_framing.specs.Next.{next_of}
 use Rattle.line_framing.proofs.Streams.{none_left}
 use Rattle.protocol_model.specs.Replies.{Reply}
-use Rattle.protocol_model.specs.Lines.{Readers, AreReaders, reply_bytes, reply_texts, command_bytes, command_texts, reading_of}
+use Rattle.protocol_model.specs.Lines.{reply_bytes, reply_texts, command_bytes, command_texts, reading_of}
 use Rattle.protocol_model.specs.Open.{is_asking, count_open}
 use Rattle.protocol_model.specs.Plan.{is_empty}
 use Rattle.protocol_model.specs.Client.{Client, Table, first_due, may_go, is_running, is_clearing}
@@ -58,47 +59,47 @@ use Rattle.protocol_model.proofs.quiet_run.Going.{IsGoing, IsGood, Here, here_of
 abbrev IsClosed : World → Type 0
 IsClosed b = b.server.server.on ≡ false → b.server.server.session ≡ false
 
-happens_closed : (readers : Readers) (e : Event) (b : World) → IsCarried b → IsClosed b → can e b ≡ true → IsClosed (happens readers e b)
-happens_closed readers Connect b k h may = h
-happens_closed readers (Accept n) b k h may = λ off. absurd (false≢true (sym off))
-happens_closed readers ClientSends b k h may = h
-happens_closed readers (Up n) b k h may = h
-happens_closed readers ServerReads b k h may = λ off. absurd (false≢true (sym off ∙ (reads (next_of b.server.input.rest)
+happens_closed : (e : Event) (b : World) → IsCarried b → IsClosed b → can e b ≡ true → IsClosed (happens e b)
+happens_closed Connect b k h may = h
+happens_closed (Accept n) b k h may = λ off. absurd (false≢true (sym off))
+happens_closed ClientSends b k h may = h
+happens_closed (Up n) b k h may = h
+happens_closed ServerReads b k h may = λ off. absurd (false≢true (sym off ∙ (reads (next_of b.server.input.rest)
     ∙ (Rattle.std.proofs.lemmas.Bool.and_parts b.server.server.on _ may).0)))
   where
-    reads : (f : Rattle.line_framing.specs.Next.Front) → (front_served readers b.server f).server.on ≡ b.server.server.on
+    reads : (f : Rattle.line_framing.specs.Next.Front) → (front_served b.server f).server.on ≡ b.server.server.on
     reads (Ok None) = refl
-    reads (Ok (Some (line, rest))) = (read_moves b.server.server (reading_of (readers.command line))).on
+    reads (Ok (Some (line, rest))) = (read_moves b.server.server (reading_of (command_of line))).on
     reads (Rattle.std.proofs.Common.Err why) = refl
-happens_closed readers ServerTurn b k h may = λ off. absurd (false≢true (sym off ∙ ((turned_moves b.server.server).1.on ∙ on)))
+happens_closed ServerTurn b k h may = λ off. absurd (false≢true (sym off ∙ ((turned_moves b.server.server).1.on ∙ on)))
   where
     on : b.server.server.on ≡ true
     on = on_by (lined b k.up k.down) k.inv b.server.server.on refl (λ r e. not_nothing b.server.server.waiting
         (Rattle.std.proofs.lemmas.Bool.and_parts (Rattle.std.proofs.Common.is_none b.server.server.running)
         (not (is_empty b.server.server.waiting)) may).1 e)
-happens_closed readers (Machine outcome) b k h may =
+happens_closed (Machine outcome) b k h may =
     λ off. absurd (false≢true (sym off ∙ ((machined_moves b.server.server outcome).1.on ∙ on)))
   where
     on : b.server.server.on ≡ true
     on = on_by (lined b k.up k.down) k.inv b.server.server.on refl
         (λ r e. let no_end : may_end None outcome ≡ true = subst (λ (o : Option Line). may_end o outcome ≡ true) r may in false≢true no_end)
-happens_closed readers (Down n) b k h may = h
-happens_closed readers ClientReads b k h may = h
-happens_closed readers ClientLeaves b k h may = h
-happens_closed readers ServerLeaves b k h may = λ off. refl
-happens_closed readers Abort b k h may = h
-happens_closed readers Resume b k h may = h
-happens_closed readers (ClientRestart n) b k h may = h
-happens_closed readers ServerRestart b k h may = λ off. refl
+happens_closed (Down n) b k h may = h
+happens_closed ClientReads b k h may = h
+happens_closed ClientLeaves b k h may = h
+happens_closed ServerLeaves b k h may = λ off. refl
+happens_closed Abort b k h may = h
+happens_closed Resume b k h may = h
+happens_closed (ClientRestart n) b k h may = h
+happens_closed ServerRestart b k h may = λ off. refl
 
-run_closed : (readers : Readers) → AreReaders readers → (es : List Event) (b : World) → IsCarried b → IsClosed b
-    → IsClosed (run_of readers es b)
-run_closed readers are [] b k h = h
-run_closed readers are (e ∷ es) b k h =
-    let both = next (can e b) refl in run_closed readers are es (after readers e b) both.0 both.1
+run_closed : (es : List Event) (b : World) → IsCarried b → IsClosed b
+    → IsClosed (run_of es b)
+run_closed [] b k h = h
+run_closed (e ∷ es) b k h =
+    let both = next (can e b) refl in run_closed es (after e b) both.0 both.1
   where
-    next : (t : Bool) → can e b ≡ t → IsCarried (cond t (happens readers e b) b) × IsClosed (cond t (happens readers e b) b)
-    next true may = (happens_carried readers are e b k may, happens_closed readers e b k h may)
+    next : (t : Bool) → can e b ≡ t → IsCarried (cond t (happens e b) b) × IsClosed (cond t (happens e b) b)
+    next true may = (happens_carried e b k may, happens_closed e b k h may)
     next false may = (k, h)
 
 -- ---- where no byte is on its way, no line is
@@ -256,13 +257,13 @@ all_done answer goal kept w s g window never = go g.going
     go (inr done) = record { done = done.0; todo = done.1 }
 
 -- where a round does nothing, nothing is due
-never_due : (readers : Readers) (answer : Job → ℕ → Outcome) (w : World) → IsRound readers answer false w [] → can ClientSends w ≡ false
-never_due readers answer w round = go cut.front cut.back cut.whole cut.first
+never_due : (answer : Job → ℕ → Outcome) (w : World) → IsRound answer false w [] → can ClientSends w ≡ false
+never_due answer w round = go cut.front cut.back cut.whole cut.first
   where
-    cut : Cut readers (AreWhile readers ClientSends) (Behind readers answer) w []
-    cut = cut_of readers (AreWhile readers ClientSends) (Behind readers answer) w [] round
+    cut : Cut (AreWhile ClientSends) (Behind answer) w []
+    cut = cut_of (AreWhile ClientSends) (Behind answer) w [] round
 
-    go : (front back : List Event) → [] ≡ front ++ back → AreWhile readers ClientSends false w front → can ClientSends w ≡ false
+    go : (front back : List Event) → [] ≡ front ++ back → AreWhile ClientSends false w front → can ClientSends w ≡ false
     go [] back e h = h
     go (x ∷ front) back e h = absurd (cc)
 
@@ -273,10 +274,10 @@ record IsFinished (answer : Job → ℕ → Outcome) (b w : World) : Type 0 wher
   all : IsAll w
   measured : HasMeasured answer b w
 
-finished : (readers : Readers) → AreReaders readers → (answer : Job → ℕ → Outcome) (b : World) (rounds : List (List Event)) → IsCarried b
-    → IsClosed b → 1 ≤ b.client.client.window → CanFinish b → CanMeasure answer b → AreAllBusy readers answer (rejoined readers b) rounds
-    → IsFinished answer b (run_of readers (all_of rounds) (rejoined readers b))
-finished readers are answer b rounds k closed window f can_measure busy =
+finished : (answer : Job → ℕ → Outcome) (b : World) (rounds : List (List Event)) → IsCarried b
+    → IsClosed b → 1 ≤ b.client.client.window → CanFinish b → CanMeasure answer b → AreAllBusy answer (rejoined b) rounds
+    → IsFinished answer b (run_of (all_of rounds) (rejoined b))
+finished answer b rounds k closed window f can_measure busy =
     record { all = all; measured = record { more = r.front.0; whole = sym r.front.1; plain = plain } }
   where
     kept : List Feature
@@ -286,23 +287,23 @@ finished readers are answer b rounds k closed window f can_measure busy =
     goal = goal_of answer b
 
     joined : World
-    joined = rejoined readers b
+    joined = rejoined b
 
     w : World
-    w = run_of readers (all_of rounds) joined
+    w = run_of (all_of rounds) joined
 
     j : IsRejoined b joined
-    j = rejoins readers are b k f
+    j = rejoins b k f
 
     left : Leaves (IsGood answer goal kept) w
-    left = rounds_leave readers are answer (IsGood answer goal kept) (keeps_good readers are answer goal kept) rounds joined busy.busy.are
+    left = rounds_leave answer (IsGood answer goal kept) (keeps_good answer goal kept) rounds joined busy.busy.are
         (record { still = j.still; kept = begins_good answer b joined j closed can_measure })
 
     wide : 1 ≤ w.client.client.window
-    wide = subst (λ (i : ℕ). 1 ≤ i) (sym (run_window readers (all_of rounds) joined ∙ j.window)) window
+    wide = subst (λ (i : ℕ). 1 ≤ i) (sym (run_window (all_of rounds) joined ∙ j.window)) window
 
     all : IsAll w
-    all = all_done answer goal kept w left.still left.kept wide (never_due readers answer w busy.still)
+    all = all_done answer goal kept w left.still left.kept wide (never_due answer w busy.still)
 
     r : ReadyAt answer goal kept w.client.client.program.features w.server.server w.client.client.table.tally
     r = left.kept.ready w.client.client.table (subst (λ (l : List Reply). Reads w.client.client.program.features w.client.client.table l
@@ -319,36 +320,36 @@ finished readers are answer b rounds k closed window f can_measure busy =
         (drop (length w.client.client.table.tally.features) w.client.client.program.features) w.client.client.table.tally.points
         (touches_in l)) (sym all.todo) ∙ r.rest))))
 
-from_start : (readers : Readers) → AreReaders readers → (answer : Job → ℕ → Outcome) (program : Meaning) (rack : List (List ℕ))
+from_start : (answer : Job → ℕ → Outcome) (program : Meaning) (rack : List (List ℕ))
     (window : ℕ) (events : List Event) (rounds : List (List Event)) → IsProgram program → 1 ≤ window → window ≤ 16
-    → CanFinish (run_of readers events (start program rack window))
-    → CanMeasure answer (run_of readers events (start program rack window))
-    → AreAllBusy readers answer (rejoined readers (run_of readers events (start program rack window))) rounds
-    → IsFinished answer (run_of readers events (start program rack window))
-    (run_of readers (all_of rounds) (rejoined readers (run_of readers events (start program rack window))))
-from_start readers are answer program rack window events rounds is least le f can_measure busy =
+    → CanFinish (run_of events (start program rack window))
+    → CanMeasure answer (run_of events (start program rack window))
+    → AreAllBusy answer (rejoined (run_of events (start program rack window))) rounds
+    → IsFinished answer (run_of events (start program rack window))
+    (run_of (all_of rounds) (rejoined (run_of events (start program rack window))))
+from_start answer program rack window events rounds is least le f can_measure busy =
     let first : IsCarried (start program rack window) = start_carried program rack window is le in
-    let b : World = run_of readers events (start program rack window) in
-    finished readers are answer b rounds (run_carried readers are events (start program rack window) first)
-    (run_closed readers are events (start program rack window) first (λ off. refl))
-    (subst (λ (i : ℕ). 1 ≤ i) (sym (run_window readers events (start program rack window))) least) f can_measure busy
+    let b : World = run_of events (start program rack window) in
+    finished answer b rounds (run_carried events (start program rack window) first)
+    (run_closed events (start program rack window) first (λ off. refl))
+    (subst (λ (i : ℕ). 1 ≤ i) (sym (run_window events (start program rack window))) least) f can_measure busy
 
-pub done : (readers : Readers) → AreReaders readers → (answer : Job → ℕ → Outcome) (program : Meaning) (rack : List (List ℕ))
+pub done : (answer : Job → ℕ → Outcome) (program : Meaning) (rack : List (List ℕ))
     (window : ℕ) (events : List Event) (rounds : List (List Event)) → IsProgram program → 1 ≤ window → window ≤ 16
-    → CanFinish (run_of readers events (start program rack window))
-    → CanMeasure answer (run_of readers events (start program rack window))
-    → AreAllBusy readers answer (rejoined readers (run_of readers events (start program rack window))) rounds
-    → (run_of readers (all_of rounds) (rejoined readers (run_of readers events (start program rack window)))).client.client.state
+    → CanFinish (run_of events (start program rack window))
+    → CanMeasure answer (run_of events (start program rack window))
+    → AreAllBusy answer (rejoined (run_of events (start program rack window))) rounds
+    → (run_of (all_of rounds) (rejoined (run_of events (start program rack window)))).client.client.state
     ≡ State.Done
-done readers are answer program rack window events rounds is least le f can_measure busy =
-    (from_start readers are answer program rack window events rounds is least le f can_measure busy).all.done
+done answer program rack window events rounds is least le f can_measure busy =
+    (from_start answer program rack window events rounds is least le f can_measure busy).all.done
 
-pub features : (readers : Readers) → AreReaders readers → (answer : Job → ℕ → Outcome) (program : Meaning) (rack : List (List ℕ))
+pub features : (answer : Job → ℕ → Outcome) (program : Meaning) (rack : List (List ℕ))
     (window : ℕ) (events : List Event) (rounds : List (List Event)) → IsProgram program → 1 ≤ window → window ≤ 16
-    → CanFinish (run_of readers events (start program rack window))
-    → CanMeasure answer (run_of readers events (start program rack window))
-    → AreAllBusy readers answer (rejoined readers (run_of readers events (start program rack window))) rounds
-    → HasMeasured answer (run_of readers events (start program rack window))
-    (run_of readers (all_of rounds) (rejoined readers (run_of readers events (start program rack window))))
-features readers are answer program rack window events rounds is least le f can_measure busy =
-    (from_start readers are answer program rack window events rounds is least le f can_measure busy).measured
+    → CanFinish (run_of events (start program rack window))
+    → CanMeasure answer (run_of events (start program rack window))
+    → AreAllBusy answer (rejoined (run_of events (start program rack window))) rounds
+    → HasMeasured answer (run_of events (start program rack window))
+    (run_of (all_of rounds) (rejoined (run_of events (start program rack window))))
+features answer program rack window events rounds is least le f can_measure busy =
+    (from_start answer program rack window events rounds is least le f can_measure busy).measured

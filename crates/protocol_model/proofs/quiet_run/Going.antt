@@ -11,7 +11,6 @@ use Rattle.contact_ledger.specs.declared.features.Feature.{Feature}
 use Rattle.dmis_program.specs.declared.features.Wanted.{Wanted}
 use Rattle.line_framing.specs.Next.{next_of}
 use Rattle.protocol_model.specs.Replies.{Reply, Mark, tag_of, mark_of, tag_is}
-use Rattle.protocol_model.specs.Lines.{Readers, AreReaders}
 use Rattle.protocol_model.specs.Open.{Effect, Becomes, Breaks, Closes, Counts, judged_ack, heard_in, is_asking, count_open}
 use Rattle.protocol_model.specs.Plan.{is_empty}
 use Rattle.protocol_model.specs.Client.{Client, Table, Tally, counted_next, tallied, heard, heard_on, client_hears, sends_next}
@@ -220,10 +219,10 @@ answered_good answer goal kept b j g live v carried a client server down succeed
         subst (λ (x : Table). ReadyAt answer goal kept ws a.server x.tally) same succeeds.ready
 
 -- the first that waits has its turn
-turn_good : (answer : Job → ℕ → Outcome) (goal : List Measured) (kept : List Feature) (readers : Readers) (b : World) → IsJoined b
-    → IsGood answer goal kept b → can event.ServerTurn b ≡ true → IsGood answer goal kept (happens readers event.ServerTurn b)
-turn_good answer goal kept readers b j g may =
-    answered_good answer goal kept b j g here.live (happens readers event.ServerTurn b) (turn_carried b g.carried j.on may)
+turn_good : (answer : Job → ℕ → Outcome) (goal : List Measured) (kept : List Feature) (b : World) → IsJoined b
+    → IsGood answer goal kept b → can event.ServerTurn b ≡ true → IsGood answer goal kept (happens event.ServerTurn b)
+turn_good answer goal kept b j g may =
+    answered_good answer goal kept b j g here.live (happens event.ServerTurn b) (turn_carried b g.carried j.on may)
     (server_turned b.server.server) refl refl refl (go here.near.queued here.near.by)
   where
     here : Here b g.carried
@@ -252,11 +251,11 @@ turn_good answer goal kept readers b j g may =
         here.near.aborts n here.live.progress (ap (λ (o : Option Line). listed o ++ x ∷ others) no_run) g.error) ready g.error)
 
 -- what runs ends
-end_good : (answer : Job → ℕ → Outcome) (goal : List Measured) (kept : List Feature) (readers : Readers) (b : World) (outcome : Outcome)
+end_good : (answer : Job → ℕ → Outcome) (goal : List Measured) (kept : List Feature) (b : World) (outcome : Outcome)
     → IsJoined b → IsGood answer goal kept b → IsEnd answer b.server.server outcome → can (event.Machine outcome) b ≡ true
-    → IsGood answer goal kept (happens readers (event.Machine outcome) b)
-end_good answer goal kept readers b outcome j g end may =
-    answered_good answer goal kept b j g here.live (happens readers (event.Machine outcome) b)
+    → IsGood answer goal kept (happens (event.Machine outcome) b)
+end_good answer goal kept b outcome j g end may =
+    answered_good answer goal kept b j g here.live (happens (event.Machine outcome) b)
     (machine_carried b outcome g.carried j.on may)
     (server_machined b.server.server outcome) refl refl refl (go b.server.server.running refl)
   where
@@ -355,14 +354,14 @@ line_succeeds answer goal kept b j g here x up up_is = go here.near.coming refl
           few = few_open (lined b g.carried.up g.carried.down) g.carried.inv here.live;
         }) g.error)
 
-read_good : (readers : Readers) → AreReaders readers → (answer : Job → ℕ → Outcome) (goal : List Measured) (kept : List Feature) (b : World)
+read_good : (answer : Job → ℕ → Outcome) (goal : List Measured) (kept : List Feature) (b : World)
     → IsJoined b → IsGood answer goal kept b → can event.ServerReads b ≡ true
-    → IsGood answer goal kept (happens readers event.ServerReads b)
-read_good readers are answer goal kept b j g may =
+    → IsGood answer goal kept (happens event.ServerReads b)
+read_good answer goal kept b j g may =
     let parts = and_parts _ _ (and_parts _ _ may).1 in
-    let r : ReadsFirst b g.carried (happens readers event.ServerReads b) = reads_first readers are b g.carried j.on j.same parts.1 in
+    let r : ReadsFirst b g.carried (happens event.ServerReads b) = reads_first b g.carried j.on j.same parts.1 in
     let here : Here b g.carried = here_of b g.carried j.client_on j.on j.same in
-    answered_good answer goal kept b j g here.live (happens readers event.ServerReads b) r.carried
+    answered_good answer goal kept b j g here.live (happens event.ServerReads b) r.carried
     (server_read b.server.server (Ok r.first)) r.client_is r.server_is r.down_is
     (line_succeeds answer goal kept b j g here r.first r.others r.up_is)
 
@@ -386,10 +385,10 @@ with_others answer goal kept ws s y ps r = record {
   rest = r.rest;
 }
 
-sends_good : (readers : Readers) → AreReaders readers → (answer : Job → ℕ → Outcome) (goal : List Measured) (kept : List Feature)
+sends_good : (answer : Job → ℕ → Outcome) (goal : List Measured) (kept : List Feature)
     (b : World) → IsJoined b → IsGood answer goal kept b → can event.ClientSends b ≡ true
-    → IsGood answer goal kept (happens readers event.ClientSends b)
-sends_good readers are answer goal kept b j g may =
+    → IsGood answer goal kept (happens event.ClientSends b)
+sends_good answer goal kept b j g may =
     let f : IsFine answer goal kept b.server.server g.carried.down
     (sends_next c c.table.tally.unsent (next_number Std c.table.standard c.drawn)).client =
     go (next_number Std c.table.standard c.drawn) refl fine_now in
@@ -404,11 +403,11 @@ sends_good readers are answer goal kept b j g may =
     d : IsDue c
     d = due_is c may
 
-    later : IsCarried (happens readers event.ClientSends b)
-    later = happens_carried readers are event.ClientSends b g.carried may
+    later : IsCarried (happens event.ClientSends b)
+    later = happens_carried event.ClientSends b g.carried may
 
     fine_now : (sends_next c c.table.tally.unsent (next_number Std c.table.standard c.drawn)).client.state ≡ State.Faulted → ⊥
-    fine_now = never_faulted (lined (happens readers event.ClientSends b) later.up later.down) later.inv
+    fine_now = never_faulted (lined (happens event.ClientSends b) later.up later.down) later.inv
 
     sent_so : (n : ℕ) → IsFine answer goal kept b.server.server g.carried.down (sends_next c (d.planned ∷ d.others) (Some n)).client
     sent_so n =
@@ -477,10 +476,10 @@ heard_going c t m mid is failed events (inr done) = inr (
   step_todo c.program.features c.table t m mid is done.1,
 )
 
-hears_good : (readers : Readers) → AreReaders readers → (answer : Job → ℕ → Outcome) (goal : List Measured) (kept : List Feature)
+hears_good : (answer : Job → ℕ → Outcome) (goal : List Measured) (kept : List Feature)
     (b : World) → IsJoined b → IsGood answer goal kept b → can event.ClientReads b ≡ true
-    → IsGood answer goal kept (happens readers event.ClientReads b)
-hears_good readers are answer goal kept b j g may =
+    → IsGood answer goal kept (happens event.ClientReads b)
+hears_good answer goal kept b j g may =
     let f : IsFine answer goal kept b.server.server h.others c_now =
     subst (IsFine answer goal kept b.server.server h.others) (sym h.client_is) (go (tag_is t (Event 0)) refl) in
     record {
@@ -499,14 +498,14 @@ hears_good readers are answer goal kept b j g may =
     parts : (fault ≡ true) × (there ≡ true)
     parts = and_parts fault there (and_parts b.client.client.on (fault && there) may).1
 
-    h : HearsFirst b g.carried (happens readers event.ClientReads b)
-    h = hears_first readers are b g.carried j.client_on parts.1
+    h : HearsFirst b g.carried (happens event.ClientReads b)
+    h = hears_first b g.carried j.client_on parts.1
 
     c : Client
     c = b.client.client
 
     c_now : Client
-    c_now = (happens readers event.ClientReads b).client.client
+    c_now = (happens event.ClientReads b).client.client
 
     t : Tag
     t = tag_of h.first
@@ -546,20 +545,20 @@ hears_good readers are answer goal kept b j g may =
 
 -- ---- all events of a round
 
-pub keeps_good : (readers : Readers) → AreReaders readers → (answer : Job → ℕ → Outcome) (goal : List Measured) (kept : List Feature)
-    → Keeps readers answer (IsGood answer goal kept)
-keeps_good readers are answer goal kept e b of j g = go (can e b) refl
+pub keeps_good : (answer : Job → ℕ → Outcome) (goal : List Measured) (kept : List Feature)
+    → Keeps answer (IsGood answer goal kept)
+keeps_good answer goal kept e b of j g = go (can e b) refl
   where
-    happened : (e : OneEvent) → IsOfRound answer b e → can e b ≡ true → IsGood answer goal kept (happens readers e b)
-    happened event.ClientSends of may = sends_good readers are answer goal kept b j g may
+    happened : (e : OneEvent) → IsOfRound answer b e → can e b ≡ true → IsGood answer goal kept (happens e b)
+    happened event.ClientSends of may = sends_good answer goal kept b j g may
     happened (event.Up k) of may =
         record { carried = up_carried b k g.carried j.on; going = g.going; error = g.error; ready = g.ready }
-    happened event.ServerReads of may = read_good readers are answer goal kept b j g may
-    happened event.ServerTurn of may = turn_good answer goal kept readers b j g may
-    happened (event.Machine outcome) of may = end_good answer goal kept readers b outcome j g of may
+    happened event.ServerReads of may = read_good answer goal kept b j g may
+    happened event.ServerTurn of may = turn_good answer goal kept b j g may
+    happened (event.Machine outcome) of may = end_good answer goal kept b outcome j g of may
     happened (event.Down k) of may =
         record { carried = down_carried b k g.carried j.client_on; going = g.going; error = g.error; ready = g.ready }
-    happened event.ClientReads of may = hears_good readers are answer goal kept b j g may
+    happened event.ClientReads of may = hears_good answer goal kept b j g may
     happened event.Connect of may = absurd of
     happened (event.Accept n) of may = absurd of
     happened event.ClientLeaves of may = absurd of
@@ -569,6 +568,6 @@ keeps_good readers are answer goal kept e b of j g = go (can e b) refl
     happened (event.ClientRestart k) of may = absurd of
     happened event.ServerRestart of may = absurd of
 
-    go : (t : Bool) → can e b ≡ t → IsGood answer goal kept (cond t (happens readers e b) b)
+    go : (t : Bool) → can e b ≡ t → IsGood answer goal kept (cond t (happens e b) b)
     go true may = happened e of may
     go false may = g

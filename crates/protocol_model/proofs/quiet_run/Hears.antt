@@ -12,10 +12,10 @@ use Rattle.dme_line.specs.declared.responses.Mark.{Mark as Marked}
 use Rattle.dme_line.specs.declared.responses.Mark.TheVariants as mark
 use Rattle.dme_line.specs.declared.responses.Response.{Response}
 use Rattle.dme_line.specs.declared.responses.NotResponse.{NotResponse}
+use Rattle.protocol_model.specs.Readings.{response_of, point_of, homed_of}
 use Rattle.line_framing.specs.Next.{Front}
 use Rattle.line_framing.specs.declared.faults.FramingFault.TheVariants as framing
 use Rattle.protocol_model.specs.Replies.{Mark, tag_is}
-use Rattle.protocol_model.specs.Lines.{Readers}
 use Rattle.protocol_model.specs.Client.{Client, Table, faulted, client_hears, client_read, heard_on, heard}
 use Rattle.protocol_model.specs.Ends.{held_under, given_point, given_homed, given_for, given_under, response_read, line_read}
 use Rattle.protocol_model.specs.Ends.{front_read}
@@ -57,52 +57,52 @@ homed_cases : (c : Client) (t : Tag) (r : Result Bool NotHomedText) (P : Client 
 homed_cases c t (Ok homed) P k = read_cases c t (Mark.Given (datum.Homed homed)) P k
 homed_cases c t (Err why) P k = k.fault Cause.NotResponse
 
-for_cases : (readers : Readers) (c : Client) (t : Tag) (text : List ℕ) (x : Kind) (P : Client → Type 0) → Closed c P
-    → P (given_for readers c t text x)
-for_cases readers c t text kind.PtMeas P k = point_cases c t (readers.point text) P k
-for_cases readers c t text kind.IsHomed P k = homed_cases c t (readers.homed text) P k
-for_cases readers c t text kind.StartSession P k = k.fault Cause.OutOfOrder
-for_cases readers c t text kind.EndSession P k = k.fault Cause.OutOfOrder
-for_cases readers c t text kind.ClearAllErrors P k = k.fault Cause.OutOfOrder
-for_cases readers c t text kind.Home P k = k.fault Cause.OutOfOrder
-for_cases readers c t text kind.OnPtMeasReport P k = k.fault Cause.OutOfOrder
-for_cases readers c t text kind.GoTo P k = k.fault Cause.OutOfOrder
-for_cases readers c t text kind.ChangeTool P k = k.fault Cause.OutOfOrder
-for_cases readers c t text kind.SetCsyTransformation P k = k.fault Cause.OutOfOrder
-for_cases readers c t text kind.SetCoordSystem P k = k.fault Cause.OutOfOrder
-for_cases readers c t text kind.AbortE P k = k.fault Cause.OutOfOrder
+for_cases : (c : Client) (t : Tag) (text : List ℕ) (x : Kind) (P : Client → Type 0) → Closed c P
+    → P (given_for c t text x)
+for_cases c t text kind.PtMeas P k = point_cases c t (point_of text) P k
+for_cases c t text kind.IsHomed P k = homed_cases c t (homed_of text) P k
+for_cases c t text kind.StartSession P k = k.fault Cause.OutOfOrder
+for_cases c t text kind.EndSession P k = k.fault Cause.OutOfOrder
+for_cases c t text kind.ClearAllErrors P k = k.fault Cause.OutOfOrder
+for_cases c t text kind.Home P k = k.fault Cause.OutOfOrder
+for_cases c t text kind.OnPtMeasReport P k = k.fault Cause.OutOfOrder
+for_cases c t text kind.GoTo P k = k.fault Cause.OutOfOrder
+for_cases c t text kind.ChangeTool P k = k.fault Cause.OutOfOrder
+for_cases c t text kind.SetCsyTransformation P k = k.fault Cause.OutOfOrder
+for_cases c t text kind.SetCoordSystem P k = k.fault Cause.OutOfOrder
+for_cases c t text kind.AbortE P k = k.fault Cause.OutOfOrder
 
-under_cases : (readers : Readers) (c : Client) (t : Tag) (text : List ℕ) (held : Option Kind) (P : Client → Type 0) → Closed c P
-    → P (given_under readers c t text held)
-under_cases readers c t text None P k = k.fault Cause.UnknownTag
-under_cases readers c t text (Some x) P k = for_cases readers c t text x P k
+under_cases : (c : Client) (t : Tag) (text : List ℕ) (held : Option Kind) (P : Client → Type 0) → Closed c P
+    → P (given_under c t text held)
+under_cases c t text None P k = k.fault Cause.UnknownTag
+under_cases c t text (Some x) P k = for_cases c t text x P k
 
-response_cases : (readers : Readers) (c : Client) (t : Tag) (m : Marked) (P : Client → Type 0) → Closed c P
-    → P (response_read readers c t m)
-response_cases readers c t mark.Ack P k = read_cases c t Mark.Ack P k
-response_cases readers c t (mark.Given text) P k = either P (tag_is t (Event 0)) c (given_under readers c t text (held_under t c)) k.same
-    (under_cases readers c t text (held_under t c) P k)
-response_cases readers c t mark.Done P k = read_cases c t Mark.Done P k
-response_cases readers c t (mark.Error text) P k = read_cases c t Mark.Error P k
+response_cases : (c : Client) (t : Tag) (m : Marked) (P : Client → Type 0) → Closed c P
+    → P (response_read c t m)
+response_cases c t mark.Ack P k = read_cases c t Mark.Ack P k
+response_cases c t (mark.Given text) P k = either P (tag_is t (Event 0)) c (given_under c t text (held_under t c)) k.same
+    (under_cases c t text (held_under t c) P k)
+response_cases c t mark.Done P k = read_cases c t Mark.Done P k
+response_cases c t (mark.Error text) P k = read_cases c t Mark.Error P k
 
-line_cases : (readers : Readers) (c : Client) (r : Result Response NotResponse) (P : Client → Type 0) → Closed c P
-    → P (line_read readers c r)
-line_cases readers c (Ok r) P k = response_cases readers c r.tag r.mark P k
-line_cases readers c (Err refused) P k = k.fault Cause.NotResponse
+line_cases : (c : Client) (r : Result Response NotResponse) (P : Client → Type 0) → Closed c P
+    → P (line_read c r)
+line_cases c (Ok r) P k = response_cases c r.tag r.mark P k
+line_cases c (Err refused) P k = k.fault Cause.NotResponse
 
 -- so it holds of the client behind whatever it reads
-pub front_cases : (readers : Readers) (c : Client) (f : Front) (P : Client → Type 0) → Closed c P → P (front_read readers c f)
-front_cases readers c (Ok None) P k = k.same
-front_cases readers c (Ok (Some (line, rest))) P k = line_cases readers c (readers.response line) P k
-front_cases readers c (Err framing.LineTooLong) P k = k.fault Cause.LineTooLong
-front_cases readers c (Err framing.BadByte) P k = k.fault Cause.BadByte
+pub front_cases : (c : Client) (f : Front) (P : Client → Type 0) → Closed c P → P (front_read c f)
+front_cases c (Ok None) P k = k.same
+front_cases c (Ok (Some (line, rest))) P k = line_cases c (response_of line) P k
+front_cases c (Err framing.LineTooLong) P k = k.fault Cause.LineTooLong
+front_cases c (Err framing.BadByte) P k = k.fault Cause.BadByte
 
 -- ---- what a client that reads has not sent
 
 -- what it reads adds nothing to what is unsent
-pub reads_unsent : (readers : Readers) (c : Client) (f : Front) (most : ℕ) → length c.table.tally.unsent ≤ most
-    → length (front_read readers c f).table.tally.unsent ≤ most
-reads_unsent readers c f most h = front_cases readers c f (λ (d : Client). length d.table.tally.unsent ≤ most) (record {
+pub reads_unsent : (c : Client) (f : Front) (most : ℕ) → length c.table.tally.unsent ≤ most
+    → length (front_read c f).table.tally.unsent ≤ most
+reads_unsent c f most h = front_cases c f (λ (d : Client). length d.table.tally.unsent ≤ most) (record {
   same = h;
   fault = λ cause. h;
   hears = λ t m b is. step_leaves c.program.features c.table t m b (λ (ps : List Planned). length ps ≤ most) is h
@@ -110,6 +110,6 @@ reads_unsent readers c f most h = front_cases readers c f (λ (d : Client). leng
 })
 
 -- a client that reads is on its connection as it was
-pub reads_on : (readers : Readers) (c : Client) (f : Front) → (front_read readers c f).on ≡ c.on
-reads_on readers c f = front_cases readers c f (λ (d : Client). d.on ≡ c.on)
+pub reads_on : (c : Client) (f : Front) → (front_read c f).on ≡ c.on
+reads_on c f = front_cases c f (λ (d : Client). d.on ≡ c.on)
     (record { same = refl; fault = λ cause. refl; hears = λ t m b is. refl })

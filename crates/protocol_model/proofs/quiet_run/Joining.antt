@@ -4,7 +4,8 @@ use Rattle.std.proofs.Common.{Some, None, Ok, Err}
 use Rattle.contact_ledger.specs.Ledgers.{contact_count}
 use Rattle.line_framing.specs.Next.{Front, next_of}
 use Rattle.dme_line.specs.declared.tags.Tag.TheVariants.{Std}
-use Rattle.protocol_model.specs.Lines.{Readers, AreReaders, reading_of}
+use Rattle.protocol_model.specs.Readings.{command_of}
+use Rattle.protocol_model.specs.Lines.{reading_of}
 use Rattle.protocol_model.specs.Client.{next_number}
 use Rattle.protocol_model.specs.Server.{Server, running_job}
 use Rattle.protocol_model.specs.Ends.{ServerEnd, front_served}
@@ -58,8 +59,8 @@ pub record IsJoined (b : World) : Type 0 where
   pub jobs : RunsJob b.server.server.running
 
 -- an event that can happen happens
-pub after_is : (readers : Readers) (e : Event) (w : World) → can e w ≡ true → after readers e w ≡ happens readers e w
-after_is readers e w may = if_true {A = World} (can e w) (happens readers e w) w may
+pub after_is : (e : Event) (w : World) → can e w ≡ true → after e w ≡ happens e w
+after_is e w may = if_true {A = World} (can e w) (happens e w) w may
 
 -- what a call of the server leaves
 record Serves (e f : ServerEnd) : Type 0 where
@@ -67,12 +68,12 @@ record Serves (e f : ServerEnd) : Type 0 where
   last : f.server.last ≡ e.server.last
   jobs : RunsJob e.server.running → RunsJob f.server.running
 
-front_serves : (readers : Readers) (e : ServerEnd) (f : Front) → Serves e (front_served readers e f)
-front_serves readers e (Ok None) = record { on = refl; last = refl; jobs = λ h. h }
-front_serves readers e (Ok (Some (line, rest))) =
-    let moves = read_moves e.server (reading_of (readers.command line)) in
-    record { on = moves.on; last = moves.last; jobs = read_job e.server (reading_of (readers.command line)) }
-front_serves readers e (Err why) = record { on = refl; last = refl; jobs = λ h. h }
+front_serves : (e : ServerEnd) (f : Front) → Serves e (front_served e f)
+front_serves e (Ok None) = record { on = refl; last = refl; jobs = λ h. h }
+front_serves e (Ok (Some (line, rest))) =
+    let moves = read_moves e.server (reading_of (command_of line)) in
+    record { on = moves.on; last = moves.last; jobs = read_job e.server (reading_of (command_of line)) }
+front_serves e (Err why) = record { on = refl; last = refl; jobs = λ h. h }
 
 served_joined : (b : World) (e : ServerEnd) → IsJoined b → Serves b.server e → IsCarried (server_writes b e) → IsJoined (server_writes b e)
 served_joined b e h s carried = record {
@@ -83,65 +84,65 @@ served_joined b e h s carried = record {
   jobs = s.jobs h.jobs;
 }
 
-happens_joined : (readers : Readers) → AreReaders readers → (answer : Job → ℕ → Outcome) (e : Event) (b : World) → IsOfRound answer b e
-    → IsJoined b → can e b ≡ true → IsJoined (happens readers e b)
-happens_joined readers are answer ClientSends b of h may =
+happens_joined : (answer : Job → ℕ → Outcome) (e : Event) (b : World) → IsOfRound answer b e
+    → IsJoined b → can e b ≡ true → IsJoined (happens e b)
+happens_joined answer ClientSends b of h may =
     let stays : StaysOn b.client.client _ = sends_stays b.client.client b.client.client.table.tally.unsent
     (next_number Std b.client.client.table.standard b.client.client.drawn) in
     record {
-      carried = happens_carried readers are ClientSends b h.carried may;
+      carried = happens_carried ClientSends b h.carried may;
       on = h.on;
       client_on = stays.on ∙ h.client_on;
       same = h.same ∙ sym stays.last;
       jobs = h.jobs;
     }
-happens_joined readers are answer (Up k) b of h may = record {
-  carried = happens_carried readers are (Up k) b h.carried may;
+happens_joined answer (Up k) b of h may = record {
+  carried = happens_carried (Up k) b h.carried may;
   on = h.on;
   client_on = h.client_on;
   same = h.same;
   jobs = h.jobs;
 }
-happens_joined readers are answer ServerReads b of h may = served_joined b _ h (front_serves readers b.server (next_of b.server.input.rest))
-    (happens_carried readers are ServerReads b h.carried may)
-happens_joined readers are answer ServerTurn b of h may =
+happens_joined answer ServerReads b of h may = served_joined b _ h (front_serves b.server (next_of b.server.input.rest))
+    (happens_carried ServerReads b h.carried may)
+happens_joined answer ServerTurn b of h may =
     let moves = turned_moves b.server.server in
     served_joined b _ h (record { on = moves.1.on; last = moves.1.last; jobs = turned_job b.server.server })
-    (happens_carried readers are ServerTurn b h.carried may)
-happens_joined readers are answer (Machine outcome) b of h may =
+    (happens_carried ServerTurn b h.carried may)
+happens_joined answer (Machine outcome) b of h may =
     let moves = machined_moves b.server.server outcome in
     served_joined b _ h (record { on = moves.1.on; last = moves.1.last; jobs = machined_job b.server.server outcome })
-    (happens_carried readers are (Machine outcome) b h.carried may)
-happens_joined readers are answer (Down k) b of h may = record {
-  carried = happens_carried readers are (Down k) b h.carried may;
+    (happens_carried (Machine outcome) b h.carried may)
+happens_joined answer (Down k) b of h may = record {
+  carried = happens_carried (Down k) b h.carried may;
   on = h.on;
   client_on = h.client_on;
   same = h.same;
   jobs = h.jobs;
 }
-happens_joined readers are answer ClientReads b of h may = record {
-  carried = happens_carried readers are ClientReads b h.carried may;
+happens_joined answer ClientReads b of h may = record {
+  carried = happens_carried ClientReads b h.carried may;
   on = h.on;
-  client_on = reads_on readers b.client.client (next_of b.client.input.rest) ∙ h.client_on;
-  same = h.same ∙ sym (read_last readers b.client.client (next_of b.client.input.rest));
+  client_on = reads_on b.client.client (next_of b.client.input.rest) ∙ h.client_on;
+  same = h.same ∙ sym (read_last b.client.client (next_of b.client.input.rest));
   jobs = h.jobs;
 }
-happens_joined readers are answer Connect b of h may = absurd of
-happens_joined readers are answer (Accept n) b of h may = absurd of
-happens_joined readers are answer ClientLeaves b of h may = absurd of
-happens_joined readers are answer ServerLeaves b of h may = absurd of
-happens_joined readers are answer Abort b of h may = absurd of
-happens_joined readers are answer Resume b of h may = absurd of
-happens_joined readers are answer (ClientRestart k) b of h may = absurd of
-happens_joined readers are answer ServerRestart b of h may = absurd of
+happens_joined answer Connect b of h may = absurd of
+happens_joined answer (Accept n) b of h may = absurd of
+happens_joined answer ClientLeaves b of h may = absurd of
+happens_joined answer ServerLeaves b of h may = absurd of
+happens_joined answer Abort b of h may = absurd of
+happens_joined answer Resume b of h may = absurd of
+happens_joined answer (ClientRestart k) b of h may = absurd of
+happens_joined answer ServerRestart b of h may = absurd of
 
 -- they stay there
-pub after_joined : (readers : Readers) → AreReaders readers → (answer : Job → ℕ → Outcome) (e : Event) (b : World) → IsOfRound answer b e
-    → IsJoined b → IsJoined (after readers e b)
-after_joined readers are answer e b of h = go (can e b) refl
+pub after_joined : (answer : Job → ℕ → Outcome) (e : Event) (b : World) → IsOfRound answer b e
+    → IsJoined b → IsJoined (after e b)
+after_joined answer e b of h = go (can e b) refl
   where
-    go : (t : Bool) → can e b ≡ t → IsJoined (cond t (happens readers e b) b)
-    go true may = happens_joined readers are answer e b of h may
+    go : (t : Bool) → can e b ≡ t → IsJoined (cond t (happens e b) b)
+    go true may = happens_joined answer e b of h may
     go false may = h
 
 -- ---- what the server has to do

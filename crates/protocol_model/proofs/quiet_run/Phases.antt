@@ -4,7 +4,7 @@ use Rattle.std.proofs.Common.{refl, sym, ◌∙◌, ap, subst, arith, Option, So
 use Rattle.std.proofs.lemmas.Bool.{false≢true, le-leb}
 use Rattle.line_framing.specs.Next.{Front, next_of}
 use Rattle.line_framing.proofs.Streams.{none_left}
-use Rattle.protocol_model.specs.Lines.{Readers, AreReaders, command_bytes, command_texts, reply_bytes, reply_texts, reading_of}
+use Rattle.protocol_model.specs.Lines.{command_bytes, command_texts, reply_bytes, reply_texts, reading_of}
 use Rattle.protocol_model.specs.Plan.{is_empty}
 use Rattle.protocol_model.specs.Server.{Server, running_job}
 use Rattle.protocol_model.specs.Ends.{ServerEnd, front_served, serving_turned, serving_machined}
@@ -25,12 +25,13 @@ use Rattle.protocol_model.proofs.whole_run.Carrying.{lined}
 use Rattle.protocol_model.proofs.whole_run.Links.{link_same}
 use Rattle.protocol_model.proofs.quiet_run.Jobs.{nothing_runs}
 use Rattle.protocol_model.proofs.quiet_run.Joining.{IsOfRound, IsJoined, after_is, after_joined, IsWork, work_is, work_of}
+use Rattle.protocol_model.specs.Readings.{command_of}
 
 -- ---- lists of events, and what they keep
 
 -- what an event of a round keeps, where both ends are on one connection
-abbrev pub Keeps : Readers → (Job → ℕ → Outcome) → (World → Type 0) → Type 0
-Keeps readers answer G = (e : Event) (w : World) → IsOfRound answer w e → IsJoined w → G w → G (after readers e w)
+abbrev pub Keeps : (Job → ℕ → Outcome) → (World → Type 0) → Type 0
+Keeps answer G = (e : Event) (w : World) → IsOfRound answer w e → IsJoined w → G w → G (after e w)
 
 -- both ends are on one connection, this holds, and the parts of a round up to here have left that
 record Stands (G X : World → Type 0) (w : World) : Type 0 where
@@ -38,44 +39,44 @@ record Stands (G X : World → Type 0) (w : World) : Type 0 where
   kept : G w
   left : X w
 
-stands_after : (readers : Readers) → AreReaders readers → (answer : Job → ℕ → Outcome) (G X Y : World → Type 0) → Keeps readers answer G
-    → (e : Event) (w : World) → IsOfRound answer w e → (IsJoined w → X w → Y (after readers e w)) → Stands G X w
-    → Stands G Y (after readers e w)
-stands_after readers are answer G X Y keeps e w of next h = record {
-  joined = after_joined readers are answer e w of h.joined;
+stands_after : (answer : Job → ℕ → Outcome) (G X Y : World → Type 0) → Keeps answer G
+    → (e : Event) (w : World) → IsOfRound answer w e → (IsJoined w → X w → Y (after e w)) → Stands G X w
+    → Stands G Y (after e w)
+stands_after answer G X Y keeps e w of next h = record {
+  joined = after_joined answer e w of h.joined;
   kept = keeps e w of h.joined h.kept;
   left = next h.joined h.left;
 }
 
 -- an event, again and again while it can happen
-while_keeps : (readers : Readers) (e : Event) (P : World → Type 0) → ((w : World) → can e w ≡ true → P w → P (after readers e w))
-    → (es : List Event) (w : World) → AreWhile readers e false w es → P w
-    → P (run_of readers es w) × (can e (run_of readers es w) ≡ false)
-while_keeps readers e P step [] w are h = (h, are)
-while_keeps readers e P step (f ∷ es) w are h =
-    let same : after readers f w ≡ after readers e w = ap (λ (x : Event). after readers x w) are.0 in
-    let is : after readers f w ≡ happens readers e w = same ∙ after_is readers e w are.1 in
-    while_keeps readers e P step es (after readers f w) (subst (λ (v : World). AreWhile readers e false v es) (sym is) are.2)
+while_keeps : (e : Event) (P : World → Type 0) → ((w : World) → can e w ≡ true → P w → P (after e w))
+    → (es : List Event) (w : World) → AreWhile e false w es → P w
+    → P (run_of es w) × (can e (run_of es w) ≡ false)
+while_keeps e P step [] w are h = (h, are)
+while_keeps e P step (f ∷ es) w are h =
+    let same : after f w ≡ after e w = ap (λ (x : Event). after x w) are.0 in
+    let is : after f w ≡ happens e w = same ∙ after_is e w are.1 in
+    while_keeps e P step es (after f w) (subst (λ (v : World). AreWhile e false v es) (sym is) are.2)
     (subst P (sym same) (step w are.1 h))
 
 -- the work of the server
-work_keeps : (readers : Readers) (answer : Job → ℕ → Outcome) (P : World → Type 0)
-    → ((e : Event) (w : World) → IsWork answer w e → P w → P (after readers e w))
-    → (es : List Event) (w : World) → AreWork readers answer false w es → P w
-    → P (run_of readers es w) × (working (ending answer (run_of readers es w)) (run_of readers es w) ≡ None)
-work_keeps readers answer P step [] w are h = (h, are)
-work_keeps readers answer P step (e ∷ es) w are h =
-    work_keeps readers answer P step es (after readers e w) are.1 (step e w (work_is answer w e are.0) h)
+work_keeps : (answer : Job → ℕ → Outcome) (P : World → Type 0)
+    → ((e : Event) (w : World) → IsWork answer w e → P w → P (after e w))
+    → (es : List Event) (w : World) → AreWork answer false w es → P w
+    → P (run_of es w) × (working (ending answer (run_of es w)) (run_of es w) ≡ None)
+work_keeps answer P step [] w are h = (h, are)
+work_keeps answer P step (e ∷ es) w are h =
+    work_keeps answer P step es (after e w) are.1 (step e w (work_is answer w e are.0) h)
 
 -- one event where it can happen
-one_keeps : (readers : Readers) (e : Event) (P Q : World → Type 0) → ((w : World) → can e w ≡ true → P w → Q (after readers e w))
-    → (es : List Event) (w : World) → ((can e w ≡ false) → P w → Q w) → IsOne (possible e w) false es → P w → Q (run_of readers es w)
-one_keeps readers e P Q step es w none is h = go (can e w) refl is
+one_keeps : (e : Event) (P Q : World → Type 0) → ((w : World) → can e w ≡ true → P w → Q (after e w))
+    → (es : List Event) (w : World) → ((can e w ≡ false) → P w → Q w) → IsOne (possible e w) false es → P w → Q (run_of es w)
+one_keeps e P Q step es w none is h = go (can e w) refl is
   where
-    go : (t : Bool) → can e w ≡ t → IsOne (cond t (Some e) None) false es → Q (run_of readers es w)
-    go true may (inl one) = subst (λ (l : List Event). Q (run_of readers l w)) (sym one) (step w may h)
+    go : (t : Bool) → can e w ≡ t → IsOne (cond t (Some e) None) false es → Q (run_of es w)
+    go true may (inl one) = subst (λ (l : List Event). Q (run_of l w)) (sym one) (step w may h)
     go true may (inr cut) = absurd (false≢true cut.0)
-    go false may none_is = subst (λ (l : List Event). Q (run_of readers l w)) (sym none_is) (none may h)
+    go false may none_is = subst (λ (l : List Event). Q (run_of l w)) (sym none_is) (none may h)
 
 -- ---- what the parts of a round leave
 
@@ -127,11 +128,11 @@ none_some (b ∷ bytes) e = absurd (false≢true (sym e ∙ some))
     some = ap (λ (t : Bool). t && nat_le n n) (le-leb 1 n (omega arith)) ∙ le-leb n n (omega arith)
 
 -- all bytes up come to the server
-up_all : (readers : Readers) (w : World) → IsJoined w → can (Up (length (server_link w).up)) w ≡ true
-    → UpEmpty (after readers (Up (length (server_link w).up)) w)
-up_all readers w h may =
+up_all : (w : World) → IsJoined w → can (Up (length (server_link w).up)) w ≡ true
+    → UpEmpty (after (Up (length (server_link w).up)) w)
+up_all w h may =
     let f : Fits w = link_fits w h in
-    subst UpEmpty (sym (after_is readers (Up (length (server_link w).up)) w may))
+    subst UpEmpty (sym (after_is (Up (length (server_link w).up)) w may))
     (ap (λ (l : Link). l.up) (link_same w.links w.server.server.last _ f.from f.to) ∙ drop_all (server_link w).up)
 
 up_none : (w : World) → IsJoined w → can (Up (length (server_link w).up)) w ≡ false → UpEmpty w
@@ -146,15 +147,15 @@ writes_up w e h last up =
     ap (λ (i : ℕ). (link_of (server_writes w e).links i).up) last
     ∙ (ap (λ (l : Link). l.up) (link_same w.links w.server.server.last _ f.from f.to) ∙ up)
 
-front_last : (readers : Readers) (e : ServerEnd) (f : Front) → (front_served readers e f).server.last ≡ e.server.last
-front_last readers e (Ok None) = refl
-front_last readers e (Ok (Some (line, rest))) = (read_moves e.server (reading_of (readers.command line))).last
-front_last readers e (Err why) = refl
+front_last : (e : ServerEnd) (f : Front) → (front_served e f).server.last ≡ e.server.last
+front_last e (Ok None) = refl
+front_last e (Ok (Some (line, rest))) = (read_moves e.server (reading_of (command_of line))).last
+front_last e (Err why) = refl
 
-reads_up : (readers : Readers) (w : World) → can ServerReads w ≡ true → IsJoined w → UpEmpty w → UpEmpty (after readers ServerReads w)
-reads_up readers w may h up = subst UpEmpty (sym (after_is readers ServerReads w may))
-    (writes_up w (front_served readers w.server (next_of w.server.input.rest)) h
-    (front_last readers w.server (next_of w.server.input.rest)) up)
+reads_up : (w : World) → can ServerReads w ≡ true → IsJoined w → UpEmpty w → UpEmpty (after ServerReads w)
+reads_up w may h up = subst UpEmpty (sym (after_is ServerReads w may))
+    (writes_up w (front_served w.server (next_of w.server.input.rest)) h
+    (front_last w.server (next_of w.server.input.rest)) up)
 
 -- where no line is there and no byte is up, all was read
 no_line : (w : World) → IsJoined w → UpEmpty w → can ServerReads w ≡ false → w.server.input.rest ≡ []
@@ -179,24 +180,24 @@ no_line w h up e = go (next_of w.server.input.rest) refl not_line
         (command_lines h.carried.up h.carried.wired.lines) (append-nil w.server.input.rest ∙ bytes) is)
 
 -- turns and ends leave what was read
-work_read : (readers : Readers) (answer : Job → ℕ → Outcome) (e : Event) (w : World) → IsWork answer w e → IsJoined w → Read w
-    → Read (after readers e w)
-work_read readers answer ServerTurn w h j r = go (can ServerTurn w) refl
+work_read : (answer : Job → ℕ → Outcome) (e : Event) (w : World) → IsWork answer w e → IsJoined w → Read w
+    → Read (after e w)
+work_read answer ServerTurn w h j r = go (can ServerTurn w) refl
   where
-    go : (t : Bool) → can ServerTurn w ≡ t → Read (cond t (happens readers ServerTurn w) w)
+    go : (t : Bool) → can ServerTurn w ≡ t → Read (cond t (happens ServerTurn w) w)
     go true may = (writes_up w (serving_turned w.server) j (turned_moves w.server.server).1.last r.0, r.1)
     go false may = r
-work_read readers answer (Machine outcome) w h j r = go (can (Machine outcome) w) refl
+work_read answer (Machine outcome) w h j r = go (can (Machine outcome) w) refl
   where
-    go : (t : Bool) → can (Machine outcome) w ≡ t → Read (cond t (happens readers (Machine outcome) w) w)
+    go : (t : Bool) → can (Machine outcome) w ≡ t → Read (cond t (happens (Machine outcome) w) w)
     go true may = (writes_up w (serving_machined outcome w.server) j (machined_moves w.server.server outcome).1.last r.0, r.1)
     go false may = r
-work_read readers answer ClientSends w h j r = absurd h
-work_read readers answer (Up k) w h j r = absurd h
-work_read readers answer ServerReads w h j r = absurd h
-work_read readers answer (Down k) w h j r = absurd h
-work_read readers answer ClientReads w h j r = absurd h
-work_read readers answer _ w h j r = absurd h
+work_read answer ClientSends w h j r = absurd h
+work_read answer (Up k) w h j r = absurd h
+work_read answer ServerReads w h j r = absurd h
+work_read answer (Down k) w h j r = absurd h
+work_read answer ClientReads w h j r = absurd h
+work_read answer _ w h j r = absurd h
 
 -- where the server has nothing to do, nothing runs and nothing waits
 nothing_to_do : (answer : Job → ℕ → Outcome) (w : World) → IsJoined w → working (ending answer w) w ≡ None
@@ -241,16 +242,16 @@ client_fine w h = not_faulted w.client.client.state (never_faulted (lined w h.ca
 same_link : (w : World) → IsJoined w → client_link w ≡ server_link w
 same_link w h = ap (link_of w.links) (sym h.same)
 
-down_all : (readers : Readers) (w : World) → IsJoined w → can (Down (length (client_link w).down)) w ≡ true → Idle w
-    → DownEmpty (after readers (Down (length (client_link w).down)) w)
-down_all readers w h may idle =
+down_all : (w : World) → IsJoined w → can (Down (length (client_link w).down)) w ≡ true → Idle w
+    → DownEmpty (after (Down (length (client_link w).down)) w)
+down_all w h may idle =
     let f : Fits w = link_fits w h in
     let k : ℕ = length (client_link w).down in
     let from : 1 ≤ w.client.client.last = subst (λ (i : ℕ). 1 ≤ i) h.same f.from in
     let to : w.client.client.last ≤ length w.links = subst (λ (i : ℕ). i ≤ length w.links) h.same f.to in
     let there : link_of (moved_down k w).links w.client.client.last ≡ record (client_link w) { down = drop k (client_link w).down } =
     link_same w.links w.client.client.last _ from to in
-    subst DownEmpty (sym (after_is readers (Down k) w may)) (
+    subst DownEmpty (sym (after_is (Down k) w may)) (
       (
         (
           ap (λ (i : ℕ). (link_of (moved_down k w).links i).up) h.same ∙ (ap (λ (l : Link). l.up) there
@@ -271,11 +272,11 @@ down_none w h e idle = (
       ∙ ap (λ (b : Bool). not b && has_some (length (client_link w).down) (client_link w).down) (client_fine w h)) ∙ e),
 )
 
-hears_down : (readers : Readers) (w : World) → can ClientReads w ≡ true → DownEmpty w → IsJoined w → DownEmpty (after readers ClientReads w)
-hears_down readers w may d h = subst DownEmpty (sym (after_is readers ClientReads w may)) (
+hears_down : (w : World) → can ClientReads w ≡ true → DownEmpty w → IsJoined w → DownEmpty (after ClientReads w)
+hears_down w may d h = subst DownEmpty (sym (after_is ClientReads w may)) (
   d.0,
   ap (λ (i : ℕ). (link_of w.links i).down)
-      (Rattle.protocol_model.proofs.undisturbed_run.UndisturbedClient.read_last readers w.client.client (next_of w.client.input.rest))
+      (Rattle.protocol_model.proofs.undisturbed_run.UndisturbedClient.read_last w.client.client (next_of w.client.input.rest))
       ∙ d.1,
 )
 
@@ -300,110 +301,110 @@ no_reply w h d e = go (next_of w.client.input.rest) refl nothing
 -- ---- a whole round
 
 -- two parts of a round, one behind the other
-pub record Cut (readers : Readers) (A B : Bool → World → List Event → Type 0) (w : World) (events : List Event) : Type 0 where
+pub record Cut (A B : Bool → World → List Event → Type 0) (w : World) (events : List Event) : Type 0 where
   pub front : List Event
   pub back : List Event
   pub whole : events ≡ front ++ back
   pub first : A false w front
-  pub second : B false (run_of readers front w) back
+  pub second : B false (run_of front w) back
 
-pub cut_of : (readers : Readers) (A B : Bool → World → List Event → Type 0) (w : World) (events : List Event)
-    → Then readers A B false w events → Cut readers A B w events
-cut_of readers A B w events h = go h.parts
+pub cut_of : (A B : Bool → World → List Event → Type 0) (w : World) (events : List Event)
+    → Then A B false w events → Cut A B w events
+cut_of A B w events h = go h.parts
   where
-    go : (A false w h.front × B false (run_of readers h.front w) h.back) ⊎ ((false ≡ true) × A true w h.front × (h.back ≡ []))
-        → Cut readers A B w events
+    go : (A false w h.front × B false (run_of h.front w) h.back) ⊎ ((false ≡ true) × A true w h.front × (h.back ≡ []))
+        → Cut A B w events
     go (inl both) = record { front = h.front; back = h.back; whole = h.whole; first = both.0; second = both.1 }
     go (inr cut) = absurd (false≢true cut.0)
 
 -- lists of events, one behind another
-pub run_more : (readers : Readers) (xs ys : List Event) (w : World) → run_of readers (xs ++ ys) w ≡ run_of readers ys (run_of readers xs w)
-run_more readers [] ys w = refl
-run_more readers (x ∷ xs) ys w = run_more readers xs ys (after readers x w)
+pub run_more : (xs ys : List Event) (w : World) → run_of (xs ++ ys) w ≡ run_of ys (run_of xs w)
+run_more [] ys w = refl
+run_more (x ∷ xs) ys w = run_more xs ys (after x w)
 
 -- what a round leaves, and what it keeps
 pub record Leaves (G : World → Type 0) (w : World) : Type 0 where
   pub still : IsStill w
   pub kept : G w
 
-part : (readers : Readers) (A B : Bool → World → List Event → Type 0) (P Q R : World → Type 0)
-    → ((es : List Event) (w : World) → A false w es → P w → Q (run_of readers es w))
-    → ((es : List Event) (w : World) → B false w es → Q w → R (run_of readers es w))
-    → (es : List Event) (w : World) → Then readers A B false w es → P w → R (run_of readers es w)
-part readers A B P Q R first second es w h p =
-    let c : Cut readers A B w es = cut_of readers A B w es h in
-    subst R (sym (ap (λ (l : List Event). run_of readers l w) c.whole ∙ run_more readers c.front c.back w))
-    (second c.back (run_of readers c.front w) c.second (first c.front w c.first p))
+part : (A B : Bool → World → List Event → Type 0) (P Q R : World → Type 0)
+    → ((es : List Event) (w : World) → A false w es → P w → Q (run_of es w))
+    → ((es : List Event) (w : World) → B false w es → Q w → R (run_of es w))
+    → (es : List Event) (w : World) → Then A B false w es → P w → R (run_of es w)
+part A B P Q R first second es w h p =
+    let c : Cut A B w es = cut_of A B w es h in
+    subst R (sym (ap (λ (l : List Event). run_of l w) c.whole ∙ run_more c.front c.back w))
+    (second c.back (run_of c.front w) c.second (first c.front w c.first p))
 
 abbrev Anything : World → Type 0
 Anything w = Unit {0}
 
 -- behind a round both ends are still, and what each of its events keeps is kept
-pub round_still : (readers : Readers) → AreReaders readers → (answer : Job → ℕ → Outcome) (G : World → Type 0) → Keeps readers answer G
-    → (es : List Event) (w : World) → IsRound readers answer false w es → IsJoined w → G w → Leaves G (run_of readers es w)
-round_still readers are answer G keeps es w round joined kept =
-    part readers _ _ (Stands G Anything) (Stands G Anything) (Leaves G) sends
-    (part readers _ _ (Stands G Anything) (Stands G UpEmpty) (Leaves G) rises
-    (part readers _ _ (Stands G UpEmpty) (Stands G Read) (Leaves G) reads
-    (part readers _ _ (Stands G Read) (Stands G Idle) (Leaves G) works
-    (part readers _ _ (Stands G Idle) (Stands G DownEmpty) (Leaves G) falls hears)))) es w round
+pub round_still : (answer : Job → ℕ → Outcome) (G : World → Type 0) → Keeps answer G
+    → (es : List Event) (w : World) → IsRound answer false w es → IsJoined w → G w → Leaves G (run_of es w)
+round_still answer G keeps es w round joined kept =
+    part _ _ (Stands G Anything) (Stands G Anything) (Leaves G) sends
+    (part _ _ (Stands G Anything) (Stands G UpEmpty) (Leaves G) rises
+    (part _ _ (Stands G UpEmpty) (Stands G Read) (Leaves G) reads
+    (part _ _ (Stands G Read) (Stands G Idle) (Leaves G) works
+    (part _ _ (Stands G Idle) (Stands G DownEmpty) (Leaves G) falls hears)))) es w round
     (record { joined = joined; kept = kept; left = tt })
   where
-    sends : (es : List Event) (w : World) → AreWhile readers ClientSends false w es → Stands G Anything w
-        → Stands G Anything (run_of readers es w)
-    sends es w h s = (while_keeps readers ClientSends (Stands G Anything)
-        (λ v may t. stands_after readers are answer G Anything Anything keeps ClientSends v tt (λ j x. tt) t) es w h s).0
+    sends : (es : List Event) (w : World) → AreWhile ClientSends false w es → Stands G Anything w
+        → Stands G Anything (run_of es w)
+    sends es w h s = (while_keeps ClientSends (Stands G Anything)
+        (λ v may t. stands_after answer G Anything Anything keeps ClientSends v tt (λ j x. tt) t) es w h s).0
 
-    rises : (es : List Event) (w : World) → IsOne (all_up w) false es → Stands G Anything w → Stands G UpEmpty (run_of readers es w)
+    rises : (es : List Event) (w : World) → IsOne (all_up w) false es → Stands G Anything w → Stands G UpEmpty (run_of es w)
     rises es w h s = go (can (Up (length (server_link w).up)) w) refl h
       where
         go : (t : Bool) → can (Up (length (server_link w).up)) w ≡ t
-            → IsOne (cond t (Some (Up (length (server_link w).up))) None) false es → Stands G UpEmpty (run_of readers es w)
-        go true may (inl one) = subst (λ (l : List Event). Stands G UpEmpty (run_of readers l w)) (sym one)
-            (stands_after readers are answer G Anything UpEmpty keeps (Up (length (server_link w).up)) w tt
-            (λ j x. up_all readers w j may) s)
+            → IsOne (cond t (Some (Up (length (server_link w).up))) None) false es → Stands G UpEmpty (run_of es w)
+        go true may (inl one) = subst (λ (l : List Event). Stands G UpEmpty (run_of l w)) (sym one)
+            (stands_after answer G Anything UpEmpty keeps (Up (length (server_link w).up)) w tt
+            (λ j x. up_all w j may) s)
         go true may (inr cut) = absurd (false≢true cut.0)
-        go false may none = subst (λ (l : List Event). Stands G UpEmpty (run_of readers l w)) (sym none)
+        go false may none = subst (λ (l : List Event). Stands G UpEmpty (run_of l w)) (sym none)
             (record { joined = s.joined; kept = s.kept; left = up_none w s.joined may })
 
-    reads : (es : List Event) (w : World) → AreWhile readers ServerReads false w es → Stands G UpEmpty w
-        → Stands G Read (run_of readers es w)
+    reads : (es : List Event) (w : World) → AreWhile ServerReads false w es → Stands G UpEmpty w
+        → Stands G Read (run_of es w)
     reads es w h s =
-        let all = while_keeps readers ServerReads (Stands G UpEmpty)
-        (λ v may t. stands_after readers are answer G UpEmpty UpEmpty keeps ServerReads v tt (λ j x. reads_up readers v may j x) t) es w h s
+        let all = while_keeps ServerReads (Stands G UpEmpty)
+        (λ v may t. stands_after answer G UpEmpty UpEmpty keeps ServerReads v tt (λ j x. reads_up v may j x) t) es w h s
         in
         record {
           joined = all.0.joined;
           kept = all.0.kept;
-          left = (all.0.left, no_line (run_of readers es w) all.0.joined all.0.left all.1);
+          left = (all.0.left, no_line (run_of es w) all.0.joined all.0.left all.1);
         }
 
-    works : (es : List Event) (w : World) → AreWork readers answer false w es → Stands G Read w → Stands G Idle (run_of readers es w)
+    works : (es : List Event) (w : World) → AreWork answer false w es → Stands G Read w → Stands G Idle (run_of es w)
     works es w h s =
-        let all = work_keeps readers answer (Stands G Read)
-        (λ e v is t. stands_after readers are answer G Read Read keeps e v (work_of answer v e is)
-        (λ j x. work_read readers answer e v is j x) t) es w h s in
-        let none = nothing_to_do answer (run_of readers es w) all.0.joined all.1 in
+        let all = work_keeps answer (Stands G Read)
+        (λ e v is t. stands_after answer G Read Read keeps e v (work_of answer v e is)
+        (λ j x. work_read answer e v is j x) t) es w h s in
+        let none = nothing_to_do answer (run_of es w) all.0.joined all.1 in
         record { joined = all.0.joined; kept = all.0.kept; left = (all.0.left, none.0, none.1) }
 
-    falls : (es : List Event) (w : World) → IsOne (all_down w) false es → Stands G Idle w → Stands G DownEmpty (run_of readers es w)
+    falls : (es : List Event) (w : World) → IsOne (all_down w) false es → Stands G Idle w → Stands G DownEmpty (run_of es w)
     falls es w h s = go (can (Down (length (client_link w).down)) w) refl h
       where
         go : (t : Bool) → can (Down (length (client_link w).down)) w ≡ t
-            → IsOne (cond t (Some (Down (length (client_link w).down))) None) false es → Stands G DownEmpty (run_of readers es w)
-        go true may (inl one) = subst (λ (l : List Event). Stands G DownEmpty (run_of readers l w)) (sym one)
-            (stands_after readers are answer G Idle DownEmpty keeps (Down (length (client_link w).down)) w tt
-            (λ j x. down_all readers w j may x) s)
+            → IsOne (cond t (Some (Down (length (client_link w).down))) None) false es → Stands G DownEmpty (run_of es w)
+        go true may (inl one) = subst (λ (l : List Event). Stands G DownEmpty (run_of l w)) (sym one)
+            (stands_after answer G Idle DownEmpty keeps (Down (length (client_link w).down)) w tt
+            (λ j x. down_all w j may x) s)
         go true may (inr cut) = absurd (false≢true cut.0)
-        go false may none = subst (λ (l : List Event). Stands G DownEmpty (run_of readers l w)) (sym none)
+        go false may none = subst (λ (l : List Event). Stands G DownEmpty (run_of l w)) (sym none)
             (record { joined = s.joined; kept = s.kept; left = down_none w s.joined may s.left })
 
-    hears : (es : List Event) (w : World) → AreWhile readers ClientReads false w es → Stands G DownEmpty w → Leaves G (run_of readers es w)
+    hears : (es : List Event) (w : World) → AreWhile ClientReads false w es → Stands G DownEmpty w → Leaves G (run_of es w)
     hears es w h s =
-        let all = while_keeps readers ClientReads (Stands G DownEmpty)
-        (λ v may t. stands_after readers are answer G DownEmpty DownEmpty keeps ClientReads v tt
-        (λ j x. hears_down readers v may x j) t) es w h s in
-        let d : DownEmpty (run_of readers es w) = all.0.left in
+        let all = while_keeps ClientReads (Stands G DownEmpty)
+        (λ v may t. stands_after answer G DownEmpty DownEmpty keeps ClientReads v tt
+        (λ j x. hears_down v may x j) t) es w h s in
+        let d : DownEmpty (run_of es w) = all.0.left in
         record {
           still = record {
             joined = all.0.joined;
@@ -412,24 +413,24 @@ round_still readers are answer G keeps es w round joined kept =
             running = d.0.1;
             waiting = d.0.2;
             down = d.1;
-            heard = no_reply (run_of readers es w) all.0.joined d all.1;
+            heard = no_reply (run_of es w) all.0.joined d all.1;
           };
           kept = all.0.kept;
         }
 
 -- ---- a round that does nothing
 
-nothing_then : (readers : Readers) (A B : Bool → World → List Event → Type 0) (w : World) → ((es : List Event) → A false w es → es ≡ [])
-    → ((es : List Event) → B false w es → es ≡ []) → (es : List Event) → Then readers A B false w es → es ≡ []
-nothing_then readers A B w first second es h =
-    let c : Cut readers A B w es = cut_of readers A B w es h in
+nothing_then : (A B : Bool → World → List Event → Type 0) (w : World) → ((es : List Event) → A false w es → es ≡ [])
+    → ((es : List Event) → B false w es → es ≡ []) → (es : List Event) → Then A B false w es → es ≡ []
+nothing_then A B w first second es h =
+    let c : Cut A B w es = cut_of A B w es h in
     let none : c.front ≡ [] = first c.front c.first in
     c.whole ∙ (ap (λ (l : List Event). l ++ c.back) none
-    ∙ second c.back (subst (λ (l : List Event). B false (run_of readers l w) c.back) none c.second))
+    ∙ second c.back (subst (λ (l : List Event). B false (run_of l w) c.back) none c.second))
 
-never_while : (readers : Readers) (e : Event) (w : World) → can e w ≡ false → (es : List Event) → AreWhile readers e false w es → es ≡ []
-never_while readers e w never [] h = refl
-never_while readers e w never (f ∷ es) h = absurd (false≢true (sym never ∙ h.1))
+never_while : (e : Event) (w : World) → can e w ≡ false → (es : List Event) → AreWhile e false w es → es ≡ []
+never_while e w never [] h = refl
+never_while e w never (f ∷ es) h = absurd (false≢true (sym never ∙ h.1))
 
 never_one : (e : Event) (w : World) → can e w ≡ false → (es : List Event) → IsOne (possible e w) false es → es ≡ []
 never_one e w never es h = go (can e w) never h
@@ -439,15 +440,15 @@ never_one e w never es h = go (can e w) never h
     go false f h = h
 
 -- where both ends are still and nothing is due, a round does nothing
-pub round_none : (readers : Readers) (answer : Job → ℕ → Outcome) (w : World) → IsStill w → can ClientSends w ≡ false
-    → (es : List Event) → IsRound readers answer false w es → es ≡ []
-round_none readers answer w s never =
-    nothing_then readers _ _ w (never_while readers ClientSends w never)
-    (nothing_then readers _ _ w (never_one (Up (length (server_link w).up)) w no_up)
-    (nothing_then readers _ _ w (never_while readers ServerReads w no_read)
-    (nothing_then readers _ _ w no_work
-    (nothing_then readers _ _ w (never_one (Down (length (client_link w).down)) w no_down)
-    (never_while readers ClientReads w no_hear)))))
+pub round_none : (answer : Job → ℕ → Outcome) (w : World) → IsStill w → can ClientSends w ≡ false
+    → (es : List Event) → IsRound answer false w es → es ≡ []
+round_none answer w s never =
+    nothing_then _ _ w (never_while ClientSends w never)
+    (nothing_then _ _ w (never_one (Up (length (server_link w).up)) w no_up)
+    (nothing_then _ _ w (never_while ServerReads w no_read)
+    (nothing_then _ _ w no_work
+    (nothing_then _ _ w (never_one (Down (length (client_link w).down)) w no_down)
+    (never_while ClientReads w no_hear)))))
   where
     no_and : (a b c : Bool) → c ≡ false → (a && (b && c)) ≡ false
     no_and true true c e = e
@@ -464,7 +465,7 @@ round_none readers answer w s never =
     no_turn = ap (λ (l : List Waiting). is_none w.server.server.running && not (is_empty l)) s.waiting
         ∙ ap (λ (o : Option Line). is_none o && false) s.running
 
-    no_work : (es : List Event) → AreWork readers answer false w es → es ≡ []
+    no_work : (es : List Event) → AreWork answer false w es → es ≡ []
     no_work [] h = refl
     no_work (e ∷ es) h = absurd (not_some (sym nothing ∙ h.0))
       where

@@ -6,7 +6,6 @@ use Rattle.contact_ledger.specs.Ledgers.{connection_most}
 use Rattle.line_framing.specs.Framing.{Framing}
 use Rattle.contact_ledger.specs.declared.features.Feature.{Feature}
 use Rattle.dmis_program.specs.Meaning.{Meaning}
-use Rattle.protocol_model.specs.Lines.{Readers, AreReaders}
 use Rattle.protocol_model.specs.Plan.{plan}
 use Rattle.protocol_model.specs.declared.plans.Start.{Start}
 use Rattle.protocol_model.specs.Client.{Table, client_connected, left_state, no_tally, is_apart}
@@ -60,8 +59,8 @@ undone_rest State.Aborting h r = absurd r
 undone_rest State.Halted h r = absurd r
 undone_rest State.Faulted h r = absurd r
 
-client_parts : (readers : Readers) (b : World) → IsCarried b → CanFinish b → HasParted b (after readers ClientLeaves b)
-client_parts readers b k f = go b.client.client.on refl
+client_parts : (b : World) → IsCarried b → CanFinish b → HasParted b (after ClientLeaves b)
+client_parts b k f = go b.client.client.on refl
   where
     off_rest : b.client.client.on ≡ false → IsOff (lined b k.up k.down) ⊎ IsLive (lined b k.up k.down) → b.client.client.state ≡ State.Apart
     off_rest e (inl off) = undone_rest b.client.client.state f.undone off.rest
@@ -86,15 +85,15 @@ client_parts readers b k f = go b.client.client.on refl
     }
 
 -- the server was not touched so far
-server_as : (readers : Readers) (b : World) → (after readers ClientLeaves b).server ≡ b.server
-server_as readers b = go b.client.client.on
+server_as : (b : World) → (after ClientLeaves b).server ≡ b.server
+server_as b = go b.client.client.on
   where
     go : (t : Bool) → (cond t (record b { client = end_left b.client }) b).server ≡ b.server
     go true = refl
     go false = refl
 
-server_parts : (readers : Readers) (b w : World) → HasParted b w → w.server ≡ b.server → IsParted b (after readers ServerLeaves w)
-server_parts readers b w h is = go w.server.server.on refl
+server_parts : (b w : World) → HasParted b w → w.server ≡ b.server → IsParted b (after ServerLeaves w)
+server_parts b w h is = go w.server.server.on refl
   where
     go : (t : Bool) → w.server.server.on ≡ t → IsParted b (cond t (record w { server = serving_left w.server }) w)
     go true e = record {
@@ -145,15 +144,15 @@ pub record IsRejoined (b w : World) : Type 0 where
 abbrev taken : World → ℕ → World
 taken w n = record (connected w) { server = serving_accepted n w.server }
 
-takes : (readers : Readers) → AreReaders readers → (b w : World) → CanFinish b → IsParted b w
-    → IsRejoined b (after readers (Accept (suc b.client.client.last)) (after readers Connect w))
-takes readers are b w f p =
-    subst (λ (v : World). IsRejoined b (after readers (Accept n) v)) (sym (after_is readers Connect w may_connect))
-    (subst (IsRejoined b) (sym (after_is readers (Accept n) (connected w) may_accept)) (record {
+takes : (b w : World) → CanFinish b → IsParted b w
+    → IsRejoined b (after (Accept (suc b.client.client.last)) (after Connect w))
+takes b w f p =
+    subst (λ (v : World). IsRejoined b (after (Accept n) v)) (sym (after_is Connect w may_connect))
+    (subst (IsRejoined b) (sym (after_is (Accept n) (connected w) may_accept)) (record {
       still = record {
         joined = record {
-          carried = happens_carried readers are (Accept n) (connected w)
-              (happens_carried readers are Connect w p.client.carried may_connect) may_accept;
+          carried = happens_carried (Accept n) (connected w)
+              (happens_carried Connect w p.client.carried may_connect) may_accept;
           on = refl;
           client_on = refl;
           same = ap suc (sym p.client.last);
@@ -220,5 +219,5 @@ takes readers are b w f p =
         ∙ le-leb n (length (w.links ++ no_link ∷ [])) there)
 
 -- so it is where something is left to measure, and a connection
-pub rejoins : (readers : Readers) → AreReaders readers → (b : World) → IsCarried b → CanFinish b → IsRejoined b (rejoined readers b)
-rejoins readers are b k f = takes readers are b _ f (server_parts readers b _ (client_parts readers b k f) (server_as readers b))
+pub rejoins : (b : World) → IsCarried b → CanFinish b → IsRejoined b (rejoined b)
+rejoins b k f = takes b _ f (server_parts b _ (client_parts b k f) (server_as b))

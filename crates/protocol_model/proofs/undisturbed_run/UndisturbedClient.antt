@@ -19,10 +19,11 @@ use Rattle.dme_line.specs.declared.responses.Mark.{Mark as Marked}
 use Rattle.dme_line.specs.declared.responses.Mark.TheVariants as mark
 use Rattle.dme_line.specs.declared.responses.Response.{Response}
 use Rattle.dme_line.specs.declared.responses.NotResponse.{NotResponse}
+use Rattle.protocol_model.specs.Readings.{response_of, point_of, homed_of}
 use Rattle.line_framing.specs.Next.{Front}
 use Rattle.line_framing.specs.declared.faults.FramingFault.TheVariants as framing
 use Rattle.protocol_model.specs.Replies.{Mark, tag_is}
-use Rattle.protocol_model.specs.Lines.{Readers, command_bytes}
+use Rattle.protocol_model.specs.Lines.{command_bytes}
 use Rattle.protocol_model.specs.Open.{is_failed, asks_homed, is_asking, count_open}
 use Rattle.protocol_model.specs.Client.{Client, Tally, Table, is_homing, faulted, is_apart, held_now, sends_next, client_hears, client_read}
 use Rattle.protocol_model.specs.Client.{heard_on, heard}
@@ -155,60 +156,60 @@ homed_on n told steps c written t (Ok homed) asked h tells =
     read_on n told steps c written t (Mark.Given (datum.Homed homed)) asked h tells
 homed_on n told steps c written t (Err why) asked h tells = stays_faulted n told steps c written Cause.NotResponse h
 
-for_on : (readers : Readers) (n : ℕ) (told : Bool) (steps : List Planned) (c : Client) (written : List ℕ) (t : Tag) (text : List ℕ)
-    (k : Kind) → AreAsked (followed told steps) → IsOnPlan n told steps c written → HasTold told (given_for readers c t text k)
-    → IsOnPlan n told steps (given_for readers c t text k) written
-for_on readers n told steps c written t text kind.PtMeas asked h tells =
-    point_on n told steps c written t (readers.point text) asked h tells
-for_on readers n told steps c written t text kind.IsHomed asked h tells =
-    homed_on n told steps c written t (readers.homed text) asked h tells
-for_on readers n told steps c written t text kind.StartSession asked h tells = stays_faulted n told steps c written Cause.OutOfOrder h
-for_on readers n told steps c written t text kind.EndSession asked h tells = stays_faulted n told steps c written Cause.OutOfOrder h
-for_on readers n told steps c written t text kind.ClearAllErrors asked h tells = stays_faulted n told steps c written Cause.OutOfOrder h
-for_on readers n told steps c written t text kind.Home asked h tells = stays_faulted n told steps c written Cause.OutOfOrder h
-for_on readers n told steps c written t text kind.OnPtMeasReport asked h tells = stays_faulted n told steps c written Cause.OutOfOrder h
-for_on readers n told steps c written t text kind.GoTo asked h tells = stays_faulted n told steps c written Cause.OutOfOrder h
-for_on readers n told steps c written t text kind.ChangeTool asked h tells = stays_faulted n told steps c written Cause.OutOfOrder h
-for_on readers n told steps c written t text kind.SetCsyTransformation asked h tells =
+for_on : (n : ℕ) (told : Bool) (steps : List Planned) (c : Client) (written : List ℕ) (t : Tag) (text : List ℕ)
+    (k : Kind) → AreAsked (followed told steps) → IsOnPlan n told steps c written → HasTold told (given_for c t text k)
+    → IsOnPlan n told steps (given_for c t text k) written
+for_on n told steps c written t text kind.PtMeas asked h tells =
+    point_on n told steps c written t (point_of text) asked h tells
+for_on n told steps c written t text kind.IsHomed asked h tells =
+    homed_on n told steps c written t (homed_of text) asked h tells
+for_on n told steps c written t text kind.StartSession asked h tells = stays_faulted n told steps c written Cause.OutOfOrder h
+for_on n told steps c written t text kind.EndSession asked h tells = stays_faulted n told steps c written Cause.OutOfOrder h
+for_on n told steps c written t text kind.ClearAllErrors asked h tells = stays_faulted n told steps c written Cause.OutOfOrder h
+for_on n told steps c written t text kind.Home asked h tells = stays_faulted n told steps c written Cause.OutOfOrder h
+for_on n told steps c written t text kind.OnPtMeasReport asked h tells = stays_faulted n told steps c written Cause.OutOfOrder h
+for_on n told steps c written t text kind.GoTo asked h tells = stays_faulted n told steps c written Cause.OutOfOrder h
+for_on n told steps c written t text kind.ChangeTool asked h tells = stays_faulted n told steps c written Cause.OutOfOrder h
+for_on n told steps c written t text kind.SetCsyTransformation asked h tells =
     stays_faulted n told steps c written Cause.OutOfOrder h
-for_on readers n told steps c written t text kind.SetCoordSystem asked h tells = stays_faulted n told steps c written Cause.OutOfOrder h
-for_on readers n told steps c written t text kind.AbortE asked h tells = stays_faulted n told steps c written Cause.OutOfOrder h
+for_on n told steps c written t text kind.SetCoordSystem asked h tells = stays_faulted n told steps c written Cause.OutOfOrder h
+for_on n told steps c written t text kind.AbortE asked h tells = stays_faulted n told steps c written Cause.OutOfOrder h
 
-under_on : (readers : Readers) (n : ℕ) (told : Bool) (steps : List Planned) (c : Client) (written : List ℕ) (t : Tag) (text : List ℕ)
+under_on : (n : ℕ) (told : Bool) (steps : List Planned) (c : Client) (written : List ℕ) (t : Tag) (text : List ℕ)
     (kind : Option Kind)
-    → AreAsked (followed told steps) → IsOnPlan n told steps c written → HasTold told (given_under readers c t text kind)
-    → IsOnPlan n told steps (given_under readers c t text kind) written
-under_on readers n told steps c written t text None asked h tells = stays_faulted n told steps c written Cause.UnknownTag h
-under_on readers n told steps c written t text (Some k) asked h tells = for_on readers n told steps c written t text k asked h tells
+    → AreAsked (followed told steps) → IsOnPlan n told steps c written → HasTold told (given_under c t text kind)
+    → IsOnPlan n told steps (given_under c t text kind) written
+under_on n told steps c written t text None asked h tells = stays_faulted n told steps c written Cause.UnknownTag h
+under_on n told steps c written t text (Some k) asked h tells = for_on n told steps c written t text k asked h tells
 
-response_on : (readers : Readers) (n : ℕ) (told : Bool) (steps : List Planned) (c : Client) (written : List ℕ) (t : Tag) (m : Marked)
-    → AreAsked (followed told steps) → IsOnPlan n told steps c written → HasTold told (response_read readers c t m)
-    → IsOnPlan n told steps (response_read readers c t m) written
-response_on readers n told steps c written t mark.Ack asked h tells = read_on n told steps c written t Mark.Ack asked h tells
-response_on readers n told steps c written t (mark.Given text) asked h tells =
-    one_of n told steps written (tag_is t (tag.Event 0)) c (given_under readers c t text (held_under t c)) h
-    (λ later. under_on readers n told steps c written t text (held_under t c) asked h later) tells
-response_on readers n told steps c written t mark.Done asked h tells = read_on n told steps c written t Mark.Done asked h tells
-response_on readers n told steps c written t (mark.Error text) asked h tells =
+response_on : (n : ℕ) (told : Bool) (steps : List Planned) (c : Client) (written : List ℕ) (t : Tag) (m : Marked)
+    → AreAsked (followed told steps) → IsOnPlan n told steps c written → HasTold told (response_read c t m)
+    → IsOnPlan n told steps (response_read c t m) written
+response_on n told steps c written t mark.Ack asked h tells = read_on n told steps c written t Mark.Ack asked h tells
+response_on n told steps c written t (mark.Given text) asked h tells =
+    one_of n told steps written (tag_is t (tag.Event 0)) c (given_under c t text (held_under t c)) h
+    (λ later. under_on n told steps c written t text (held_under t c) asked h later) tells
+response_on n told steps c written t mark.Done asked h tells = read_on n told steps c written t Mark.Done asked h tells
+response_on n told steps c written t (mark.Error text) asked h tells =
     read_on n told steps c written t Mark.Error asked h tells
 
-line_on : (readers : Readers) (n : ℕ) (told : Bool) (steps : List Planned) (c : Client) (written : List ℕ)
+line_on : (n : ℕ) (told : Bool) (steps : List Planned) (c : Client) (written : List ℕ)
     (r : Result Response NotResponse)
-    → AreAsked (followed told steps) → IsOnPlan n told steps c written → HasTold told (line_read readers c r)
-    → IsOnPlan n told steps (line_read readers c r) written
-line_on readers n told steps c written (Ok r) asked h tells = response_on readers n told steps c written r.tag r.mark asked h tells
-line_on readers n told steps c written (Err refused) asked h tells = stays_faulted n told steps c written Cause.NotResponse h
+    → AreAsked (followed told steps) → IsOnPlan n told steps c written → HasTold told (line_read c r)
+    → IsOnPlan n told steps (line_read c r) written
+line_on n told steps c written (Ok r) asked h tells = response_on n told steps c written r.tag r.mark asked h tells
+line_on n told steps c written (Err refused) asked h tells = stays_faulted n told steps c written Cause.NotResponse h
 
 -- behind what is read a client is still on its plan, where the first act that it has counted tells what is told
-pub front_on : (readers : Readers) (n : ℕ) (told : Bool) (steps : List Planned) (c : Client) (written : List ℕ) (f : Front)
-    → AreAsked (followed told steps) → IsOnPlan n told steps c written → HasTold told (front_read readers c f)
-    → IsOnPlan n told steps (front_read readers c f) written
-front_on readers n told steps c written (Ok None) asked h tells = h
-front_on readers n told steps c written (Ok (Some (line, rest))) asked h tells =
-    line_on readers n told steps c written (readers.response line) asked h tells
-front_on readers n told steps c written (Err framing.LineTooLong) asked h tells =
+pub front_on : (n : ℕ) (told : Bool) (steps : List Planned) (c : Client) (written : List ℕ) (f : Front)
+    → AreAsked (followed told steps) → IsOnPlan n told steps c written → HasTold told (front_read c f)
+    → IsOnPlan n told steps (front_read c f) written
+front_on n told steps c written (Ok None) asked h tells = h
+front_on n told steps c written (Ok (Some (line, rest))) asked h tells =
+    line_on n told steps c written (response_of line) asked h tells
+front_on n told steps c written (Err framing.LineTooLong) asked h tells =
     stays_faulted n told steps c written Cause.LineTooLong h
-front_on readers n told steps c written (Err framing.BadByte) asked h tells = stays_faulted n told steps c written Cause.BadByte h
+front_on n told steps c written (Err framing.BadByte) asked h tells = stays_faulted n told steps c written Cause.BadByte h
 
 -- ---- what is read leaves the connection
 
@@ -232,42 +233,42 @@ homed_last : (c : Client) (t : Tag) (r : Result Bool NotHomedText) → (given_ho
 homed_last c t (Ok homed) = client_last c t (Mark.Given (datum.Homed homed))
 homed_last c t (Err why) = refl
 
-for_last : (readers : Readers) (c : Client) (t : Tag) (text : List ℕ) (k : Kind) → (given_for readers c t text k).last ≡ c.last
-for_last readers c t text kind.PtMeas = point_last c t (readers.point text)
-for_last readers c t text kind.IsHomed = homed_last c t (readers.homed text)
-for_last readers c t text kind.StartSession = refl
-for_last readers c t text kind.EndSession = refl
-for_last readers c t text kind.ClearAllErrors = refl
-for_last readers c t text kind.Home = refl
-for_last readers c t text kind.OnPtMeasReport = refl
-for_last readers c t text kind.GoTo = refl
-for_last readers c t text kind.ChangeTool = refl
-for_last readers c t text kind.SetCsyTransformation = refl
-for_last readers c t text kind.SetCoordSystem = refl
-for_last readers c t text kind.AbortE = refl
+for_last : (c : Client) (t : Tag) (text : List ℕ) (k : Kind) → (given_for c t text k).last ≡ c.last
+for_last c t text kind.PtMeas = point_last c t (point_of text)
+for_last c t text kind.IsHomed = homed_last c t (homed_of text)
+for_last c t text kind.StartSession = refl
+for_last c t text kind.EndSession = refl
+for_last c t text kind.ClearAllErrors = refl
+for_last c t text kind.Home = refl
+for_last c t text kind.OnPtMeasReport = refl
+for_last c t text kind.GoTo = refl
+for_last c t text kind.ChangeTool = refl
+for_last c t text kind.SetCsyTransformation = refl
+for_last c t text kind.SetCoordSystem = refl
+for_last c t text kind.AbortE = refl
 
-under_last : (readers : Readers) (c : Client) (t : Tag) (text : List ℕ) (k : Option Kind)
-    → (given_under readers c t text k).last ≡ c.last
-under_last readers c t text None = refl
-under_last readers c t text (Some k) = for_last readers c t text k
+under_last : (c : Client) (t : Tag) (text : List ℕ) (k : Option Kind)
+    → (given_under c t text k).last ≡ c.last
+under_last c t text None = refl
+under_last c t text (Some k) = for_last c t text k
 
-response_last : (readers : Readers) (c : Client) (t : Tag) (m : Marked) → (response_read readers c t m).last ≡ c.last
-response_last readers c t mark.Ack = client_last c t Mark.Ack
-response_last readers c t (mark.Given text) = either_last c (tag_is t (tag.Event 0)) (given_under readers c t text (held_under t c))
-    (under_last readers c t text (held_under t c))
-response_last readers c t mark.Done = client_last c t Mark.Done
-response_last readers c t (mark.Error text) = client_last c t Mark.Error
+response_last : (c : Client) (t : Tag) (m : Marked) → (response_read c t m).last ≡ c.last
+response_last c t mark.Ack = client_last c t Mark.Ack
+response_last c t (mark.Given text) = either_last c (tag_is t (tag.Event 0)) (given_under c t text (held_under t c))
+    (under_last c t text (held_under t c))
+response_last c t mark.Done = client_last c t Mark.Done
+response_last c t (mark.Error text) = client_last c t Mark.Error
 
-line_last : (readers : Readers) (c : Client) (r : Result Response NotResponse) → (line_read readers c r).last ≡ c.last
-line_last readers c (Ok r) = response_last readers c r.tag r.mark
-line_last readers c (Err refused) = refl
+line_last : (c : Client) (r : Result Response NotResponse) → (line_read c r).last ≡ c.last
+line_last c (Ok r) = response_last c r.tag r.mark
+line_last c (Err refused) = refl
 
 -- a client that reads stays on its connection
-pub read_last : (readers : Readers) (c : Client) (f : Front) → (front_read readers c f).last ≡ c.last
-read_last readers c (Ok None) = refl
-read_last readers c (Ok (Some (line, rest))) = line_last readers c (readers.response line)
-read_last readers c (Err framing.LineTooLong) = refl
-read_last readers c (Err framing.BadByte) = refl
+pub read_last : (c : Client) (f : Front) → (front_read c f).last ≡ c.last
+read_last c (Ok None) = refl
+read_last c (Ok (Some (line, rest))) = line_last c (response_of line)
+read_last c (Err framing.LineTooLong) = refl
+read_last c (Err framing.BadByte) = refl
 
 -- ---- a command is sent
 

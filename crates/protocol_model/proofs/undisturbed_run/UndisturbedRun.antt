@@ -6,11 +6,12 @@ use Rattle.dmis_program.specs.Meaning.{Meaning}
 use Rattle.dmis_program.specs.Programs.{IsProgram}
 use Rattle.dme_line.specs.declared.tags.Tag.TheVariants.{Std}
 use Rattle.dme_line.specs.declared.commands.Command.{Command}
+use Rattle.protocol_model.specs.Readings.{command_of}
 use Rattle.contact_ledger.specs.declared.acts.Act.{Act}
 use Rattle.contact_ledger.specs.declared.acts.Act.TheVariants as act
 use Rattle.contact_ledger.specs.declared.features.Feature.{Feature}
 use Rattle.line_framing.specs.Next.{Front, next_of}
-use Rattle.protocol_model.specs.Lines.{Readers, AreReaders, command_bytes, reading_of}
+use Rattle.protocol_model.specs.Lines.{command_bytes, reading_of}
 use Rattle.protocol_model.specs.Open.{count_open}
 use Rattle.protocol_model.specs.Plan.{plan}
 use Rattle.protocol_model.specs.Client.{Client, Table, is_homing, is_apart, sends_next, next_number, client_connected}
@@ -155,13 +156,13 @@ server_step n told p base b e h on t = record {
 tells_nothing : (told : Bool) (s t : Server) → Moves s t [] → t.homed ≡ s.homed → Tells told s t
 tells_nothing told s t moves homed = record { acts = []; moves = moves; tells = λ e. tt; still = λ none e. homed ∙ e }
 
-front_tells : (readers : Readers) (told : Bool) (e : ServerEnd) (f : Front) → Tells told e.server (front_served readers e f).server
-front_tells readers told e (Ok None) =
+front_tells : (told : Bool) (e : ServerEnd) (f : Front) → Tells told e.server (front_served e f).server
+front_tells told e (Ok None) =
     tells_nothing told e.server e.server (record { on = refl; last = refl; ledger = sym (append-nil e.server.ledger) }) refl
-front_tells readers told e (Ok (Some (line, rest))) =
-    tells_nothing told e.server _ (read_moves e.server (reading_of (readers.command line)))
-    (read_same e.server (reading_of (readers.command line)))
-front_tells readers told e (Err why) =
+front_tells told e (Ok (Some (line, rest))) =
+    tells_nothing told e.server _ (read_moves e.server (reading_of (command_of line)))
+    (read_same e.server (reading_of (command_of line)))
+front_tells told e (Err why) =
     tells_nothing told e.server e.server (record { on = refl; last = refl; ledger = sym (append-nil e.server.ledger) }) refl
 
 -- who has something to do is on a connection
@@ -255,24 +256,24 @@ acts_are_own n told p base b h = ap (acts_on n) h.ledger ∙ (acts_more n base h
     ∙ (ap (λ (l : List Act). l ++ acts_on n h.own) h.none ∙ all_on n h.own h.own_on))
 
 -- what a client has counted behind what it reads is the front of what the server did
-has_told : (readers : Readers) → AreReaders readers → (n : ℕ) (told : Bool) (p : Meaning) (base : List (ℕ × Act)) (b : World)
+has_told : (n : ℕ) (told : Bool) (p : Meaning) (base : List (ℕ × Act)) (b : World)
     → IsCarried b → can ClientReads b ≡ true → IsUnderWay n told p base b
-    → HasTold told (front_read readers b.client.client (next_of b.client.input.rest))
-has_told readers are n told p base b k may h =
-    let later : World = happens readers ClientReads b in
-    let c : IsCarried later = happens_carried readers are ClientReads b k may in
+    → HasTold told (front_read b.client.client (next_of b.client.input.rest))
+has_told n told p base b k may h =
+    let later : World = happens ClientReads b in
+    let c : IsCarried later = happens_carried ClientReads b k may in
     let front : IsFront later.client.client.table.tally.counted (acts_on later.client.client.last later.server.server.ledger) =
     told_now (lined later c.up c.down) c.inv in
-    let first : later.client.client.last ≡ n = read_last readers b.client.client (next_of b.client.input.rest) ∙ h.client.first in
+    let first : later.client.client.last ≡ n = read_last b.client.client (next_of b.client.input.rest) ∙ h.client.first in
     first_tells_front told later.client.client.table.tally.counted front.0
     (subst (FirstTells told) (sym (front.1 ∙ (ap (λ (i : ℕ). acts_on i b.server.server.ledger) first ∙ acts_are_own n told p base b h)))
     h.tells)
 
-stays_planned : (readers : Readers) → AreReaders readers → (n : ℕ) (told : Bool) (p : Meaning) (base : List (ℕ × Act))
+stays_planned : (n : ℕ) (told : Bool) (p : Meaning) (base : List (ℕ × Act))
     → AreAsked (followed told (steps_for p)) → (e : Event) (b : World) → IsUndisturbed e → IsCarried b
-    → can e b ≡ true → IsUnderWay n told p base b → IsUnderWay n told p base (happens readers e b)
-stays_planned readers are n told p base asked Connect b quiet k may h = absurd (false≢true (sym h.client.away ∙ (and_parts _ _ may).0))
-stays_planned readers are n told p base asked (Accept m) b quiet k may h =
+    → can e b ≡ true → IsUnderWay n told p base b → IsUnderWay n told p base (happens e b)
+stays_planned n told p base asked Connect b quiet k may h = absurd (false≢true (sym h.client.away ∙ (and_parts _ _ may).0))
+stays_planned n told p base asked (Accept m) b quiet k may h =
     let parts = and_parts _ _ may in
     let numbers = and_parts _ _ parts.1 in
     let is : m ≡ n = only_one b.server.server.last m b.client.client.last n (ltb-true _ _ numbers.0)
@@ -288,7 +289,7 @@ stays_planned readers are n told p base asked (Accept m) b quiet k may h =
       homed = h.homed;
       tells = h.tells;
     }
-stays_planned readers are n told p base asked ClientSends b quiet k may h = record {
+stays_planned n told p base asked ClientSends b quiet k may h = record {
   client = sends_stays n told p base b k h (due_is b.client.client may);
   serving = h.serving;
   near = h.near;
@@ -299,7 +300,7 @@ stays_planned readers are n told p base asked ClientSends b quiet k may h = reco
   homed = h.homed;
   tells = h.tells;
 }
-stays_planned readers are n told p base asked (Up i) b quiet k may h = record {
+stays_planned n told p base asked (Up i) b quiet k may h = record {
   client = h.client;
   serving = h.serving;
   near = h.near;
@@ -310,16 +311,16 @@ stays_planned readers are n told p base asked (Up i) b quiet k may h = record {
   homed = h.homed;
   tells = h.tells;
 }
-stays_planned readers are n told p base asked ServerReads b quiet k may h =
-    server_step n told p base b (front_served readers b.server (next_of b.server.input.rest)) h (and_parts _ _ may).0
-    (front_tells readers told b.server (next_of b.server.input.rest))
-stays_planned readers are n told p base asked ServerTurn b quiet k may h =
+stays_planned n told p base asked ServerReads b quiet k may h =
+    server_step n told p base b (front_served b.server (next_of b.server.input.rest)) h (and_parts _ _ may).0
+    (front_tells told b.server (next_of b.server.input.rest))
+stays_planned n told p base asked ServerTurn b quiet k may h =
     server_step n told p base b (serving_turned b.server) h (turn_on b k may)
     (turned_tells told b.server.server (next_homes_not n told p base b k h (turn_on b k may)))
-stays_planned readers are n told p base asked (Machine outcome) b quiet k may h =
+stays_planned n told p base asked (Machine outcome) b quiet k may h =
     server_step n told p base b (serving_machined outcome b.server) h (machine_on b outcome k may)
     (machined_tells told b.server.server outcome)
-stays_planned readers are n told p base asked (Down i) b quiet k may h = record {
+stays_planned n told p base asked (Down i) b quiet k may h = record {
   client = h.client;
   serving = h.serving;
   near = h.near;
@@ -330,9 +331,9 @@ stays_planned readers are n told p base asked (Down i) b quiet k may h = record 
   homed = h.homed;
   tells = h.tells;
 }
-stays_planned readers are n told p base asked ClientReads b quiet k may h = record {
-  client = front_on readers n told (steps_for p) b.client.client b.written (next_of b.client.input.rest) asked h.client
-      (has_told readers are n told p base b k may h);
+stays_planned n told p base asked ClientReads b quiet k may h = record {
+  client = front_on n told (steps_for p) b.client.client b.written (next_of b.client.input.rest) asked h.client
+      (has_told n told p base b k may h);
   serving = h.serving;
   near = h.near;
   own = h.own;
@@ -342,12 +343,12 @@ stays_planned readers are n told p base asked ClientReads b quiet k may h = reco
   homed = h.homed;
   tells = h.tells;
 }
-stays_planned readers are n told p base asked ClientLeaves b quiet k may h = absurd quiet
-stays_planned readers are n told p base asked ServerLeaves b quiet k may h = absurd quiet
-stays_planned readers are n told p base asked Abort b quiet k may h = absurd quiet
-stays_planned readers are n told p base asked Resume b quiet k may h = absurd quiet
-stays_planned readers are n told p base asked (ClientRestart i) b quiet k may h = absurd quiet
-stays_planned readers are n told p base asked ServerRestart b quiet k may h = absurd quiet
+stays_planned n told p base asked ClientLeaves b quiet k may h = absurd quiet
+stays_planned n told p base asked ServerLeaves b quiet k may h = absurd quiet
+stays_planned n told p base asked Abort b quiet k may h = absurd quiet
+stays_planned n told p base asked Resume b quiet k may h = absurd quiet
+stays_planned n told p base asked (ClientRestart i) b quiet k may h = absurd quiet
+stays_planned n told p base asked ServerRestart b quiet k may h = absurd quiet
 
 -- ---- events before it
 
@@ -373,29 +374,29 @@ begins n told p base b h =
       tells = tt;
     }
 
-starts_planned : (readers : Readers) (n : ℕ) (told : Bool) (p : Meaning) (base : List (ℕ × Act)) (e : Event) (b : World)
-    → IsUndisturbed e → IsCarried b → can e b ≡ true → IsAtStart n told p base b → IsUnderWay n told p base (happens readers e b)
-starts_planned readers n told p base Connect b quiet k may h = begins n told p base b h
-starts_planned readers n told p base (Accept m) b quiet k may h =
+starts_planned : (n : ℕ) (told : Bool) (p : Meaning) (base : List (ℕ × Act)) (e : Event) (b : World)
+    → IsUndisturbed e → IsCarried b → can e b ≡ true → IsAtStart n told p base b → IsUnderWay n told p base (happens e b)
+starts_planned n told p base Connect b quiet k may h = begins n told p base b h
+starts_planned n told p base (Accept m) b quiet k may h =
     let parts = and_parts _ _ may in
     let numbers = and_parts _ _ parts.1 in
     absurd (none_made b.server.server.last m b.client.client.last (ltb-true _ _ numbers.0)
     (subst (λ (i : ℕ). m ≤ i) k.wired.made (leb-true _ _ numbers.1)) h.taken)
-starts_planned readers n told p base ClientSends b quiet k may h = let d : IsDue b.client.client = due_is b.client.client may
+starts_planned n told p base ClientSends b quiet k may h = let d : IsDue b.client.client = due_is b.client.client may
     in absurd (false≢true (ap is_apart (sym d.running) ∙ ap is_apart h.apart))
-starts_planned readers n told p base (Up i) b quiet k may h = absurd (false≢true (sym h.server_off ∙ (and_parts _ _ may).0))
-starts_planned readers n told p base ServerReads b quiet k may h = absurd (false≢true (sym h.server_off ∙ (and_parts _ _ may).0))
-starts_planned readers n told p base ServerTurn b quiet k may h = absurd (false≢true (sym h.server_off ∙ turn_on b k may))
-starts_planned readers n told p base (Machine outcome) b quiet k may h =
+starts_planned n told p base (Up i) b quiet k may h = absurd (false≢true (sym h.server_off ∙ (and_parts _ _ may).0))
+starts_planned n told p base ServerReads b quiet k may h = absurd (false≢true (sym h.server_off ∙ (and_parts _ _ may).0))
+starts_planned n told p base ServerTurn b quiet k may h = absurd (false≢true (sym h.server_off ∙ turn_on b k may))
+starts_planned n told p base (Machine outcome) b quiet k may h =
     absurd (false≢true (sym h.server_off ∙ machine_on b outcome k may))
-starts_planned readers n told p base (Down i) b quiet k may h = absurd (false≢true (sym h.off ∙ (and_parts _ _ may).0))
-starts_planned readers n told p base ClientReads b quiet k may h = absurd (false≢true (sym h.off ∙ (and_parts _ _ may).0))
-starts_planned readers n told p base ClientLeaves b quiet k may h = absurd quiet
-starts_planned readers n told p base ServerLeaves b quiet k may h = absurd quiet
-starts_planned readers n told p base Abort b quiet k may h = absurd quiet
-starts_planned readers n told p base Resume b quiet k may h = absurd quiet
-starts_planned readers n told p base (ClientRestart i) b quiet k may h = absurd quiet
-starts_planned readers n told p base ServerRestart b quiet k may h = absurd quiet
+starts_planned n told p base (Down i) b quiet k may h = absurd (false≢true (sym h.off ∙ (and_parts _ _ may).0))
+starts_planned n told p base ClientReads b quiet k may h = absurd (false≢true (sym h.off ∙ (and_parts _ _ may).0))
+starts_planned n told p base ClientLeaves b quiet k may h = absurd quiet
+starts_planned n told p base ServerLeaves b quiet k may h = absurd quiet
+starts_planned n told p base Abort b quiet k may h = absurd quiet
+starts_planned n told p base Resume b quiet k may h = absurd quiet
+starts_planned n told p base (ClientRestart i) b quiet k may h = absurd quiet
+starts_planned n told p base ServerRestart b quiet k may h = absurd quiet
 
 -- ---- all of a list
 
@@ -403,36 +404,36 @@ record IsRunning (n : ℕ) (told : Bool) (p : Meaning) (base : List (ℕ × Act)
   pub carried : IsCarried b
   pub planned : IsPlanned n told p base b
 
-happens_planned : (readers : Readers) → AreReaders readers → (n : ℕ) (told : Bool) (p : Meaning) (base : List (ℕ × Act))
+happens_planned : (n : ℕ) (told : Bool) (p : Meaning) (base : List (ℕ × Act))
     → AreAsked (followed told (steps_for p)) → (e : Event) (b : World) → IsUndisturbed e → IsCarried b
-    → can e b ≡ true → IsPlanned n told p base b → IsPlanned n told p base (happens readers e b)
-happens_planned readers are n told p base asked e b quiet k may (inl h) = inr (starts_planned readers n told p base e b quiet k may h)
-happens_planned readers are n told p base asked e b quiet k may (inr h) =
-    inr (stays_planned readers are n told p base asked e b quiet k may h)
+    → can e b ≡ true → IsPlanned n told p base b → IsPlanned n told p base (happens e b)
+happens_planned n told p base asked e b quiet k may (inl h) = inr (starts_planned n told p base e b quiet k may h)
+happens_planned n told p base asked e b quiet k may (inr h) =
+    inr (stays_planned n told p base asked e b quiet k may h)
 
-after_planned : (readers : Readers) → AreReaders readers → (n : ℕ) (told : Bool) (p : Meaning) (base : List (ℕ × Act))
+after_planned : (n : ℕ) (told : Bool) (p : Meaning) (base : List (ℕ × Act))
     → AreAsked (followed told (steps_for p)) → (e : Event) (b : World)
-    → IsUndisturbed e → IsRunning n told p base b → (t : Bool) → can e b ≡ t → IsRunning n told p base (cond t (happens readers e b) b)
-after_planned readers are n told p base asked e b quiet h true may = record {
-  carried = happens_carried readers are e b h.carried may;
-  planned = happens_planned readers are n told p base asked e b quiet h.carried may h.planned;
+    → IsUndisturbed e → IsRunning n told p base b → (t : Bool) → can e b ≡ t → IsRunning n told p base (cond t (happens e b) b)
+after_planned n told p base asked e b quiet h true may = record {
+  carried = happens_carried e b h.carried may;
+  planned = happens_planned n told p base asked e b quiet h.carried may h.planned;
 }
-after_planned readers are n told p base asked e b quiet h false may = h
+after_planned n told p base asked e b quiet h false may = h
 
-run_planned : (readers : Readers) → AreReaders readers → (n : ℕ) (told : Bool) (p : Meaning) (base : List (ℕ × Act))
+run_planned : (n : ℕ) (told : Bool) (p : Meaning) (base : List (ℕ × Act))
     → AreAsked (followed told (steps_for p)) → (es : List Event) (b : World)
-    → AreUndisturbed es → IsRunning n told p base b → IsRunning n told p base (run_of readers es b)
-run_planned readers are n told p base asked [] b quiet h = h
-run_planned readers are n told p base asked (e ∷ es) b quiet h = run_planned readers are n told p base asked es (after readers e b) quiet.1
-    (after_planned readers are n told p base asked e b quiet.0 h (can e b) refl)
+    → AreUndisturbed es → IsRunning n told p base b → IsRunning n told p base (run_of es b)
+run_planned n told p base asked [] b quiet h = h
+run_planned n told p base asked (e ∷ es) b quiet h = run_planned n told p base asked es (after e b) quiet.1
+    (after_planned n told p base asked e b quiet.0 h (can e b) refl)
 
 steps_asked : (p : Meaning) → IsProgram p → AreAsked (steps_for p)
 steps_asked p program = fits_asked (steps_for p) unknown (plan_fits p 0 Start.NewConnection unknown (program_is_plain p program))
 
-from_start : (readers : Readers) → AreReaders readers → (p : Meaning) (rack : List (List ℕ)) (window : ℕ) (es : List Event) → IsProgram p
-    → window ≤ 16 → AreUndisturbed es → IsRunning 1 false p [] (run_of readers es (start p rack window))
-from_start readers are p rack window es program le quiet =
-    run_planned readers are 1 false p [] (steps_asked p program) es (start p rack window) quiet
+from_start : (p : Meaning) (rack : List (List ℕ)) (window : ℕ) (es : List Event) → IsProgram p
+    → window ≤ 16 → AreUndisturbed es → IsRunning 1 false p [] (run_of es (start p rack window))
+from_start p rack window es program le quiet =
+    run_planned 1 false p [] (steps_asked p program) es (start p rack window) quiet
     (record {
       carried = start_carried p rack window program le;
       planned = inl (record {
@@ -508,29 +509,29 @@ counted_acts p b k (inr h) =
     record { more = told.0; parts = told.1 ∙ acts_are_on p b h }
 
 -- the lines that are written are the first of the plan
-pub undisturbed_lines : (readers : Readers) → AreReaders readers → (p : Meaning) (rack : List (List ℕ)) (window : ℕ) (es : List Event)
+pub undisturbed_lines : (p : Meaning) (rack : List (List ℕ)) (window : ℕ) (es : List Event)
     → IsProgram p → window ≤ 16 → AreUndisturbed es
-    → AreFirstLines (run_of readers es (start p rack window)).written (plan p 0 Start.NewConnection)
-undisturbed_lines readers are p rack window es program le quiet =
-    first_lines 1 false p [] (run_of readers es (start p rack window))
-    (from_start readers are p rack window es program le quiet).planned
+    → AreFirstLines (run_of es (start p rack window)).written (plan p 0 Start.NewConnection)
+undisturbed_lines p rack window es program le quiet =
+    first_lines 1 false p [] (run_of es (start p rack window))
+    (from_start p rack window es program le quiet).planned
 
 -- the acts of the server are the first that the plan stands for
-pub undisturbed_acts : (readers : Readers) → AreReaders readers → (p : Meaning) (rack : List (List ℕ)) (window : ℕ) (es : List Event)
+pub undisturbed_acts : (p : Meaning) (rack : List (List ℕ)) (window : ℕ) (es : List Event)
     → IsProgram p → window ≤ 16 → AreUndisturbed es
-    → AreFirstActs (acts_in (run_of readers es (start p rack window)).server.server.ledger) (acts_planned (plan p 0 Start.NewConnection))
-undisturbed_acts readers are p rack window es program le quiet =
-    let h : IsRunning 1 false p [] (run_of readers es (start p rack window)) = from_start readers are p rack window es program le quiet in
-    done_acts p (run_of readers es (start p rack window)) (steps_asked p program) h.carried h.planned
+    → AreFirstActs (acts_in (run_of es (start p rack window)).server.server.ledger) (acts_planned (plan p 0 Start.NewConnection))
+undisturbed_acts p rack window es program le quiet =
+    let h : IsRunning 1 false p [] (run_of es (start p rack window)) = from_start p rack window es program le quiet in
+    done_acts p (run_of es (start p rack window)) (steps_asked p program) h.carried h.planned
 
 -- what is counted is the front of these acts
-pub undisturbed_counts : (readers : Readers) → AreReaders readers → (p : Meaning) (rack : List (List ℕ)) (window : ℕ) (es : List Event)
+pub undisturbed_counts : (p : Meaning) (rack : List (List ℕ)) (window : ℕ) (es : List Event)
     → IsProgram p → window ≤ 16 → AreUndisturbed es
-    → AreFirstOf (run_of readers es (start p rack window)).client.client.table.tally.counted
-    (acts_in (run_of readers es (start p rack window)).server.server.ledger)
-undisturbed_counts readers are p rack window es program le quiet =
-    let h : IsRunning 1 false p [] (run_of readers es (start p rack window)) = from_start readers are p rack window es program le quiet in
-    counted_acts p (run_of readers es (start p rack window)) h.carried h.planned
+    → AreFirstOf (run_of es (start p rack window)).client.client.table.tally.counted
+    (acts_in (run_of es (start p rack window)).server.server.ledger)
+undisturbed_counts p rack window es program le quiet =
+    let h : IsRunning 1 false p [] (run_of es (start p rack window)) = from_start p rack window es program le quiet in
+    counted_acts p (run_of es (start p rack window)) h.carried h.planned
 
 -- ---- a machine that is homed
 
@@ -588,12 +589,12 @@ without_asked (p ∷ ps) h = go (is_homing p.command) refl (without_asked ps h.1
         (h.0, later)
 
 -- the lines that are written there are the first of the plan without its homing
-pub homed_lines : (readers : Readers) → AreReaders readers → (p : Meaning) (window : ℕ) (s : ServerEnd) (links : List Link)
+pub homed_lines : (p : Meaning) (window : ℕ) (s : ServerEnd) (links : List Link)
     (es : List Event) → IsProgram p → window ≤ 16 → IsHomedOff s links → AreUndisturbed es
-    → AreFirstLines (run_of readers es (met p window s links)).written (followed true (plan p 0 Start.NewConnection))
-homed_lines readers are p window s links es program le h quiet =
-    first_lines (suc s.server.last) true p s.server.ledger (run_of readers es (met p window s links))
-    (run_planned readers are (suc s.server.last) true p s.server.ledger (without_asked (steps_for p) (steps_asked p program)) es
+    → AreFirstLines (run_of es (met p window s links)).written (followed true (plan p 0 Start.NewConnection))
+homed_lines p window s links es program le h quiet =
+    first_lines (suc s.server.last) true p s.server.ledger (run_of es (met p window s links))
+    (run_planned (suc s.server.last) true p s.server.ledger (without_asked (steps_for p) (steps_asked p program)) es
     (met p window s links) quiet (record {
       carried = met_carried p window s links program le h;
       planned = inl (record {

@@ -7,7 +7,7 @@ use Rattle.line_framing.specs.Framing.{Framing, no_bytes, fed, fed_behind}
 use Rattle.line_framing.specs.declared.faults.FramingFault.{FramingFault}
 use Rattle.contact_ledger.specs.declared.acts.Act.{Act}
 use Rattle.protocol_model.specs.Replies.{Reply}
-use Rattle.protocol_model.specs.Lines.{Readers, AreReaders, command_bytes, reply_bytes, reading_of, command_text}
+use Rattle.protocol_model.specs.Lines.{command_bytes, reply_bytes, reading_of, command_text}
 use Rattle.protocol_model.specs.Client.{Client}
 use Rattle.protocol_model.specs.Server.{Server, Answer, server_read, server_turned, server_machined, may_end}
 use Rattle.protocol_model.specs.Ends.{ServerEnd, with_answer, front_served, serving_read, serving_turned, serving_machined}
@@ -25,6 +25,7 @@ use Rattle.protocol_model.proofs.whole_run.Wires.{IsWhole, IsWired, wired_answer
 use Rattle.protocol_model.proofs.written_lines.LineTaking.{NextCommand, next_command}
 use Rattle.protocol_model.specs.declared.lines.Line.{Line}
 use Rattle.protocol_model.specs.declared.machine.Outcome.{Outcome}
+use Rattle.protocol_model.specs.Readings.{command_of}
 
 -- both ends, with the lines that are on their way on the client's last connection
 abbrev pub lined : World → List Line → List Reply → Lined
@@ -138,19 +139,19 @@ shorter b h line rest on next up here elsewhere serves writable = record {
   serves = λ e. serves;
 }
 
-serving_is : (readers : Readers) → AreReaders readers → (e : ServerEnd) (line rest : List ℕ) (l : Line)
+serving_is : (e : ServerEnd) (line rest : List ℕ) (l : Line)
     → next_of e.input.rest ≡ Ok (Some (line, rest)) → line ≡ command_text l
     → Rattle.dme_line.specs.Written.IsWritable l.tag l.command
-    → serving_read readers e ≡ with_answer e (record { rest = rest; fault = e.input.fault }) (server_read e.server (Ok l))
-serving_is readers are e line rest l next text w =
-    let read : readers.command line ≡ Ok (l.tag, l.command) = ap readers.command text ∙ command_read readers are l.tag l.command w in
-    ap (front_served readers e) next ∙ ap (λ (r : Result _ _). with_answer e (record { rest = rest; fault = e.input.fault })
+    → serving_read e ≡ with_answer e (record { rest = rest; fault = e.input.fault }) (server_read e.server (Ok l))
+serving_is e line rest l next text w =
+    let read : command_of line ≡ Ok (l.tag, l.command) = ap command_of text ∙ command_read l.tag l.command w in
+    ap (front_served e) next ∙ ap (λ (r : Result _ _). with_answer e (record { rest = rest; fault = e.input.fault })
     (server_read e.server (reading_of r))) read
 
 -- a server on a connection reads the line at the front of its bytes, and what both ends carry is kept
-pub reads_carried : (readers : Readers) → AreReaders readers → (b : World) (h : IsCarried b) → b.server.server.on ≡ true
-    → is_line (next_of b.server.input.rest) ≡ true → IsCarried (server_writes b (serving_read readers b.server))
-reads_carried readers are b h on due = go (next_of b.server.input.rest) refl due
+pub reads_carried : (b : World) (h : IsCarried b) → b.server.server.on ≡ true
+    → is_line (next_of b.server.input.rest) ≡ true → IsCarried (server_writes b (serving_read b.server))
+reads_carried b h on due = go (next_of b.server.input.rest) refl due
   where
     s : Server
     s = b.server.server
@@ -159,7 +160,7 @@ reads_carried readers are b h on due = go (next_of b.server.input.rest) refl due
     n = b.client.client.last
 
     at_it : (line rest : List ℕ) → next_of b.server.input.rest ≡ Ok (Some (line, rest)) → (same : Bool)
-        → eqb b.server.server.last b.client.client.last ≡ same → IsCarried (server_writes b (serving_read readers b.server))
+        → eqb b.server.server.last b.client.client.last ≡ same → IsCarried (server_writes b (serving_read b.server))
     at_it line rest next true same =
         let equal : b.server.server.last ≡ b.client.client.last = eqb-true _ _ same in
         let t : NextCommand h.up line rest (link_of b.links n).up =
@@ -168,7 +169,7 @@ reads_carried readers are b h on due = go (next_of b.server.input.rest) refl due
         let inv : Inv (answered (lined b (t.first ∷ t.others) h.down) t.others (server_read s (Ok t.first))) =
         reads_event (lined b (t.first ∷ t.others) h.down) (subst (λ (ls : List Line). Inv (lined b ls h.down)) t.lines_are h.inv) on same in
         subst IsCarried (ap (λ (e : ServerEnd). server_writes b e)
-        (sym (serving_is readers are b.server line rest t.first next t.text writable.0)))
+        (sym (serving_is b.server line rest t.first next t.text writable.0)))
         (answer_carried b h t.others rest (server_read s (Ok t.first)) [] on (read_moves s (Ok t.first))
         (read_plain s t.first h.server writable.0)
         (shorter b h line rest on next t.others (λ e. t.behind) (λ lt. absurd (apart equal lt))
@@ -184,14 +185,14 @@ reads_carried readers are b h on due = go (next_of b.server.input.rest) refl due
         let writable = subst Rattle.protocol_model.proofs.written_lines.Writable.AreWritable t.lines_are whole.writable in
         let differs : b.server.server.last ≡ b.client.client.last → ⊥ = eqb-false _ _ other in
         subst IsCarried (ap (λ (e : ServerEnd). server_writes b e)
-        (sym (serving_is readers are b.server line rest t.first next t.text writable.0)))
+        (sym (serving_is b.server line rest t.first next t.text writable.0)))
         (answer_carried b h h.up rest (server_read s (Ok t.first)) [] on (read_moves s (Ok t.first))
         (read_plain s t.first h.server writable.0)
         (shorter b h line rest on next h.up (λ e. absurd (differs e)) (λ lt. refl)
         (record { lines = t.others; writable = writable.1; is = t.behind }) h.wired.lines)
         (reads_old_event (lined b h.up h.down) (Ok t.first) h.inv on other))
 
-    go : (f : Front) → next_of b.server.input.rest ≡ f → is_line f ≡ true → IsCarried (server_writes b (serving_read readers b.server))
+    go : (f : Front) → next_of b.server.input.rest ≡ f → is_line f ≡ true → IsCarried (server_writes b (serving_read b.server))
     go (Ok None) e is = absurd (false≢true is)
     go (Ok (Some (line, rest))) e is = at_it line rest e (eqb b.server.server.last b.client.client.last) refl
     go (Err why) e is = absurd (false≢true is)
@@ -207,10 +208,10 @@ pub record ReadsFirst (b : World) (h : IsCarried b) (v : World) : Type 0 where
   pub client_is : v.client ≡ b.client
   pub server_is : v.server.server ≡ (server_read b.server.server (Ok first)).server
 
-pub reads_first : (readers : Readers) → AreReaders readers → (b : World) (h : IsCarried b) → b.server.server.on ≡ true
+pub reads_first : (b : World) (h : IsCarried b) → b.server.server.on ≡ true
     → b.server.server.last ≡ b.client.client.last → is_line (next_of b.server.input.rest) ≡ true
-    → ReadsFirst b h (server_writes b (serving_read readers b.server))
-reads_first readers are b h on equal due = go (next_of b.server.input.rest) refl due
+    → ReadsFirst b h (server_writes b (serving_read b.server))
+reads_first b h on equal due = go (next_of b.server.input.rest) refl due
   where
     s : Server
     s = b.server.server
@@ -222,7 +223,7 @@ reads_first readers are b h on equal due = go (next_of b.server.input.rest) refl
     apart lt = let e : b.server.server.last ≡ b.client.client.last = equal in omega (arith, e)
 
     line_case : (line rest : List ℕ) → next_of b.server.input.rest ≡ Ok (Some (line, rest))
-        → ReadsFirst b h (server_writes b (serving_read readers b.server))
+        → ReadsFirst b h (server_writes b (serving_read b.server))
     line_case line rest next =
         let t : NextCommand h.up line rest (link_of b.links n).up =
         next_command h.up b.server.input.rest (link_of b.links n).up line rest h.wired.lines (h.wired.newest_serves on equal) next in
@@ -231,7 +232,7 @@ reads_first readers are b h on equal due = go (next_of b.server.input.rest) refl
         reads_event (lined b (t.first ∷ t.others) h.down) (subst (λ (ls : List Line). Inv (lined b ls h.down)) t.lines_are h.inv) on
         (eq-eqb _ _ equal) in
         subst (λ (e : ServerEnd). ReadsFirst b h (server_writes b e))
-        (sym (serving_is readers are b.server line rest t.first next t.text writable.0))
+        (sym (serving_is b.server line rest t.first next t.text writable.0))
         (record {
           first = t.first;
           others = t.others;
@@ -247,7 +248,7 @@ reads_first readers are b h on equal due = go (next_of b.server.input.rest) refl
         })
 
     go : (f : Front) → next_of b.server.input.rest ≡ f → is_line f ≡ true
-        → ReadsFirst b h (server_writes b (serving_read readers b.server))
+        → ReadsFirst b h (server_writes b (serving_read b.server))
     go (Ok None) e is = absurd (false≢true is)
     go (Ok (Some (line, rest))) e is = line_case line rest e
     go (Err why) e is = absurd (false≢true is)

@@ -4,10 +4,11 @@ use Rattle.std.proofs.Common.{ap, subst, Option, Some, None, is_some, Result, Ok
 use Rattle.std.proofs.lemmas.Bool.{false≢true, and_parts, ltb-true, leb-true}
 use Rattle.dme_line.specs.declared.tags.Tag.{Tag}
 use Rattle.dme_line.specs.declared.tags.Tag.TheVariants.{Std, Event}
+use Rattle.protocol_model.specs.Readings.{response_of}
 use Rattle.line_framing.specs.Next.{Front, next_of}
 use Rattle.line_framing.specs.Framing.{Framing, no_bytes, left_by}
 use Rattle.protocol_model.specs.Replies.{Reply, Mark, tag_of, mark_of, tag_is}
-use Rattle.protocol_model.specs.Lines.{Readers, AreReaders, command_bytes, reply_bytes}
+use Rattle.protocol_model.specs.Lines.{command_bytes, reply_bytes}
 use Rattle.protocol_model.specs.Client.{Client, Table, Sends, due, may_abort, may_resume, client_sent, client_aborted, client_read}
 use Rattle.protocol_model.specs.Client.{client_hears, heard_on, sends_next, sends_abort, next_number}
 use Rattle.protocol_model.specs.Server.{Server, server_accepted, server_left}
@@ -333,23 +334,23 @@ heard_carried b h r others rest on down_is behind =
     }
 
 -- a client reads what stands at the front of its bytes, which is a reply and no fault, and what both ends carry is kept
-pub hears_carried : (readers : Readers) → AreReaders readers → (b : World) (h : IsCarried b) → b.client.client.on ≡ true
-    → is_any (next_of b.client.input.rest) ≡ true → IsCarried (record b { client = end_read readers b.client })
-hears_carried readers are b h on due_now = go (next_of b.client.input.rest) refl due_now
+pub hears_carried : (b : World) (h : IsCarried b) → b.client.client.on ≡ true
+    → is_any (next_of b.client.input.rest) ≡ true → IsCarried (record b { client = end_read b.client })
+hears_carried b h on due_now = go (next_of b.client.input.rest) refl due_now
   where
     bytes : b.client.input.rest ++ (client_link b).down ≡ reply_bytes h.down
     bytes = h.wired.down_is on
 
     line_case : (line rest : List ℕ) → next_of b.client.input.rest ≡ Ok (Some (line, rest))
-        → IsCarried (record b { client = end_read readers b.client })
+        → IsCarried (record b { client = end_read b.client })
     line_case line rest next =
         let t : NextReply h.down line rest (client_link b).down =
         next_reply h.down b.client.input.rest (client_link b).down line rest h.wired.replies bytes next in
         let replies = subst Rattle.protocol_model.proofs.written_lines.Writable.AreReplies t.replies_are h.wired.replies in
-        let client_is : front_read readers b.client.client (next_of b.client.input.rest)
+        let client_is : front_read b.client.client (next_of b.client.input.rest)
         ≡ client_read b.client.client (tag_of t.first) (mark_of t.first) =
-        ap (front_read readers b.client.client) next ∙ (ap (λ (l : List ℕ). line_read readers b.client.client (readers.response l)) t.text
-        ∙ reply_heard readers are b.client.client t.first replies.0 (first_has_place b h t.first t.others on t.replies_are)) in
+        ap (front_read b.client.client) next ∙ (ap (λ (l : List ℕ). line_read b.client.client (response_of l)) t.text
+        ∙ reply_heard b.client.client t.first replies.0 (first_has_place b h t.first t.others on t.replies_are)) in
         let input_is : left_by (next_of b.client.input.rest) b.client.input ≡ record { rest = rest; fault = b.client.input.fault } =
         ap (λ (f : Front). left_by f b.client.input) next in
         subst (λ (c : Client). IsCarried (record b {
@@ -365,7 +366,7 @@ hears_carried readers are b h on due_now = go (next_of b.client.input.rest) refl
         })) (sym input_is)
         (heard_carried b h t.first t.others rest on t.replies_are t.behind))
 
-    go : (f : Front) → next_of b.client.input.rest ≡ f → is_any f ≡ true → IsCarried (record b { client = end_read readers b.client })
+    go : (f : Front) → next_of b.client.input.rest ≡ f → is_any f ≡ true → IsCarried (record b { client = end_read b.client })
     go (Ok None) e is = absurd (false≢true is)
     go (Ok (Some (line, rest))) e is = line_case line rest e
     go (Err why) e is = absurd (no_reply_fault h.down b.client.input.rest (client_link b).down why h.wired.replies bytes e)
@@ -380,23 +381,23 @@ pub record HearsFirst (b : World) (h : IsCarried b) (v : World) : Type 0 where
   pub server_is : v.server ≡ b.server
   pub client_is : v.client.client ≡ client_read b.client.client (tag_of first) (mark_of first)
 
-pub hears_first : (readers : Readers) → AreReaders readers → (b : World) (h : IsCarried b) → b.client.client.on ≡ true
-    → is_any (next_of b.client.input.rest) ≡ true → HearsFirst b h (record b { client = end_read readers b.client })
-hears_first readers are b h on due_now = go (next_of b.client.input.rest) refl due_now
+pub hears_first : (b : World) (h : IsCarried b) → b.client.client.on ≡ true
+    → is_any (next_of b.client.input.rest) ≡ true → HearsFirst b h (record b { client = end_read b.client })
+hears_first b h on due_now = go (next_of b.client.input.rest) refl due_now
   where
     bytes : b.client.input.rest ++ (client_link b).down ≡ reply_bytes h.down
     bytes = h.wired.down_is on
 
     line_case : (line rest : List ℕ) → next_of b.client.input.rest ≡ Ok (Some (line, rest))
-        → HearsFirst b h (record b { client = end_read readers b.client })
+        → HearsFirst b h (record b { client = end_read b.client })
     line_case line rest next =
         let t : NextReply h.down line rest (client_link b).down =
         next_reply h.down b.client.input.rest (client_link b).down line rest h.wired.replies bytes next in
         let replies = subst Rattle.protocol_model.proofs.written_lines.Writable.AreReplies t.replies_are h.wired.replies in
-        let client_is : front_read readers b.client.client (next_of b.client.input.rest)
+        let client_is : front_read b.client.client (next_of b.client.input.rest)
         ≡ client_read b.client.client (tag_of t.first) (mark_of t.first) =
-        ap (front_read readers b.client.client) next ∙ (ap (λ (l : List ℕ). line_read readers b.client.client (readers.response l)) t.text
-        ∙ reply_heard readers are b.client.client t.first replies.0 (first_has_place b h t.first t.others on t.replies_are)) in
+        ap (front_read b.client.client) next ∙ (ap (λ (l : List ℕ). line_read b.client.client (response_of l)) t.text
+        ∙ reply_heard b.client.client t.first replies.0 (first_has_place b h t.first t.others on t.replies_are)) in
         let input_is : left_by (next_of b.client.input.rest) b.client.input ≡ record { rest = rest; fault = b.client.input.fault } =
         ap (λ (f : Front). left_by f b.client.input) next in
         subst (λ (c : Client). HearsFirst b h (record b {
@@ -421,7 +422,7 @@ hears_first readers are b h on due_now = go (next_of b.client.input.rest) refl d
         }))
 
     go : (f : Front) → next_of b.client.input.rest ≡ f → is_any f ≡ true
-        → HearsFirst b h (record b { client = end_read readers b.client })
+        → HearsFirst b h (record b { client = end_read b.client })
     go (Ok None) e is = absurd (false≢true is)
     go (Ok (Some (line, rest))) e is = line_case line rest e
     go (Err why) e is = absurd (no_reply_fault h.down b.client.input.rest (client_link b).down why h.wired.replies bytes e)

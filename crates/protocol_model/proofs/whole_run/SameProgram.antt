@@ -11,11 +11,11 @@ use Rattle.dme_line.specs.declared.responses.Mark.{Mark as Marked}
 use Rattle.dme_line.specs.declared.responses.Mark.TheVariants as mark
 use Rattle.dme_line.specs.declared.responses.Response.{Response}
 use Rattle.dme_line.specs.declared.responses.NotResponse.{NotResponse}
+use Rattle.protocol_model.specs.Readings.{response_of, point_of, homed_of}
 use Rattle.fixed_um.specs.declared.lengths.Point.{Point}
 use Rattle.line_framing.specs.Next.{Front, next_of}
 use Rattle.line_framing.specs.declared.faults.FramingFault.TheVariants as framing
 use Rattle.protocol_model.specs.Replies.{Mark, tag_is}
-use Rattle.protocol_model.specs.Lines.{Readers}
 use Rattle.protocol_model.specs.Client.{Client, Table, sends_next, sends_abort, next_number, client_hears, client_read, heard_on}
 use Rattle.protocol_model.specs.Ends.{held_under, given_point, given_homed, given_for, given_under, response_read, line_read, front_read}
 use Rattle.protocol_model.specs.World.{World, can, happens, after, run_of}
@@ -64,71 +64,71 @@ homed_same : (c : Client) (t : Tag) (r : Result Bool NotHomedText) → Same c (g
 homed_same c t (Ok homed) = read_same c t (Mark.Given (datum.Homed homed))
 homed_same c t (Err why) = refl
 
-for_same : (readers : Readers) (c : Client) (t : Tag) (text : List ℕ) (k : Kind) → Same c (given_for readers c t text k)
-for_same readers c t text kind.PtMeas = point_same c t (readers.point text)
-for_same readers c t text kind.IsHomed = homed_same c t (readers.homed text)
-for_same readers c t text kind.StartSession = refl
-for_same readers c t text kind.EndSession = refl
-for_same readers c t text kind.ClearAllErrors = refl
-for_same readers c t text kind.Home = refl
-for_same readers c t text kind.OnPtMeasReport = refl
-for_same readers c t text kind.GoTo = refl
-for_same readers c t text kind.ChangeTool = refl
-for_same readers c t text kind.SetCsyTransformation = refl
-for_same readers c t text kind.SetCoordSystem = refl
-for_same readers c t text kind.AbortE = refl
+for_same : (c : Client) (t : Tag) (text : List ℕ) (k : Kind) → Same c (given_for c t text k)
+for_same c t text kind.PtMeas = point_same c t (point_of text)
+for_same c t text kind.IsHomed = homed_same c t (homed_of text)
+for_same c t text kind.StartSession = refl
+for_same c t text kind.EndSession = refl
+for_same c t text kind.ClearAllErrors = refl
+for_same c t text kind.Home = refl
+for_same c t text kind.OnPtMeasReport = refl
+for_same c t text kind.GoTo = refl
+for_same c t text kind.ChangeTool = refl
+for_same c t text kind.SetCsyTransformation = refl
+for_same c t text kind.SetCoordSystem = refl
+for_same c t text kind.AbortE = refl
 
-under_same : (readers : Readers) (c : Client) (t : Tag) (text : List ℕ) (kind : Option Kind) → Same c (given_under readers c t text kind)
-under_same readers c t text None = refl
-under_same readers c t text (Some k) = for_same readers c t text k
+under_same : (c : Client) (t : Tag) (text : List ℕ) (kind : Option Kind) → Same c (given_under c t text kind)
+under_same c t text None = refl
+under_same c t text (Some k) = for_same c t text k
 
-response_same : (readers : Readers) (c : Client) (t : Tag) (m : Marked) → Same c (response_read readers c t m)
-response_same readers c t mark.Ack = read_same c t Mark.Ack
-response_same readers c t (mark.Given text) = one_of c (tag_is t (tag.Event 0)) c (given_under readers c t text (held_under t c)) refl
-    (under_same readers c t text (held_under t c))
-response_same readers c t mark.Done = read_same c t Mark.Done
-response_same readers c t (mark.Error text) = read_same c t Mark.Error
+response_same : (c : Client) (t : Tag) (m : Marked) → Same c (response_read c t m)
+response_same c t mark.Ack = read_same c t Mark.Ack
+response_same c t (mark.Given text) = one_of c (tag_is t (tag.Event 0)) c (given_under c t text (held_under t c)) refl
+    (under_same c t text (held_under t c))
+response_same c t mark.Done = read_same c t Mark.Done
+response_same c t (mark.Error text) = read_same c t Mark.Error
 
-line_same : (readers : Readers) (c : Client) (r : Result Response NotResponse) → Same c (line_read readers c r)
-line_same readers c (Ok r) = response_same readers c r.tag r.mark
-line_same readers c (Err refused) = refl
+line_same : (c : Client) (r : Result Response NotResponse) → Same c (line_read c r)
+line_same c (Ok r) = response_same c r.tag r.mark
+line_same c (Err refused) = refl
 
-front_same : (readers : Readers) (c : Client) (f : Front) → Same c (front_read readers c f)
-front_same readers c (Ok None) = refl
-front_same readers c (Ok (Some (line, rest))) = line_same readers c (readers.response line)
-front_same readers c (Err framing.LineTooLong) = refl
-front_same readers c (Err framing.BadByte) = refl
+front_same : (c : Client) (f : Front) → Same c (front_read c f)
+front_same c (Ok None) = refl
+front_same c (Ok (Some (line, rest))) = line_same c (response_of line)
+front_same c (Err framing.LineTooLong) = refl
+front_same c (Err framing.BadByte) = refl
 
-happens_same : (readers : Readers) (e : Event) (b : World) → Same b.client.client (happens readers e b).client.client
-happens_same readers Connect b = refl
-happens_same readers (Accept n) b = refl
-happens_same readers ClientSends b = sends_same b.client.client b.client.client.table.tally.unsent
+happens_same : (e : Event) (b : World) → Same b.client.client (happens e b).client.client
+happens_same Connect b = refl
+happens_same (Accept n) b = refl
+happens_same ClientSends b = sends_same b.client.client b.client.client.table.tally.unsent
     (next_number tag.Std b.client.client.table.standard b.client.client.drawn)
-happens_same readers (Up k) b = refl
-happens_same readers ServerReads b = refl
-happens_same readers ServerTurn b = refl
-happens_same readers (Machine outcome) b = refl
-happens_same readers (Down k) b = refl
-happens_same readers ClientReads b = front_same readers b.client.client (next_of b.client.input.rest)
-happens_same readers ClientLeaves b = refl
-happens_same readers ServerLeaves b = refl
-happens_same readers Abort b = aborts_same b.client.client (next_number tag.Event b.client.client.table.event b.client.client.event_drawn)
-happens_same readers Resume b = refl
-happens_same readers (ClientRestart k) b = refl
-happens_same readers ServerRestart b = refl
+happens_same (Up k) b = refl
+happens_same ServerReads b = refl
+happens_same ServerTurn b = refl
+happens_same (Machine outcome) b = refl
+happens_same (Down k) b = refl
+happens_same ClientReads b = front_same b.client.client (next_of b.client.input.rest)
+happens_same ClientLeaves b = refl
+happens_same ServerLeaves b = refl
+happens_same Abort b = aborts_same b.client.client (next_number tag.Event b.client.client.table.event b.client.client.event_drawn)
+happens_same Resume b = refl
+happens_same (ClientRestart k) b = refl
+happens_same ServerRestart b = refl
 
-after_same : (readers : Readers) (e : Event) (b : World) (t : Bool) → Same b.client.client (cond t (happens readers e b) b).client.client
-after_same readers e b true = happens_same readers e b
-after_same readers e b false = refl
+after_same : (e : Event) (b : World) (t : Bool) → Same b.client.client (cond t (happens e b) b).client.client
+after_same e b true = happens_same e b
+after_same e b false = refl
 
-runs_same : (readers : Readers) (es : List Event) (b : World) → Same b.client.client (run_of readers es b).client.client
-runs_same readers [] b = refl
-runs_same readers (e ∷ es) b = runs_same readers es (after readers e b) ∙ after_same readers e b (can e b)
+runs_same : (es : List Event) (b : World) → Same b.client.client (run_of es b).client.client
+runs_same [] b = refl
+runs_same (e ∷ es) b = runs_same es (after e b) ∙ after_same e b (can e b)
 
 -- after any list of events the client has the program that it had before
-pub run_same : (readers : Readers) (es : List Event) (b : World) → (run_of readers es b).client.client.program ≡ b.client.client.program
-run_same readers es b = ap (λ (k : Meaning × ℕ). k.0) (runs_same readers es b)
+pub run_same : (es : List Event) (b : World) → (run_of es b).client.client.program ≡ b.client.client.program
+run_same es b = ap (λ (k : Meaning × ℕ). k.0) (runs_same es b)
 
 -- and as many commands may be open as before
-pub run_window : (readers : Readers) (es : List Event) (b : World) → (run_of readers es b).client.client.window ≡ b.client.client.window
-run_window readers es b = ap (λ (k : Meaning × ℕ). k.1) (runs_same readers es b)
+pub run_window : (es : List Event) (b : World) → (run_of es b).client.client.window ≡ b.client.client.window
+run_window es b = ap (λ (k : Meaning × ℕ). k.1) (runs_same es b)

@@ -3,7 +3,6 @@ use Rattle.std.proofs.Common.{◌≡◌, ◌≢◌, ℕ, suc, ◌≤◌, Bool, t
 use Rattle.std.proofs.lemmas.Bool.{false≢true, and_parts}
 use Rattle.dmis_program.specs.Meaning.{Meaning}
 use Rattle.dmis_program.specs.Programs.{IsProgram}
-use Rattle.protocol_model.specs.Lines.{Readers, AreReaders}
 use Rattle.protocol_model.specs.Server.{may_end}
 use Rattle.protocol_model.specs.Claims.{Sound, Told}
 use Rattle.protocol_model.specs.World.{World, start, can, happens, after, run_of}
@@ -27,40 +26,40 @@ use Rattle.protocol_model.specs.declared.lines.Line.{Line}
 use Rattle.protocol_model.specs.declared.states.State.{State}
 
 -- every event that can happen keeps what both ends with their bytes carry
-pub happens_carried : (readers : Readers) → AreReaders readers → (e : Event) (b : World) → IsCarried b → can e b ≡ true
-    → IsCarried (happens readers e b)
-happens_carried readers are Connect b h can = connect_carried b h
-happens_carried readers are (Accept n) b h can = accept_carried b n h can
-happens_carried readers are ClientSends b h can = sends_carried b h can
-happens_carried readers are (Up k) b h can = up_carried b k h (and_parts _ _ can).0
-happens_carried readers are ServerReads b h can = let parts = and_parts _ _ can
-    in reads_carried readers are b h parts.0 (and_parts _ _ parts.1).1
-happens_carried readers are ServerTurn b h can =
+pub happens_carried : (e : Event) (b : World) → IsCarried b → can e b ≡ true
+    → IsCarried (happens e b)
+happens_carried Connect b h can = connect_carried b h
+happens_carried (Accept n) b h can = accept_carried b n h can
+happens_carried ClientSends b h can = sends_carried b h can
+happens_carried (Up k) b h can = up_carried b k h (and_parts _ _ can).0
+happens_carried ServerReads b h can = let parts = and_parts _ _ can
+    in reads_carried b h parts.0 (and_parts _ _ parts.1).1
+happens_carried ServerTurn b h can =
     let parts = and_parts _ _ can in
     turn_carried b h (on_by (lined b h.up h.down) h.inv b.server.server.on refl (λ r e. not_nothing b.server.server.waiting parts.1 e)) can
-happens_carried readers are (Machine outcome) b h can =
+happens_carried (Machine outcome) b h can =
     machine_carried b outcome h (on_by (lined b h.up h.down) h.inv b.server.server.on refl
     (λ r e. let no_end : may_end None outcome ≡ true = subst (λ (o : Option Line). may_end o outcome ≡ true) r can
     in false≢true no_end)) can
-happens_carried readers are (Down k) b h can = down_carried b k h (and_parts _ _ can).0
-happens_carried readers are ClientReads b h can = let parts = and_parts _ _ can
-    in hears_carried readers are b h parts.0 (and_parts _ _ parts.1).1
-happens_carried readers are ClientLeaves b h can = client_left_carried b h
-happens_carried readers are ServerLeaves b h can = server_left_carried b h
-happens_carried readers are Abort b h can = abort_carried b h can
-happens_carried readers are Resume b h can = resume_carried b h can
-happens_carried readers are (ClientRestart k) b h can = client_restart_carried b k h
-happens_carried readers are ServerRestart b h can = server_restart_carried b h
+happens_carried (Down k) b h can = down_carried b k h (and_parts _ _ can).0
+happens_carried ClientReads b h can = let parts = and_parts _ _ can
+    in hears_carried b h parts.0 (and_parts _ _ parts.1).1
+happens_carried ClientLeaves b h can = client_left_carried b h
+happens_carried ServerLeaves b h can = server_left_carried b h
+happens_carried Abort b h can = abort_carried b h can
+happens_carried Resume b h can = resume_carried b h can
+happens_carried (ClientRestart k) b h can = client_restart_carried b k h
+happens_carried ServerRestart b h can = server_restart_carried b h
 
-after_by : (readers : Readers) → AreReaders readers → (e : Event) (b : World) → IsCarried b → (t : Bool) → can e b ≡ t
-    → IsCarried (cond t (happens readers e b) b)
-after_by readers are e b h true is = happens_carried readers are e b h is
-after_by readers are e b h false is = h
+after_by : (e : Event) (b : World) → IsCarried b → (t : Bool) → can e b ≡ t
+    → IsCarried (cond t (happens e b) b)
+after_by e b h true is = happens_carried e b h is
+after_by e b h false is = h
 
 -- so does every list of events, where those that cannot happen change nothing
-pub run_carried : (readers : Readers) → AreReaders readers → (es : List Event) (b : World) → IsCarried b → IsCarried (run_of readers es b)
-run_carried readers are [] b h = h
-run_carried readers are (e ∷ es) b h = run_carried readers are es (after readers e b) (after_by readers are e b h (can e b) refl)
+pub run_carried : (es : List Event) (b : World) → IsCarried b → IsCarried (run_of es b)
+run_carried [] b h = h
+run_carried (e ∷ es) b h = run_carried es (after e b) (after_by e b h (can e b) refl)
 
 -- at the start no connection is made and no byte is there: with a window of at most 16, it all holds
 pub start_carried : (p : Meaning) (rack : List (List ℕ)) (window : ℕ) → IsProgram p → window ≤ 16 → IsCarried (start p rack window)
@@ -99,41 +98,41 @@ start_carried p rack window program le = record {
 -- ---- the claims
 
 -- whatever happens to both ends and their bytes, the features that the client holds are true of the server's acts
-pub always_sound : (readers : Readers) → AreReaders readers → (p : Meaning) (rack : List (List ℕ)) (window : ℕ) (es : List Event)
+pub always_sound : (p : Meaning) (rack : List (List ℕ)) (window : ℕ) (es : List Event)
     → IsProgram p → window ≤ 16
-    → Sound p.features (run_of readers es (start p rack window)).client.client.table.tally.features
-    (run_of readers es (start p rack window)).server.server.ledger
-always_sound readers are p rack window es program le =
-    let b : World = run_of readers es (start p rack window) in
-    let h : IsCarried b = run_carried readers are es (start p rack window) (start_carried p rack window program le) in
+    → Sound p.features (run_of es (start p rack window)).client.client.table.tally.features
+    (run_of es (start p rack window)).server.server.ledger
+always_sound p rack window es program le =
+    let b : World = run_of es (start p rack window) in
+    let h : IsCarried b = run_carried es (start p rack window) (start_carried p rack window program le) in
     subst (λ (q : Meaning). Sound q.features b.client.client.table.tally.features b.server.server.ledger)
-    (run_same readers es (start p rack window))
+    (run_same es (start p rack window))
     (served_sound b.client.client.program.features b.client.client.table.tally.features b.server.server.ledger
     (served_now (lined b h.up h.down) h.inv))
 
 -- what the client has counted is then the front of what the server did on the connection that the client made last
-pub always_told : (readers : Readers) → AreReaders readers → (p : Meaning) (rack : List (List ℕ)) (window : ℕ) (es : List Event)
+pub always_told : (p : Meaning) (rack : List (List ℕ)) (window : ℕ) (es : List Event)
     → IsProgram p → window ≤ 16
-    → Told (run_of readers es (start p rack window)).client.client.table.tally.counted
-    (run_of readers es (start p rack window)).server.server.ledger (run_of readers es (start p rack window)).client.client.last
-always_told readers are p rack window es program le =
-    let b : World = run_of readers es (start p rack window) in
-    let h : IsCarried b = run_carried readers are es (start p rack window) (start_carried p rack window program le) in
+    → Told (run_of es (start p rack window)).client.client.table.tally.counted
+    (run_of es (start p rack window)).server.server.ledger (run_of es (start p rack window)).client.client.last
+always_told p rack window es program le =
+    let b : World = run_of es (start p rack window) in
+    let h : IsCarried b = run_carried es (start p rack window) (start_carried p rack window program le) in
     let told = told_now (lined b h.up h.down) h.inv in
     record { more = told.0; whole = told.1 }
 
 -- whatever happens to both ends and their bytes, the client is never Faulted
-pub never_faulted_run : (readers : Readers) → AreReaders readers → (p : Meaning) (rack : List (List ℕ)) (window : ℕ) (es : List Event)
+pub never_faulted_run : (p : Meaning) (rack : List (List ℕ)) (window : ℕ) (es : List Event)
     → IsProgram p → window ≤ 16
-    → (run_of readers es (start p rack window)).client.client.state ≢ State.Faulted
-never_faulted_run readers are p rack window es program le =
-    let b : World = run_of readers es (start p rack window) in
-    let h : IsCarried b = run_carried readers are es (start p rack window) (start_carried p rack window program le) in
+    → (run_of es (start p rack window)).client.client.state ≢ State.Faulted
+never_faulted_run p rack window es program le =
+    let b : World = run_of es (start p rack window) in
+    let h : IsCarried b = run_carried es (start p rack window) (start_carried p rack window program le) in
     never_faulted (lined b h.up h.down) h.inv
 
 -- the server never meets a line that is too long or a bad byte
-pub no_framing_fault : (readers : Readers) → AreReaders readers → (p : Meaning) (rack : List (List ℕ)) (window : ℕ) (es : List Event)
+pub no_framing_fault : (p : Meaning) (rack : List (List ℕ)) (window : ℕ) (es : List Event)
     → IsProgram p → window ≤ 16
-    → (run_of readers es (start p rack window)).server.input.fault ≡ None
-no_framing_fault readers are p rack window es program le = (run_carried readers are es (start p rack window)
+    → (run_of es (start p rack window)).server.input.fault ≡ None
+no_framing_fault p rack window es program le = (run_carried es (start p rack window)
     (start_carried p rack window program le)).server_fault

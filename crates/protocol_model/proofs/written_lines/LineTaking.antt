@@ -5,20 +5,21 @@ use Rattle.dme_line.specs.declared.tags.Tag.{Tag}
 use Rattle.dme_line.specs.declared.tags.Tag.TheVariants.{Std, Event}
 use Rattle.dme_line.specs.declared.commands.Kind.{Kind}
 use Rattle.dme_line.specs.declared.commands.Kind.TheVariants as kind
+use Rattle.protocol_model.specs.Readings.{response_of}
 use Rattle.line_framing.specs.Next.{next_of}
 use Rattle.line_framing.specs.Stream.{TakesFirst}
 use Rattle.line_framing.specs.declared.faults.FramingFault.{FramingFault}
 use Rattle.line_framing.proofs.Streams.{takes_first, no_fault}
 use Rattle.dmis_program.specs.declared.features.Wanted.{Wanted}
 use Rattle.protocol_model.specs.Replies.{Reply, Mark, tag_of, mark_of, tag_is}
-use Rattle.protocol_model.specs.Lines.{command_text, reply_text, command_texts, reply_texts, command_bytes, reply_bytes, Readers}
-use Rattle.protocol_model.specs.Lines.{AreReaders, written_datum}
+use Rattle.protocol_model.specs.Lines.{command_text, reply_text, command_texts, reply_texts, command_bytes, reply_bytes}
+use Rattle.protocol_model.specs.Lines.{written_datum}
 use Rattle.protocol_model.specs.Open.{Heard, Refused, judged, judged_given, settled, put_before, heard_in, is_failed, fits}
 use Rattle.protocol_model.specs.Client.{Client, heard_standard, heard_event, heard_on, client_hears, client_read, faulted}
 use Rattle.protocol_model.specs.Ends.{held_kind, held_under, given_point, given_homed, given_for, given_under, given, response_read}
 use Rattle.protocol_model.specs.Ends.{line_read}
 use Rattle.protocol_model.proofs.table.Basics.{if_cases, if_true, if_false, and_false}
-use Rattle.protocol_model.proofs.written_lines.Writable.{AreWritable, command_lines, IsWritableReply, AreReplies, reply_lines, response_of}
+use Rattle.protocol_model.proofs.written_lines.Writable.{AreWritable, command_lines, IsWritableReply, AreReplies, reply_lines, response_for}
 use Rattle.protocol_model.proofs.written_lines.Writable.{IsWritableDatum, reply_read, point_read, homed_read}
 use Rattle.protocol_model.specs.declared.lines.Line.{Line}
 use Rattle.protocol_model.specs.declared.states.Cause.{Cause}
@@ -136,9 +137,9 @@ abbrev pub HasPlace : Client → Tag → Mark → Type 0
 HasPlace c t m = (client_read c t m).state ≡ State.Faulted → ⊥
 
 -- data that have their place are heard as they were said, whatever is held under their tag
-pub given_is : (readers : Readers) → AreReaders readers → (c : Client) (t : Tag) (d : Datum) → IsWritableDatum d
-    → HasPlace c t (Mark.Given d) → given readers c t (written_datum d) ≡ client_read c t (Mark.Given d)
-given_is readers are c t d w place = go (tag_is t (Event 0)) refl (held_under t c) refl
+pub given_is : (c : Client) (t : Tag) (d : Datum) → IsWritableDatum d
+    → HasPlace c t (Mark.Given d) → given c t (written_datum d) ≡ client_read c t (Mark.Given d)
+given_is c t d w place = go (tag_is t (Event 0)) refl (held_under t c) refl
   where
     refused : (e : Datum) (k : Kind) → tag_is t (Event 0) ≡ false → held_under t c ≡ Some k → fits k e ≡ false
         → client_read c t (Mark.Given e) ≡ faulted Cause.OutOfOrder c
@@ -150,11 +151,11 @@ given_is readers are c t d w place = go (tag_is t (Event 0)) refl (held_under t 
     out e k is held misfit here = here (ap (λ (x : Client). x.state) (refused e k is held misfit))
 
     asked : (e : Datum) → IsWritableDatum e → HasPlace c t (Mark.Given e) → (k : Kind) → tag_is t (Event 0) ≡ false
-        → held_under t c ≡ Some k → given_for readers c t (written_datum e) k ≡ client_read c t (Mark.Given e)
-    asked (datum.Point p) wire here kind.PtMeas is held = ap (given_point c t) (point_read readers are p wire)
+        → held_under t c ≡ Some k → given_for c t (written_datum e) k ≡ client_read c t (Mark.Given e)
+    asked (datum.Point p) wire here kind.PtMeas is held = ap (given_point c t) (point_read p wire)
     asked (datum.Homed homed) wire here kind.PtMeas is held = absurd (out (datum.Homed homed) kind.PtMeas is held refl here)
     asked (datum.Point p) wire here kind.IsHomed is held = absurd (out (datum.Point p) kind.IsHomed is held refl here)
-    asked (datum.Homed homed) wire here kind.IsHomed is held = ap (given_homed c t) (homed_read readers are homed)
+    asked (datum.Homed homed) wire here kind.IsHomed is held = ap (given_homed c t) (homed_read homed)
     asked e wire here kind.StartSession is held = sym (refused e kind.StartSession is held refl)
     asked e wire here kind.EndSession is held = sym (refused e kind.EndSession is held refl)
     asked e wire here kind.ClearAllErrors is held = sym (refused e kind.ClearAllErrors is held refl)
@@ -167,22 +168,22 @@ given_is readers are c t d w place = go (tag_is t (Event 0)) refl (held_under t 
     asked e wire here kind.AbortE is held = sym (refused e kind.AbortE is held refl)
 
     go : (zero_tag : Bool) → tag_is t (Event 0) ≡ zero_tag → (held : Option Kind) → held_under t c ≡ held
-        → cond (tag_is t (Event 0)) c (given_under readers c t (written_datum d) (held_under t c)) ≡ client_read c t (Mark.Given d)
+        → cond (tag_is t (Event 0)) c (given_under c t (written_datum d) (held_under t c)) ≡ client_read c t (Mark.Given d)
     go true is k held = if_true {A = Client} _ _ _ is ∙ sym (if_true {A = Client} _ _ _ is)
-    go false is None held = if_false {A = Client} _ _ _ is ∙ (ap (given_under readers c t (written_datum d)) held
+    go false is None held = if_false {A = Client} _ _ _ is ∙ (ap (given_under c t (written_datum d)) held
         ∙ (ap (client_hears c t (Mark.Given d)) (sym (unknown_on c.program.features c t (Mark.Given d) held))
         ∙ sym (if_false {A = Client} _ _ _ is)))
-    go false is (Some k) held = if_false {A = Client} _ _ _ is ∙ (ap (given_under readers c t (written_datum d)) held
+    go false is (Some k) held = if_false {A = Client} _ _ _ is ∙ (ap (given_under c t (written_datum d)) held
         ∙ asked d w place k is held)
 
 -- a reply that can be written and has its place is heard as it was said
-pub reply_heard : (readers : Readers) → AreReaders readers → (c : Client) (r : Reply) → IsWritableReply r
-    → HasPlace c (tag_of r) (mark_of r) → line_read readers c (readers.response (reply_text r)) ≡ client_read c (tag_of r) (mark_of r)
-reply_heard readers are c r w place = ap (line_read readers c) (reply_read readers are r w) ∙ go r w place
+pub reply_heard : (c : Client) (r : Reply) → IsWritableReply r
+    → HasPlace c (tag_of r) (mark_of r) → line_read c (response_of (reply_text r)) ≡ client_read c (tag_of r) (mark_of r)
+reply_heard c r w place = ap (line_read c) (reply_read r w) ∙ go r w place
   where
     go : (x : Reply) → IsWritableReply x → HasPlace c (tag_of x) (mark_of x)
-        → response_read readers c (response_of x).tag (response_of x).mark ≡ client_read c (tag_of x) (mark_of x)
+        → response_read c (response_for x).tag (response_for x).mark ≡ client_read c (tag_of x) (mark_of x)
     go (Reply.Ack t) h here = refl
-    go (Reply.Given t d) h here = given_is readers are c t d h.1 here
+    go (Reply.Given t d) h here = given_is c t d h.1 here
     go (Reply.Done t) h here = refl
     go (Reply.Error t code name) h here = refl

@@ -23,11 +23,12 @@ use Rattle.dme_line.proofs.PointLemmas.{one_point_reading}
 use Rattle.dme_line.proofs.HomedLemmas.{one_homed_reading, homed_reads_back, homed_writable}
 use Rattle.dme_line.proofs.ResponseBack.{response_reads_back, response-wire, point_reads_back, error-wire, error_reads_back}
 use Rattle.dme_line.proofs.WireTexts.{point-wire}
+use Rattle.protocol_model.specs.Readings.{command_of, response_of, point_of, homed_of, reads_command, reads_response, reads_point, reads_homed}
 use Rattle.line_framing.specs.Content.{IsLine, AreLines, line_bytes}
 use Rattle.line_framing.proofs.Streams.{line_bytes-append}
 use Rattle.protocol_model.specs.Replies.{Reply}
-use Rattle.protocol_model.specs.Lines.{command_text, reply_text, command_texts, reply_texts, command_bytes, reply_bytes, Readers}
-use Rattle.protocol_model.specs.Lines.{AreReaders, written_datum}
+use Rattle.protocol_model.specs.Lines.{command_text, reply_text, command_texts, reply_texts, command_bytes, reply_bytes}
+use Rattle.protocol_model.specs.Lines.{written_datum}
 use Rattle.protocol_model.specs.declared.lines.Line.{Line}
 use Rattle.protocol_model.specs.declared.held.Datum.{Datum}
 use Rattle.protocol_model.specs.declared.held.Datum.TheVariants as datum
@@ -66,9 +67,9 @@ pub command_bytes_more : (xs ys : List Line) → command_bytes (xs ++ ys) ≡ co
 command_bytes_more xs ys = ap line_bytes (texts_more xs ys) ∙ line_bytes-append (command_texts xs) (command_texts ys)
 
 -- a command that can be written under a tag is read back as itself under that tag
-pub command_read : (r : Readers) → AreReaders r → (t : Tag) (c : Command) → IsWritable t c → r.command (written_command t c) ≡ Ok (t, c)
-command_read r h t c w = one_command_reading (written_command t c) (r.command (written_command t c)) (Ok (t, c))
-    (h.command (written_command t c)) (command_reads_back t c w)
+pub command_read : (t : Tag) (c : Command) → IsWritable t c → command_of (written_command t c) ≡ Ok (t, c)
+command_read t c w = one_command_reading (written_command t c) (command_of (written_command t c)) (Ok (t, c))
+    (reads_command (written_command t c)) (command_reads_back t c w)
 
 -- ---- replies
 
@@ -95,11 +96,11 @@ replies_join [] ys h g = g
 replies_join (x ∷ xs) ys h g = (h.0, replies_join xs ys h.1 g)
 
 -- the response that a reply is written as
-abbrev pub response_of : Reply → Response
-response_of (Reply.Ack t) = record { tag = t; mark = mark.Ack }
-response_of (Reply.Given t d) = record { tag = t; mark = mark.Given (written_datum d) }
-response_of (Reply.Done t) = record { tag = t; mark = mark.Done }
-response_of (Reply.Error t code name) = record { tag = t; mark = mark.Error (error_report code name) }
+abbrev pub response_for : Reply → Response
+response_for (Reply.Ack t) = record { tag = t; mark = mark.Ack }
+response_for (Reply.Given t d) = record { tag = t; mark = mark.Given (written_datum d) }
+response_for (Reply.Done t) = record { tag = t; mark = mark.Done }
+response_for (Reply.Error t code name) = record { tag = t; mark = mark.Error (error_report code name) }
 
 reply_wire : (r : Reply) → IsWritableReply r → IsWireText 200 (reply_text r)
 reply_wire (Reply.Ack t) h = response-wire (record { tag = t; mark = mark.Ack }) (record { tagged = h; texts = tt })
@@ -122,28 +123,28 @@ reply_texts_more (x ∷ xs) ys = ap (λ (l : List (List ℕ)). reply_text x ∷ 
 pub reply_bytes_more : (xs ys : List Reply) → reply_bytes (xs ++ ys) ≡ reply_bytes xs ++ reply_bytes ys
 reply_bytes_more xs ys = ap line_bytes (reply_texts_more xs ys) ∙ line_bytes-append (reply_texts xs) (reply_texts ys)
 
-response_back : (r : Readers) → AreReaders r → (x : Response) → IsTag x.tag → r.response (written_response x) ≡ Ok x
-response_back r h x t = one_response_reading (written_response x) (r.response (written_response x)) (Ok x) (h.response (written_response x))
+response_back : (x : Response) → IsTag x.tag → response_of (written_response x) ≡ Ok x
+response_back x t = one_response_reading (written_response x) (response_of (written_response x)) (Ok x) (reads_response (written_response x))
     (response_reads_back x t)
 
 -- a reply that can be written is read back as the response it is written as
-pub reply_read : (r : Readers) → AreReaders r → (x : Reply) → IsWritableReply x → r.response (reply_text x) ≡ Ok (response_of x)
-reply_read r h (Reply.Ack t) w = response_back r h (record { tag = t; mark = mark.Ack }) w
-reply_read r h (Reply.Given t d) w = response_back r h (record { tag = t; mark = mark.Given (written_datum d) }) w.0
-reply_read r h (Reply.Done t) w = response_back r h (record { tag = t; mark = mark.Done }) w
-reply_read r h (Reply.Error t code name) w =
-    one_response_reading (written_error t code name) (r.response (written_error t code name))
-    (Ok (record { tag = t; mark = mark.Error (error_report code name) })) (h.response (written_error t code name))
+pub reply_read : (x : Reply) → IsWritableReply x → response_of (reply_text x) ≡ Ok (response_for x)
+reply_read (Reply.Ack t) w = response_back (record { tag = t; mark = mark.Ack }) w
+reply_read (Reply.Given t d) w = response_back (record { tag = t; mark = mark.Given (written_datum d) }) w.0
+reply_read (Reply.Done t) w = response_back (record { tag = t; mark = mark.Done }) w
+reply_read (Reply.Error t code name) w =
+    one_response_reading (written_error t code name) (response_of (written_error t code name))
+    (Ok (record { tag = t; mark = mark.Error (error_report code name) })) (reads_response (written_error t code name))
     (error_reads_back t code name w)
 
 -- a point within the wire limit is read back as itself
-pub point_read : (r : Readers) → AreReaders r → (p : Point) → IsOnWire p → r.point (written_point p) ≡ Ok p
-point_read r h p w = one_point_reading (written_point p) (r.point (written_point p)) (Ok p) (h.point (written_point p))
+pub point_read : (p : Point) → IsOnWire p → point_of (written_point p) ≡ Ok p
+point_read p w = one_point_reading (written_point p) (point_of (written_point p)) (Ok p) (reads_point (written_point p))
     (point_reads_back p w)
 
 -- whether the machine is homed is read back as it was written
-pub homed_read : (r : Readers) → AreReaders r → (homed : Bool) → r.homed (written_homed homed) ≡ Ok homed
-homed_read r h homed = one_homed_reading (written_homed homed) (r.homed (written_homed homed)) (Ok homed) (h.homed (written_homed homed))
+pub homed_read : (homed : Bool) → homed_of (written_homed homed) ≡ Ok homed
+homed_read homed = one_homed_reading (written_homed homed) (homed_of (written_homed homed)) (Ok homed) (reads_homed (written_homed homed))
     (homed_reads_back homed)
 
 -- ---- points

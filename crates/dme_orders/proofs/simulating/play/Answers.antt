@@ -6,8 +6,8 @@ use Rattle.dme_orders.proofs.simulating.play.Goals as goal
 
 pub returns : goal.returns
 returns g c = record {
-  ok = λ readers are. subst (λ (w : Linked). Plays readers (simulated c.args.world.now.setup.shifts) c.args.schedule.now false
+  ok = subst (λ (w : Linked). Plays (simulated c.args.world.now.setup.shifts) c.args.schedule.now false
       c.args.world.now.world w.world) (sym c.end_trace.ensures)
-      (subst (λ (w : Linked). Plays readers (simulated w.setup.shifts) c.args.schedule.now false w.world c.play-2.new.world.world)
-      c.trace.ensures (c.in_ok-play.ensures.ok readers are));
+      (subst (λ (w : Linked). Plays (simulated w.setup.shifts) c.args.schedule.now false w.world c.play-2.new.world.world)
+      c.trace.ensures (c.in_ok-play.ensures.ok));
 }

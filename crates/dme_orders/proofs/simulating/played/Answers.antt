@@ -5,6 +5,6 @@ use Rattle.link_world.specs.Schedules.{Plays}
 use Rattle.dme_orders.proofs.simulating.played.Goals as goal
 
 pub returns-in-Ok : goal.returns-in-Ok
-returns-in-Ok g c = λ readers are. subst (λ (w : Linked). Plays readers
+returns-in-Ok g c = subst (λ (w : Linked). Plays
     (simulated w.setup.shifts) c.args.schedule.now false w.world c.play.new.world.world)
-    c.in_ok-world.ensures (c.in-Ok.ensures.ok readers are)
+    c.in_ok-world.ensures (c.in-Ok.ensures.ok)

@@ -1,7 +1,6 @@
 use Rattle.std.proofs.Common.{ap, arith}
 use Rattle.protocol_model.specs.Ends.{ClientEnd}
 use Rattle.server_core.specs.Serving.{Serving}
-use Rattle.protocol_model.proofs.written_lines.ReadersExist.{some_are_readers}
 use Rattle.link_world.specs.LinkRuns.{client_side, server_side, client_stops, server_stops}
 use Rattle.link_world.proofs.link_runs.pair.Goals as goal
 
@@ -19,20 +18,20 @@ returns-in-Err-serve_turns-clause-stopped g c = server_stops
 
 pub returns-in-Err-clause-client_bounded : goal.returns-in-Err-clause-client_bounded
 returns-in-Err-clause-client_bounded g c =
-    let most = c.in-Err.ensures.stopped.within some_are_readers.0 some_are_readers.1 in omega (arith, most)
+    let most = c.in-Err.ensures.stopped.within in omega (arith, most)
 
 pub returns-in-Ok-serve_turns-clause-client_bounded : goal.returns-in-Ok-serve_turns-clause-client_bounded
 returns-in-Ok-serve_turns-clause-client_bounded g c =
-    let most = c.in-Ok.ensures.moved.within some_are_readers.0 some_are_readers.1 in omega (arith, most)
+    let most = c.in-Ok.ensures.moved.within in omega (arith, most)
 
 pub returns-in-Ok-serve_turns-clause-server_bounded : goal.returns-in-Ok-serve_turns-clause-server_bounded
 returns-in-Ok-serve_turns-clause-server_bounded g c =
-    let most = c.in-Ok-serve_turns.ensures.moved.within some_are_readers.0 some_are_readers.1 in omega (arith, most)
+    let most = c.in-Ok-serve_turns.ensures.moved.within in omega (arith, most)
 
 pub returns-in-Err-serve_turns-clause-client_bounded : goal.returns-in-Err-serve_turns-clause-client_bounded
 returns-in-Err-serve_turns-clause-client_bounded g c =
-    let most = c.in-Ok.ensures.moved.within some_are_readers.0 some_are_readers.1 in omega (arith, most)
+    let most = c.in-Ok.ensures.moved.within in omega (arith, most)
 
 pub returns-in-Err-serve_turns-clause-server_bounded : goal.returns-in-Err-serve_turns-clause-server_bounded
 returns-in-Err-serve_turns-clause-server_bounded g c =
-    let most = c.in-Err-serve_turns.ensures.stopped.within some_are_readers.0 some_are_readers.1 in omega (arith, most)
+    let most = c.in-Err-serve_turns.ensures.stopped.within in omega (arith, most)

@@ -2,7 +2,6 @@ use Rattle.std.proofs.Common.{◌∙◌, refl, ap, arith}
 use Rattle.std.proofs.lemmas.Grind.{common_steps}
 use Rattle.server_core.specs.Serving.{Serving}
 use Rattle.server_core.specs.declared.faults.ServerFault.{ServerFault}
-use Rattle.protocol_model.proofs.written_lines.ReadersExist.{some_are_readers}
 use Rattle.link_world.specs.declared.pumps.PumpFault.{PumpFault}
 use Rattle.link_world.specs.LinkRuns.{ServerRunStopped}
 use Rattle.link_world.proofs.ServerRuns.{server_starts, server_goes, server_stops, server_spends, is_ended, is_stopped}
@@ -41,7 +40,7 @@ pub returns-in-Err-clause-bounded : goal.returns-in-Err-clause-bounded
 returns-in-Err-clause-bounded g c =
     let before = c.loop-turn.invariant.3 in
     let few = c.loop-turn-test.true in
-    let more = c.in-Err.ensures.stopped.within some_are_readers.0 some_are_readers.1 in omega (arith, before, few, more)
+    let more = c.in-Err.ensures.stopped.within in omega (arith, before, few, more)
 
 pub returns-in-Err-clause-stopped : goal.returns-in-Err-clause-stopped
 returns-in-Err-clause-stopped g c = is_stopped c.end_of.result c.in-Err.fault (Stopped g c) c.end_of.ensures.same (stops g c)
@@ -56,7 +55,7 @@ loop-turn-preserved g c = (
   c.serve_turns.ensures.setup ∙ c.loop-turn.invariant.1,
   c.serve_turns.ensures.keeps ∙ c.loop-turn.invariant.2,
   (let before = c.loop-turn.invariant.3 in
-      let more = c.in_default.ensures.moved.within some_are_readers.0 some_are_readers.1 in omega (arith, before, more)),
+      let more = c.in_default.ensures.moved.within in omega (arith, before, more)),
   grind (arith, common_steps),
   grind (arith, common_steps),
 )

@@ -1,6 +1,5 @@
 use Rattle.std.proofs.Common.{rules, arith, ◌<◌}
 use Rattle.std.proofs.lemmas.Grind.{common_steps}
-use Rattle.protocol_model.proofs.written_lines.ReadersExist.{some_are_readers}
 use Rattle.link_world.proofs.ClientPumps.{if_err}
 use Rattle.link_world.proofs.ClientRuns.{client_starts, client_goes, client_stops, client_spends}
 use Rattle.link_world.proofs.links.watch_link.Goals as goal
@@ -30,7 +29,7 @@ pub returns-in_err-watched_turn-clause-bounded : goal.returns-in_err-watched_tur
 returns-in_err-watched_turn-clause-bounded g c =
     let before = c.loop-client.invariant.2 in
     let few : c.loop-client.turns < 1000000 = grind arith in
-    let more = c.in_err-watched_turn.ensures.stopped.within some_are_readers.0 some_are_readers.1 in omega (arith, before, few, more)
+    let more = c.in_err-watched_turn.ensures.stopped.within in omega (arith, before, few, more)
 
 pub loop-client-preserved : goal.loop-client-preserved
 loop-client-preserved g c = (
@@ -40,7 +39,7 @@ loop-client-preserved g c = (
       c.loop-client.invariant.0 (search rules) c.in_ok-watched_turn.ensures.moved.whole,
   grind (arith, common_steps),
   (let before = c.loop-client.invariant.2 in
-      let more = c.in_ok-watched_turn.ensures.moved.within some_are_readers.0 some_are_readers.1 in omega (arith, before, more)),
+      let more = c.in_ok-watched_turn.ensures.moved.within in omega (arith, before, more)),
   grind (arith, common_steps),
   grind (arith, common_steps),
 )

@@ -4,7 +4,7 @@ use Rattle.protocol_model.specs.Client.{may_abort}
 use Rattle.protocol_model.specs.Ends.{end_aborted}
 use Rattle.protocol_model.specs.declared.events.Event.TheVariants as event
 use Rattle.link_world.specs.Links.{Linked}
-use Rattle.link_world.proofs.Events.{not_now, for_none, writes}
+use Rattle.link_world.proofs.Events.{not_now, writes}
 use Rattle.link_world.proofs.Reached.{client_quiet}
 use Rattle.link_world.proofs.ClientWriting.{none_aborts, awake, abort_fine}
 use Rattle.link_world.proofs.world.World.abort.Goals as goal
@@ -25,12 +25,12 @@ returns-in_default-clause-can c = not_now _ (subst (λ (l : Linked). may_abort l
 pub invariant_of-self-2 : goal.invariant_of-self-2
 invariant_of-self-2 c = (writes event.Abort end_aborted c.args.self.now c.self.inside c.abort.new.client c.abort.new.written.items
     (vec_len c.self.inside.connections - 1) c.in-Some.connection.now c.abort.new.connection c.abort.result c.self.view_is
-    c.self.invariant (λ readers x. refl) (search rules) (search rules) (search rules) (search rules)
+    c.self.invariant (λ x. refl) (search rules) (search rules) (search rules) (search rules)
     c.abort.ensures.client c.abort.ensures.link c.abort.ensures.written).reached
 
 pub returns-clause-world : goal.returns-clause-world
-returns-clause-world c = for_none _ _ _ _ (writes event.Abort end_aborted c.args.self.now c.self.inside c.abort.new.client
+returns-clause-world c = (writes event.Abort end_aborted c.args.self.now c.self.inside c.abort.new.client
     c.abort.new.written.items
     (vec_len c.self.inside.connections - 1) c.in-Some.connection.now c.abort.new.connection c.abort.result c.self.view_is
-    c.self.invariant (λ readers x. refl) (search rules) (search rules) (search rules) (search rules)
+    c.self.invariant (λ x. refl) (search rules) (search rules) (search rules) (search rules)
     c.abort.ensures.client c.abort.ensures.link c.abort.ensures.written).leads

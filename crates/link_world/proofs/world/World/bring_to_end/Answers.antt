@@ -9,11 +9,13 @@ use Rattle.link_world.proofs.Rejoining.{may_by}
 use Rattle.link_world.proofs.world.World.bring_to_end.Goals as goal
 
 pub returns-in_err-rejoin-clause-memory : goal.returns-in_err-rejoin-clause-memory
-returns-in_err-rejoin-clause-memory g c = λ e readers are. stopped_joining readers (g.M.Machine.answers c.args.machine.now)
-    c.args.self.now c.rejoin.new.self (c.in_err-rejoin.ensures.cut readers are)
+returns-in_err-rejoin-clause-memory g c = λ e. (
+  may_by c.args.self.now.world c.can_finish.result (search rules) c.can_finish.ensures.value,
+  stopped_joining (g.M.Machine.answers c.args.machine.now) c.args.self.now c.rejoin.new.self c.in_err-rejoin.ensures.cut,
+)
 
 pub returns-in_err-rejoin-clause-same : goal.returns-in_err-rejoin-clause-same
-returns-in_err-rejoin-clause-same g c = same_made (λ readers. AreFirstOfJoining) true None c.args.self.now c.rejoin.new.self
+returns-in_err-rejoin-clause-same g c = same_made (AreFirstOfJoining) true None c.args.self.now c.rejoin.new.self
     c.in_err-rejoin.ensures.cut
 
 pub turns-requires-clause-due : goal.turns-requires-clause-due
@@ -27,16 +29,19 @@ turns-requires-clause-short g c = short_behind c.args.self.now c.rejoin.new.self
     (subst IsReached c.self.view_is c.self.invariant)
 
 pub returns-in_err-turns-clause-memory : goal.returns-in_err-turns-clause-memory
-returns-in_err-turns-clause-memory g c = λ e readers are. stopped_turning readers are (g.M.Machine.answers c.args.machine.now)
-    c.args.self.now c.rejoin.new.self c.turns.new.self c.in_ok-rejoin.ensures.joined (c.in_err-turns.ensures.cut readers are)
+returns-in_err-turns-clause-memory g c = λ e. (
+  may_by c.args.self.now.world c.can_finish.result (search rules) c.can_finish.ensures.value,
+  stopped_turning (g.M.Machine.answers c.args.machine.now) c.args.self.now c.rejoin.new.self c.turns.new.self
+      c.in_ok-rejoin.ensures.joined c.in_err-turns.ensures.cut,
+)
 
 pub returns-in_err-turns-clause-same : goal.returns-in_err-turns-clause-same
-returns-in_err-turns-clause-same g c = same_turned (λ readers. AreTurns readers (g.M.Machine.answers c.args.machine.now) 0) true None
+returns-in_err-turns-clause-same g c = same_turned (AreTurns (g.M.Machine.answers c.args.machine.now) 0) true None
     c.args.self.now c.rejoin.new.self c.turns.new.self c.in_ok-rejoin.ensures.joined c.in_err-turns.ensures.cut
 
 pub returns-clause-finishes : goal.returns-clause-finishes
-returns-clause-finishes g c = λ readers are. finished readers are (g.M.Machine.answers c.args.machine.now) _
-    c.args.self.now c.rejoin.new.self c.turns.new.self c.in_ok-rejoin.ensures.joined (c.in_ok-turns.ensures.made readers are)
+returns-clause-finishes g c = finished (g.M.Machine.answers c.args.machine.now) _
+    c.args.self.now c.rejoin.new.self c.turns.new.self c.in_ok-rejoin.ensures.joined (c.in_ok-turns.ensures.made)
 
 pub returns-clause-few : goal.returns-clause-few
 returns-clause-few g c = few_behind c.args.self.now c.rejoin.new.self _ c.in_ok-rejoin.ensures.joined
@@ -44,19 +49,19 @@ returns-clause-few g c = few_behind c.args.self.now c.rejoin.new.self _ c.in_ok-
     c.in_ok-turns.ensures.few
 
 pub returns-clause-same : goal.returns-clause-same
-returns-clause-same g c = same_turned (λ readers. AreTurns readers (g.M.Machine.answers c.args.machine.now) _) false None
+returns-clause-same g c = same_turned (AreTurns (g.M.Machine.answers c.args.machine.now) _) false None
     c.args.self.now c.rejoin.new.self c.turns.new.self c.in_ok-rejoin.ensures.joined c.in_ok-turns.ensures.made
 
 pub returns-clause-done : goal.returns-clause-done
 returns-clause-done g c = λ can. (finish_measures (g.M.Machine.answers c.args.machine.now) _ c.args.self.now c.turns.new.self
     (subst IsReached c.self.view_is c.self.invariant)
     (may_by c.args.self.now.world c.can_finish.result (search rules) c.can_finish.ensures.value) c.can_finish.ensures.window can
-    (λ readers are. finished readers are (g.M.Machine.answers c.args.machine.now) _ c.args.self.now c.rejoin.new.self c.turns.new.self
-    c.in_ok-rejoin.ensures.joined (c.in_ok-turns.ensures.made readers are))).done
+    (finished (g.M.Machine.answers c.args.machine.now) _ c.args.self.now c.rejoin.new.self c.turns.new.self
+    c.in_ok-rejoin.ensures.joined (c.in_ok-turns.ensures.made))).done
 
 pub returns-clause-measured : goal.returns-clause-measured
 returns-clause-measured g c = λ can. (finish_measures (g.M.Machine.answers c.args.machine.now) _ c.args.self.now c.turns.new.self
     (subst IsReached c.self.view_is c.self.invariant)
     (may_by c.args.self.now.world c.can_finish.result (search rules) c.can_finish.ensures.value) c.can_finish.ensures.window can
-    (λ readers are. finished readers are (g.M.Machine.answers c.args.machine.now) _ c.args.self.now c.rejoin.new.self c.turns.new.self
-    c.in_ok-rejoin.ensures.joined (c.in_ok-turns.ensures.made readers are))).measured
+    (finished (g.M.Machine.answers c.args.machine.now) _ c.args.self.now c.rejoin.new.self c.turns.new.self
+    c.in_ok-rejoin.ensures.joined (c.in_ok-turns.ensures.made))).measured

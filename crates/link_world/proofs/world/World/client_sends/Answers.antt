@@ -4,7 +4,7 @@ use Rattle.protocol_model.specs.Client.{due}
 use Rattle.protocol_model.specs.Ends.{end_sent}
 use Rattle.protocol_model.specs.declared.events.Event.TheVariants as event
 use Rattle.link_world.specs.Links.{Linked}
-use Rattle.link_world.proofs.Events.{not_now, for_none, writes}
+use Rattle.link_world.proofs.Events.{not_now, writes}
 use Rattle.link_world.proofs.Reached.{client_quiet}
 use Rattle.link_world.proofs.ClientWriting.{none_due, awake, send_fine}
 use Rattle.link_world.proofs.world.World.client_sends.Goals as goal
@@ -25,12 +25,12 @@ returns-in_default-clause-can c = not_now _ (subst (λ (l : Linked). is_some (du
 pub invariant_of-self-2 : goal.invariant_of-self-2
 invariant_of-self-2 c = (writes event.ClientSends end_sent c.args.self.now c.self.inside c.send.new.client c.send.new.written.items
     (vec_len c.self.inside.connections - 1) c.in-Some.connection.now c.send.new.connection c.send.result c.self.view_is
-    c.self.invariant (λ readers x. refl) (search rules) (search rules) (search rules) (search rules)
+    c.self.invariant (λ x. refl) (search rules) (search rules) (search rules) (search rules)
     c.send.ensures.client c.send.ensures.link c.send.ensures.written).reached
 
 pub returns-clause-world : goal.returns-clause-world
-returns-clause-world c = for_none _ _ _ _ (writes event.ClientSends end_sent c.args.self.now c.self.inside c.send.new.client
+returns-clause-world c = (writes event.ClientSends end_sent c.args.self.now c.self.inside c.send.new.client
     c.send.new.written.items
     (vec_len c.self.inside.connections - 1) c.in-Some.connection.now c.send.new.connection c.send.result c.self.view_is
-    c.self.invariant (λ readers x. refl) (search rules) (search rules) (search rules) (search rules)
+    c.self.invariant (λ x. refl) (search rules) (search rules) (search rules) (search rules)
     c.send.ensures.client c.send.ensures.link c.send.ensures.written).leads

@@ -1,7 +1,7 @@
 use Rattle.std.proofs.Common.{rules, ◌-◌}
 use Rattle.std.specs.Vec.{vec_len}
 use Rattle.link_world.proofs.ClientBytes.{reads_on}
-use Rattle.link_world.proofs.Events.{for_none, comes_down, down_can}
+use Rattle.link_world.proofs.Events.{comes_down, down_can}
 use Rattle.link_world.proofs.world.World.down.Goals as goal
 
 pub bring_down-requires : goal.bring_down-requires
@@ -25,7 +25,7 @@ invariant_of-self-2 c = (comes_down c.args.count c.args.self.now c.self.inside c
     (search rules) (search rules) (search rules) c.bring_down.ensures.client c.bring_down.ensures.link).reached
 
 pub returns-clause-world : goal.returns-clause-world
-returns-clause-world c = for_none _ _ _ _ (comes_down c.args.count c.args.self.now c.self.inside c.bring_down.new.client
+returns-clause-world c = (comes_down c.args.count c.args.self.now c.self.inside c.bring_down.new.client
     (vec_len c.self.inside.connections - 1)
     c.in-Some.connection.now c.bring_down.new.connection c.bring_down.result c.self.view_is c.self.invariant
     (down_can c.args.count c.args.self.now c.self.inside (vec_len c.self.inside.connections - 1) c.in-Some.connection.now

@@ -1,7 +1,7 @@
 use Rattle.std.proofs.Common.{rules, refl}
 use Rattle.protocol_model.specs.Ends.{serving_machined}
 use Rattle.protocol_model.specs.declared.events.Event.TheVariants as event
-use Rattle.link_world.proofs.Events.{stands, not_now, for_readers, for_none, answers}
+use Rattle.link_world.proofs.Events.{stands, not_now, answers}
 use Rattle.link_world.proofs.Reached.{server_quiet}
 use Rattle.link_world.proofs.ServerAnswers.{off_end}
 use Rattle.link_world.proofs.world.World.machine.Goals as goal
@@ -20,14 +20,14 @@ returns-in_default-clause-can c = not_now _ (off_end c.args.self.now c.args.outc
     c.self.inside.connections.items c.self.inside.written.items c.self.view_is c.self.invariant (search rules))
 
 pub invariant_of-self : goal.invariant_of-self
-invariant_of-self c = (answers (event.Machine c.args.outcome) (λ readers. serving_machined c.args.outcome) c.args.self.now c.self.inside
+invariant_of-self c = (answers (event.Machine c.args.outcome) (serving_machined c.args.outcome) c.args.self.now c.self.inside
     c.end_job.new.server c.in-Some.at c.index_mut.result.now c.end_job.new.connection c.end_job.result c.self.view_is c.self.invariant
-    (λ readers x. refl) (search rules) (search rules) (search rules) (search rules)
-    (for_readers _ _ _ _ c.end_job.ensures.server) (for_readers _ _ _ _ c.end_job.ensures.link)).reached
+    (λ x. refl) (search rules) (search rules) (search rules) (search rules)
+    c.end_job.ensures.server c.end_job.ensures.link).reached
 
 pub returns-clause-world : goal.returns-clause-world
-returns-clause-world c = for_none _ _ _ _ (answers (event.Machine c.args.outcome) (λ readers. serving_machined c.args.outcome)
+returns-clause-world c = (answers (event.Machine c.args.outcome) (serving_machined c.args.outcome)
     c.args.self.now c.self.inside
     c.end_job.new.server c.in-Some.at c.index_mut.result.now c.end_job.new.connection c.end_job.result c.self.view_is c.self.invariant
-    (λ readers x. refl) (search rules) (search rules) (search rules) (search rules)
-    (for_readers _ _ _ _ c.end_job.ensures.server) (for_readers _ _ _ _ c.end_job.ensures.link)).leads
+    (λ x. refl) (search rules) (search rules) (search rules) (search rules)
+    c.end_job.ensures.server c.end_job.ensures.link).leads

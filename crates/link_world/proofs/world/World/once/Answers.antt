@@ -5,7 +5,7 @@ use Rattle.link_world.proofs.Thens.{part_cut}
 use Rattle.link_world.proofs.world.World.once.Goals as goal
 
 pub returns-in_err-attempt : goal.returns-in_err-attempt
-returns-in_err-attempt c = part_cut c.from_residual.result (λ readers cut world. IsOne (Some c.args.event) cut) c.args.self.now
+returns-in_err-attempt c = part_cut c.from_residual.result (λ cut world. IsOne (Some c.args.event) cut) c.args.self.now
     c.attempt.new.self c.from_residual.ensures.0 (once_cut c.args.event c.args.self.now c.attempt.new.self c.in_err-attempt.ensures.err)
 
 pub returns : goal.returns

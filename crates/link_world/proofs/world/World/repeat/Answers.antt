@@ -4,12 +4,12 @@ use Rattle.link_world.proofs.EventsLeft.{less_after}
 use Rattle.link_world.proofs.world.World.repeat.Goals as goal
 
 pub returns-then-not-branch : goal.returns-then-not-branch
-returns-then-not-branch c = λ readers are. going_ends readers c.args.event c.loop-busy.busy c.args.self.now c.loop-busy.self
-    c.attempt.new.self (c.loop-busy.invariant readers are) (search rules) (c.in_ok-attempt.ensures.ok readers are)
+returns-then-not-branch c = going_ends c.args.event c.loop-busy.busy c.args.self.now c.loop-busy.self
+    c.attempt.new.self (c.loop-busy.invariant) (search rules) (c.in_ok-attempt.ensures.ok)
 
 pub loop-busy-smaller : goal.loop-busy-smaller
 loop-busy-smaller c = less_after c.args.event c.loop-busy.self c.attempt.new.self c.requires (search rules) c.in_ok-attempt.ensures.ok
 
 pub loop-busy-preserved : goal.loop-busy-preserved
-loop-busy-preserved c = λ readers are. going_more readers c.args.event c.loop-busy.busy c.args.self.now c.loop-busy.self
-    c.attempt.new.self (c.loop-busy.invariant readers are) (search rules) (c.in_ok-attempt.ensures.ok readers are)
+loop-busy-preserved c = going_more c.args.event c.loop-busy.busy c.args.self.now c.loop-busy.self
+    c.attempt.new.self (c.loop-busy.invariant) (search rules) (c.in_ok-attempt.ensures.ok)

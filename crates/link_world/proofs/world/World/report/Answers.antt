@@ -1,10 +1,10 @@
-use Rattle.std.proofs.Common.{◌≡◌, ◌≢◌, ◌∙◌, sym, subst, rules, Ok, Err, Result, IfOk}
+use Rattle.std.proofs.Common.{◌≡◌, ◌≢◌, ◌∙◌, sym, rules, Ok, Err, Result, IfOk}
 use Rattle.protocol_model.specs.declared.states.State.{State}
 use Rattle.protocol_model.specs.declared.states.State.TheVariants.{Faulted}
 use Rattle.link_world.specs.declared.reports.Report.{Report}
-use Rattle.link_world.specs.Claims.{DoNotDisagree}
-use Rattle.link_world.specs.Links.{Linked, seen}
-use Rattle.link_world.proofs.Reached.{agree}
+use Rattle.link_world.specs.Claims.{Headline}
+use Rattle.link_world.specs.Links.{seen}
+use Rattle.link_world.proofs.Reached.{headline, headline_seen}
 use Rattle.link_world.proofs.world.World.report.Goals as goal
 
 -- a report with the state of a client that is not Faulted
@@ -13,13 +13,11 @@ not_faulted : {E : Type 0} (state : State) (result : Result Report E) → state 
 not_faulted state (Ok report) not is = λ faulted. not (sym is ∙ faulted)
 not_faulted state (Err e) not is = search rules
 
-pub returns-clause-agree : goal.returns-clause-agree
-returns-clause-agree c =
-    subst (λ (l : Linked). DoNotDisagree l.world) c.self.view_is
-    (agree (seen c.self.inside.client c.self.inside.server c.self.inside.connections.items c.self.inside.written.items) c.self.invariant)
+pub returns-clause-always : goal.returns-clause-always
+returns-clause-always c = headline_seen _ _ c.self.view_is c.self.invariant
 
 pub returns-clause-never_faulted : goal.returns-clause-never_faulted
 returns-clause-never_faulted c =
-    let disagree_not : DoNotDisagree (seen c.self.inside.client c.self.inside.server c.self.inside.connections.items
-    c.self.inside.written.items).world = agree _ c.self.invariant in
-    not_faulted c.self.inside.client.client.state c.report_of.result disagree_not.client c.report_of.ensures.state
+    let always : Headline (seen c.self.inside.client c.self.inside.server c.self.inside.connections.items
+    c.self.inside.written.items).world = headline _ c.self.invariant in
+    not_faulted c.self.inside.client.client.state c.report_of.result always.client c.report_of.ensures.state

@@ -1,14 +1,13 @@
 use Rattle.std.proofs.Common.{◌≡◌, ◌+◌, take}
-use Rattle.protocol_model.specs.Lines.{Readers, AreReaders}
-use Rattle.link_world.specs.Claims.{IsSound, IsTold, DoNotDisagree}
+use Rattle.link_world.specs.Claims.{Headline}
 use Rattle.link_world.specs.Runs.{HasRun}
 use Rattle.link_world.specs.Finishing.{IsSameKind}
 use Rattle.link_world.proofs.world.World.run.Given as goal
 
 abbrev pub invariant-loop-event : goal.invariant-loop-event
 invariant-loop-event l =
-    ((readers : Readers) → AreReaders readers → HasRun readers l.fn.self.world (take l.event-index l.events) l.self.world l.count.done
+    (HasRun l.fn.self.world (take l.event-index l.events) l.self.world l.count.done
     l.count.not_now l.count.memory)
     × IsSameKind l.fn.self l.self
     × (l.count.done + l.count.not_now + l.count.memory ≡ l.event-index)
-    × IsSound l.self.world × IsTold l.self.world × DoNotDisagree l.self.world
+    × Headline l.self.world

@@ -24,7 +24,7 @@ returns-clause-can c =
 pub invariant_of-self : goal.invariant_of-self
 invariant_of-self c = (answers event.ServerReads serving_read c.args.self.now c.self.inside
     c.read_line.new.server c.in-Some.at c.index_mut.result.now c.read_line.new.connection c.read_line.result c.self.view_is c.self.invariant
-    (λ readers x. refl)
+    (λ x. refl)
     (reads_can c.args.self.now c.self.inside c.read_line.result c.self.view_is c.self.invariant (search rules) c.read_line.ensures.can)
     (search rules) (search rules) (search rules)
     c.read_line.ensures.server c.read_line.ensures.link).reached
@@ -32,7 +32,7 @@ invariant_of-self c = (answers event.ServerReads serving_read c.args.self.now c.
 pub returns-clause-world : goal.returns-clause-world
 returns-clause-world c = (answers event.ServerReads serving_read c.args.self.now c.self.inside
     c.read_line.new.server c.in-Some.at c.index_mut.result.now c.read_line.new.connection c.read_line.result c.self.view_is c.self.invariant
-    (λ readers x. refl)
+    (λ x. refl)
     (reads_can c.args.self.now c.self.inside c.read_line.result c.self.view_is c.self.invariant (search rules) c.read_line.ensures.can)
     (search rules) (search rules) (search rules)
     c.read_line.ensures.server c.read_line.ensures.link).leads

@@ -4,14 +4,14 @@ use Rattle.link_world.proofs.Turning.{turn_made, turn_fewer, turn_still}
 use Rattle.link_world.proofs.world.World.turn.Goals as goal
 
 pub returns-clause-made : goal.returns-clause-made
-returns-clause-made g c = λ readers are. turn_made readers are (g.M.Machine.answers c.args.machine.now) _ c.args.self.now
+returns-clause-made g c = turn_made (g.M.Machine.answers c.args.machine.now) _ c.args.self.now
     c.quiet_round.new.self (subst IsReached c.self.view_is c.self.invariant) c.requires.due
-    (c.in_ok-quiet_round.ensures.made readers are)
+    (c.in_ok-quiet_round.ensures.made)
 
 pub returns-clause-fewer : goal.returns-clause-fewer
 returns-clause-fewer g c = turn_fewer (g.M.Machine.answers c.args.machine.now) _ c.args.self.now c.quiet_round.new.self
     (subst IsReached c.self.view_is c.self.invariant) c.requires.due c.in_ok-quiet_round.ensures.made
 
 pub returns-clause-still : goal.returns-clause-still
-returns-clause-still g c = λ none readers are. turn_still readers (g.M.Machine.answers c.args.machine.now) _ c.args.self.now
-    c.quiet_round.new.self (c.in_ok-quiet_round.ensures.made readers are) none
+returns-clause-still g c = λ none. turn_still (g.M.Machine.answers c.args.machine.now) _ c.args.self.now
+    c.quiet_round.new.self (c.in_ok-quiet_round.ensures.made) none

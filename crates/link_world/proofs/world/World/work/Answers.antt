@@ -8,16 +8,16 @@ loop-event-smaller g c = work_less (g.M.Machine.answers c.loop-event.machine) c.
 
 pub loop-event-preserved : goal.loop-event-preserved
 loop-event-preserved g c = (
-  λ readers are. working_more readers (g.M.Machine.answers c.args.machine.now) c.in-Some.event c.loop-event.busy c.args.self.now
-      c.loop-event.self c.attempt.new.self (c.loop-event.invariant.0 readers are)
+  working_more (g.M.Machine.answers c.args.machine.now) c.in-Some.event c.loop-event.busy c.args.self.now
+      c.loop-event.self c.attempt.new.self (c.loop-event.invariant.0)
       (next_is (g.M.Machine.answers c.loop-event.machine) (g.M.Machine.answers c.args.machine.now) c.loop-event.self.world _
       c.loop-event.invariant.1 (sym c.in-Some.ensures.value))
-      (c.in_ok-attempt.ensures.ok readers are),
+      (c.in_ok-attempt.ensures.ok),
   c.next_work.ensures.keeps ∙ c.loop-event.invariant.1,
 )
 
 pub returns-clause-made : goal.returns-clause-made
-returns-clause-made g c = λ readers are. working_ends readers (g.M.Machine.answers c.args.machine.now) c.loop-event.busy c.args.self.now
-    c.loop-event.self (c.loop-event.invariant.0 readers are)
+returns-clause-made g c = working_ends (g.M.Machine.answers c.args.machine.now) c.loop-event.busy c.args.self.now
+    c.loop-event.self (c.loop-event.invariant.0)
     (next_is (g.M.Machine.answers c.loop-event.machine) (g.M.Machine.answers c.args.machine.now) c.loop-event.self.world _
     c.loop-event.invariant.1 (search rules))

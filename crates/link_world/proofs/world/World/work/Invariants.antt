@@ -1,5 +1,4 @@
 use Rattle.std.proofs.Common.{◌≡◌, false, Some}
-use Rattle.protocol_model.specs.Lines.{Readers, AreReaders}
 use Rattle.link_world.specs.Parts.{Makes}
 use Rattle.link_world.proofs.ServerWork.{work_left}
 use Rattle.link_world.proofs.WorkLists.{Working}
@@ -7,8 +6,7 @@ use Rattle.link_world.proofs.world.World.work.Given as goal
 
 abbrev pub invariant-loop-event : goal.invariant-loop-event
 invariant-loop-event g l =
-    ((readers : Readers) → AreReaders readers
-    → Makes readers (Working readers (g.M.Machine.answers l.fn.machine)) false (Some l.busy) l.fn.self l.self)
+    (Makes (Working (g.M.Machine.answers l.fn.machine)) false (Some l.busy) l.fn.self l.self)
     × (g.M.Machine.answers l.machine ≡ g.M.Machine.answers l.fn.machine)
 
 abbrev pub decreases-loop-event : goal.decreases-loop-event

@@ -1,7 +1,7 @@
--- There are functions that read as the interface says: each reading is computed, with what shows that it is the one.
+-- Each reading is computed, with what shows that it is the one.
 use Rattle.std.proofs.Common.{◌≡◌, ℕ, ◌+◌, ◌*◌, ◌-◌, ◌/◌, ◌≤◌, ◌⊎◌, inl, inr, Bool, true, false, ◌&&◌, List, [], ◌∷◌, ◌++◌, take, drop}
 use Rattle.std.proofs.Common.{refl, sym, ◌∙◌, ap, subst, arith, Option, Some, None, Result, Ok, Err, codes}
-use Rattle.std.specs.Prelude.{◌==◌, nat_le, if◌then◌else◌}
+use Rattle.std.specs.Prelude.{◌==◌, nat_le, if◌then◌else◌, cond}
 use Rattle.std.specs.List.{prefix_len}
 use Rattle.std.proofs.lemmas.Bool.{false≢true, and_parts, and_from, leb-true, le-leb, eqb-true, eq-eqb}
 use Rattle.fixed_um.specs.Limits.{wire_limit}
@@ -34,10 +34,8 @@ use Rattle.dme_line.proofs.NameCutLemmas.{name_cut}
 use Rattle.dme_line.proofs.CommandLemmas.{SaysHere, says_here}
 use Rattle.dme_line.proofs.HomedLemmas.{CallHere, call_here, call_from}
 use Rattle.dme_line.proofs.ToolLemmas.{same_word}
-use Rattle.protocol_model.specs.Lines.{Readers, AreReaders}
-use Rattle.protocol_model.proofs.table.Basics.{if_cases}
-use Rattle.protocol_model.proofs.written_lines.Deciding.{Decided, decided_by, both, test, same_bytes, shapes, words, first_of, others_of}
-use Rattle.protocol_model.proofs.written_lines.Deciding.{filled, filled_of, has_shape, Length, length_is, OneWord, one_word, Saying, saying}
+use Rattle.dme_line.proofs.Deciding.{Decided, decided_by, both, test, same_bytes, shapes, words, first_of, others_of}
+use Rattle.dme_line.proofs.Deciding.{filled, filled_of, has_shape, Length, length_is, OneWord, one_word, Saying, saying}
 
 -- ---- tags
 
@@ -181,7 +179,7 @@ numbered (Event n) le = decided_by (λ (e : nat_le 1 n ≡ true). (leb-true 1 n 
 
 -- ---- commands
 
-record CommandRead (line : List ℕ) : Type 0 where
+pub record CommandRead (line : List ℕ) : Type 0 where
   pub result : Result (Tag × Command) LineFault
   pub reads : ReadsCommand line result
 
@@ -277,7 +275,7 @@ named line t name rest b = go (one_of name all_kinds)
 no_tag : (line : List ℕ) → ((t : Tag) (text : List ℕ) → IsTagged line t text → ⊥) → CommandRead line
 no_tag line none = record { result = Err fault.NoTag; reads = none }
 
-command_reading : (line : List ℕ) → CommandRead line
+pub command_reading : (line : List ℕ) → CommandRead line
 command_reading line = go (tagged line)
   where
     same_tagged : (a : Tagged line) (t : Tag) (text : List ℕ) → IsTagged line t text → a.tag ≡ t
@@ -299,7 +297,12 @@ command_reading line = go (tagged line)
 
 -- ---- responses
 
-record ResponseRead (line : List ℕ) : Type 0 where
+-- a test goes one way or the other
+if_cases : {A : Type 0} (b : Bool) (x y z : A) (P : Type 0) → cond b x y ≡ z → (b ≡ true → x ≡ z → P) → (b ≡ false → y ≡ z → P) → P
+if_cases true x y z P e yes_case no_case = yes_case refl e
+if_cases false x y z P e yes_case no_case = no_case refl e
+
+pub record ResponseRead (line : List ℕ) : Type 0 where
   pub result : Result Response NotResponse
   pub reads : ReadsResponse line result
 
@@ -370,7 +373,7 @@ mark_found (c ∷ text) m e = if_cases {A = Option Mark} (c == 38) _ _ (Some m) 
     (λ is found. subst (λ (x : ℕ). IsMarkText (x ∷ text) m) (sym (eqb-true c 33 is)) (error_found text m found))
     (λ is none. absurd (no_mark m none)))))
 
-response_reading : (line : List ℕ) → ResponseRead line
+pub response_reading : (line : List ℕ) → ResponseRead line
 response_reading line = go (tagged line)
   where
     text_is : (a : Tagged line) (r : Response) (h : IsResponseLine line r) → h.text ≡ a.text
@@ -397,7 +400,7 @@ response_reading line = go (tagged line)
 
 -- ---- points
 
-record PointRead (text : List ℕ) : Type 0 where
+pub record PointRead (text : List ℕ) : Type 0 where
   pub result : Result Point NotPoint
   pub reads : ReadsPoint text result
 
@@ -496,7 +499,7 @@ spelled_is text = decided_by here there (both (flush text) (both (has_shape poin
       ),
     )
 
-point_reading : (text : List ℕ) → PointRead text
+pub point_reading : (text : List ℕ) → PointRead text
 point_reading text = go (spelled_is text)
   where
     go : Decided (Spelled text) → PointRead text
@@ -505,7 +508,7 @@ point_reading text = go (spelled_is text)
 
 -- ---- answers to IsHomed
 
-record HomedRead (text : List ℕ) : Type 0 where
+pub record HomedRead (text : List ℕ) : Type 0 where
   pub result : Result Bool NotHomedText
   pub reads : ReadsHomed text result
 
@@ -559,7 +562,7 @@ call_is text = go (test (is_word (kind_name kind.IsHomed) name)) (one_word (toke
     go (inl known) (inr none) = inr (λ c. none (record { word = homed_digit c.homed; spelled = (here c).spelled }))
     go (inl known) (inl w) = told known w (digit_is_said w.word)
 
-homed_reading : (text : List ℕ) → HomedRead text
+pub homed_reading : (text : List ℕ) → HomedRead text
 homed_reading text = go (digit_is_said text) (call_is text)
   where
     neither : (Digit text → ⊥) → (Call text → ⊥) → (b : Bool) → IsHomedText text b → ⊥
@@ -570,25 +573,3 @@ homed_reading text = go (digit_is_said text) (call_is text)
     go (inl d) call = record { result = Ok d.homed; reads = inl d.is }
     go (inr no_digit) (inl c) = record { result = Ok c.homed; reads = inr c.is }
     go (inr no_digit) (inr no_call) = record { result = Err (record {}); reads = neither no_digit no_call }
-
--- ---- all four
-
-abbrev some_readers : Readers
-some_readers = record {
-  command = λ line. (command_reading line).result;
-  response = λ line. (response_reading line).result;
-  point = λ text. (point_reading text).result;
-  homed = λ text. (homed_reading text).result;
-}
-
-readers_are : AreReaders some_readers
-readers_are = record {
-  command = λ line. (command_reading line).reads;
-  response = λ line. (response_reading line).reads;
-  point = λ text. (point_reading text).reads;
-  homed = λ text. (homed_reading text).reads;
-}
-
--- there are readers that read as the interface says
-pub some_are_readers : (readers : Readers) × AreReaders readers
-some_are_readers = (some_readers, readers_are)
