@@ -1,3 +1,4 @@
 pub mod PlanLemmas
 pub mod ReadingLemmas
 pub mod LoopingLemmas
+pub mod OrderLemmas

@@ -1,7 +1,9 @@
 -- Why a connection was broken off, and what is shown for that (this profile).
-use Rattle.std.specs.Prelude.{◌≡◌, ℕ, Bool, true, false, Option, Some}
+use Rattle.std.specs.Prelude.{◌≡◌, ℕ, Bool, true, false, if◌then◌else◌, List, [], codes, Option, Some}
 use Rattle.client_core.specs.declared.faults.ClientFault.{ClientFault}
+use Rattle.client_core.specs.declared.faults.ClientFault.TheVariants as client_fault
 use Rattle.server_core.specs.declared.faults.ServerFault.{ServerFault}
+use Rattle.server_core.specs.declared.faults.ServerFault.TheVariants as server_fault
 use Rattle.link_world.specs.declared.pumps.PumpFault.{PumpFault}
 use Rattle.link_world.specs.declared.pumps.PumpFault.TheVariants as pump
 use Rattle.link_world.specs.declared.links.LoopFault.{LoopFault}
@@ -13,16 +15,42 @@ use Rattle.dme_orders.specs.declared.faults.OrderFault.TheVariants as fault
 abbrev pub Blames : LoopFault → Option LoopFault → Bool → Bool → Type 0
 Blames fault broken before after = (broken ≡ Some fault → after ≡ true) × (before ≡ false → after ≡ true → broken ≡ Some fault)
 
--- a connection is shown as one that failed
-abbrev pub IsConnectionShown : OrderFault → Type 0
-IsConnectionShown (fault.ConnectionFailed cause) = Unit {0}
-IsConnectionShown _ = ⊥
+-- what a client's refusal says of its connection
+abbrev pub client_cause : ClientFault → List ℕ
+client_cause (client_fault.Faulted cause) = codes "the server answered what has no place\n"
+client_cause client_fault.NotNow = codes "the client is on no connection\n"
+client_cause client_fault.Memory = codes "the client is on no connection\n"
 
--- want of memory is shown as such, all else as a connection that failed
-abbrev pub IsBreakShown : LoopFault → OrderFault → Type 0
-IsBreakShown (link.Client pump.Memory) shown = shown ≡ fault.Memory
-IsBreakShown (link.Server pump.Memory) shown = shown ≡ fault.Memory
-IsBreakShown _ shown = IsConnectionShown shown
+-- what a server's refusal says of its connection
+abbrev pub server_cause : ServerFault → List ℕ
+server_cause (server_fault.Framing why) = codes "the client sent bytes that are no lines\n"
+server_cause _ = codes "the server is on no connection\n"
+
+-- why a connection was broken off, as a line
+abbrev pub cause_of : LoopFault → List ℕ
+cause_of (link.Client (pump.Core why)) = client_cause why
+cause_of (link.Server (pump.Core why)) = server_cause why
+cause_of (link.Client pump.ReadFailed) = codes "the connection could not be read\n"
+cause_of (link.Server pump.ReadFailed) = codes "the connection could not be read\n"
+cause_of (link.Client pump.WriteFailed) = codes "the connection could not be written\n"
+cause_of (link.Server pump.WriteFailed) = codes "the connection could not be written\n"
+cause_of (link.Client pump.Ended) = codes "the server has left the connection\n"
+cause_of (link.Server pump.Ended) = codes "the client has left the connection\n"
+cause_of (link.Client pump.TurnsSpent) = codes "too many steps were made\n"
+cause_of (link.Server pump.TurnsSpent) = codes "too many steps were made\n"
+cause_of (link.Client pump.Memory) = []
+cause_of (link.Server pump.Memory) = []
+
+-- a connection is shown as one that failed, with this second line
+abbrev pub IsConnectionShown : List ℕ → OrderFault → Type 0
+IsConnectionShown line (fault.ConnectionFailed cause) = cause.now ≡ line
+IsConnectionShown line _ = ⊥
+
+-- running out of memory is shown as such, all else as a connection that failed, with the cause where it is asked for
+abbrev pub IsBreakShown : LoopFault → Bool → OrderFault → Type 0
+IsBreakShown (link.Client pump.Memory) told shown = shown ≡ fault.Memory
+IsBreakShown (link.Server pump.Memory) told shown = shown ≡ fault.Memory
+IsBreakShown why told shown = IsConnectionShown (if told then cause_of why else []) shown
 
 -- 4 for want of memory, 1 for all else
 abbrev pub break_status : LoopFault → ℕ

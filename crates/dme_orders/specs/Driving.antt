@@ -1,8 +1,6 @@
 -- What a program leaves that is run on a server over a connection (this profile).
-use Rattle.std.specs.Prelude.{◌≡◌, ℕ, Bool, true, false, List, take, codes, Option, None, Some, IfSome}
-use Rattle.std.specs.Io.KnownBytes.{Appends}
-use Rattle.byte_ports.specs.Transfers.{AppendsFront}
-use Rattle.contact_ledger.specs.FeatureTexts.{IsFeatures}
+use Rattle.std.specs.Prelude.{◌≡◌, ◌⊎◌, ℕ, Bool, true, false, List, codes, Option, None, Some, IfSome}
+use Rattle.contact_ledger.specs.FeatureTexts.{features_text, header}
 use Rattle.contact_ledger.specs.declared.features.Feature.{Feature}
 use Rattle.protocol_model.specs.Ends.{ClientEnd, end_connected}
 use Rattle.link_world.specs.LinkRuns.{ClientRan, ClientRunStopped}
@@ -18,23 +16,31 @@ RunCame old new left left_now taken taken_now None = ClientRan old new left left
 RunCame old new left left_now taken taken_now (Some (link.Client fault)) = ClientRunStopped old new left left_now taken taken_now fault
 RunCame old new left left_now taken taken_now (Some (link.Server fault)) = ⊥
 
--- a text says these features, and begins as one of version 2
-abbrev pub IsFeaturesText : List ℕ → List Feature → Type 0
-IsFeaturesText text features = IsFeatures text features × (take 15 text ≡ codes "DME-FEATURES 2\n")
+-- what a file tells that is replaced as a whole: its text, if it does, and whether it has failed
+pub record FileTold : Type 0 where
+  pub text : Option (List ℕ)
+  pub failed : Bool
 
--- a file has a text of which this holds now, where it was replaced; else it has the text that it had
-abbrev pub Keeps : Bool → Option (List ℕ) → Option (List ℕ) → (List ℕ → Type 0) → Type 0
-Keeps true old new Holds = IfSome new Holds
-Keeps false old new Holds = new ≡ old
+abbrev pub file_told : Option (List ℕ) → Bool → FileTold
+file_told text failed = record { text = text; failed = failed }
+
+-- a file works and has a text of which this holds; or it has failed, and has the text that it had
+abbrev pub Keeps : Bool → (old new : FileTold) → (List ℕ → Type 0) → Type 0
+Keeps true old new Holds = (new.failed ≡ false) × IfSome new.text Holds
+Keeps false old new Holds = (new.failed ≡ true) × (new.text ≡ old.text)
+
+-- the written form of these features, in the version of today
+abbrev pub IsFeaturesText : List Feature → List ℕ → Type 0
+IsFeaturesText features text = (version : _) × (header version ≡ codes "DME-FEATURES 2") × (text ≡ features_text version features)
 
 -- what the ports of a client and its features file tell
 pub record RunTold : Type 0 where
   pub left : Option (List ℕ)
   pub taken : Option (List ℕ)
-  pub kept : Option (List ℕ)
+  pub file : FileTold
 
-abbrev pub run_told : (left taken kept : Option (List ℕ)) → RunTold
-run_told left taken kept = record { left = left; taken = taken; kept = kept }
+abbrev pub run_told : (left taken : Option (List ℕ)) → FileTold → RunTold
+run_told left taken file = record { left = left; taken = taken; file = file }
 
 -- a client that has come to connection 1 has had its turns; this is how that has ended, this the report of what it then is, and the file
 -- keeps the features that it then holds, each of them
@@ -42,18 +48,18 @@ pub record LeavesRun (first : ClientEnd) (old new : RunTold) (driven : Driven) (
   pub last : ClientEnd
   pub came : RunCame (end_connected 1 first) last old.left new.left old.taken new.taken driven.ended.broken
   pub stands : driven.ended.state ≡ last.client.state
-  pub kept : Keeps driven.is_kept old.kept new.kept (λ text. IsFeaturesText text last.client.table.tally.features)
+  pub kept : Keeps driven.is_kept old.file new.file (IsFeaturesText last.client.table.tally.features)
   pub told : text ≡ report_text (end_shown last)
 
--- the report was written behind what was there, and nothing else
-pub record PrintsRun (first : ClientEnd) (told told_now : RunTold) (driven : Driven) (old new : Option (List ℕ)) : Type 0 where
-  pub text : List ℕ
-  pub leaves : LeavesRun first told told_now driven text
-  pub written : Appends old new text
+-- a client that has come to connection 1 has had its turns, as far as it came, and the file has the text that it had, or keeps the features
+-- that the client then holds
+pub record LeavesFile (first : ClientEnd) (old new : RunTold) : Type 0 where
+  pub last : ClientEnd
+  pub broken : Option LoopFault
+  pub came : RunCame (end_connected 1 first) last old.left new.left old.taken new.taken broken
+  pub is_kept : Bool
+  pub kept : Keeps is_kept old.file new.file (IsFeaturesText last.client.table.tally.features)
 
--- a front of the report was written, short of all
-pub record PrintsRunFront (first : ClientEnd) (told told_now : RunTold) (old new : Option (List ℕ)) : Type 0 where
-  pub driven : Driven
-  pub text : List ℕ
-  pub leaves : LeavesRun first told told_now driven text
-  pub written : AppendsFront old new text
+-- where there is no memory for the report, nothing has moved but the client's turns
+abbrev pub StopsRun : ClientEnd → (old new : RunTold) → Type 0
+StopsRun first old new = (new.file ≡ old.file) ⊎ LeavesFile first old new

@@ -2,9 +2,11 @@ pub mod Plan
 pub mod Numbered
 pub mod Checked
 pub mod Printed
-pub mod UnderSetup
 pub mod Verdicts
 pub mod Reading
+pub mod Input
+pub mod Orders
+pub mod UnderSetup
 pub mod Simulating
 pub mod Auditing
 pub mod Broken

@@ -1,7 +1,5 @@
 -- What a program leaves that is run over one connection between both ends (this profile).
 use Rattle.std.specs.Prelude.{◌≡◌, ℕ, List, [], Option, None, Some}
-use Rattle.std.specs.Io.KnownBytes.{Appends}
-use Rattle.byte_ports.specs.Transfers.{AppendsFront}
 use Rattle.tool_rack.specs.Setups.{SetupValue}
 use Rattle.dmis_program.specs.Meaning.{Meaning}
 use Rattle.protocol_model.specs.Ends.{ClientEnd, ServerEnd}
@@ -47,18 +45,3 @@ pub record LeavesLoop (window : ℕ) (setup : SetupValue) (program : Meaning) (p
       (server_side server ports_now.server_left ports_now.server_taken) ended.broken
   pub stands : ended.state ≡ client.client.state
   pub told : text ≡ report_text (ends_shown client server.server.ledger)
-
--- the report was written behind what was there, and nothing else
-pub record PrintsLoop (window : ℕ) (setup : SetupValue) (program : Meaning) (ports ports_now : FourTold) (ended : Ended)
-    (old new : Option (List ℕ)) : Type 0 where
-  pub text : List ℕ
-  pub leaves : LeavesLoop window setup program ports ports_now ended text
-  pub written : Appends old new text
-
--- a front of the report was written, short of all
-pub record PrintsLoopFront (window : ℕ) (setup : SetupValue) (program : Meaning) (ports ports_now : FourTold)
-    (old new : Option (List ℕ)) : Type 0 where
-  pub ended : Ended
-  pub text : List ℕ
-  pub leaves : LeavesLoop window setup program ports ports_now ended text
-  pub written : AppendsFront old new text

@@ -1,17 +1,18 @@
--- What simulating a program by a schedule leaves, from any sources to any sink that tell their bytes.
-use Rattle.std.specs.Prelude.{◌≡◌, ℕ, List, false, length, Option, Ok, IfSome}
-use Rattle.std.specs.Io.KnownBytes.{Appends}
-use Rattle.byte_ports.specs.Transfers.{AppendsFront}
-use Rattle.tool_rack.specs.Setups.{SetupValue, setup_of}
-use Rattle.dmis_program.specs.Meaning.{Meaning, program_of}
+-- What simulating a program by a schedule leaves (this profile).
+use Rattle.std.specs.Prelude.{◌≡◌, ℕ, List, false, length, Result}
+use Rattle.tool_rack.specs.Setups.{SetupValue}
+use Rattle.dmis_program.specs.Meaning.{Meaning}
 use Rattle.protocol_model.specs.World.{World, start}
 use Rattle.protocol_model.specs.declared.states.State.{State}
 use Rattle.link_world.specs.Machines.{simulated}
 use Rattle.link_world.specs.Reports.{reported, report_text}
 use Rattle.link_world.specs.Schedules.{Plays}
-use Rattle.link_world.specs.ScheduleTexts.{schedule_of}
 use Rattle.link_world.specs.declared.reports.Report.{Report}
 use Rattle.link_world.specs.declared.schedules.Instruction.{Instruction}
+use Rattle.dme_orders.specs.Input.{ReadsSimulation, WhyNoSimulation}
+use Rattle.dme_orders.specs.Orders.{Went, Carries}
+use Rattle.dme_orders.specs.Reading.{Came}
+use Rattle.dme_orders.specs.declared.reading.FilesFault.{FilesFault}
 
 -- what is shown of a world
 abbrev pub shown_of : World → Report
@@ -35,29 +36,7 @@ pub record LeavesReport (window : ℕ) (setup : SetupValue) (instructions : List
   pub stands : state ≡ world.client.client.state
   pub told : text ≡ report_text (shown_of world)
 
--- the same of a setup, a schedule and a program that are texts, the program under the setup's frames
-pub record Simulates (window : ℕ) (setup_text schedule_text program_text : List ℕ) (state : State) (text : List ℕ) : Type 0 where
-  pub setup : SetupValue
-  pub instructions : List Instruction
-  pub program : Meaning
-  pub said : setup_of setup_text ≡ Ok setup
-  pub asked : schedule_of schedule_text ≡ Ok instructions
-  pub accepted : program_of setup.frames program_text ≡ Ok program
-  pub leaves : LeavesReport window setup instructions program state text
-
--- what holds of three texts, where all are told
-abbrev pub OfThree : Option (List ℕ) → Option (List ℕ) → Option (List ℕ) → (List ℕ → List ℕ → List ℕ → Type 0) → Type 0
-OfThree a b c Holds = IfSome a (λ x. IfSome b (λ y. IfSome c (Holds x y)))
-
--- the report was written behind what was there, and nothing else
-pub record PrintsReport (window : ℕ) (state : State) (old new : Option (List ℕ)) (setup schedule program : List ℕ) : Type 0 where
-  pub text : List ℕ
-  pub simulates : Simulates window setup schedule program state text
-  pub written : Appends old new text
-
--- a front of the report was written, short of all
-pub record PrintsReportFront (window : ℕ) (old new : Option (List ℕ)) (setup schedule program : List ℕ) : Type 0 where
-  pub state : State
-  pub text : List ℕ
-  pub simulates : Simulates window setup schedule program state text
-  pub written : AppendsFront old new text
+-- the report of the world was written, or the simulation was not carried out
+abbrev pub Simulates : {S C R W : Type 0} → ℕ → Came S → Came C → Came R → Went W → Result State FilesFault → Type 0
+Simulates window s c r w = Carries (ReadsSimulation s c r)
+    (λ input. LeavesReport window input.setup input.instructions input.program) w (WhyNoSimulation s c r)

@@ -1,11 +1,11 @@
 // A program is run on a server over a connection, over ports.
 
-ghost use Rattle.std.specs.Prelude.{◌≡◌, ◌<◌, length, true, false, Some, OnOk, OnErr, IfOk, IfErr, IsErrOf};
+ghost use Rattle.std.specs.Prelude.{◌≡◌, ◌<◌, length, true, Some, OnOk, OnErr, IfOk, IsErrOf};
 ghost use Rattle.protocol_model.specs.Ends.{end_connected};
 ghost use Rattle.client_core.specs.Clients.{may_connect};
-ghost use Rattle.dme_orders.specs.Reading.{UnlessUnwritten, IsOfOutput};
 ghost use Rattle.dme_orders.specs.Broken.{Blames};
-ghost use Rattle.dme_orders.specs.Driving.{run_told, IsFeaturesText, RunCame, Keeps, LeavesRun, PrintsRun, PrintsRunFront};
+ghost use Rattle.dme_orders.specs.Driving.{file_told, run_told, IsFeaturesText, RunCame, Keeps, LeavesRun, StopsRun};
+ghost use Rattle.dme_orders.specs.Orders.{went, Prints};
 
 use crate::ended::Ended;
 use crate::ends::end_report;
@@ -14,7 +14,6 @@ use crate::simulating::write_text;
 use crate::text_files::TextFile;
 use byte_ports::{Failed, Sink, Source};
 use client_core::{Client, ClientFault};
-use contact_ledger::laws::written_features_are_read_back;
 use contact_ledger::write_features;
 use link_world::{LoopFault, PumpFault, Watcher, watch_link};
 use std::alloc::{AllocError, Global};
@@ -60,12 +59,11 @@ fn turns_of_client<R: Source, W: Sink, N: Watcher>(
     }
 }
 
-/// The text of the features that a client holds, as they are read back from it. Only want of memory is an `Err`.
+/// The text of the features that a client holds. Fails only if out of memory.
 fn features_text(alloc: Global, client: &Client) -> Result<Vec<u8>, AllocError>
-    ensures { IfOk result (λ text. IsFeaturesText text.items
-        client.now.client.table.tally.features) }
+    ensures { IfOk result (λ text. IsFeaturesText client.now.client.table.tally.features
+        text.items) }
 {
-    written_features_are_read_back();
     let mut text = Vec::new(alloc);
     write_features(&mut text, client.features())?;
     Ok(text)
@@ -77,9 +75,11 @@ fn keep_features<F: TextFile>(
     client: &Client,
     file: &mut F,
 ) -> Result<bool, AllocError>
-    ensures kept { IfOk result (λ is_kept. Keeps is_kept (F.kept file.old) (F.kept file.new)
-        (λ text. IsFeaturesText text client.now.client.table.tally.features)) }
-    ensures err { OnErr result (F.kept file.new ≡ F.kept file.old) }
+    ensures kept { IfOk result (λ is_kept. Keeps is_kept
+        (file_told (F.kept file.old) (F.has_failed file.old))
+        (file_told (F.kept file.new) (F.has_failed file.new))
+        (IsFeaturesText client.now.client.table.tally.features)) }
+    ensures err { OnErr result (file.new ≡ file.old) }
 {
     let text = features_text(alloc, client)?;
     match file.replace(text.as_slice()) {
@@ -100,10 +100,17 @@ fn turned_lent<R: Source, W: Sink, N: Watcher, F: TextFile>(
 ) -> Result<(Driven, Vec<u8>), AllocError>
     requires { may_connect 1 client.old.client ≡ true }
     ensures leaves { IfOk result (λ end. LeavesRun client.old
-        (run_told (R.left source.old) (W.taken sink.old) (F.kept file.old))
-        (run_told (R.left source.new) (W.taken sink.new) (F.kept file.new))
+        (run_told (R.left source.old) (W.taken sink.old)
+        (file_told (F.kept file.old) (F.has_failed file.old)))
+        (run_told (R.left source.new) (W.taken sink.new)
+        (file_told (F.kept file.new) (F.has_failed file.new)))
         end.0 end.1.items) }
     ensures some { IfOk result (λ end. 0 < length end.1.items) }
+    ensures stops { OnErr result (StopsRun client.old
+        (run_told (R.left source.old) (W.taken sink.old)
+        (file_told (F.kept file.old) (F.has_failed file.old)))
+        (run_told (R.left source.new) (W.taken sink.new)
+        (file_told (F.kept file.new) (F.has_failed file.new)))) }
     ensures read { IfOk result (λ end. Blames (LoopFault.Client PumpFault.ReadFailed)
         end.0.ended.broken (R.has_failed source.old) (R.has_failed source.new)) }
     ensures written { IfOk result (λ end. Blames (LoopFault.Client PumpFault.WriteFailed)
@@ -129,10 +136,17 @@ fn turned<R: Source, W: Sink, N: Watcher, F: TextFile>(
 ) -> Result<(Driven, Vec<u8>), AllocError>
     requires { may_connect 1 client.client ≡ true }
     ensures leaves { IfOk result (λ end. LeavesRun client
-        (run_told (R.left source.old) (W.taken sink.old) (F.kept file.old))
-        (run_told (R.left source.new) (W.taken sink.new) (F.kept file.new))
+        (run_told (R.left source.old) (W.taken sink.old)
+        (file_told (F.kept file.old) (F.has_failed file.old)))
+        (run_told (R.left source.new) (W.taken sink.new)
+        (file_told (F.kept file.new) (F.has_failed file.new)))
         end.0 end.1.items) }
     ensures some { IfOk result (λ end. 0 < length end.1.items) }
+    ensures stops { OnErr result (StopsRun client
+        (run_told (R.left source.old) (W.taken sink.old)
+        (file_told (F.kept file.old) (F.has_failed file.old)))
+        (run_told (R.left source.new) (W.taken sink.new)
+        (file_told (F.kept file.new) (F.has_failed file.new)))) }
     ensures read { IfOk result (λ end. Blames (LoopFault.Client PumpFault.ReadFailed)
         end.0.ended.broken (R.has_failed source.old) (R.has_failed source.new)) }
     ensures written { IfOk result (λ end. Blames (LoopFault.Client PumpFault.WriteFailed)
@@ -158,29 +172,27 @@ pub fn drive<R: Source, W: Sink, N: Watcher, F: TextFile, O: Sink>(
 ) -> Result<Driven, FilesFault>
     requires { may_connect 1 client.client ≡ true }
 
-    // Just the report of what the client has become was written, and its file keeps what it then holds.
-    ensures ok { IfOk result (λ driven. PrintsRun client
-        (run_told (R.left source.old) (W.taken sink.old) (F.kept file.old))
-        (run_told (R.left source.new) (W.taken sink.new) (F.kept file.new))
-        driven (O.taken out.old) (O.taken out.new)) }
-    ensures works { OnOk result (O.has_failed out.new ≡ false) }
+    // The report of what the client has become was written, and its file keeps what it then holds; or there was no memory for that, or the
+    // output has failed.
+    ensures prints { Prints (LeavesRun client
+        (run_told (R.left source.old) (W.taken sink.old)
+        (file_told (F.kept file.old) (F.has_failed file.old)))
+        (run_told (R.left source.new) (W.taken sink.new)
+        (file_told (F.kept file.new) (F.has_failed file.new))))
+        (went O.taken O.has_failed out.old out.new) result }
+
+    // The file has the text that it had, or keeps what the client then holds, whatever is answered.
+    ensures stops { IsErrOf result FilesFault.Memory → StopsRun client
+        (run_told (R.left source.old) (W.taken sink.old)
+        (file_told (F.kept file.old) (F.has_failed file.old)))
+        (run_told (R.left source.new) (W.taken sink.new)
+        (file_told (F.kept file.new) (F.has_failed file.new))) }
 
     // A port of the connection is told as what broke it off where it has failed, and only there.
     ensures read { IfOk result (λ driven. Blames (LoopFault.Client PumpFault.ReadFailed)
         driven.ended.broken (R.has_failed source.old) (R.has_failed source.new)) }
     ensures written { IfOk result (λ driven. Blames (LoopFault.Client PumpFault.WriteFailed)
         driven.ended.broken (W.has_failed sink.old) (W.has_failed sink.new)) }
-
-    // The output is blamed where it has failed, and only there; but for that nothing was written to it.
-    ensures faults { IfErr result IsOfOutput }
-    ensures unwritten { O.has_failed out.old ≡ false → O.has_failed out.new ≡ true
-        → IsErrOf result FilesFault.Write }
-    ensures write { IsErrOf result FilesFault.Write → O.has_failed out.new ≡ true }
-    ensures front { IsErrOf result FilesFault.Write → PrintsRunFront client
-        (run_told (R.left source.old) (W.taken sink.old) (F.kept file.old))
-        (run_told (R.left source.new) (W.taken sink.new) (F.kept file.new))
-        (O.taken out.old) (O.taken out.new) }
-    ensures silent { IfErr result (UnlessUnwritten (out.new ≡ out.old)) }
 {
     let (driven, text) = turned(alloc, client, source, sink, watcher, file)?;
     write_text(out, text.as_slice())?;

@@ -3,7 +3,7 @@
 ghost use Rattle.std.specs.Prelude.{◌≡◌, ◌↔◌, IsOk, IfOk, IfErr, IfSome, None};
 ghost use Rattle.dme_orders.specs.Printed.{status_of};
 ghost use Rattle.dme_orders.specs.Verdicts.{status_of_state};
-ghost use Rattle.dme_orders.specs.Broken.{IsBreakShown, break_status};
+ghost use Rattle.dme_orders.specs.Broken.{client_cause, server_cause, cause_of, IsBreakShown, break_status};
 
 use crate::faults::OrderFault;
 use crate::verdicts::status;
@@ -21,7 +21,9 @@ pub struct Ended {
 }
 
 /// What a client's refusal says of its connection, as a line.
-fn client_cause(fault: ClientFault) -> &'static str {
+fn client_cause(fault: ClientFault) -> &'static str
+    ensures { result.now ≡ client_cause fault }
+{
     match fault {
         ClientFault::Faulted(_) => "the server answered what has no place\n",
         ClientFault::NotNow | ClientFault::Memory => "the client is on no connection\n",
@@ -29,7 +31,9 @@ fn client_cause(fault: ClientFault) -> &'static str {
 }
 
 /// What a server's refusal says of its connection, as a line.
-fn server_cause(fault: ServerFault) -> &'static str {
+fn server_cause(fault: ServerFault) -> &'static str
+    ensures { result.now ≡ server_cause fault }
+{
     match fault {
         ServerFault::Framing(_) => "the client sent bytes that are no lines\n",
         _ => "the server is on no connection\n",
@@ -37,7 +41,9 @@ fn server_cause(fault: ServerFault) -> &'static str {
 }
 
 /// Why a connection was broken off, as a line.
-fn cause(fault: LoopFault) -> &'static str {
+fn cause(fault: LoopFault) -> &'static str
+    ensures { result.now ≡ cause_of fault }
+{
     match fault {
         LoopFault::Client(PumpFault::Core(why)) => client_cause(why),
         LoopFault::Server(PumpFault::Core(why)) => server_cause(why),
@@ -59,7 +65,7 @@ fn cause(fault: LoopFault) -> &'static str {
 /// What is shown for a connection that was broken off: want of memory as such, all else as a connection that failed, and with its cause
 /// as a second line where more is asked for.
 pub fn shown_break(fault: LoopFault, is_told: bool) -> OrderFault
-    ensures shown { IsBreakShown fault result }
+    ensures shown { IsBreakShown fault is_told result }
     ensures status { status_of result ≡ break_status fault }
 {
     match fault {
@@ -76,7 +82,7 @@ impl Ended {
         ensures can { IsOk result ↔ (self.broken ≡ None) }
         ensures status { IfOk result (λ status. status ≡ status_of_state self.state) }
         ensures shown { IfErr result (λ shown. IfSome self.broken
-            (λ fault. IsBreakShown fault shown)) }
+            (λ fault. IsBreakShown fault is_told shown)) }
         ensures broken { IfErr result (λ shown. IfSome self.broken
             (λ fault. status_of shown ≡ break_status fault)) }
     {

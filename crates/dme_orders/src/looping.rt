@@ -1,13 +1,13 @@
 // A program is run over one connection between both ends, over ports.
 
-ghost use Rattle.std.specs.Prelude.{◌≡◌, ◌<◌, [], length, true, false, OnOk, OnErr, IfOk, IfErr, IsErrOf};
+ghost use Rattle.std.specs.Prelude.{◌≡◌, ◌<◌, [], length, true, IfOk};
 ghost use Rattle.client_core.specs.Clients.{is_window};
 ghost use Rattle.link_world.specs.LinkRuns.{client_side, server_side};
 ghost use Rattle.link_world.specs.Reports.{report_text};
 ghost use Rattle.dme_orders.specs.Ends.{first_client, first_server, ends_shown};
-ghost use Rattle.dme_orders.specs.Reading.{UnlessUnwritten, IsOfOutput};
 ghost use Rattle.dme_orders.specs.Broken.{Blames};
-ghost use Rattle.dme_orders.specs.Looping.{four_told, LoopCame, LeavesLoop, PrintsLoop, PrintsLoopFront};
+ghost use Rattle.dme_orders.specs.Looping.{four_told, LoopCame, LeavesLoop};
+ghost use Rattle.dme_orders.specs.Orders.{went, Prints};
 
 use crate::ended::Ended;
 use crate::ends::{ends_report, first_client, first_server};
@@ -197,14 +197,13 @@ pub fn loop_over<CR: Source, CW: Sink, SR: Source, SW: Sink, N: Watcher, W: Sink
 ) -> Result<Ended, FilesFault>
     requires { is_window window ≡ true }
 
-    // Just the report of what both ends have become was written.
-    ensures ok { IfOk result (λ ended. PrintsLoop window setup program
+    // The report of what both ends have become was written; or there was no memory for it, or the sink has failed.
+    ensures prints { Prints (LeavesLoop window setup program
         (four_told (CR.left client_source.old) (CW.taken client_sink.old)
         (SR.left server_source.old) (SW.taken server_sink.old))
         (four_told (CR.left client_source.new) (CW.taken client_sink.new)
-        (SR.left server_source.new) (SW.taken server_sink.new))
-        ended (W.taken sink.old) (W.taken sink.new)) }
-    ensures works { OnOk result (W.has_failed sink.new ≡ false) }
+        (SR.left server_source.new) (SW.taken server_sink.new)))
+        (went W.taken W.has_failed sink.old sink.new) result }
 
     // A port of the connection is told as what broke it off where it has failed, and only there.
     ensures client_read { IfOk result (λ ended. Blames (LoopFault.Client PumpFault.ReadFailed)
@@ -215,19 +214,6 @@ pub fn loop_over<CR: Source, CW: Sink, SR: Source, SW: Sink, N: Watcher, W: Sink
         ended.broken (SR.has_failed server_source.old) (SR.has_failed server_source.new)) }
     ensures server_write { IfOk result (λ ended. Blames (LoopFault.Server PumpFault.WriteFailed)
         ended.broken (SW.has_failed server_sink.old) (SW.has_failed server_sink.new)) }
-
-    // A sink is blamed where it has failed, and only there; but for that nothing was written.
-    ensures faults { IfErr result (λ fault. IsOfOutput fault) }
-    ensures unwritten { W.has_failed sink.old ≡ false → W.has_failed sink.new ≡ true
-        → IsErrOf result FilesFault.Write }
-    ensures write { IsErrOf result FilesFault.Write → W.has_failed sink.new ≡ true }
-    ensures front { IsErrOf result FilesFault.Write → PrintsLoopFront window setup program
-        (four_told (CR.left client_source.old) (CW.taken client_sink.old)
-        (SR.left server_source.old) (SW.taken server_sink.old))
-        (four_told (CR.left client_source.new) (CW.taken client_sink.new)
-        (SR.left server_source.new) (SW.taken server_sink.new))
-        (W.taken sink.old) (W.taken sink.new) }
-    ensures silent { IfErr result (UnlessUnwritten (sink.new ≡ sink.old)) }
 {
     let (ended, text) = looped(
         alloc,

@@ -1,8 +1,9 @@
 // The files of an order are read, each to its end, and understood.
 
 ghost use Rattle.std.specs.Prelude.{◌≡◌, Ok, IfOk, IfErr};
-ghost use Rattle.dme_orders.specs.Reading.{Reads, WhyNoText, ReadsSetup, WhyNoSetup, ReadsSchedule, WhyNoSchedule, ReadsProgram, WhyNoProgram};
+ghost use Rattle.dme_orders.specs.Reading.{came, Reads, WhyNoText, ReadsSetup, WhyNoSetup, ReadsSchedule, WhyNoSchedule, ReadsProgram, WhyNoProgram};
 ghost use Rattle.dme_orders.specs.Reading.{ReadsFeatures, WhyNoFeatures, ReadsContacts, WhyNoContacts};
+ghost use Rattle.dme_orders.specs.Input.{named, ReadsNamed, WhyNoNamed, frames_under};
 
 use crate::check::{CheckFault, read_input};
 use byte_ports::Source;
@@ -77,9 +78,10 @@ impl From<AllocError> for FilesFault {
 
 /// The whole text of a source.
 fn read_text<S: Source>(alloc: Global, source: &mut S, role: Role) -> Result<Vec<u8>, FilesFault>
-    ensures ok { IfOk result (λ text. Reads S.left S.has_failed (λ told. text.items ≡ told)
-        source.old source.new) }
-    ensures unread { IfErr result (WhyNoText S.left S.has_failed source.old source.new role) }
+    ensures ok { IfOk result (λ text. Reads (came S.left S.has_failed source.old source.new)
+        (λ told. text.items ≡ told)) }
+    ensures unread { IfErr result (WhyNoText (came S.left S.has_failed source.old source.new)
+        role) }
 {
     match read_input(alloc, source) {
         Ok(text) => Ok(text),
@@ -91,8 +93,8 @@ fn read_text<S: Source>(alloc: Global, source: &mut S, role: Role) -> Result<Vec
 
 /// The setup that a source gives.
 pub fn read_setup<S: Source>(alloc: Global, source: &mut S) -> Result<Setup, FilesFault>
-    ensures ok { IfOk result (ReadsSetup S.left S.has_failed source.old source.new) }
-    ensures err { IfErr result (WhyNoSetup S.left S.has_failed source.old source.new) }
+    ensures ok { IfOk result (ReadsSetup (came S.left S.has_failed source.old source.new)) }
+    ensures err { IfErr result (WhyNoSetup (came S.left S.has_failed source.old source.new)) }
 {
     let text = read_text(alloc, source, Role::Setup)?;
     let read = Setup::read(alloc, text.as_slice());
@@ -109,8 +111,8 @@ pub(crate) fn read_schedule<S: Source>(
     alloc: Global,
     source: &mut S,
 ) -> Result<Schedule, FilesFault>
-    ensures ok { IfOk result (ReadsSchedule S.left S.has_failed source.old source.new) }
-    ensures err { IfErr result (WhyNoSchedule S.left S.has_failed source.old source.new) }
+    ensures ok { IfOk result (ReadsSchedule (came S.left S.has_failed source.old source.new)) }
+    ensures err { IfErr result (WhyNoSchedule (came S.left S.has_failed source.old source.new)) }
 {
     let text = read_text(alloc, source, Role::Schedule)?;
     let read = Schedule::read(alloc, text.as_slice());
@@ -127,8 +129,8 @@ pub(crate) fn features_from<S: Source>(
     alloc: Global,
     source: &mut S,
 ) -> Result<FeatureLedger, FilesFault>
-    ensures ok { IfOk result (ReadsFeatures S.left S.has_failed source.old source.new) }
-    ensures err { IfErr result (WhyNoFeatures S.left S.has_failed source.old source.new) }
+    ensures ok { IfOk result (ReadsFeatures (came S.left S.has_failed source.old source.new)) }
+    ensures err { IfErr result (WhyNoFeatures (came S.left S.has_failed source.old source.new)) }
 {
     let text = read_text(alloc, source, Role::Features)?;
     let read = read_features(alloc, text.as_slice());
@@ -145,8 +147,8 @@ pub(crate) fn contacts_from<S: Source>(
     alloc: Global,
     source: &mut S,
 ) -> Result<ServerLedger, FilesFault>
-    ensures ok { IfOk result (ReadsContacts S.left S.has_failed source.old source.new) }
-    ensures err { IfErr result (WhyNoContacts S.left S.has_failed source.old source.new) }
+    ensures ok { IfOk result (ReadsContacts (came S.left S.has_failed source.old source.new)) }
+    ensures err { IfErr result (WhyNoContacts (came S.left S.has_failed source.old source.new)) }
 {
     let text = read_text(alloc, source, Role::Contacts)?;
     let read = read_contacts(alloc, text.as_slice());
@@ -164,8 +166,9 @@ pub(crate) fn read_program<S: Source>(
     frames: &Frames,
     source: &mut S,
 ) -> Result<Program, FilesFault>
-    ensures ok { IfOk result (ReadsProgram S.left S.has_failed source.old source.new frames.now) }
-    ensures err { IfErr result (WhyNoProgram S.left S.has_failed source.old source.new
+    ensures ok { IfOk result (ReadsProgram (came S.left S.has_failed source.old source.new)
+        frames.now) }
+    ensures err { IfErr result (WhyNoProgram (came S.left S.has_failed source.old source.new)
         frames.now) }
 {
     let text = read_text(alloc, source, Role::Program)?;
@@ -175,5 +178,36 @@ pub(crate) fn read_program<S: Source>(
         Ok(program) => Ok(program),
         Err(ProgramFault::Memory) => Err(FilesFault::Memory),
         Err(refused) => Err(FilesFault::Program(refused)),
+    }
+}
+
+/// The setup that a source gives, where there is one.
+pub(crate) fn named_setup<S: Source>(
+    alloc: Global,
+    source: &mut Option<S>,
+) -> Result<Option<Setup>, FilesFault>
+    ensures ok { IfOk result (ReadsNamed (named S.left S.has_failed source.old source.new)) }
+    ensures err { IfErr result (WhyNoNamed (named S.left S.has_failed source.old source.new)) }
+{
+    match source {
+        Some(source) => Ok(Some(read_setup(alloc, source)?)),
+        None => Ok(None),
+    }
+}
+
+/// The program that a source gives under the frames of a setup, and under none without one.
+pub(crate) fn program_under<R: Source>(
+    alloc: Global,
+    setup: &Option<Setup>,
+    source: &mut R,
+) -> Result<Program, FilesFault>
+    ensures ok { IfOk result (ReadsProgram (came R.left R.has_failed source.old source.new)
+        (frames_under setup.now)) }
+    ensures err { IfErr result (WhyNoProgram (came R.left R.has_failed source.old source.new)
+        (frames_under setup.now)) }
+{
+    match setup {
+        Some(setup) => read_program(alloc, setup.frames(), source),
+        None => read_program(alloc, &Frames::new(alloc), source),
     }
 }

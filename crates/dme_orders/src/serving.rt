@@ -1,15 +1,12 @@
 // Connections are served, and what was done is kept and shown, over ports.
 
-ghost use Rattle.std.specs.Prelude.{◌≡◌, ◌≢◌, ◌⊎◌, ◌↔◌, true, false, None, Some, IsOk, OnOk, OnErr, IfOk, IfErr, IfSome, IsErrOf};
-ghost use Rattle.std.specs.Io.KnownBytes.{Appends};
-ghost use Rattle.byte_ports.specs.Transfers.{AppendsFront};
+ghost use Rattle.std.specs.Prelude.{◌≡◌, ◌⊎◌, Bool, true, false, OnErr, IfOk, IsErrOf};
 ghost use Rattle.contact_ledger.specs.ContactTexts.{contacts_text};
 ghost use Rattle.protocol_model.specs.Ends.{serving_accepted};
 ghost use Rattle.server_core.specs.Serving.{may_accept};
-ghost use Rattle.link_world.specs.Reports.{reported, contact_rows};
-ghost use Rattle.dme_orders.specs.Driving.{Keeps};
-ghost use Rattle.dme_orders.specs.Reading.{UnlessUnwritten, IsOfOutput};
-ghost use Rattle.dme_orders.specs.Serving.{ServeCame};
+ghost use Rattle.dme_orders.specs.Driving.{file_told, Keeps};
+ghost use Rattle.dme_orders.specs.Orders.{went, Prints};
+ghost use Rattle.dme_orders.specs.Serving.{ServeCame, break_after, LeavesLedger};
 
 use crate::reading::FilesFault;
 use crate::text_files::TextFile;
@@ -50,16 +47,12 @@ pub fn serve_one<M: Machine, R: Source, W: Sink>(
     serve_link(server, machine, source, sink)
 }
 
-/// Why connections were broken off: want of memory, where one was for that, else the first cause of them, none where none was.
+/// Why connections were broken off: running out of memory, if one was for that, else the first cause of them; none if none was.
 pub fn with_break(
     before: Option<PumpFault<ServerFault>>,
     now: Result<(), PumpFault<ServerFault>>,
 ) -> Option<PumpFault<ServerFault>>
-    ensures none { (result ≡ None) ↔ ((before ≡ None) × IsOk now) }
-    ensures memory { (result ≡ Some PumpFault.Memory)
-        ↔ ((before ≡ Some PumpFault.Memory) ⊎ IsErrOf now PumpFault.Memory) }
-    ensures first { IfSome before (λ fault. fault ≢ PumpFault.Memory
-        → (result ≡ Some fault) ⊎ IsErrOf now PumpFault.Memory) }
+    ensures { result ≡ break_after before now }
 {
     match now {
         Ok(()) => before,
@@ -77,9 +70,11 @@ fn keep_contacts<F: TextFile>(
     ledger: &ServerLedger,
     file: &mut F,
 ) -> Result<bool, AllocError>
-    ensures kept { IfOk result (λ is_kept. Keeps is_kept (F.kept file.old) (F.kept file.new)
-        (λ text. text ≡ contacts_text ledger.now)) }
-    ensures err { OnErr result (F.kept file.new ≡ F.kept file.old) }
+    ensures kept { IfOk result (λ is_kept. Keeps is_kept
+        (file_told (F.kept file.old) (F.has_failed file.old))
+        (file_told (F.kept file.new) (F.has_failed file.new))
+        (λ now. now ≡ contacts_text ledger.now)) }
+    ensures err { OnErr result (file.new ≡ file.old) }
 {
     let mut text = Vec::new(alloc);
     write_contacts(&mut text, ledger)?;
@@ -97,19 +92,17 @@ pub fn close_service<F: TextFile, O: Sink>(
     file: &mut F,
     out: &mut O,
 ) -> Result<bool, FilesFault>
-    ensures kept { IfOk result (λ is_kept. Keeps is_kept (F.kept file.old) (F.kept file.new)
-        (λ text. text ≡ contacts_text ledger.now)) }
-    ensures shown { OnOk result (Appends (O.taken out.old) (O.taken out.new)
-        (contact_rows (reported ledger.now))) }
+    // The lines were written, and the file keeps what was done; or there was no memory for that, or the output has failed.
+    ensures prints { Prints (LeavesLedger ledger.now
+        (file_told (F.kept file.old) (F.has_failed file.old))
+        (file_told (F.kept file.new) (F.has_failed file.new)))
+        (went O.taken O.has_failed out.old out.new) result }
 
-    // The output is blamed where it has failed, and only there; but for that nothing was written to it.
-    ensures faults { IfErr result IsOfOutput }
-    ensures unwritten { O.has_failed out.old ≡ false → O.has_failed out.new ≡ true
-        → IsErrOf result FilesFault.Write }
-    ensures write { IsErrOf result FilesFault.Write → O.has_failed out.new ≡ true }
-    ensures front { IsErrOf result FilesFault.Write → AppendsFront (O.taken out.old)
-        (O.taken out.new) (contact_rows (reported ledger.now)) }
-    ensures silent { IfErr result (UnlessUnwritten (out.new ≡ out.old)) }
+    // The file is as it was, or keeps what was done, whatever is answered.
+    ensures stops { IsErrOf result FilesFault.Memory → (file.new ≡ file.old)
+        ⊎ ((is_kept : Bool) × Keeps is_kept (file_told (F.kept file.old) (F.has_failed file.old))
+        (file_told (F.kept file.new) (F.has_failed file.new))
+        (λ now. now ≡ contacts_text ledger.now)) }
 {
     let is_kept = keep_contacts(alloc, ledger, file)?;
     let mut rows = Vec::new(alloc);

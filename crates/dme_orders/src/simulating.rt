@@ -1,20 +1,19 @@
 // A simulation as a whole, over ports: a program is run by a schedule on the simulated machine of a setup.
 
-ghost use Rattle.std.specs.Prelude.{◌≡◌, ◌<◌, List, length, true, false, OnOk, OnErr, IfOk, IfErr, IsErrOf};
+ghost use Rattle.std.specs.Prelude.{◌≡◌, ◌<◌, length, true, false, OnOk, OnErr, IfOk, IfErr};
 ghost use Rattle.std.specs.Io.KnownBytes.{Appends};
 ghost use Rattle.byte_ports.specs.Transfers.{AppendsFront};
-ghost use Rattle.tool_rack.specs.Setups.{SetupValue};
-ghost use Rattle.link_world.specs.declared.schedules.Instruction.{Instruction};
 ghost use Rattle.link_world.specs.Reports.{report_text};
 ghost use Rattle.client_core.specs.Clients.{is_window};
 ghost use Rattle.protocol_model.specs.World.{start};
 ghost use Rattle.link_world.specs.Machines.{simulated};
 ghost use Rattle.link_world.specs.Schedules.{Plays};
-ghost use Rattle.dme_orders.specs.Reading.{ReadsSetup, WhyNoSetup, ReadsSchedule, WhyNoSchedule, ReadsProgram, WhyNoProgram};
-ghost use Rattle.dme_orders.specs.Reading.{On, IsNotOf, UnlessUnwritten, IsOfSimulation};
-ghost use Rattle.dme_orders.specs.Simulating.{IsPlayed, shown_of, LeavesReport, OfThree, PrintsReport, PrintsReportFront};
+ghost use Rattle.dme_orders.specs.Input.{ReadsSimulation, WhyNoSimulation};
+ghost use Rattle.dme_orders.specs.Orders.{went};
+ghost use Rattle.dme_orders.specs.Reading.{came};
+ghost use Rattle.dme_orders.specs.Simulating.{IsPlayed, shown_of, LeavesReport, Simulates};
 
-use crate::reading::{FilesFault, Role, read_program, read_schedule, read_setup};
+use crate::reading::{FilesFault, read_program, read_schedule, read_setup};
 use byte_ports::{Failed, Sink, Source, push_all};
 use client_core::State;
 use dmis_program::Program;
@@ -110,38 +109,21 @@ fn simulated_report<L: Sink>(
 }
 
 /// Reads a setup, then a schedule, then a program under the setup's frames, each to the end of its text and understood before the next is
-/// read. No file is blamed but for its own first refusal, or where it was not read.
+/// read.
 fn simulation_input<S: Source, C: Source, R: Source>(
     alloc: Global,
     setup: &mut S,
     schedule: &mut C,
     program: &mut R,
 ) -> Result<(Setup, Schedule, Program), FilesFault>
-    ensures setup { IfOk result (λ read. ReadsSetup S.left S.has_failed setup.old setup.new read.0) }
-    ensures schedule { IfOk result (λ read. ReadsSchedule C.left C.has_failed
-        schedule.old schedule.new read.1) }
-    ensures program { IfOk result (λ read. ReadsProgram R.left R.has_failed
-        program.old program.new read.0.frames read.2) }
-    ensures no_setup { IfErr result (On Role.Setup (WhyNoSetup S.left S.has_failed
-        setup.old setup.new)) }
-    ensures setup_first { IfErr result (On Role.Setup (λ _. (schedule.new ≡ schedule.old)
-        × (program.new ≡ program.old))) }
-    ensures no_schedule { IfErr result (On Role.Schedule (WhyNoSchedule C.left C.has_failed
-        schedule.old schedule.new)) }
-    ensures schedule_second { IfErr result (On Role.Schedule (λ _. (program.new ≡ program.old)
-        × ((said : SetupValue) × ReadsSetup S.left S.has_failed setup.old setup.new said))) }
-    ensures no_program { IfErr result (On Role.Program (λ fault. (said : SetupValue)
-        × ReadsSetup S.left S.has_failed setup.old setup.new said
-        × WhyNoProgram R.left R.has_failed program.old program.new said.frames fault)) }
-    ensures program_last { IfErr result (On Role.Program (λ _. (asked : List Instruction)
-        × ReadsSchedule C.left C.has_failed schedule.old schedule.new asked)) }
-    ensures others { IfErr result IsOfSimulation }
-    ensures setup_unread { S.has_failed setup.old ≡ false → S.has_failed setup.new ≡ true
-        → IsErrOf result (FilesFault.Unread Role.Setup) }
-    ensures schedule_unread { C.has_failed schedule.old ≡ false → C.has_failed schedule.new ≡ true
-        → IsErrOf result (FilesFault.Unread Role.Schedule) }
-    ensures program_unread { R.has_failed program.old ≡ false → R.has_failed program.new ≡ true
-        → IsErrOf result (FilesFault.Unread Role.Program) }
+    ensures ok { IfOk result (λ read. ReadsSimulation
+        (came S.left S.has_failed setup.old setup.new)
+        (came C.left C.has_failed schedule.old schedule.new)
+        (came R.left R.has_failed program.old program.new)
+        (record { setup = read.0; instructions = read.1; program = read.2 })) }
+    ensures err { IfErr result (WhyNoSimulation (came S.left S.has_failed setup.old setup.new)
+        (came C.left C.has_failed schedule.old schedule.new)
+        (came R.left R.has_failed program.old program.new)) }
 {
     let setup = read_setup(alloc, setup)?;
     let schedule = read_schedule(alloc, schedule)?;
@@ -180,53 +162,10 @@ pub fn simulate<S: Source, C: Source, R: Source, L: Sink, W: Sink>(
     sink: &mut W,
 ) -> Result<State, FilesFault>
     requires { is_window window ≡ true }
-
-    // The three are accepted, and just the report of the world that the schedule leaves was written.
-    ensures ok { IfOk result (λ state. OfThree (S.left setup.old) (C.left schedule.old)
-        (R.left program.old) (PrintsReport window state (W.taken sink.old) (W.taken sink.new))) }
-    ensures works { OnOk result ((S.has_failed setup.new ≡ false)
-        × (C.has_failed schedule.new ≡ false) × (R.has_failed program.new ≡ false)
-        × (W.has_failed sink.new ≡ false)) }
-
-    // The setup is blamed only for what is wrong with it, and then nothing else is read.
-    ensures no_setup { IfErr result (On Role.Setup (WhyNoSetup S.left S.has_failed
-        setup.old setup.new)) }
-    ensures setup_first { IfErr result (On Role.Setup (λ _. (schedule.new ≡ schedule.old)
-        × (program.new ≡ program.old))) }
-
-    // The schedule is blamed only where the setup is accepted, and then the program is not read.
-    ensures no_schedule { IfErr result (On Role.Schedule (WhyNoSchedule C.left C.has_failed
-        schedule.old schedule.new)) }
-    ensures schedule_second { IfErr result (On Role.Schedule (λ _. (program.new ≡ program.old)
-        × ((said : SetupValue) × ReadsSetup S.left S.has_failed setup.old setup.new said))) }
-
-    // The program is blamed only where both are accepted, and only under the setup's frames.
-    ensures no_program { IfErr result (On Role.Program (λ fault. (said : SetupValue)
-        × ReadsSetup S.left S.has_failed setup.old setup.new said
-        × WhyNoProgram R.left R.has_failed program.old program.new said.frames fault)) }
-    ensures program_last { IfErr result (On Role.Program (λ _. (asked : List Instruction)
-        × ReadsSchedule C.left C.has_failed schedule.old schedule.new asked)) }
-
-    // No other file is blamed.
-    ensures others { IfErr result (λ fault. IsNotOf Role.Features fault
-        × IsNotOf Role.Contacts fault) }
-
-    // A source that fails is blamed.
-    ensures setup_unread { S.has_failed setup.old ≡ false → S.has_failed setup.new ≡ true
-        → IsErrOf result (FilesFault.Unread Role.Setup) }
-    ensures schedule_unread { C.has_failed schedule.old ≡ false → C.has_failed schedule.new ≡ true
-        → IsErrOf result (FilesFault.Unread Role.Schedule) }
-    ensures program_unread { R.has_failed program.old ≡ false → R.has_failed program.new ≡ true
-        → IsErrOf result (FilesFault.Unread Role.Program) }
-
-    // A sink is blamed where it has failed, and only there; but for that nothing was written.
-    ensures unwritten { W.has_failed sink.old ≡ false → W.has_failed sink.new ≡ true
-        → IsErrOf result FilesFault.Write }
-    ensures write { IsErrOf result FilesFault.Write → W.has_failed sink.new ≡ true }
-    ensures front { IsErrOf result FilesFault.Write → OfThree (S.left setup.old)
-        (C.left schedule.old) (R.left program.old)
-        (PrintsReportFront window (W.taken sink.old) (W.taken sink.new)) }
-    ensures silent { IfErr result (UnlessUnwritten (sink.new ≡ sink.old)) }
+    ensures { Simulates window (came S.left S.has_failed setup.old setup.new)
+        (came C.left C.has_failed schedule.old schedule.new)
+        (came R.left R.has_failed program.old program.new)
+        (went W.taken W.has_failed sink.old sink.new) result }
 {
     let (setup, schedule, program) = simulation_input(alloc, setup, schedule, program)?;
     let (state, text) = simulated_report(alloc, setup, &schedule, program, window, lines)?;

@@ -16,6 +16,7 @@ use std::rt::Files;
 pub struct NamedFile<'a, R> {
     rt: &'a R,
     names: Option<(&'a str, String)>,
+    has_failed: bool,
 }
 
 impl<'a, R: Files + AllocGlobal> NamedFile<'a, R> {
@@ -25,7 +26,11 @@ impl<'a, R: Files + AllocGlobal> NamedFile<'a, R> {
             Some(name) => Some((name, Self::beside(rt.alloc(), name)?)),
             None => None,
         };
-        Ok(NamedFile { rt, names })
+        Ok(NamedFile {
+            rt,
+            names,
+            has_failed: false,
+        })
     }
 
     /// The name of the file beside.
@@ -80,13 +85,13 @@ impl<'a, R: Files + AllocGlobal> NamedFile<'a, R> {
 impl<'a, R: Files + AllocGlobal> TextFile for NamedFile<'a, R> {
     ghost kept = { λ _. None };
 
+    ghost has_failed = { λ f. f.has_failed };
+
     fn replace(&mut self, text: &[u8]) -> Result<(), Failed> {
-        let Some((name, beside)) = &self.names else {
-            return Ok(());
+        self.has_failed = match &self.names {
+            Some((name, beside)) => self.write(text, beside.as_str(), *name).is_err(),
+            None => false,
         };
-        match self.write(text, beside.as_str(), *name) {
-            Ok(()) => Ok(()),
-            Err(_) => Err(Failed),
-        }
+        if self.has_failed { Err(Failed) } else { Ok(()) }
     }
 }

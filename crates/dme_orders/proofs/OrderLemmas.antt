@@ -1,0 +1,31 @@
+-- What an order leaves that stops.
+use Rattle.std.proofs.Common.{◌≡◌, ◌<◌, ◌⊎◌, inl, inr, ℕ, Bool, false, List, [], ◌∷◌, length, Result, Ok, Err, refl, sym, subst, arith}
+use Rattle.std.specs.Prelude.{IsErrAnd, IfErr}
+use Rattle.dme_orders.specs.Orders.{Went, Carries, Prints, no_memory}
+use Rattle.dme_orders.specs.declared.reading.FilesFault.{FilesFault}
+use Rattle.dme_orders.specs.declared.reading.FilesFault.TheVariants as fault
+
+-- its files were read, and nothing was written
+pub no_room : {A B W : Type 0} (Reads : A → Type 0) (Leaves : A → B → List ℕ → Type 0) (w : Went W) (WhyNo : FilesFault → Type 0)
+    (r : Result B FilesFault) → IsErrAnd r (λ f. f ≡ fault.Memory) → (input : A) → Reads input → w.new ≡ w.old
+    → Carries Reads Leaves w WhyNo r
+no_room Reads Leaves w WhyNo (Ok end) is input read same = absurd is
+no_room Reads Leaves w WhyNo (Err f) is input read same = no_memory is input read same
+
+-- it reads no files
+pub no_text : {B W : Type 0} (Leaves : B → List ℕ → Type 0) (w : Went W) (r : Result B FilesFault)
+    → IsErrAnd r (λ f. f ≡ fault.Memory) → w.new ≡ w.old → Prints Leaves w r
+no_text Leaves w (Ok end) is same = absurd is
+no_text Leaves w (Err f) is same = no_memory is tt tt same
+
+-- a file is blamed
+pub blamed_as : {B : Type 0} (WhyNo : FilesFault → Type 0) (f : FilesFault) (r : Result B FilesFault) → IsErrAnd r (λ given. given ≡ f)
+    → WhyNo f → IfErr r WhyNo
+blamed_as WhyNo f (Ok end) is why = tt
+blamed_as WhyNo f (Err given) is why = subst WhyNo (sym is) why
+
+-- the sink works, unless there was nothing to write
+pub works_or_empty : (failed : Bool) (Same : Type 0) (xs : List ℕ) → (0 < length xs → failed ≡ false) → (length xs ≡ 0 → Same)
+    → (failed ≡ false) ⊎ ((xs ≡ []) × Same)
+works_or_empty failed Same [] works empty = inr (refl, empty refl)
+works_or_empty failed Same (x ∷ xs) works empty = inl (works (omega arith))
