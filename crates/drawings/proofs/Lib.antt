@@ -1,1 +1,3 @@
 pub mod Paper
+pub mod Longer
+pub mod Drawn

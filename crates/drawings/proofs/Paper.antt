@@ -1,6 +1,6 @@
 -- Lengths on paper.
 use Rattle.std.proofs.Common.{◌≡◌, ◌∙◌, ap, mul-le-mul, ℕ, zero, suc, ◌/◌, ◌*◌, ◌≤◌, ◌<◌, arith, mul-le-mul_right, div-mul-le_self}
-use Rattle.std.proofs.Math.Nat.{div-zero, zero-div}
+use Rattle.std.proofs.Math.Nat.{div-zero, zero-div, div-le_self}
 use Rattle.std.proofs.lemmas.Nat.{le-div}
 use Rattle.drawings.specs.Scales.{on_paper, numerator, denominator, Fits, AreShort}
 use Rattle.drawings.specs.declared.scales.Lengths.{Lengths}
@@ -39,3 +39,10 @@ views_fit l short = let e = at_smallest l.across in let f = at_smallest l.first 
 -- the root of a square of two parts
 pub root_within : (r : ℕ) → r * r ≤ 128000000000000000000 → r < 12000000000
 root_within r le = let f : 12000000000 ≤ r → ⊥ = λ h. let b = mul-le-mul h h in omega (arith, b, le) in grind (arith, f)
+
+-- the shortest round length takes 10 mm at the largest scale, and less at others
+pub shortest_fits : (scale room : ℕ) → numerator scale ≤ 10000 → 10000 ≤ room → on_paper scale 1 ≤ room
+unfolding on_paper
+shortest_fits scale room le enough = let e : 1 * numerator scale ≡ numerator scale = omega arith in
+    let f = div-le_self (numerator scale) (denominator scale) in
+    rw e (omega (arith, f, le, enough))

@@ -3,3 +3,9 @@ pub mod Places
 pub mod Sheet
 pub mod Texts
 pub mod Views
+pub mod Marks
+pub mod Pictures
+pub mod Bars
+pub mod Labels
+pub mod Footer
+pub mod Drawing

@@ -1,5 +1,5 @@
 -- Positions in machine axes, and the spans that they fill along one axis.
-use Rattle.std.specs.Prelude.{ℕ, ℤ, ◌+ℤ◌, ◌≤ℤ◌}
+use Rattle.std.specs.Prelude.{ℕ, ℤ, ◌+ℤ◌, ◌-ℤ◌, ◌≤ℤ◌, unsigned_abs, int_lt, if◌then◌else◌}
 use Rattle.fixed_um.specs.declared.lengths.Point.{Point}
 use Rattle.drawings.specs.declared.places.Place.{Place}
 
@@ -14,3 +14,11 @@ place_of p origin = record { x = p.x +ℤ origin.x; y = p.y +ℤ origin.y; z = p
 -- what lies between two coordinates
 abbrev pub IsBetween : ℤ → ℤ → ℤ → Type 0
 IsBetween low high c = (low ≤ℤ c) × (c ≤ℤ high)
+
+-- the coordinate between a lowest and a highest one that is nearest to a coordinate: itself where it lies between them
+abbrev pub nearest : ℤ → ℤ → ℤ → ℤ
+nearest low high c = if int_lt c low then low else if int_lt high c then high else c
+
+-- how far above the lowest that is
+unfoldable pub height_in : ℤ → ℤ → ℤ → ℕ
+height_in low high c = unsigned_abs (nearest low high c -ℤ low)

@@ -1,8 +1,10 @@
 -- The two views: from above, x to the right and y up, and from the front, x to the right and z up.
-use Rattle.std.specs.Prelude.{ℕ, ℤ, pos, negsuc, ◌+◌, ◌-◌, ◌≤◌}
+use Rattle.std.specs.Prelude.{ℕ, ℤ, pos, negsuc, ◌+◌, ◌-◌, ◌≤◌, min, neg_ℤ, unsigned_abs}
+use Rattle.drawings.specs.Scales.{on_paper}
 use Rattle.drawings.specs.Sheet.{Spot, margin, sheet_width, sheet_height}
 use Rattle.drawings.specs.declared.places.Place.{Place}
 use Rattle.drawings.specs.declared.away.Away.{Away}
+use Rattle.drawings.specs.declared.whiskers.Whiskers.{Whiskers}
 use Rattle.drawings.specs.declared.sides.Side.{Side}
 use Rattle.drawings.specs.declared.sides.Side.TheVariants.{Plan, Front}
 
@@ -27,3 +29,15 @@ pub record IsInView (p : Spot) : Type 0 where
 abbrev pub moved : ℕ → ℤ → ℕ → ℕ
 moved from (pos _) by = from + by
 moved from (negsuc _) by = from - by
+
+-- a part of a deviation on paper, at the whiskers' scale: in whole micrometres, cut, and none longer than the longest
+abbrev pub stretched : Whiskers → ℤ → ℕ
+stretched w part = on_paper w.scale (min (unsigned_abs part) w.longest)
+
+-- where the whisker of a deviation ends that begins at a position: moved by its part along x to the right, and by its part that is up
+-- upwards
+abbrev pub tip_of : Side → Whiskers → Spot → Away → Spot
+tip_of side w from v = record {
+  across = moved from.across v.x (stretched w v.x);
+  down = moved from.down (neg_ℤ (part_of side v)) (stretched w (part_of side v));
+}

@@ -1,13 +1,14 @@
 // The whole drawing.
 
 ghost use Rattle.std.specs.Prelude.{◌≡◌, ◌++◌, ℕ, List, OnOk, OnErr};
+ghost use Rattle.drawings.specs.Drawing.{head_text, IsDrawing};
 
 use crate::extents::Extents;
 use crate::footer::put_footer;
 use crate::labels::put_labels;
 use crate::pictures::put_picture;
 use crate::sheet::Position;
-use crate::texts::put_text;
+use crate::texts::{put_markup, put_text};
 use crate::views::Views;
 use crate::walk::Walk;
 use crate::whiskers::Whiskers;
@@ -15,23 +16,21 @@ use contact_ledger::Feature;
 use dmis_program::Program;
 use std::alloc::{AllocError, Global};
 
-fn put_drawing(
-    alloc: Global,
-    out: &mut Vec<u8>,
-    program: &Program,
-    walk: &Walk<'_>,
-) -> Result<(), AllocError> {
-    let stops = walk.stops.as_slice();
-    let marks = walk.marks.as_slice();
-    let views = Views::of(&Extents::of(stops));
-    let whiskers = Whiskers::of(stops);
-    out.extend_from_slice(
+/// The sheet and its title.
+#[tactic(auto, unfolding(crate::specs::Drawing::head_text))]
+fn put_head(out: &mut Vec<u8>) -> Result<(), AllocError>
+    ensures { OnOk result (out.new.items ≡ out.old.items ++ head_text) }
+{
+    put_markup(
+        out,
         b"<svg xmlns=\"http://www.w3.org/2000/svg\" width=\"297mm\" height=\"210mm\"",
     )?;
-    out.extend_from_slice(
+    put_markup(
+        out,
         b" viewBox=\"0 0 297 210\" font-family=\"sans-serif\" font-size=\"3.5\">\n",
     )?;
-    out.extend_from_slice(
+    put_markup(
+        out,
         b"<rect width=\"297\" height=\"210\" fill=\"#fff\"/>\n<g font-size=\"5\">\n",
     )?;
     put_text(
@@ -39,12 +38,27 @@ fn put_drawing(
         Position::new(10_000, 12_000),
         b"Measured points and their deviations",
     )?;
-    out.extend_from_slice(b"</g>\n")?;
+    put_markup(out, b"</g>\n")
+}
+
+fn put_drawing(
+    alloc: Global,
+    out: &mut Vec<u8>,
+    program: &Program,
+    walk: &Walk<'_>,
+) -> Result<(), AllocError>
+    ensures { OnOk result (IsDrawing walk.now.stops.items out.old.items out.new.items) }
+{
+    let stops = walk.stops.as_slice();
+    let marks = walk.marks.as_slice();
+    let views = Views::of(&Extents::of(stops));
+    let whiskers = Whiskers::of(stops);
+    put_head(out)?;
     put_labels(alloc, out, marks, program.features(), &views.plan)?;
     put_picture(out, &views.plan, stops, &whiskers)?;
     put_picture(out, &views.front, stops, &whiskers)?;
     put_footer(out, views.plan.scale, stops, &whiskers)?;
-    out.extend_from_slice(b"</svg>\n")
+    put_markup(out, b"</svg>\n")
 }
 
 /// Appends a drawing (SVG 1.1) of a program and of the features that were measured first, in their order, on one sheet A4: plan and front

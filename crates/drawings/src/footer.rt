@@ -1,11 +1,13 @@
 // What stands below the views: the scales, what the marks mean, and how much was measured.
 
-ghost use Rattle.std.specs.Prelude.{◌≡◌, ◌≤◌};
+ghost use Rattle.std.specs.Prelude.{◌≡◌, ◌≤◌, ◌+◌, ◌++◌, ℕ, OnOk};
+ghost use Rattle.drawings.specs.Bars.{bar_text, IsBar, AreBars};
+ghost use Rattle.drawings.specs.Footer.{ratio_text, legend_marks, legend_words, counts_text, magnified_words, caption_text, IsFooter};
 
-use crate::scales::Scale;
+use crate::scales::{Scale, round};
 use crate::sheet::Position;
 use crate::texts::{
-    begin_text, end_text, put_disc, put_line, put_millimetres, put_number, put_text,
+    begin_text, end_text, put_disc, put_line, put_markup, put_millimetres, put_number, put_text,
 };
 use crate::walk::{Act, Stop};
 use crate::whiskers::Whiskers;
@@ -16,10 +18,40 @@ const BAR_DOWN: u64 = 195_300;
 
 const TEXT_DOWN: u64 = 196_500;
 
-fn put_ratio(out: &mut Vec<u8>, scale: Scale) -> Result<(), AllocError> {
+#[tactic(auto, unfolding(crate::specs::Footer::ratio_text))]
+fn put_ratio(out: &mut Vec<u8>, scale: Scale) -> Result<(), AllocError>
+    ensures { OnOk result (out.new.items ≡ out.old.items ++ ratio_text scale) }
+{
     put_number(out, scale.numerator())?;
     out.push(b':')?;
     put_number(out, scale.denominator())
+}
+
+/// A bar from left to right, and the length that it stands for.
+#[tactic(auto, unfolding(crate::specs::Bars::bar_text))]
+fn put_bar_from(
+    out: &mut Vec<u8>,
+    left: u64,
+    right: u64,
+    length: u64,
+    unit: &[u8],
+) -> Result<(), AllocError>
+    requires left { left ≤ 200000 }
+    requires right { right ≤ 200000 }
+    ensures { OnOk result (out.new.items
+        ≡ out.old.items ++ bar_text left right length unit.now) }
+{
+    put_line(
+        out,
+        Position::new(left, BAR_DOWN),
+        Position::new(right, BAR_DOWN),
+    )?;
+    put_markup(out, b"<g stroke=\"none\">")?;
+    begin_text(out, Position::new(right + 2_000, TEXT_DOWN))?;
+    put_millimetres(out, length)?;
+    out.extend_from_slice(unit)?;
+    end_text(out)?;
+    put_markup(out, b"</g>\n")
 }
 
 /// A bar, and how long that is.
@@ -32,42 +64,48 @@ fn put_bar(
 ) -> Result<(), AllocError>
     requires left { left ≤ 100000 }
     requires room { room ≤ 60000 }
+    ensures { 10000 ≤ room
+        → OnOk result (IsBar scale room left unit.now out.old.items out.new.items) }
 {
-    let length = scale.bar(room);
+    let length = round(scale.bar(room));
     let right = left + scale.on_paper(length).min(room);
-    put_line(
-        out,
-        Position::new(left, BAR_DOWN),
-        Position::new(right, BAR_DOWN),
-    )?;
-    out.extend_from_slice(b"<g stroke=\"none\">")?;
-    begin_text(out, Position::new(right + 2_000, TEXT_DOWN))?;
-    put_millimetres(out, length)?;
-    out.extend_from_slice(unit)?;
-    end_text(out)?;
-    out.extend_from_slice(b"</g>\n")
+    put_bar_from(out, left, right, length, unit)
 }
 
-fn put_bars(out: &mut Vec<u8>, scale: Scale, whiskers: &Whiskers) -> Result<(), AllocError> {
-    out.extend_from_slice(b"<g stroke=\"#000\" stroke-width=\"0.8\">\n")?;
+fn put_bars(out: &mut Vec<u8>, scale: Scale, whiskers: &Whiskers) -> Result<(), AllocError>
+    ensures { OnOk result (AreBars scale whiskers.now.scale out.old.items out.new.items) }
+{
+    put_markup(out, b"<g stroke=\"#000\" stroke-width=\"0.8\">\n")?;
     put_bar(out, scale, 10_000, 50_000, b" mm")?;
-    out.extend_from_slice(b"</g>\n<g stroke=\"#d00000\" stroke-width=\"0.5\">\n")?;
+    put_markup(out, b"</g>\n<g stroke=\"#d00000\" stroke-width=\"0.5\">\n")?;
     put_bar(out, whiskers.scale, 85_000, 15_000, b" mm of deviation")?;
-    out.extend_from_slice(b"</g>\n")
+    put_markup(out, b"</g>\n")
 }
 
-fn put_legend(out: &mut Vec<u8>) -> Result<(), AllocError> {
-    out.extend_from_slice(b"<g fill=\"#000\">\n")?;
+#[tactic(auto, unfolding(crate::specs::Footer::legend_marks))]
+fn put_legend_marks(out: &mut Vec<u8>) -> Result<(), AllocError>
+    ensures { OnOk result (out.new.items ≡ out.old.items ++ legend_marks) }
+{
+    put_markup(out, b"<g fill=\"#000\">\n")?;
     put_disc(out, Position::new(160_000, BAR_DOWN), 800)?;
-    out.extend_from_slice(b"</g>\n<g fill=\"#fff\" stroke=\"#000\" stroke-width=\"0.25\">\n")?;
+    put_markup(
+        out,
+        b"</g>\n<g fill=\"#fff\" stroke=\"#000\" stroke-width=\"0.25\">\n",
+    )?;
     put_disc(out, Position::new(186_000, BAR_DOWN), 800)?;
-    out.extend_from_slice(b"</g>\n<g stroke=\"#777\" stroke-width=\"0.15\">\n")?;
+    put_markup(out, b"</g>\n<g stroke=\"#777\" stroke-width=\"0.15\">\n")?;
     put_line(
         out,
         Position::new(224_500, BAR_DOWN),
         Position::new(234_500, BAR_DOWN),
     )?;
-    out.extend_from_slice(b"</g>\n")?;
+    put_markup(out, b"</g>\n")
+}
+
+#[tactic(auto, unfolding(crate::specs::Footer::legend_words))]
+fn put_legend_words(out: &mut Vec<u8>) -> Result<(), AllocError>
+    ensures { OnOk result (out.new.items ≡ out.old.items ++ legend_words) }
+{
     put_text(out, Position::new(162_500, TEXT_DOWN), b"measured")?;
     put_text(out, Position::new(188_500, TEXT_DOWN), b"not measured yet")?;
     put_text(
@@ -85,14 +123,55 @@ fn is_asked(stop: &Stop) -> bool {
     !matches!(stop.act, Act::Move)
 }
 
+#[tactic(auto, unfolding(crate::specs::Footer::counts_text))]
+fn put_two_counts(out: &mut Vec<u8>, measured: u64, asked: u64) -> Result<(), AllocError>
+    ensures { OnOk result (out.new.items ≡ out.old.items ++ counts_text measured asked) }
+{
+    put_number(out, measured)?;
+    put_markup(out, b" of ")?;
+    put_number(out, asked)?;
+    put_markup(out, b" points measured.")
+}
+
 /// How much was measured of what is asked for.
-fn put_counts(out: &mut Vec<u8>, stops: &[Stop]) -> Result<(), AllocError> {
+fn put_counts(out: &mut Vec<u8>, stops: &[Stop]) -> Result<(), AllocError>
+    ensures { OnOk result ((measured : ℕ) × (asked : ℕ)
+        × (out.new.items ≡ out.old.items ++ counts_text measured asked)) }
+{
     let measured = stops.iter().filter(|stop| is_measured(*stop)).count();
     let asked = stops.iter().filter(|stop| is_asked(*stop)).count();
-    put_number(out, measured as u64)?;
-    out.extend_from_slice(b" of ")?;
-    put_number(out, asked as u64)?;
-    out.extend_from_slice(b" points measured.")
+    put_two_counts(out, measured as u64, asked as u64)
+}
+
+fn put_magnified(out: &mut Vec<u8>, longest: u64) -> Result<(), AllocError>
+    ensures { OnOk result (out.new.items ≡ out.old.items ++ magnified_words longest) }
+{
+    if longest == 0 {
+        put_markup(out, b". No deviation, magnification ")
+    } else {
+        put_markup(out, b". Deviations magnified ")
+    }
+}
+
+/// The scales in words, and how much was measured.
+#[tactic(auto, unfolding(crate::specs::Footer::caption_text))]
+fn put_caption(
+    out: &mut Vec<u8>,
+    scale: Scale,
+    stops: &[Stop],
+    whiskers: &Whiskers,
+) -> Result<(), AllocError>
+    ensures { OnOk result ((measured : ℕ) × (asked : ℕ) × (out.new.items
+        ≡ out.old.items ++ caption_text scale whiskers.now measured asked)) }
+{
+    begin_text(out, Position::new(10_000, 204_000))?;
+    put_markup(out, b"Lengths in mm, machine axes. Scale ")?;
+    put_ratio(out, scale)?;
+    put_magnified(out, whiskers.longest)?;
+    put_ratio(out, whiskers.scale)?;
+    put_markup(out, b". ")?;
+    put_counts(out, stops)?;
+    end_text(out)
 }
 
 /// Appends what stands below the views.
@@ -101,19 +180,11 @@ pub(crate) fn put_footer(
     scale: Scale,
     stops: &[Stop],
     whiskers: &Whiskers,
-) -> Result<(), AllocError> {
+) -> Result<(), AllocError>
+    ensures { OnOk result (IsFooter scale whiskers.now out.old.items out.new.items) }
+{
     put_bars(out, scale, whiskers)?;
-    put_legend(out)?;
-    begin_text(out, Position::new(10_000, 204_000))?;
-    out.extend_from_slice(b"Lengths in mm, machine axes. Scale ")?;
-    put_ratio(out, scale)?;
-    if whiskers.longest == 0 {
-        out.extend_from_slice(b". No deviation, magnification ")?;
-    } else {
-        out.extend_from_slice(b". Deviations magnified ")?;
-    }
-    put_ratio(out, whiskers.scale)?;
-    out.extend_from_slice(b". ")?;
-    put_counts(out, stops)?;
-    end_text(out)
+    put_legend_marks(out)?;
+    put_legend_words(out)?;
+    put_caption(out, scale, stops, whiskers)
 }

@@ -1,9 +1,11 @@
 // The column of the features' names.
 
-ghost use Rattle.std.specs.Prelude.{◌≤◌, ◌+◌, ◌*◌, vec_len, IfOk};
+ghost use Rattle.std.specs.Prelude.{◌≡◌, ◌≤◌, ◌+◌, ◌-◌, ◌*◌, ◌++◌, vec_len, IfOk, OnOk};
+ghost use Rattle.drawings.specs.Texts.{shown_name, IsLonger};
+ghost use Rattle.drawings.specs.Labels.{bullet_start, bullet_text, name_text, label_text};
 
 use crate::sheet::Position;
-use crate::texts::{begin_text, end_text, put_disc, put_escaped, put_line, put_number};
+use crate::texts::{begin_text, end_text, put_disc, put_escaped, put_line, put_markup, put_number};
 use crate::views::View;
 use crate::walk::Mark;
 use dmis_program::Wanted;
@@ -51,7 +53,9 @@ fn ordered(alloc: Global, marks: &[Mark], plan: &View) -> Result<Vec<(u64, u64, 
 }
 
 /// A name, or its first bytes.
-fn put_name(out: &mut Vec<u8>, name: &[u8]) -> Result<(), AllocError> {
+fn put_name(out: &mut Vec<u8>, name: &[u8]) -> Result<(), AllocError>
+    ensures { OnOk result (out.new.items ≡ out.old.items ++ shown_name name.now) }
+{
     if name.len() <= NAME_BYTES {
         return put_escaped(out, name);
     }
@@ -59,21 +63,44 @@ fn put_name(out: &mut Vec<u8>, name: &[u8]) -> Result<(), AllocError> {
     out.extend_from_slice(b"..")
 }
 
-fn put_bullet(out: &mut Vec<u8>, is_measured: bool, down: u64) -> Result<(), AllocError>
-    requires { down ≤ 200000 }
+fn put_bullet_start(out: &mut Vec<u8>, is_measured: bool) -> Result<(), AllocError>
+    ensures { OnOk result (out.new.items ≡ out.old.items ++ bullet_start is_measured) }
 {
     if is_measured {
-        out.extend_from_slice(b"<g fill=\"#000\">")?;
+        put_markup(out, b"<g fill=\"#000\">")
     } else {
-        out.extend_from_slice(
+        put_markup(
+            out,
             b"<g fill=\"#fff\" stroke=\"#000\" stroke-width=\"0.25\" stroke-dasharray=\"none\">",
-        )?;
+        )
     }
+}
+
+#[tactic(auto, unfolding(crate::specs::Labels::bullet_text))]
+fn put_bullet(out: &mut Vec<u8>, is_measured: bool, down: u64) -> Result<(), AllocError>
+    requires { down ≤ 200000 }
+    ensures { OnOk result (out.new.items ≡ out.old.items ++ bullet_text is_measured down) }
+{
+    put_bullet_start(out, is_measured)?;
     put_disc(out, Position::new(224_500, down), 800)?;
-    out.extend_from_slice(b"</g>\n")
+    put_markup(out, b"</g>\n")
+}
+
+/// A name at its line.
+#[tactic(auto, unfolding(crate::specs::Labels::name_text))]
+fn put_name_at(out: &mut Vec<u8>, name: &[u8], line: u64) -> Result<(), AllocError>
+    requires { line ≤ 186000 }
+    ensures { OnOk result (out.new.items ≡ out.old.items ++ name_text name.now line) }
+{
+    put_markup(out, b"<g stroke=\"none\" font-family=\"monospace\">")?;
+    begin_text(out, Position::new(227_000, line))?;
+    put_name(out, name)?;
+    end_text(out)?;
+    put_markup(out, b"</g>\n")
 }
 
 /// A name at its line, with a line to what it names.
+#[tactic(auto, unfolding(crate::specs::Labels::label_text))]
 fn put_label(
     out: &mut Vec<u8>,
     mark: &Mark,
@@ -83,6 +110,8 @@ fn put_label(
 ) -> Result<(), AllocError>
     requires low { 26000 ≤ line }
     requires high { line ≤ 186000 }
+    ensures { OnOk result (out.new.items
+        ≡ out.old.items ++ label_text plan.now mark.now name.now line) }
 {
     let middle = line - HALF_LETTER;
     put_line(
@@ -91,15 +120,13 @@ fn put_label(
         Position::new(222_500, middle),
     )?;
     put_bullet(out, mark.is_measured, middle)?;
-    out.extend_from_slice(b"<g stroke=\"none\" font-family=\"monospace\">")?;
-    begin_text(out, Position::new(227_000, line))?;
-    put_name(out, name)?;
-    end_text(out)?;
-    out.extend_from_slice(b"</g>\n")
+    put_name_at(out, name, line)
 }
 
 /// Tells how many features have no line.
-fn put_more(out: &mut Vec<u8>, more: usize) -> Result<(), AllocError> {
+fn put_more(out: &mut Vec<u8>, more: usize) -> Result<(), AllocError>
+    ensures { OnOk result (IsLonger out.old.items out.new.items) }
+{
     begin_text(out, Position::new(227_000, 190_800))?;
     out.extend_from_slice(b"and ")?;
     put_number(out, more as u64)?;
@@ -114,12 +141,15 @@ pub(crate) fn put_labels(
     marks: &[Mark],
     wanted: &[Wanted],
     plan: &View,
-) -> Result<(), AllocError> {
+) -> Result<(), AllocError>
+    ensures { OnOk result (IsLonger out.old.items out.new.items) }
+{
     let order = ordered(alloc, marks, plan)?;
     let mut highest = FIRST_LINE;
     let lines = order.as_slice();
     let mut later = lines.len();
-    out.extend_from_slice(
+    put_markup(
+        out,
         b"<g stroke=\"#999\" stroke-width=\"0.15\" stroke-dasharray=\"1 0.7\">\n",
     )?;
     for (down, _, number) in lines {
@@ -132,7 +162,7 @@ pub(crate) fn put_labels(
         }
         highest = line + PITCH;
     }
-    out.extend_from_slice(b"</g>\n")?;
+    put_markup(out, b"</g>\n")?;
     if marks.len() > order.len() {
         put_more(out, marks.len() - order.len())?;
     }

@@ -1,13 +1,17 @@
 // What is drawn in a view.
 
-ghost use Rattle.std.specs.Prelude.{◌≡◌, ◌≤◌, ◌+◌};
+ghost use Rattle.std.specs.Prelude.{◌≡◌, ◌≤◌, ◌+◌, ◌++◌, OnOk};
+ghost use Rattle.std.specs.List.{flat_map};
+ghost use Rattle.drawings.specs.Texts.{disc_text};
+ghost use Rattle.drawings.specs.Marks.{spot_of, open_dot, done_dot, whisker, thickness_for, way_spot, way_text, dots_text, whiskers_text};
+ghost use Rattle.drawings.specs.Pictures.{span_text, title_text, arrow_text, arrows_text, letters_text, axes_text, picture_text};
 
 use crate::sheet::Position;
 use crate::sides::Side;
 use crate::spans::Span;
 use crate::texts::{
-    begin_text, end_text, put_coordinate, put_disc, put_frame, put_length, put_line, put_spot,
-    put_text,
+    begin_text, end_text, put_attribute, put_coordinate, put_disc, put_frame, put_line, put_markup,
+    put_spot, put_text,
 };
 use crate::views::View;
 use crate::walk::{Act, Stop};
@@ -17,7 +21,10 @@ use std::alloc::AllocError;
 /// Up to how many stops dots are large.
 const FEW: usize = 400;
 
-fn put_span(out: &mut Vec<u8>, name: &[u8], span: Span) -> Result<(), AllocError> {
+#[tactic(auto, unfolding(crate::specs::Pictures::span_text))]
+fn put_span(out: &mut Vec<u8>, name: &[u8], span: Span) -> Result<(), AllocError>
+    ensures { OnOk result (out.new.items ≡ out.old.items ++ span_text name.now span) }
+{
     out.extend_from_slice(name)?;
     put_coordinate(out, span.low)?;
     out.extend_from_slice(b" to ")?;
@@ -25,7 +32,10 @@ fn put_span(out: &mut Vec<u8>, name: &[u8], span: Span) -> Result<(), AllocError
 }
 
 /// The title above the frame: what is seen, and from where to where.
-fn put_title(out: &mut Vec<u8>, view: &View) -> Result<(), AllocError> {
+#[tactic(auto, unfolding(crate::specs::Pictures::title_text))]
+fn put_title(out: &mut Vec<u8>, view: &View) -> Result<(), AllocError>
+    ensures { OnOk result (out.new.items ≡ out.old.items ++ title_text view.now) }
+{
     begin_text(out, Position::new(10_000, view.top - 1_500))?;
     match view.side {
         Side::Plan => out.extend_from_slice(b"Plan: ")?,
@@ -39,20 +49,51 @@ fn put_title(out: &mut Vec<u8>, view: &View) -> Result<(), AllocError> {
     end_text(out)
 }
 
-/// The arrows of both axes, in the frame's left lower corner, and the frame.
-fn put_axes(out: &mut Vec<u8>, view: &View) -> Result<(), AllocError> {
+/// An arrow: its shaft, and both strokes of its head.
+#[tactic(auto, unfolding(crate::specs::Pictures::arrow_text))]
+fn put_arrow(
+    out: &mut Vec<u8>,
+    from: Position,
+    to: Position,
+    one: Position,
+    other: Position,
+) -> Result<(), AllocError>
+    ensures { OnOk result (out.new.items ≡ out.old.items ++ arrow_text from to one other) }
+{
+    put_line(out, from, to)?;
+    put_line(out, to, one)?;
+    put_line(out, to, other)
+}
+
+/// The arrows of both axes, in the frame's left lower corner.
+#[tactic(auto, unfolding(crate::specs::Pictures::arrows_text))]
+fn put_arrows(out: &mut Vec<u8>, view: &View) -> Result<(), AllocError>
+    ensures { OnOk result (out.new.items ≡ out.old.items ++ arrows_text view.now) }
+{
     let zero = Position::new(13_000, view.bottom - 3_000);
     let right = Position::new(20_000, view.bottom - 3_000);
     let up = Position::new(13_000, view.bottom - 10_000);
-    out.extend_from_slice(b"<g fill=\"none\" stroke=\"#000\" stroke-width=\"0.2\">\n")?;
-    put_frame(out, view.corner(), view.far_corner())?;
-    put_line(out, zero, right)?;
-    put_line(out, right, Position::new(19_000, view.bottom - 3_500))?;
-    put_line(out, right, Position::new(19_000, view.bottom - 2_500))?;
-    put_line(out, zero, up)?;
-    put_line(out, up, Position::new(12_500, view.bottom - 9_000))?;
-    put_line(out, up, Position::new(13_500, view.bottom - 9_000))?;
-    out.extend_from_slice(b"</g>\n")?;
+    put_arrow(
+        out,
+        zero,
+        right,
+        Position::new(19_000, view.bottom - 3_500),
+        Position::new(19_000, view.bottom - 2_500),
+    )?;
+    put_arrow(
+        out,
+        zero,
+        up,
+        Position::new(12_500, view.bottom - 9_000),
+        Position::new(13_500, view.bottom - 9_000),
+    )
+}
+
+/// The letters of both axes.
+#[tactic(auto, unfolding(crate::specs::Pictures::letters_text))]
+fn put_letters(out: &mut Vec<u8>, view: &View) -> Result<(), AllocError>
+    ensures { OnOk result (out.new.items ≡ out.old.items ++ letters_text view.now) }
+{
     put_text(out, Position::new(20_700, view.bottom - 2_000), b"x")?;
     let name: &[u8] = match view.side {
         Side::Plan => b"y",
@@ -61,49 +102,144 @@ fn put_axes(out: &mut Vec<u8>, view: &View) -> Result<(), AllocError> {
     put_text(out, Position::new(12_200, view.bottom - 11_000), name)
 }
 
+/// The frame, and the axes in it.
+#[tactic(auto, unfolding(crate::specs::Pictures::axes_text))]
+fn put_axes(out: &mut Vec<u8>, view: &View) -> Result<(), AllocError>
+    ensures { OnOk result (out.new.items ≡ out.old.items ++ axes_text view.now) }
+{
+    put_markup(
+        out,
+        b"<g fill=\"none\" stroke=\"#000\" stroke-width=\"0.2\">\n",
+    )?;
+    put_frame(out, view.corner(), view.far_corner())?;
+    put_arrows(out, view)?;
+    put_markup(out, b"</g>\n")?;
+    put_letters(out, view)
+}
+
+#[tactic(auto, unfolding(crate::specs::Marks::way_spot))]
+fn put_way_spot(out: &mut Vec<u8>, view: &View, stop: &Stop) -> Result<(), AllocError>
+    ensures { OnOk result (out.new.items ≡ out.old.items ++ way_spot view.now stop.now) }
+{
+    put_spot(out, view.position(stop.place))?;
+    Ok(out.push(b'\n')?)
+}
+
+fn put_way_spots(out: &mut Vec<u8>, view: &View, stops: &[Stop]) -> Result<(), AllocError>
+    ensures { OnOk result (out.new.items ≡ out.old.items ++ flat_map (way_spot view.now) stops.now) }
+{
+    for stop in stops {
+        put_way_spot(out, view, stop)?;
+    }
+    Ok(())
+}
+
 /// The way of the machine.
-fn put_way(out: &mut Vec<u8>, view: &View, stops: &[Stop]) -> Result<(), AllocError> {
-    out.extend_from_slice(
+#[tactic(auto, unfolding(crate::specs::Marks::way_text))]
+fn put_way(out: &mut Vec<u8>, view: &View, stops: &[Stop]) -> Result<(), AllocError>
+    ensures { OnOk result (out.new.items ≡ out.old.items ++ way_text view.now stops.now) }
+{
+    put_markup(
+        out,
         b"<polyline fill=\"none\" stroke=\"#777\" stroke-width=\"0.15\" points=\"",
     )?;
-    for stop in stops {
-        put_spot(out, view.position(stop.place))?;
-        out.push(b'\n')?;
-    }
-    out.extend_from_slice(b"\"/>\n")
+    put_way_spots(out, view, stops)?;
+    put_markup(out, b"\"/>\n")
 }
 
 fn put_dot(out: &mut Vec<u8>, view: &View, stop: &Stop, radius: u64) -> Result<(), AllocError>
     requires { radius ≤ 5000 }
+    ensures { OnOk result (out.new.items
+        ≡ out.old.items ++ disc_text (spot_of view.now stop.now.place) radius) }
 {
     put_disc(out, view.position(stop.place), radius)
 }
 
-/// The points that are measured, and those that are not yet.
-fn put_dots(out: &mut Vec<u8>, view: &View, stops: &[Stop]) -> Result<(), AllocError> {
-    let radius = if stops.len() <= FEW { 800 } else { 400 };
-    out.extend_from_slice(b"<g fill=\"#fff\" stroke=\"#000\" stroke-width=\"0.25\">\n")?;
+/// The disc of a point that is not measured yet.
+#[tactic(auto, unfolding(crate::specs::Marks::open_dot))]
+fn put_open_dot(out: &mut Vec<u8>, view: &View, stop: &Stop, radius: u64) -> Result<(), AllocError>
+    requires { radius ≤ 5000 }
+    ensures { OnOk result (out.new.items
+        ≡ out.old.items ++ open_dot view.now radius stop.now) }
+{
+    match stop.act {
+        Act::Touch => put_dot(out, view, stop, radius),
+        Act::Move | Act::Measured(_) => Ok(()),
+    }
+}
+
+/// The disc of a measured point.
+#[tactic(auto, unfolding(crate::specs::Marks::done_dot))]
+fn put_done_dot(out: &mut Vec<u8>, view: &View, stop: &Stop, radius: u64) -> Result<(), AllocError>
+    requires { radius ≤ 5000 }
+    ensures { OnOk result (out.new.items
+        ≡ out.old.items ++ done_dot view.now radius stop.now) }
+{
+    match stop.act {
+        Act::Measured(_) => put_dot(out, view, stop, radius),
+        Act::Move | Act::Touch => Ok(()),
+    }
+}
+
+fn put_open_dots(
+    out: &mut Vec<u8>,
+    view: &View,
+    stops: &[Stop],
+    radius: u64,
+) -> Result<(), AllocError>
+    requires { radius ≤ 5000 }
+    ensures { OnOk result (out.new.items
+        ≡ out.old.items ++ flat_map (open_dot view.now radius) stops.now) }
+{
     for open in stops {
-        if matches!(open.act, Act::Touch) {
-            put_dot(out, view, open, radius)?;
-        }
+        put_open_dot(out, view, open, radius)?;
     }
-    out.extend_from_slice(b"</g>\n<g fill=\"#000\">\n")?;
+    Ok(())
+}
+
+fn put_done_dots(
+    out: &mut Vec<u8>,
+    view: &View,
+    stops: &[Stop],
+    radius: u64,
+) -> Result<(), AllocError>
+    requires { radius ≤ 5000 }
+    ensures { OnOk result (out.new.items
+        ≡ out.old.items ++ flat_map (done_dot view.now radius) stops.now) }
+{
     for done in stops {
-        if matches!(done.act, Act::Measured(_)) {
-            put_dot(out, view, done, radius)?;
-        }
+        put_done_dot(out, view, done, radius)?;
     }
-    out.extend_from_slice(b"</g>\n")
+    Ok(())
+}
+
+/// The points that are measured, and those that are not yet.
+#[tactic(auto, unfolding(crate::specs::Marks::dots_text))]
+fn put_dots(out: &mut Vec<u8>, view: &View, stops: &[Stop]) -> Result<(), AllocError>
+    ensures { OnOk result (out.new.items ≡ out.old.items ++ dots_text view.now stops.now) }
+{
+    let radius = if stops.len() <= FEW { 800 } else { 400 };
+    put_markup(
+        out,
+        b"<g fill=\"#fff\" stroke=\"#000\" stroke-width=\"0.25\">\n",
+    )?;
+    put_open_dots(out, view, stops, radius)?;
+    put_markup(out, b"</g>\n<g fill=\"#000\">\n")?;
+    put_done_dots(out, view, stops, radius)?;
+    put_markup(out, b"</g>\n")
 }
 
 /// The line of a stop's deviation.
+#[tactic(auto, unfolding(crate::specs::Marks::whisker))]
 fn put_whisker(
     out: &mut Vec<u8>,
     view: &View,
     stop: &Stop,
     whiskers: &Whiskers,
-) -> Result<(), AllocError> {
+) -> Result<(), AllocError>
+    ensures { OnOk result (out.new.items
+        ≡ out.old.items ++ whisker view.now whiskers.now stop.now) }
+{
     match stop.act {
         Act::Measured(away) => {
             let from = view.position(stop.place);
@@ -113,28 +249,61 @@ fn put_whisker(
     }
 }
 
+fn put_each_whisker(
+    out: &mut Vec<u8>,
+    view: &View,
+    stops: &[Stop],
+    whiskers: &Whiskers,
+) -> Result<(), AllocError>
+    ensures { OnOk result (out.new.items
+        ≡ out.old.items ++ flat_map (whisker view.now whiskers.now) stops.now) }
+{
+    for stop in stops {
+        put_whisker(out, view, stop, whiskers)?;
+    }
+    Ok(())
+}
+
+/// How thick whiskers are.
+fn thickness_for(count: usize) -> u64
+    ensures value { result ≡ thickness_for count }
+    ensures within { result ≤ 500 }
+{
+    if count <= FEW { 500 } else { 250 }
+}
+
+#[tactic(auto, unfolding(crate::specs::Marks::whiskers_text))]
 fn put_whiskers(
     out: &mut Vec<u8>,
     view: &View,
     stops: &[Stop],
     whiskers: &Whiskers,
-) -> Result<(), AllocError> {
-    out.extend_from_slice(b"<g stroke=\"#d00000\" stroke-linecap=\"round\" stroke-width=\"")?;
-    put_length(out, if stops.len() <= FEW { 500 } else { 250 })?;
-    out.extend_from_slice(b"\">\n")?;
-    for stop in stops {
-        put_whisker(out, view, stop, whiskers)?;
-    }
-    out.extend_from_slice(b"</g>\n")
+) -> Result<(), AllocError>
+    ensures { OnOk result (out.new.items
+        ≡ out.old.items ++ whiskers_text view.now whiskers.now stops.now) }
+{
+    let thickness = thickness_for(stops.len());
+    put_attribute(
+        out,
+        b"<g stroke=\"#d00000\" stroke-linecap=\"round\" stroke-width=\"",
+        thickness,
+    )?;
+    put_markup(out, b">\n")?;
+    put_each_whisker(out, view, stops, whiskers)?;
+    put_markup(out, b"</g>\n")
 }
 
 /// Appends a view.
+#[tactic(auto, unfolding(crate::specs::Pictures::picture_text))]
 pub(crate) fn put_picture(
     out: &mut Vec<u8>,
     view: &View,
     stops: &[Stop],
     whiskers: &Whiskers,
-) -> Result<(), AllocError> {
+) -> Result<(), AllocError>
+    ensures { OnOk result (out.new.items
+        ≡ out.old.items ++ picture_text view.now whiskers.now stops.now) }
+{
     put_title(out, view)?;
     put_axes(out, view)?;
     put_way(out, view, stops)?;

@@ -2,6 +2,7 @@
 
 ghost use Rattle.std.specs.Prelude.{◌≡◌, ◌≤◌, ◌<◌, ◌*◌, ◌^◌, ℕ, IsTrue, ◌↔◌};
 ghost use Rattle.drawings.specs.Scales.{round, numerator, denominator, on_paper, Fits, AreShort, length_limit};
+ghost use Rattle.drawings.specs.Bars.{IsLongest};
 
 use std::marker::Model;
 
@@ -143,17 +144,19 @@ impl Scale {
         Scale { number: 30 }
     }
 
-    /// The longest round length, in micrometres, that is at most so long on paper; the shortest where none is.
-    pub fn bar(self, room: u64) -> u64
-        ensures round { (index : ℕ) × (result ≡ round index) }
-        ensures within { result ≤ length_limit }
+    /// The number of the longest round length that is at most so long on paper; that of the shortest where none is.
+    #[tactic(auto, using(crate::proofs::Paper::shortest_fits))]
+    pub fn bar(self, room: u64) -> usize
+        ensures within { result ≤ 30 }
+        ensures longest { 10000 ≤ room → IsLongest self room result }
     {
+        let _within = self.numerator();
         for back in 0..30 {
-            let length = round(30 - back);
-            if self.on_paper(length) <= room {
-                return length;
+            let number = 30 - back;
+            if self.on_paper(round(number)) <= room {
+                return number;
             }
         }
-        round(0)
+        0
     }
 }

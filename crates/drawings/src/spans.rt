@@ -2,7 +2,7 @@
 
 ghost use Rattle.std.specs.Prelude.{◌≡◌, ◌≤◌, ◌≤ℤ◌, ◌-ℤ◌, ℤ, unsigned_abs};
 ghost use Rattle.drawings.specs.Scales.{length_limit};
-ghost use Rattle.drawings.specs.Places.{machine_limit, IsBetween};
+ghost use Rattle.drawings.specs.Places.{machine_limit, height_in, IsBetween};
 
 use crate::places::Coordinate;
 
@@ -64,9 +64,11 @@ impl Span {
     }
 
     /// How far above the lowest a coordinate is; one that lies outside is taken at the nearer end.
+    #[tactic(auto, unfolding(crate::specs::Places::height_in))]
     pub fn above(self, coordinate: Coordinate) -> u64
         ensures value { IsBetween self.low self.high coordinate
             → result ≡ unsigned_abs (coordinate -ℤ self.low) }
+        ensures nearest { result ≡ height_in self.low self.high coordinate }
         ensures within { result ≤ unsigned_abs (self.high -ℤ self.low) }
     {
         let here = coordinate.get();

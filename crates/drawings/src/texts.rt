@@ -1,9 +1,9 @@
 // The elements of SVG (W3C SVG 1.1).
 
 ghost use Rattle.std.specs.Prelude.{◌≡◌, ◌≤◌, ◌<◌, ◌++◌, ◌∷◌, [], pos, decimal, codes, OnOk};
-ghost use Rattle.fixed_um.specs.Written.{written};
+ghost use Rattle.fixed_um.specs.Written.{written, three_digits};
 ghost use Rattle.fixed_um.specs.Calls.{Writes};
-ghost use Rattle.drawings.specs.Texts.{escaped, escaped_byte, spot_text};
+ghost use Rattle.drawings.specs.Texts.{escaped, escaped_byte, spot_text, markup, attribute, disc_text, line_text, frame_text, text_start, text_end, text_element, millimetres};
 
 use crate::sheet::Position;
 use fixed_um::{Um, write_um};
@@ -59,8 +59,19 @@ pub(crate) fn put_escaped(out: &mut Vec<u8>, text: &[u8]) -> Result<(), AllocErr
     Ok(())
 }
 
-fn put_attribute(out: &mut Vec<u8>, name: &[u8], length: u64) -> Result<(), AllocError>
+/// Appends markup as it is.
+#[tactic(auto, unfolding(crate::specs::Texts::markup))]
+pub(crate) fn put_markup(out: &mut Vec<u8>, text: &[u8]) -> Result<(), AllocError>
+    ensures { OnOk result (out.new.items ≡ out.old.items ++ markup text.now) }
+{
+    out.extend_from_slice(text)
+}
+
+/// Appends an attribute that is a length on paper.
+#[tactic(auto, unfolding(crate::specs::Texts::attribute))]
+pub(crate) fn put_attribute(out: &mut Vec<u8>, name: &[u8], length: u64) -> Result<(), AllocError>
     requires { length ≤ 297000 }
+    ensures { OnOk result (out.new.items ≡ out.old.items ++ attribute name.now length) }
 {
     out.extend_from_slice(name)?;
     put_length(out, length)?;
@@ -68,41 +79,52 @@ fn put_attribute(out: &mut Vec<u8>, name: &[u8], length: u64) -> Result<(), Allo
 }
 
 /// Appends a disc, whose attributes but for its centre are its group's.
+#[tactic(auto, unfolding(crate::specs::Texts::disc_text))]
 pub(crate) fn put_disc(out: &mut Vec<u8>, centre: Position, radius: u64) -> Result<(), AllocError>
     requires { radius ≤ 5000 }
+    ensures { OnOk result (out.new.items ≡ out.old.items ++ disc_text centre radius) }
 {
     put_attribute(out, b"<circle cx=\"", centre.across())?;
     put_attribute(out, b" cy=\"", centre.down())?;
     put_attribute(out, b" r=\"", radius)?;
-    out.extend_from_slice(b"/>\n")
+    put_markup(out, b"/>\n")
 }
 
 /// Appends a line.
-pub(crate) fn put_line(out: &mut Vec<u8>, from: Position, to: Position) -> Result<(), AllocError> {
+#[tactic(auto, unfolding(crate::specs::Texts::line_text))]
+pub(crate) fn put_line(out: &mut Vec<u8>, from: Position, to: Position) -> Result<(), AllocError>
+    ensures { OnOk result (out.new.items ≡ out.old.items ++ line_text from to) }
+{
     put_attribute(out, b"<line x1=\"", from.across())?;
     put_attribute(out, b" y1=\"", from.down())?;
     put_attribute(out, b" x2=\"", to.across())?;
     put_attribute(out, b" y2=\"", to.down())?;
-    out.extend_from_slice(b"/>\n")
+    put_markup(out, b"/>\n")
 }
 
 /// Appends a rectangle between its left upper and its right lower corner.
+#[tactic(auto, unfolding(crate::specs::Texts::frame_text))]
 pub(crate) fn put_frame(
     out: &mut Vec<u8>,
     first: Position,
     last: Position,
-) -> Result<(), AllocError> {
+) -> Result<(), AllocError>
+    ensures { OnOk result (out.new.items ≡ out.old.items ++ frame_text first last) }
+{
     let width = last.across().saturating_sub(first.across());
     let height = last.down().saturating_sub(first.down());
     put_attribute(out, b"<rect x=\"", first.across())?;
     put_attribute(out, b" y=\"", first.down())?;
     put_attribute(out, b" width=\"", width)?;
     put_attribute(out, b" height=\"", height)?;
-    out.extend_from_slice(b"/>\n")
+    put_markup(out, b"/>\n")
 }
 
 /// Appends the start of a text; what follows is its characters.
-pub(crate) fn begin_text(out: &mut Vec<u8>, at: Position) -> Result<(), AllocError> {
+#[tactic(auto, unfolding(crate::specs::Texts::text_start))]
+pub(crate) fn begin_text(out: &mut Vec<u8>, at: Position) -> Result<(), AllocError>
+    ensures { OnOk result (out.new.items ≡ out.old.items ++ text_start at) }
+{
     put_attribute(out, b"<text x=\"", at.across())?;
     put_attribute(out, b" y=\"", at.down())?;
     out.push(b'>')?;
@@ -110,12 +132,17 @@ pub(crate) fn begin_text(out: &mut Vec<u8>, at: Position) -> Result<(), AllocErr
 }
 
 /// Appends the end of a text.
-pub(crate) fn end_text(out: &mut Vec<u8>) -> Result<(), AllocError> {
-    out.extend_from_slice(b"</text>\n")
+pub(crate) fn end_text(out: &mut Vec<u8>) -> Result<(), AllocError>
+    ensures { OnOk result (out.new.items ≡ out.old.items ++ text_end) }
+{
+    put_markup(out, b"</text>\n")
 }
 
 /// Appends a text.
-pub(crate) fn put_text(out: &mut Vec<u8>, at: Position, text: &[u8]) -> Result<(), AllocError> {
+#[tactic(auto, unfolding(crate::specs::Texts::text_element))]
+pub(crate) fn put_text(out: &mut Vec<u8>, at: Position, text: &[u8]) -> Result<(), AllocError>
+    ensures { OnOk result (out.new.items ≡ out.old.items ++ text_element at text.now) }
+{
     begin_text(out, at)?;
     put_escaped(out, text)?;
     end_text(out)
@@ -124,6 +151,7 @@ pub(crate) fn put_text(out: &mut Vec<u8>, at: Position, text: &[u8]) -> Result<(
 /// Appends three digits.
 fn put_three(out: &mut Vec<u8>, number: u64) -> Result<(), AllocError>
     requires { number < 1000 }
+    ensures { OnOk result (out.new.items ≡ out.old.items ++ three_digits number) }
 {
     out.push(b'0' + (number / 100) as u8)?;
     out.push(b'0' + (number / 10 % 10) as u8)?;
@@ -131,7 +159,10 @@ fn put_three(out: &mut Vec<u8>, number: u64) -> Result<(), AllocError>
 }
 
 /// Appends a coordinate in millimetres with three decimals.
-pub(crate) fn put_coordinate(out: &mut Vec<u8>, micrometres: i64) -> Result<(), AllocError> {
+#[tactic(auto, unfolding(fixed_um::specs::Written::written))]
+pub(crate) fn put_coordinate(out: &mut Vec<u8>, micrometres: i64) -> Result<(), AllocError>
+    ensures { OnOk result (out.new.items ≡ out.old.items ++ written micrometres) }
+{
     if micrometres < 0 {
         out.push(b'-')?;
     }
@@ -142,7 +173,10 @@ pub(crate) fn put_coordinate(out: &mut Vec<u8>, micrometres: i64) -> Result<(), 
 }
 
 /// Appends a length in millimetres with as many decimals as it needs.
-pub(crate) fn put_millimetres(out: &mut Vec<u8>, micrometres: u64) -> Result<(), AllocError> {
+#[tactic(auto, unfolding(crate::specs::Texts::millimetres))]
+pub(crate) fn put_millimetres(out: &mut Vec<u8>, micrometres: u64) -> Result<(), AllocError>
+    ensures { OnOk result (out.new.items ≡ out.old.items ++ millimetres micrometres) }
+{
     put_number(out, micrometres / 1000)?;
     let rest = micrometres % 1000;
     if rest == 0 {

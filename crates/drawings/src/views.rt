@@ -3,8 +3,9 @@
 ghost use Rattle.std.specs.Prelude.{◌≡◌, ◌≤◌, ◌+◌, ◌-◌, ◌-ℤ◌, unsigned_abs};
 ghost use Rattle.drawings.specs.Scales.{on_paper, length_limit, AreShort};
 ghost use Rattle.drawings.specs.Sheet.{margin, sheet_width, sheet_height};
-ghost use Rattle.drawings.specs.Places.{IsBetween};
-ghost use Rattle.drawings.specs.Views.{upright_of, part_of, IsInView, moved};
+ghost use Rattle.drawings.specs.Places.{height_in, IsBetween};
+ghost use Rattle.drawings.specs.declared.sides.Side.TheVariants.{Plan, Front};
+ghost use Rattle.drawings.specs.Views.{upright_of, part_of, IsInView, moved, tip_of};
 
 use crate::away::Away;
 use crate::extents::Extents;
@@ -69,6 +70,11 @@ impl View {
             → result.down ≡ self.now.base
             - on_paper self.now.scale (unsigned_abs (upright_of self.now.side place
             -ℤ self.now.upright.low)) }
+        ensures right { result.across ≡ self.now.left + on_paper self.now.scale
+            (height_in self.now.across.low self.now.across.high place.x) }
+        ensures up { result.down ≡ self.now.base - on_paper self.now.scale
+            (height_in self.now.upright.low self.now.upright.high
+            (upright_of self.now.side place)) }
         ensures in_view { IsInView result }
     {
         let right = self.scale.on_paper(self.across.above(place.x));
@@ -81,6 +87,7 @@ impl View {
     /// Where the line of a deviation ends that begins at a position in the view.
     pub fn tip(&self, from: Position, away: &Away, whiskers: &Whiskers) -> Position
         requires { IsInView from }
+        ensures { result ≡ tip_of self.now.side whiskers.now from away.now }
     {
         let across = moved(from.across(), away.x, whiskers.length(away.x));
         let part = self.side.part_of(away);
@@ -89,12 +96,16 @@ impl View {
     }
 
     /// The left upper corner of the frame.
-    pub fn corner(&self) -> Position {
+    pub fn corner(&self) -> Position
+        ensures { result ≡ record { across = 10000; down = self.now.top } }
+    {
         Position::new(FRAME_LEFT, self.top)
     }
 
     /// The right lower corner of the frame.
-    pub fn far_corner(&self) -> Position {
+    pub fn far_corner(&self) -> Position
+        ensures { result ≡ record { across = 217000; down = self.now.bottom } }
+    {
         Position::new(FRAME_RIGHT, self.bottom)
     }
 }
@@ -132,7 +143,15 @@ fn scale_of(lengths: Lengths) -> Scale
 
 impl Views {
     /// The views of what fills these extents.
-    pub fn of(extents: &Extents) -> Views {
+    pub fn of(extents: &Extents) -> Views
+        ensures plan_side { result.plan.side ≡ Plan }
+        ensures front_side { result.front.side ≡ Front }
+        ensures across { result.plan.across ≡ extents.now.x }
+        ensures across_too { result.front.across ≡ extents.now.x }
+        ensures plan_up { result.plan.upright ≡ extents.now.y }
+        ensures front_up { result.front.upright ≡ extents.now.z }
+        ensures one_scale { result.front.scale ≡ result.plan.scale }
+    {
         let lengths = Lengths {
             across: extents.x.length(),
             first: extents.y.length(),

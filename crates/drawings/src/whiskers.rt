@@ -1,6 +1,6 @@
 // How long deviations are drawn.
 
-ghost use Rattle.std.specs.Prelude.{◌≡◌, ◌≤◌, ◌<◌, ◌*◌, ◌+◌, unsigned_abs};
+ghost use Rattle.std.specs.Prelude.{◌≡◌, ◌≤◌, ◌<◌, ◌*◌, ◌+◌, min, unsigned_abs};
 ghost use Rattle.drawings.specs.Scales.{on_paper, length_limit};
 ghost use Rattle.drawings.specs.Sheet.{margin};
 
@@ -76,6 +76,7 @@ impl Whiskers {
     pub fn length(&self, part: i64) -> u64
         ensures value { unsigned_abs part ≤ self.now.longest
             → result ≡ on_paper self.now.scale (unsigned_abs part) }
+        ensures cut { result ≡ on_paper self.now.scale (min (unsigned_abs part) self.now.longest) }
         ensures within { result ≤ margin }
     {
         self.scale.on_paper(part.unsigned_abs().min(self.longest))

@@ -1,0 +1,18 @@
+use Rattle.std.proofs.Common.{◌∙◌, append_assoc}
+use Rattle.std.proofs.lemmas.Result.{on_ok_weaker}
+use Rattle.drawings.specs.Pictures.{axes_text}
+use Rattle.drawings.proofs.pictures.put_axes.Goals as goal
+
+pub returns : goal.returns
+unfolding axes_text
+returns c = on_ok_weaker c.put_letters.result
+    (λ e. e ∙ simp (
+      c.in_ok-put_markup-2.ensures,
+      c.in_ok-put_arrows.ensures,
+      c.in_ok-put_frame.ensures,
+      c.in_ok-put_markup.ensures,
+      c.far_corner.ensures,
+      c.corner.ensures,
+      append_assoc,
+    ))
+    c.put_letters.ensures

@@ -1,0 +1,9 @@
+use Rattle.std.proofs.Common.{◌≡◌, ◌++◌, drop}
+use Rattle.std.specs.List.{flat_map}
+use Rattle.drawings.specs.Marks.{whisker}
+use Rattle.drawings.proofs.pictures.put_each_whisker.Given as goal
+
+-- what is written, and what is written of the stops that are left, is all
+abbrev pub invariant-loop-stop : goal.invariant-loop-stop
+invariant-loop-stop l = l.out.items ++ flat_map (whisker l.view l.whiskers) (drop l.stop-index l.stops)
+    ≡ l.initial.out.items ++ flat_map (whisker l.view l.whiskers) l.stops

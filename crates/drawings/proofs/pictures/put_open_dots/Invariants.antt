@@ -1,0 +1,9 @@
+use Rattle.std.proofs.Common.{◌≡◌, ◌++◌, drop}
+use Rattle.std.specs.List.{flat_map}
+use Rattle.drawings.specs.Marks.{open_dot}
+use Rattle.drawings.proofs.pictures.put_open_dots.Given as goal
+
+-- what is written, and what is written of the stops that are left, is all
+abbrev pub invariant-loop-open : goal.invariant-loop-open
+invariant-loop-open l = l.out.items ++ flat_map (open_dot l.view l.radius) (drop l.open-index l.stops)
+    ≡ l.initial.out.items ++ flat_map (open_dot l.view l.radius) l.stops

@@ -1,0 +1,46 @@
+-- What is written below the views: the bars, what the marks mean, the scales in words, and how much is measured.
+use Rattle.std.specs.Prelude.{◌≡◌, ℕ, List, ◌++◌, codes, decimal, ◌==◌, if◌then◌else◌}
+use Rattle.drawings.specs.Bars.{AreBars}
+use Rattle.drawings.specs.Pictures.{spot}
+use Rattle.drawings.specs.Scales.{numerator, denominator}
+use Rattle.drawings.specs.Texts.{markup, disc_text, line_text, text_start, text_end, text_element}
+use Rattle.drawings.specs.declared.whiskers.Whiskers.{Whiskers}
+
+-- a scale: how much of the paper stands for how much of the thing
+unfoldable pub ratio_text : ℕ → List ℕ
+ratio_text scale = decimal (numerator scale) ++ (codes ":" ++ decimal (denominator scale))
+
+-- the marks that the legend explains: a measured point, one that is not measured yet, and the way of the machine
+unfoldable pub legend_marks : List ℕ
+legend_marks = markup (codes "<g fill=\"#000\">\n") ++ (disc_text (spot 160000 195300) 800
+    ++ (markup (codes "</g>\n<g fill=\"#fff\" stroke=\"#000\" stroke-width=\"0.25\">\n")
+    ++ (disc_text (spot 186000 195300) 800 ++ (markup (codes "</g>\n<g stroke=\"#777\" stroke-width=\"0.15\">\n")
+    ++ (line_text (spot 224500 195300) (spot 234500 195300) ++ markup (codes "</g>\n"))))))
+
+-- what they mean
+unfoldable pub legend_words : List ℕ
+legend_words = text_element (spot 162500 196500) (codes "measured")
+    ++ (text_element (spot 188500 196500) (codes "not measured yet")
+    ++ text_element (spot 236500 196500) (codes "way of the machine"))
+
+-- how many of how many points are measured
+unfoldable pub counts_text : ℕ → ℕ → List ℕ
+counts_text measured asked = decimal measured ++ (markup (codes " of ") ++ (decimal asked ++ markup (codes " points measured.")))
+
+-- whether there is any deviation
+abbrev pub magnified_words : ℕ → List ℕ
+magnified_words longest = if longest == 0 then markup (codes ". No deviation, magnification ") else markup (codes ". Deviations magnified ")
+
+-- the scale of the views, that of the whiskers, and how much is measured
+unfoldable pub caption_text : ℕ → Whiskers → ℕ → ℕ → List ℕ
+caption_text scale w measured asked = text_start (spot 10000 204000) ++ (markup (codes "Lengths in mm, machine axes. Scale ")
+    ++ (ratio_text scale ++ (magnified_words w.longest ++ (ratio_text w.scale ++ (markup (codes ". ")
+    ++ (counts_text measured asked ++ text_end))))))
+
+-- to a text the bars are appended, the legend, and the caption with two counts
+pub record IsFooter (scale : ℕ) (w : Whiskers) (old new : List ℕ) : Type 0 where
+  pub barred : List ℕ
+  pub bars : AreBars scale w.scale old barred
+  pub measured : ℕ
+  pub asked : ℕ
+  pub text : new ≡ barred ++ (legend_marks ++ (legend_words ++ caption_text scale w measured asked))
