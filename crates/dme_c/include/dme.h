@@ -12,7 +12,8 @@
  *   are passed in are only read, and only during the call: they stay the caller's. Room that is passed is written only during the
  *   call; it overlaps neither the handle nor other bytes of the same call.
  * - The library takes its memory by the program's `malloc`, `realloc` and `free`, which have to be those of one allocator. A call that
- *   finds no memory answers DME_MEMORY and leaves the core as it was; it can be made again. No call is made from a signal handler.
+ *   finds no memory answers DME_MEMORY and leaves the core as it was; it can be made again. Other calls than `.._new` answer DME_MEMORY
+ *   only where they are possible, and a reading call only for a whole line. No call is made from a signal handler.
  *
  * Lengths and positions are whole micrometres in this interface, and millimetres in the texts of programs, setups and features.
  */
@@ -119,11 +120,20 @@ dme_text dme_client_features(dme_client *client, uint8_t *room, size_t room_leng
 uint32_t dme_server_new(dme_server *server, const uint8_t *setup, size_t setup_length);
 /* Empties the handle. */
 void dme_server_free(dme_server *server);
-/* A connection came about. Its number, from 1 to 4000000000, is above that of each earlier one. DME_NOT_NOW while it is on one. */
+/*
+ * A connection came about. Its number, from 1 to 4000000000, is above that of each earlier one. DME_NOT_NOW while it is on one, and for any
+ * other number; there is no other refusal.
+ */
 uint32_t dme_server_accept(dme_server *server, uint64_t number);
-/* Takes bytes that came from the client, however they were cut. */
+/*
+ * Takes bytes that came from the client, however they were cut. DME_NOT_NOW on no connection; DME_LINE_TOO_LONG or DME_BAD_BYTE once
+ * `dme_server_read` has answered it.
+ */
 uint32_t dme_server_feed(dme_server *server, const uint8_t *piece, size_t piece_length);
-/* Reads the first whole line of what was fed and answers it: DME_DONE, or DME_NOTHING where there is none. */
+/*
+ * Reads the first whole line of what was fed and answers it: DME_DONE, or DME_NOTHING where there is none. DME_NOT_NOW on no connection;
+ * DME_LINE_TOO_LONG or DME_BAD_BYTE where what was fed begins with no line.
+ */
 uint32_t dme_server_read(dme_server *server);
 /* Lets the first waiting command have its turn; DME_NOT_NOW while a job runs and where nothing waits. */
 uint32_t dme_server_turn(dme_server *server);

@@ -1,5 +1,6 @@
 -- What each call of a client does, in the words of the client's own contracts.
-use Rattle.std.specs.Prelude.{◌≡◌, ◌↔◌, ◌++◌, ℕ, ◌≤◌, codes, min, take, drop, Bool, true, List, length, Result, OnOk, IfOk, IfErr, IsTrue, is_some}
+use Rattle.std.specs.Prelude.{◌≡◌, ◌≢◌, ◌↔◌, ◌++◌, ℕ, ◌≤◌, codes, min, take, drop, Bool, true, false, List, length, Result, OnOk, IfOk, IfErr, IsTrue, is_some}
+use Rattle.std.specs.Result.{IsErrOf}
 use Rattle.fixed_um.specs.Calls.{Leads}
 use Rattle.line_framing.specs.Next.{next_of}
 use Rattle.line_framing.specs.Framing.{IsLineDue}
@@ -7,9 +8,10 @@ use Rattle.protocol_model.specs.Client.{due, may_abort, may_resume}
 use Rattle.protocol_model.specs.Ends.{ClientEnd, end_connected, end_sent, end_aborted, end_fed, end_read, end_resumed, end_taken}
 use Rattle.contact_ledger.specs.FeatureTexts.{features_text, header}
 use Rattle.contact_ledger.specs.declared.features.Feature.{Feature}
-use Rattle.client_core.specs.Clients.{may_connect, may_read}
+use Rattle.client_core.specs.Clients.{is_faulted, may_connect, may_read}
 use Rattle.client_core.specs.Refusals.{IsRefused, IsReadRefused, IsSendRefused}
 use Rattle.client_core.specs.declared.faults.ClientFault.{ClientFault}
+use Rattle.client_core.specs.declared.faults.ClientFault.TheVariants as fault
 
 -- a call that leads from one client to another where it may, and else changes nothing
 abbrev pub DoesOrStays : (ClientEnd → Bool) → (ClientEnd → ClientEnd) → ClientEnd → ClientEnd → Result (Unit {0}) ClientFault → Type 0
@@ -25,10 +27,15 @@ Feeds piece = DoesOrStays (λ e. may_read e.client) (end_fed piece)
 abbrev pub Resumes : ClientEnd → ClientEnd → Result (Unit {0}) ClientFault → Type 0
 Resumes = DoesOrStays (λ e. may_resume e.client e.client.state) end_resumed
 
--- a call that writes a line
-abbrev pub Writes : (ClientEnd → Bool) → (ClientEnd → ClientEnd) → ClientEnd → ClientEnd → Result (Unit {0}) ClientFault → Type 0
-Writes may then old new answer =
-    OnOk answer (new ≡ then old) × OnOk answer (may old ≡ true) × IfErr answer (λ fault. IsSendRefused (may old) old new (then old) fault)
+-- a call that writes a line where it may; else, or where this call makes the client Faulted, the fault says why. It is out of memory only
+-- where it may write
+pub record Writes (may : ClientEnd → Bool) (then : ClientEnd → ClientEnd) (old new : ClientEnd)
+    (answer : Result (Unit {0}) ClientFault) : Type 0 where
+  pub ok : OnOk answer (new ≡ then old)
+  pub sent : OnOk answer (is_faulted new.client.state ≡ false)
+  pub can : OnOk answer (may old ≡ true)
+  pub refused : IfErr answer (λ why. IsSendRefused (may old) old new (then old) why)
+  pub memory : IsErrOf answer fault.Memory → may old ≡ true
 
 abbrev pub Sends : ClientEnd → ClientEnd → Result (Unit {0}) ClientFault → Type 0
 Sends = Writes (λ e. is_some (due e.client)) end_sent
@@ -36,12 +43,18 @@ Sends = Writes (λ e. is_some (due e.client)) end_sent
 abbrev pub Aborts : ClientEnd → ClientEnd → Result (Unit {0}) ClientFault → Type 0
 Aborts = Writes (λ e. may_abort e.client.state) end_aborted
 
--- a call that reads a line
-abbrev pub Reads : ClientEnd → ClientEnd → Result Bool ClientFault → Type 0
-Reads old new answer =
-    OnOk answer (new ≡ end_read old)
-    × IfOk answer (λ read. IsTrue read ↔ IsLineDue (next_of old.input.rest))
-    × OnOk answer (may_read old.client ≡ true) × IfErr answer (λ fault. IsReadRefused old new fault)
+-- the client reads a line, finds nothing whole, or is Faulted by what is in front; nothing changes where it may not read, and it is out of
+-- memory only for a line
+pub record Reads (old new : ClientEnd) (answer : Result Bool ClientFault) : Type 0 where
+  pub ok : OnOk answer (new ≡ end_read old)
+  pub fine : OnOk answer (is_faulted new.client.state ≡ false)
+  pub read : IfOk answer (λ read. IsTrue read ↔ IsLineDue (next_of old.input.rest))
+  pub can : OnOk answer (may_read old.client ≡ true)
+  pub refused : IfErr answer (λ why. IsReadRefused old new why)
+  pub met : IfErr answer (λ why. why ≢ fault.Memory → may_read old.client ≡ true → new ≡ end_read old)
+  pub before : may_read old.client ≡ false → new ≡ old
+  pub memory : IsErrOf answer fault.Memory → may_read old.client ≡ true
+  pub line : IsErrOf answer fault.Memory → IsLineDue (next_of old.input.rest)
 
 -- a front of what is to be sent went into the front of the room, as much as fits, and counts as sent
 abbrev pub Takes : List ℕ → List ℕ → ℕ → ClientEnd → ClientEnd → Type 0

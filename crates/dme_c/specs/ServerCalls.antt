@@ -1,18 +1,21 @@
 -- What each call of a server does, in the words of the server's own contracts, and the numbers that stand for its answers.
-use Rattle.std.specs.Prelude.{◌≡◌, ◌↔◌, ◌++◌, ℕ, ℤ, pos, ◌==◌, if◌then◌else◌, min, take, drop, Bool, true, false, Option, Some, None, List, [], length}
+use Rattle.std.specs.Prelude.{◌≡◌, ◌≢◌, ◌↔◌, ◌⊎◌, ◌++◌, ℕ, ℤ, pos, ◌==◌, if◌then◌else◌, min, take, drop, Bool, true, false, Option, Some, None, List, [], length}
 use Rattle.std.specs.Prelude.{Result, Ok, Err, OnOk, IfOk, IfErr, IsOk, IsTrue}
+use Rattle.std.specs.Result.{IsErrOf}
 use Rattle.fixed_um.specs.Calls.{Leads}
 use Rattle.fixed_um.specs.Shapes.{Direction}
 use Rattle.fixed_um.specs.declared.lengths.Point.{Point}
 use Rattle.line_framing.specs.Next.{next_of}
 use Rattle.line_framing.specs.Framing.{IsLineDue}
+use Rattle.line_framing.specs.declared.faults.FramingFault.{FramingFault}
 use Rattle.line_framing.specs.declared.faults.FramingFault.TheVariants as framing
 use Rattle.protocol_model.specs.Server.{may_end}
 use Rattle.protocol_model.specs.Ends.{serving_accepted, serving_fed, serving_read, serving_turned, serving_machined, serving_taken}
 use Rattle.protocol_model.specs.declared.machine.Job.{Job}
 use Rattle.protocol_model.specs.declared.machine.Job.TheVariants as job
 use Rattle.protocol_model.specs.declared.machine.Outcome.{Outcome}
-use Rattle.server_core.specs.Serving.{Serving, with_end, may_accept, may_feed, may_turn, IsFeedFault, IsReadFault, IsMachineFault}
+use Rattle.server_core.specs.Serving.{Serving, with_end, may_accept, may_feed, may_turn, fits_running}
+use Rattle.server_core.specs.Serving.{IsFeedFault, IsReadFault, IsMachineFault}
 use Rattle.server_core.specs.declared.faults.ServerFault.{ServerFault}
 use Rattle.server_core.specs.declared.faults.ServerFault.TheVariants as fault
 
@@ -37,31 +40,50 @@ served n = if n == 0 then Some (Ok tt) else refused (server_fault n)
 abbrev pub line_served : ℕ → Option (Result Bool ServerFault)
 line_served n = if n == 0 then Some (Ok true) else if n == 1 then Some (Ok false) else refused (server_fault n)
 
-abbrev pub Accepts : ℕ → Serving → Serving → Result (Unit {0}) ServerFault → Type 0
-Accepts number old new answer =
-    (IsOk answer ↔ (may_accept number old.end.server ≡ true)) × Leads answer old new (with_end old (serving_accepted number old.end))
+-- the server comes to the connection of this number just where it may; else the call is not possible now, and nothing changes
+pub record Accepts (number : ℕ) (old new : Serving) (answer : Result (Unit {0}) ServerFault) : Type 0 where
+  pub can : IsOk answer ↔ (may_accept number old.end.server ≡ true)
+  pub leads : Leads answer old new (with_end old (serving_accepted number old.end))
+  pub not_now : IfErr answer (λ why. why ≡ fault.NotNow)
 
-abbrev pub Feeds : List ℕ → Serving → Serving → Result (Unit {0}) ServerFault → Type 0
-Feeds piece old new answer =
-    Leads answer old new (with_end old (serving_fed piece old.end)) × OnOk answer (may_feed old.end ≡ true)
-    × IfErr answer (λ why. IsFeedFault old.end why)
+-- the server takes a piece; it is refused on no connection, after a framing fault, and out of memory only where neither is so
+pub record Feeds (piece : List ℕ) (old new : Serving) (answer : Result (Unit {0}) ServerFault) : Type 0 where
+  pub can : OnOk answer (may_feed old.end ≡ true)
+  pub leads : Leads answer old new (with_end old (serving_fed piece old.end))
+  pub not_now : IsErrOf answer fault.NotNow ↔ (old.end.server.on ≡ false)
+  pub framing : (why : FramingFault) → (answer ≡ Err (fault.Framing why))
+      ↔ ((old.end.server.on ≡ true) × (old.end.input.fault ≡ Some why))
+  pub others : IfErr answer (λ why. IsFeedFault old.end why)
 
--- a call that reads a line and answers it
-abbrev pub Reads : Serving → Serving → Result Bool ServerFault → Type 0
-Reads old new answer =
-    OnOk answer (new ≡ with_end old (serving_read old.end))
-    × IfOk answer (λ read. IsTrue read ↔ IsLineDue (next_of old.end.input.rest)) × IfErr answer (λ why. IsReadFault old new why)
+-- the server reads a line and answers it, or finds nothing whole; it is refused on no connection, where what is in front is no line, and
+-- out of memory only for a line
+pub record Reads (old new : Serving) (answer : Result Bool ServerFault) : Type 0 where
+  pub ok : OnOk answer (new ≡ with_end old (serving_read old.end))
+  pub read : IfOk answer (λ read. IsTrue read ↔ IsLineDue (next_of old.end.input.rest))
+  pub nothing : (answer ≡ Ok false) ↔ ((old.end.server.on ≡ true) × (next_of old.end.input.rest ≡ Ok None))
+  pub unread : answer ≡ Ok false → new ≡ old
+  pub not_now : IsErrOf answer fault.NotNow ↔ (old.end.server.on ≡ false)
+  pub framing : (why : FramingFault) → (answer ≡ Err (fault.Framing why))
+      ↔ ((old.end.server.on ≡ true) × (next_of old.end.input.rest ≡ Err why))
+  pub others : IfErr answer (λ why. IsReadFault old new why)
 
--- what waits first has its turn
-abbrev pub Turns : Serving → Serving → Result (Unit {0}) ServerFault → Type 0
-Turns old new answer =
-    Leads answer old new (with_end old (serving_turned old.end)) × ((answer ≡ Err fault.NotNow) ↔ (may_turn old.end.server ≡ false))
+-- the first waiting command is processed; it is not possible now just where something runs or nothing waits, and else it fails only if out
+-- of memory
+pub record Turns (old new : Serving) (answer : Result (Unit {0}) ServerFault) : Type 0 where
+  pub leads : Leads answer old new (with_end old (serving_turned old.end))
+  pub not_now : IsErrOf answer fault.NotNow ↔ (may_turn old.end.server ≡ false)
+  pub others : IfErr answer (λ why. (why ≡ fault.NotNow) ⊎ (why ≡ fault.Memory))
 
--- what runs has ended so
-abbrev pub Ends : Outcome → Serving → Serving → Result (Unit {0}) ServerFault → Type 0
-Ends outcome old new answer =
-    Leads answer old new (with_end old (serving_machined outcome old.end)) × OnOk answer (may_end old.end.server.running outcome ≡ true)
-    × IfErr answer (λ why. IsMachineFault old.end.server outcome why)
+-- what runs has ended so; each refusal comes just where it is due, and out of memory only where none is
+pub record Ends (outcome : Outcome) (old new : Serving) (answer : Result (Unit {0}) ServerFault) : Type 0 where
+  pub leads : Leads answer old new (with_end old (serving_machined outcome old.end))
+  pub can : OnOk answer (may_end old.end.server.running outcome ≡ true)
+  pub nothing_runs : IsErrOf answer fault.NothingRuns ↔ (old.end.server.running ≡ None)
+  pub wrong : IsErrOf answer fault.WrongOutcome
+      ↔ ((old.end.server.running ≢ None) × (fits_running old.end.server.running outcome ≡ false))
+  pub outside : IsErrOf answer fault.OutOfVolume
+      ↔ ((fits_running old.end.server.running outcome ≡ true) × (may_end old.end.server.running outcome ≡ false))
+  pub others : IfErr answer (λ why. IsMachineFault old.end.server outcome why)
 
 -- a front of what is to be sent went into the front of the room, as much as fits, and counts as sent
 abbrev pub Takes : List ℕ → List ℕ → ℕ → Serving → Serving → Type 0

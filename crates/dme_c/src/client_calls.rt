@@ -51,7 +51,6 @@ pub extern "C" fn dme_client_feed(client: &mut ClientHandle, alloc: Global, piec
 }
 
 /// Writes the command that is due.
-#[tactic(auto, using(crate::proofs::Calls::called))]
 #[unsafe(no_mangle)]
 pub extern "C" fn dme_client_send(client: &mut ClientHandle, alloc: Global) -> u32
     requires { IsSome client.old.held }
@@ -64,7 +63,6 @@ pub extern "C" fn dme_client_send(client: &mut ClientHandle, alloc: Global) -> u
 }
 
 /// Reads the first whole line, if one is there.
-#[tactic(auto, using(crate::proofs::Calls::called))]
 #[unsafe(no_mangle)]
 pub extern "C" fn dme_client_read(client: &mut ClientHandle, alloc: Global) -> u32
     requires { IsSome client.old.held }
@@ -77,7 +75,6 @@ pub extern "C" fn dme_client_read(client: &mut ClientHandle, alloc: Global) -> u
 }
 
 /// Writes an abort.
-#[tactic(auto, using(crate::proofs::Calls::called))]
 #[unsafe(no_mangle)]
 pub extern "C" fn dme_client_abort(client: &mut ClientHandle, alloc: Global) -> u32
     requires { IsSome client.old.held }

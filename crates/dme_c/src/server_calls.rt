@@ -91,7 +91,6 @@ pub extern "C" fn dme_server_free(server: &mut ServerHandle, alloc: Global)
 }
 
 /// Comes to the connection of this number.
-#[tactic(auto, using(crate::proofs::Calls::called))]
 #[unsafe(no_mangle)]
 pub extern "C" fn dme_server_accept(server: &mut ServerHandle, alloc: Global, number: u64) -> u32
     requires { IsSome server.old.held }
@@ -104,7 +103,6 @@ pub extern "C" fn dme_server_accept(server: &mut ServerHandle, alloc: Global, nu
 }
 
 /// Takes bytes of the connection.
-#[tactic(auto, using(crate::proofs::Calls::called))]
 #[unsafe(no_mangle)]
 pub extern "C" fn dme_server_feed(server: &mut ServerHandle, alloc: Global, piece: &[u8]) -> u32
     requires { IsSome server.old.held }
@@ -117,7 +115,6 @@ pub extern "C" fn dme_server_feed(server: &mut ServerHandle, alloc: Global, piec
 }
 
 /// Reads the first whole line, if one is there, and answers it.
-#[tactic(auto, using(crate::proofs::Calls::called))]
 #[unsafe(no_mangle)]
 pub extern "C" fn dme_server_read(server: &mut ServerHandle, alloc: Global) -> u32
     requires { IsSome server.old.held }
@@ -130,7 +127,6 @@ pub extern "C" fn dme_server_read(server: &mut ServerHandle, alloc: Global) -> u
 }
 
 /// Lets the first waiting command have its turn.
-#[tactic(auto, using(crate::proofs::Calls::called))]
 #[unsafe(no_mangle)]
 pub extern "C" fn dme_server_turn(server: &mut ServerHandle, alloc: Global) -> u32
     requires { IsSome server.old.held }
@@ -142,43 +138,42 @@ pub extern "C" fn dme_server_turn(server: &mut ServerHandle, alloc: Global) -> u
     call_number(answer)
 }
 
+/// What runs has ended so.
+fn ended(server: &mut ServerHandle, alloc: Global, outcome: Outcome) -> u32
+    requires { IsSome server.old.held }
+    ensures { Called server.old.held server.new.held (served result) (Ends outcome) }
+{
+    let mut core = server.take(alloc);
+    let answer = core.machine(outcome);
+    server.put(core);
+    call_number(answer)
+}
+
 /// What runs, which is no touch, is done.
-#[tactic(auto, using(crate::proofs::Calls::called))]
 #[unsafe(no_mangle)]
 pub extern "C" fn dme_server_done(server: &mut ServerHandle, alloc: Global) -> u32
     requires { IsSome server.old.held }
     ensures { Called server.old.held server.new.held (served result) (Ends outcome.Done) }
 {
-    let mut core = server.take(alloc);
-    let answer = core.machine(Outcome::Done);
-    server.put(core);
-    call_number(answer)
+    ended(server, alloc, Outcome::Done)
 }
 
 /// The touch that runs met no surface.
-#[tactic(auto, using(crate::proofs::Calls::called))]
 #[unsafe(no_mangle)]
 pub extern "C" fn dme_server_missed(server: &mut ServerHandle, alloc: Global) -> u32
     requires { IsSome server.old.held }
     ensures { Called server.old.held server.new.held (served result) (Ends outcome.Missed) }
 {
-    let mut core = server.take(alloc);
-    let answer = core.machine(Outcome::Missed);
-    server.put(core);
-    call_number(answer)
+    ended(server, alloc, Outcome::Missed)
 }
 
 /// The machine stopped.
-#[tactic(auto, using(crate::proofs::Calls::called))]
 #[unsafe(no_mangle)]
 pub extern "C" fn dme_server_stopped(server: &mut ServerHandle, alloc: Global) -> u32
     requires { IsSome server.old.held }
     ensures { Called server.old.held server.new.held (served result) (Ends outcome.Fault) }
 {
-    let mut core = server.take(alloc);
-    let answer = core.machine(Outcome::Fault);
-    server.put(core);
-    call_number(answer)
+    ended(server, alloc, Outcome::Fault)
 }
 
 /// The place of these lengths. The caller owes that each is within the wire limit.
@@ -197,7 +192,6 @@ fn place(x: i64, y: i64, z: i64) -> Point
 }
 
 /// The touch that runs met a surface here, in machine axes and whole micrometres.
-#[tactic(auto, using(crate::proofs::Calls::called))]
 #[unsafe(no_mangle)]
 pub extern "C" fn dme_server_touched(
     server: &mut ServerHandle,
@@ -213,10 +207,7 @@ pub extern "C" fn dme_server_touched(
     ensures { Called server.old.held server.new.held (served result)
         (Ends (outcome.Touched (record { x = x; y = y; z = z }))) }
 {
-    let mut core = server.take(alloc);
-    let answer = core.machine(Outcome::Touched(place(x, y, z)));
-    server.put(core);
-    call_number(answer)
+    ended(server, alloc, Outcome::Touched(place(x, y, z)))
 }
 
 /// Copies a front of what is to be sent into the room, as much as fits, which then counts as sent. Answers how many bytes.

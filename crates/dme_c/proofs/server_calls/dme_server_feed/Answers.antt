@@ -1,0 +1,14 @@
+-- What the core says of its call holds of what the handle holds.
+use Rattle.dme_c.specs.ServerCalls.{Feeds}
+use Rattle.dme_c.proofs.Calls.{called_lent}
+use Rattle.dme_c.proofs.server_calls.dme_server_feed.Goals as goal
+
+pub returns : goal.returns
+returns c = let it = c.feed-answer.ensures in
+    called_lent (Feeds c.args.piece.now) c.take-core.ensures.server c.deref_mut.ensures.value c.put.ensures c.call_number.ensures (record {
+      can = it.can;
+      leads = it.leads;
+      not_now = it.not_now;
+      framing = it.framing;
+      others = it.others;
+    })
