@@ -1,7 +1,7 @@
 #!/usr/bin/env python3
 """What is too long for the gate, before a release. The last line is `N passed, M failed` over all parts.
 
-  edits    the edits that stand beside the gate (tools/edits): the prover has to refuse each
+  edits    all edits, most of which the gate does not try (tools/edits): the prover has to refuse each
   events   a world of nine million events, of which a million can happen when they are asked for (tests/stopped.py)
   growths  every row of calls and every row of tests/program whose words stand alone, with each growth of its program refused in turn: the
            program ends with its own words for want of memory, or gives what it gives with all memory, and never a third thing. It refuses
