@@ -7,16 +7,21 @@ use Rattle.dme_orders.specs.declared.faults.OrderFault.TheVariants as order
 use Rattle.dme_program.specs.declared.faults.Fault.{Fault}
 use Rattle.dme_program.specs.declared.faults.Fault.TheVariants as fault
 
+-- the program is out of memory
+abbrev pub short : Fault
+short = fault.Order order.Memory
+
 -- what is shown for words that ask for nothing
 abbrev pub words_shown : WordsFault → Fault
 words_shown (words.Line error) = fault.Words error
 words_shown (words.NoCode code) = fault.NoCode code
 words_shown (words.NoForm word) = fault.NoForm word
-words_shown words.Memory = fault.Order order.Memory
+words_shown words.Memory = short
 
 -- 2 for the command line, else the status of the order's fault
 abbrev pub exit_status : Fault → ℕ
 exit_status (fault.Words error) = 2
+exit_status fault.NotUtf8 = 2
 exit_status (fault.NoCode code) = 2
 exit_status (fault.NoForm word) = 2
 exit_status (fault.Order cause) = status_of cause

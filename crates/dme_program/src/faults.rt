@@ -1,11 +1,13 @@
 // What is printed on standard error, and the status that goes with it.
 
-ghost use Rattle.std.specs.Prelude.{◌≡◌};
-ghost use Rattle.dme_program.specs.Printed.{exit_status};
+ghost use Rattle.std.specs.Prelude.{◌≡◌, ◌≢◌, ◌↔◌};
+ghost use Rattle.dme_program.specs.Printed.{exit_status, short};
 
 use clap::Error as WordsError;
 use dme_orders::OrderFault;
 use dme_words::WordsFault;
+use std::alloc::AllocError;
+use std::io::ErrorKind;
 use thiserror::Error;
 
 /// Why the program ends with another status than 0.
@@ -14,6 +16,9 @@ pub enum Fault {
     /// A bad command line or a call for help: `clap`'s own text.
     #[error("{0}")]
     Words(WordsError),
+    /// A word that is not UTF-8.
+    #[error("error: invalid UTF-8 was detected in one or more arguments\n\nFor more information, try '--help'.\n")]
+    NotUtf8,
     /// A code that is that of no refusal.
     #[error("error: invalid value '{0}' for '<CODE>': no refusal has this code\n\nFor more information, try '--help'.\n")]
     NoCode(String),
@@ -44,6 +49,17 @@ impl From<WordsFault> for Fault {
     }
 }
 
+impl From<AllocError> for Fault {
+    ghost use Rattle.std.specs.Prelude.{◌≡◌};
+    ghost use Rattle.dme_program.specs.Printed.{short};
+
+    ghost from_gives = { λ _ e. e ≡ short };
+
+    fn from(_error: AllocError) -> Fault {
+        Fault::Order(OrderFault::Memory)
+    }
+}
+
 impl From<OrderFault> for Fault {
     ghost use Rattle.std.specs.Prelude.{◌≡◌};
     ghost use Rattle.dme_program.specs.declared.faults.Fault.TheVariants as fault;
@@ -56,12 +72,23 @@ impl From<OrderFault> for Fault {
 }
 
 impl Fault {
+    /// Why the words of the command line are not read: one is not UTF-8 (`InvalidData`), or else the program is out of memory.
+    pub fn of_words(kind: ErrorKind) -> Fault
+        ensures text { (result ≡ Fault.NotUtf8) ↔ (kind ≡ ErrorKind.InvalidData) }
+        ensures others { kind ≢ ErrorKind.InvalidData → result ≡ short }
+    {
+        match kind {
+            ErrorKind::InvalidData => Fault::NotUtf8,
+            _ => Fault::Order(OrderFault::Memory),
+        }
+    }
+
     /// The exit status: 2 for the command line, else that of the order's fault.
     pub fn status(&self) -> u8
         ensures { result ≡ exit_status self.now }
     {
         match self {
-            Fault::Words(_) | Fault::NoCode(_) | Fault::NoForm(_) => 2,
+            Fault::Words(_) | Fault::NotUtf8 | Fault::NoCode(_) | Fault::NoForm(_) => 2,
             Fault::Order(cause) | Fault::Explained(cause, _) => cause.status(),
         }
     }

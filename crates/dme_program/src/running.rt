@@ -18,7 +18,7 @@ use client_core::State;
 use dme_orders::{
     FileNames, FileTexts, FilesFault, Role, audit_files, check_under_setup, simulate, status,
 };
-use dme_words::{Order, WordsFault, read_words};
+use dme_words::{Order, read_words};
 use std::alloc::{AllocError, Global};
 use std::env::{self, Env};
 use std::io;
@@ -36,16 +36,16 @@ fn words_of(alloc: Global, given: &[String]) -> Result<Vec<&str>, AllocError> {
 }
 
 /// The order that the command line asks for.
-fn read_order<R: Env + AllocGlobal>(rt: &R) -> Result<Order, WordsFault>
+fn read_order<R: Env + AllocGlobal>(rt: &R) -> Result<Order, Fault>
     ensures { IfOk result IsReady }
 {
     let alloc = rt.alloc();
-    let Ok(given) = env::args(rt) else {
-        return Err(WordsFault::Memory);
+    let given = match env::args(rt) {
+        Ok(given) => given.collect::<Vec<String>>(alloc)?,
+        Err(error) => return Err(Fault::of_words(error.kind())),
     };
-    let given = given.collect::<Vec<String>>(alloc)?;
     let words = words_of(alloc, given.as_slice())?;
-    read_words(alloc, words.as_slice())
+    Ok(read_words(alloc, words.as_slice())?)
 }
 
 /// The setup of a file is read, where one is named, and then the program of a file; `-` is standard input, which is empty for the
