@@ -3,7 +3,7 @@
 ghost use Rattle.std.specs.Prelude.{◌≡◌, true, is_some, IfOk, IfErr};
 ghost use Rattle.client_core.specs.Clients.{is_window};
 ghost use Rattle.dme_words.specs.Ordered.{IsReady};
-ghost use Rattle.dme_orders.specs.Reading.{On};
+ghost use Rattle.dme_program.specs.Blamed.{OnSetup};
 
 use crate::connecting::loop_named;
 use crate::driving_connection::run_named;
@@ -49,7 +49,8 @@ fn read_order<R: Env + AllocGlobal>(rt: &R) -> Result<Order, Fault>
 }
 
 /// The setup of a file is read, where one is named, and then the program of a file; `-` is standard input, which is empty for the
-/// program where the setup was read from it.
+/// program where the setup was read from it. A setup is blamed only where one is named.
+#[tactic(auto, using(crate::proofs::Blaming::only_named))]
 fn check_files<'a, R: Files + Input + Print + AllocGlobal>(
     rt: &'a R,
     setup: Option<&'a str>,
@@ -57,7 +58,7 @@ fn check_files<'a, R: Files + Input + Print + AllocGlobal>(
     texts: &mut FileTexts,
     is_explained: bool,
 ) -> Result<(), FilesFault>
-    ensures { IfErr result (On Role.Setup (λ _. is_some setup.entry ≡ true)) }
+    ensures { IfErr result (OnSetup (is_some setup.entry ≡ true)) }
 {
     let input_is_taken = match setup {
         Some(name) => name == "-",

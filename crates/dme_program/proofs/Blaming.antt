@@ -1,0 +1,66 @@
+-- A setup is blamed only where one is named.
+use Rattle.std.proofs.Common.{◌≡◌, ℕ, List, Bool, true, Option, Some, None, is_some, Result, Ok, Err, IfErr, inl, inr, refl, sym, subst}
+use Rattle.tool_rack.specs.Setups.{SetupValue}
+use Rattle.dme_orders.specs.Input.{Named, IsBlamed, ReadsCheck, WhyNoCheck, frames_under}
+use Rattle.dme_orders.specs.Orders.{Went, Stops, blamed, no_memory, torn}
+use Rattle.dme_orders.specs.Plan.{plan_text}
+use Rattle.dme_orders.specs.Reading.{Came, WhyNoProgram}
+use Rattle.dme_orders.specs.UnderSetup.{Checks}
+use Rattle.dme_orders.specs.declared.reading.FilesFault.{FilesFault}
+use Rattle.dme_orders.specs.declared.reading.FilesFault.TheVariants as files
+use Rattle.dme_orders.specs.declared.reading.Role.{Role}
+use Rattle.dme_orders.specs.declared.reading.Role.TheVariants as role
+use Rattle.dme_program.specs.Blamed.{OnSetup}
+
+on_any : (P : Type 0) (cause : FilesFault) → P → OnSetup P cause
+on_any P (files.Setup cause) p = p
+on_any P (files.Schedule cause) p = tt
+on_any P (files.Features cause) p = tt
+on_any P (files.Contacts cause) p = tt
+on_any P (files.Program cause) p = tt
+on_any P (files.Unread role.Setup) p = p
+on_any P (files.Unread role.Schedule) p = tt
+on_any P (files.Unread role.Features) p = tt
+on_any P (files.Unread role.Contacts) p = tt
+on_any P (files.Unread role.Program) p = tt
+on_any P files.Write p = tt
+on_any P files.Memory p = tt
+
+no_setup : role.Setup ≡ role.Program → ⊥
+no_setup is = absurd (cc)
+
+-- a fault of the program is none of the setup
+of_program : {R : Type 0} (r : Came R) (said : Option SetupValue) (P : Type 0) (cause : FilesFault)
+    → WhyNoProgram r (frames_under said) cause → OnSetup P cause
+of_program r said P (files.Setup cause) why = absurd why
+of_program r said P (files.Schedule cause) why = tt
+of_program r said P (files.Features cause) why = tt
+of_program r said P (files.Contacts cause) why = tt
+of_program r said P (files.Program cause) why = tt
+of_program r said P (files.Unread role.Setup) why = absurd (no_setup why.0)
+of_program r said P (files.Unread role.Schedule) why = tt
+of_program r said P (files.Unread role.Features) why = tt
+of_program r said P (files.Unread role.Contacts) why = tt
+of_program r said P (files.Unread role.Program) why = tt
+of_program r said P files.Write why = tt
+of_program r said P files.Memory why = tt
+
+of_named : {S : Type 0} (left : S → Option (List ℕ)) (has_failed : S → Bool) (old new : Option S) (P : Type 0) (cause : FilesFault)
+    → (is_some old ≡ true → P) → IsBlamed left has_failed old new cause → OnSetup P cause
+of_named left has_failed (Some old) (Some new) P cause p why = on_any P cause (p refl)
+of_named left has_failed (Some old) None P cause p why = absurd why
+of_named left has_failed None (Some new) P cause p why = absurd why
+of_named left has_failed None None P cause p why = absurd why
+
+of_stop : {S R W : Type 0} (s : Named S) (r : Came R) (w : Went W) (P : Type 0) (cause : FilesFault) → (is_some s.old ≡ true → P)
+    → Stops (ReadsCheck s r) (λ input (done : Unit {0}) text. text ≡ plan_text input.program) w (WhyNoCheck s r) cause → OnSetup P cause
+of_stop s r w P cause p (blamed (inl why) same) = of_named s.left s.has_failed s.old s.new P cause p why.0
+of_stop s r w P cause p (blamed (inr why) same) = of_program r why.0 P cause why.2
+of_stop s r w P cause p (no_memory is input read same) = subst (OnSetup P) (sym is) tt
+of_stop s r w P cause p (torn is front) = subst (OnSetup P) (sym is) tt
+
+-- a check blames its setup only where one is named
+pub only_named : {S R W : Type 0} (s : Named S) (r : Came R) (w : Went W) (P : Type 0) (result : Result (Unit {0}) FilesFault)
+    → Checks s r w result → (is_some s.old ≡ true → P) → IfErr result (OnSetup P)
+only_named s r w P (Ok done) h p = tt
+only_named s r w P (Err cause) h p = of_stop s r w P cause p h
