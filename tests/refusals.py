@@ -1,13 +1,14 @@
 """Refuses each growth of calls in turn (refuse.c): of every public call that can answer that memory was short, of the crates from fixed_um to
 ledger_audit.
 
-The calls are made by rows of `text_rows` and of `memory_rows`, which look at the value: where a call has said that memory was short they show
+The calls are made by rows of `text_rows` and of `call_rows`, which look at the value: where a call has said that memory was short they show
 `refused, as before; ` and make it again; they show `changed` where a reader of the value then answers anything else, and `refused for ever` where
-the call does not succeed.
+the call does not succeed. A text that is read says `out of memory` in its own words; its row is asked twice here.
 
-`CALLS` says for each call in which row it is made. Each of these rows is run alone, once for each growth of the run: what stands beside the input has
-to be printed, with or without these words. A growth of reading the input, which comes first, or of printing, which comes last, ends the program
-with nothing printed. At least one growth of each call's row has to be met.
+`CALLS` says for each call in which row it is made. Of these rows, each of a part whose rows stand by themselves is run alone, and the other
+parts as a whole, once for each growth of the run: what stands beside the input has to be printed, with or without these words. A growth of reading
+the input, which comes first, or of printing, which comes last, ends the program with nothing printed. At least one growth of each call's row has to
+be met. All 1,600 rows would take hours, since a run of most of them has thousands of growths.
 
 By itself: tests/refusals.py [CALL ..], the calls that begin so.
 """
@@ -21,9 +22,13 @@ from growths import Refusing, Wrong, ended, must, parts_of
 
 ROOT = pathlib.Path(__file__).resolve().parent.parent
 WORDS = "refused, as before; "
+SHORT = "out of memory"
+# Parts whose rows go on from one another, and parts of texts that are read.
+WHOLE = ("client", "server", "world")
+READ = ("setups", "schedules", "features", "contacts")
 
-# The program, the head of the part, and the row.
-TEXT, MEMORY = "text_rows", "memory_rows"
+# The program, the head of the part (behind `#` which of those with this head, the first where it says nothing), and the row.
+TEXT, CALL = "text_rows", "call_rows"
 ONE_PROGRAM = "DMISMN/'ONE',05.2;SNSLCT/S(P1);MEAS/POINT,F(A),1;GOTO/10,20,30;PTMEAS/CART,10,20,25,0,0,1;ENDMES;ENDFIL"
 CALLS = {
     "fixed_um Name::new": (TEXT, "names", "probe_1a"),
@@ -45,6 +50,59 @@ CALLS = {
     "line_framing Lines::feed": (TEXT, "pieces", "A|;B|;|;C|D|;"),
     "line_framing Lines::next_line": (TEXT, "pieces", "A|;B|;|;C|D|;"),
     "line_framing ByteQueue::reserve": (TEXT, "queues", "100001/ &0123456789012345678901234567890123456789012345678901234567"),
+    "dme_tags Open::draw": (CALL, "values TWO", "Open::draw"),
+    "command_queue Queue::new": (CALL, "values TWO", "Queue::new, Queue::drain_all"),
+    "command_queue Queue::drain_all": (CALL, "values TWO", "Queue::new, Queue::drain_all"),
+    "resume_plan plan": (CALL, "values TWO", "plan"),
+    "contact_ledger Points::push": (CALL, "values TWO", "Points::push"),
+    "contact_ledger Points::copy": (CALL, "values TWO", "Points::copy"),
+    "contact_ledger Feature::copy": (CALL, "values TWO", "Feature::copy"),
+    "contact_ledger FeatureLedger::push": (CALL, "values TWO", "FeatureLedger::push"),
+    "contact_ledger ServerLedger::push": (CALL, "values TWO", "ServerLedger::push"),
+    "ledger_audit audit": (CALL, "values TWO", "audit"),
+    "link_world Simulated::new": (CALL, "values TWO", "Simulated::new"),
+    "server_core Server::new": (CALL, "values TWO", "Server::new"),
+    "tool_rack Setup::read": (CALL, "setups", "TOOL P1;TOOL P2;FRAME PART 100 0 0;SHIFT 0.002 0 0;SHIFT 0 0 0.004;SHIFT -0.001 0.001 0;"),
+    "link_world Schedule::read": (CALL, "schedules", "connect;# two;#;quiet ;"),
+    "contact_ledger read_features": (CALL, "features", "DME-FEATURES 1;FEATURE C 3;1.000 0.000 0.004;-0.001 1.001 0.000;-0.998 0.000 0.000;END;"),
+    "contact_ledger read_contacts": (CALL, "contacts", "DME-CONTACTS 1;1 HOMEDIS 2;"),
+    "contact_ledger write_features": (CALL, "world ONE 1", "files"),
+    "contact_ledger write_contacts": (CALL, "world ONE 1", "files"),
+    "client_core Client::connected": (CALL, "client FRAMES 1", "connected 1"),
+    "client_core Client::send": (CALL, "client FRAMES 1", "send"),
+    "client_core Client::feed": (CALL, "client FRAMES 1", "touched X(10.002), Y(0.000), Z(0.000)"),
+    "client_core Client::read_one": (CALL, "client FRAMES 1", "touched X(10.002), Y(0.000), Z(0.000)"),
+    "client_core Client::abort": (CALL, "client FRAMES 1", "abort"),
+    "client_core Client::resume": (CALL, "client FRAMES 1", "resume"),
+    "link_world report_of": (CALL, "client ONE 1#5", "report"),
+    "server_core Server::feed": (CALL, "server#7", "00001 StartSession()"),
+    "server_core Server::read_one": (CALL, "server#7", "00001 StartSession()"),
+    "server_core Server::turn": (CALL, "server#7", "turn"),
+    "server_core Server::machine": (CALL, "server#7", "done"),
+    "link_world write_contact_rows": (CALL, "server#7", "contact rows"),
+    "link_world World::new": (CALL, "world ONE 1", "[world ONE 1]"),
+    "link_world World::step Connect": (CALL, "world ONE 1", "connect"),
+    "link_world World::step ClientSends": (CALL, "world ONE 1", "clientsends"),
+    "link_world World::step Up": (CALL, "world ONE 1", "up 22"),
+    "link_world World::step ServerReads": (CALL, "world ONE 1", "serverreads"),
+    "link_world World::step ServerTurn": (CALL, "world ONE 1", "serverturn"),
+    "link_world World::step Machine": (CALL, "world ONE 1", "machine done"),
+    "link_world World::step Down": (CALL, "world ONE 1", "down 18"),
+    "link_world World::step ClientReads": (CALL, "world ONE 1#2", "clientreads"),
+    "link_world World::step Abort": (CALL, "world ONE 1#2", "abort"),
+    "link_world World::step Resume": (CALL, "world ONE 1#2", "resume"),
+    "link_world World::report": (CALL, "world ONE 1", "report"),
+    "link_world write_report": (CALL, "world ONE 1", "report"),
+    "link_world World::run": (CALL, "world TWO 1", "run"),
+    "link_world World::finish": (CALL, "world TWO 1", "finish"),
+    "link_world Schedule::play": (CALL, "world TWO 1#2", "play connect"),
+    "link_world quiet_run": (CALL, "quiets ONE 1", "SHIFT 0.002 0 0;SHIFT 0 0 0.004;SHIFT -0.001 0.001 0"),
+    "link_world client_turns": (CALL, "turns REST 1", "least 9, bound 100, again 1 < 00001 &|;"),
+    "link_world run_link": (CALL, "runs REST 1", "least 1, again 1 < all"),
+    "link_world watch_link": (CALL, "watches REST 1", "least 1, again 1 < all"),
+    "link_world loop_link": (CALL, "loops REST 1", "least 1, again 1 < all"),
+    "link_world serve_turns": (CALL, "serves#2", "least 22, bound 4, again 1 < 00001 StartSession()|;"),
+    "link_world serve_link": (CALL, "connections#2", "least 1, again 1 < 00001 StartSession()|;"),
 }
 
 
@@ -52,18 +110,42 @@ def crate_of(program):
     return ROOT / "crates" / program
 
 
-# Each row of `memory_rows` is a call, and its input has no parts.
-CALLS.update({row: (MEMORY, "", row) for row in (crate_of(MEMORY) / "stdin").read_text().splitlines() if row not in CALLS})
+def numbered(program, name):
+    """The parts of a file of a program by their heads, with the number behind those that are not the first with their head."""
+    parts, counts = {}, {}
+    for part in parts_of((crate_of(program) / name).read_text()):
+        head = part.partition("]")[0].removeprefix("[")
+        counts[head] = counts.get(head, 0) + 1
+        parts[head if counts[head] == 1 else f"{head}#{counts[head]}"] = part
+    return parts
+
+
+def texts_of(parts, head):
+    """The parts that one with this head is made of: the setup, and what bears the name of its program."""
+    name = head.partition("#")[0].split(" ")[1:2]
+    of_its_name = lambda words: words[0] in ("program", "held", "replies", "commands", "last") and words[-1:] == name
+    return "".join(part for it, part in parts.items() if it == "setup" or of_its_name(it.split(" ")))
+
+
+def is_one_of(words, head):
+    return head.partition("#")[0].split(" ")[0] in words
+
+
+def is_alone(head):
+    return not is_one_of(WHOLE, head)
 
 
 def case_of(program, head, row):
-    """The input of a case, and what it prints."""
-    title = f"[{head}]\n" if head else ""
-    part = next(it for it in parts_of((crate_of(program) / "stdout").read_text()) if it.startswith(title)) if head else (
-        (crate_of(program) / "stdout").read_text())
-    answer = next((it for it in part.splitlines(keepends=True) if it.startswith(f"{row} => ")), None)
+    """The input of a case, and what it prints. A text that is read is asked twice."""
+    given, expected = numbered(program, "stdin"), numbered(program, "stdout")
+    texts = texts_of(given, head) if program == CALL else ""
+    if not is_alone(head):
+        return texts + given[head], texts + expected[head]
+    answer = next((it for it in expected[head].splitlines(keepends=True) if it.startswith(f"{row} => ")), None)
     must(answer is not None, "no such row", row)
-    return f"{title}{row}\n", title + answer
+    title = f"[{head.partition('#')[0]}]\n"
+    times = 2 if is_one_of(READ, head) else 1
+    return texts + title + f"{row}\n" * times, texts + title + answer * times
 
 
 def is_end(run):
@@ -88,42 +170,44 @@ def refused_row(output, whole):
     for line, as_ever in zip(lines, plain):
         row = as_ever.partition(" => ")[0]
         if line != as_ever:
-            must(line.replace(WORDS, "", 1) == as_ever, "another answer", line)
+            must(line.replace(WORDS, "", 1) == as_ever or line == f"{row} => {SHORT}", "another answer", line)
             found.append(row)
     must(len(found) <= 1, "more than one call was refused", found)
     return found[0] if found else None
 
 
 def refusals_of(refusing, program, head, row):
-    """How many growths were refused for which a row shows it."""
+    """The rows of a case for whose calls a growth was refused, each as often."""
     given, expected = case_of(program, head, row)
     path = crate_of(program) / "out" / program
     whole, runs = refusing.all_of(lambda number, counts: ended(refusing.started([path], number, counts=counts, text=given), given))
     must(whole == (0, expected, ""), "with all memory", whole)
-    count = 0
+    refused = []
     for run in between_ends(runs):
         must(run[0] == 0 and run[2] == "", "another end", run)
-        count += refused_row(run[1], expected) is not None
-    must(count > 0, "no growth of the call was met")
-    return count
+        refused.append(refused_row(run[1], expected))
+    return [it for it in refused if it is not None]
 
 
 def check_refusals(names=()):
     """How many calls are as they have to be, and how many are not."""
     calls = {call: where for call, where in CALLS.items() if not names or call.startswith(tuple(names))}
-    wrong, refusals = 0, 0
+    # One case for each row that stands by itself, and one for each other part.
+    cases = {call: (program, head, row if is_alone(head) else "") for call, (program, head, row) in calls.items()}
+    found, wrong, refusals = {}, 0, 0
     with tempfile.TemporaryDirectory() as room:
         refusing = Refusing(room)
-        for call, where in calls.items():
+        for case in dict.fromkeys(cases.values()):
             try:
-                count = refusals_of(refusing, *where)
-                refusals += count
-                told = f"{count} growths refused"
-            except (Wrong, OSError, subprocess.SubprocessError, IndexError, StopIteration, ValueError) as why:
-                wrong += 1
-                told = f"not as it has to be: {why}"
-            if names or "not as" in told:
-                print(f"refusals of {call}: {told}")
+                found[case] = refusals_of(refusing, *case)
+                refusals += len(found[case])
+            except (Wrong, OSError, subprocess.SubprocessError, IndexError, KeyError, ValueError) as why:
+                print(f"refusals of {' '.join(case)}: not as it has to be: {why}")
+    for call, (_, _, row) in calls.items():
+        count = found.get(cases[call], []).count(row)
+        wrong += count == 0
+        if names or count == 0:
+            print(f"refusals of {call}: {count} growths refused")
     print(f"refused calls: {len(calls) - wrong} of {len(calls)}, {refusals} growths refused", flush=True)
     return len(calls) - wrong, wrong
 
