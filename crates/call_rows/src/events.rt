@@ -177,11 +177,21 @@ fn push_changed(
 ) -> Result<(), Stop> {
     if row == "finish" {
         push_finished(alloc, out, world)?;
-    } else {
-        let words = row.split_once(" ").unwrap_or((row, ""));
-        push_call(alloc, out, world, words, row)?;
+        return Ok(push_labels(alloc, out, world)?);
     }
+    let words = row.split_once(" ").unwrap_or((row, ""));
+    push_call(alloc, out, world, words, row)?;
     Ok(push_told(alloc, out, world)?)
+}
+
+/// The state, and the labels of the features. How many acts are done depends on how often the end was begun.
+fn push_labels(alloc: Global, out: &mut Vec<u8>, world: &World) -> Result<(), AllocError> {
+    push_debug(alloc, out, &world.state())?;
+    for feature in world.features() {
+        push_text(out, " ")?;
+        out.extend_from_slice(feature.label.as_bytes())?;
+    }
+    Ok(())
 }
 
 /// What a row shows.
