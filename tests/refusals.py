@@ -1,12 +1,16 @@
-"""Refuses each growth of a call in turn (refuse.c), for every public call of the crates that can answer that memory was wanting.
+"""Refuses each growth of calls in turn (refuse.c): of every public call that can answer that memory was short, of the crates from fixed_um to
+ledger_audit.
 
-Each row of `memory_rows` is such a call on a value that is made for it. The program itself looks at the value: where the call has said that
-memory was wanting it writes `refused, as before; `, and makes it again; it writes `changed` where a reader of the value then answers anything
-else, and `refused for ever` where the call does not succeed. Here each row is run alone, once for each growth of the whole run: it has to print
-its answer, with or without these words in front. A growth of reading the row, which comes first, or of printing, which comes last, ends the
-program with nothing printed. For each row at least one growth of its call has to be met.
+The calls are made by rows of `text_rows` and of `call_rows`, which look at the value: where a call has said that memory was short they show
+`refused, as before; ` and make it again; they show `changed` where a reader of the value then answers anything else, and `refused for ever` where
+the call does not succeed. A text that is read says `out of memory` in its own words; its row is asked twice here.
 
-By itself: tests/refusals.py [ROW ..], the rows that begin so.
+`CALLS` says for each call in which row it is made. Of these rows, each of a part whose rows stand by themselves is run alone, and the other
+parts as a whole, once for each growth of the run: what stands beside the input has to be printed, with or without these words. A growth of reading
+the input, which comes first, or of printing, which comes last, ends the program with nothing printed. At least one growth of each call's row has to
+be met. All 1,600 rows would take hours, since a run of most of them has thousands of growths.
+
+By itself: tests/refusals.py [CALL ..], the calls that begin so.
 """
 
 import pathlib
@@ -14,72 +18,198 @@ import subprocess
 import sys
 import tempfile
 
-from growths import Refusing, Wrong, ended, must
+from growths import Refusing, Wrong, ended, must, parts_of
 
 ROOT = pathlib.Path(__file__).resolve().parent.parent
-CRATE = ROOT / "crates" / "memory_rows"
-PROGRAM = CRATE / "out" / "memory_rows"
+WORDS = "refused, as before; "
+SHORT = "out of memory"
+# Parts whose rows go on from one another, and parts of texts that are read.
+WHOLE = ("client", "server", "world")
+READ = ("setups", "schedules", "features", "contacts")
+
+# The program, the head of the part (behind `#` which of those with this head, the first where it says nothing), and the row.
+TEXT, CALL = "text_rows", "call_rows"
+ONE_PROGRAM = "DMISMN/'ONE',05.2;SNSLCT/S(P1);MEAS/POINT,F(A),1;GOTO/10,20,30;PTMEAS/CART,10,20,25,0,0,1;ENDMES;ENDFIL"
+CALLS = {
+    "fixed_um Name::new": (TEXT, "names", "probe_1a"),
+    "fixed_um write_um": (TEXT, "numerals", "0.0005"),
+    "fixed_um write_dir": (TEXT, "directions", "0.5773502692 0.0000005 -1"),
+    "dmis_text Statements::next": (TEXT, "statements", "$$ head;dmismn/'t',05.2;snslct/s(p1);goto/1,$; 2, 3 $$ end;ENDFIL"),
+    "dmis_program Frames::add": (TEXT, "programs", ONE_PROGRAM),
+    "dmis_program Program::read": (TEXT, "programs", ONE_PROGRAM),
+    "dme_line write_command": (TEXT, "commands", "00004 Home()"),
+    "dme_line read_command": (TEXT, "commands", '00008 ChangeTool("P1")'),
+    "dme_line read_response": (TEXT, "responses", '00008 ! Error(3, 9010, "GoTo", "Not homed")'),
+    "dme_line write_point": (TEXT, "points", "X(10.002), Y(20.000), Z(25.000)"),
+    "dme_line write_error": (TEXT, "errors", "9010 00002 GoTo(X(0), Y(0), Z(0))"),
+    "dme_line write_data": (TEXT, "writes", "data X(1), Y(2), Z(3)"),
+    "dme_line write_homed_data": (TEXT, "writes", "homed_data 0"),
+    "dme_line write_response": (TEXT, "writes", "complete"),
+    "dme_line write_homed": (TEXT, "writes", "homed 1"),
+    "dme_line Text::new": (TEXT, "writes", "text IsHomed(0)"),
+    "line_framing Lines::feed": (TEXT, "pieces", "A|;B|;|;C|D|;"),
+    "line_framing Lines::next_line": (TEXT, "pieces", "A|;B|;|;C|D|;"),
+    "line_framing ByteQueue::reserve": (TEXT, "queues", "100001/ &0123456789012345678901234567890123456789012345678901234567"),
+    "dme_tags Open::draw": (CALL, "values TWO", "Open::draw"),
+    "command_queue Queue::new": (CALL, "values TWO", "Queue::new, Queue::drain_all"),
+    "command_queue Queue::drain_all": (CALL, "values TWO", "Queue::new, Queue::drain_all"),
+    "resume_plan plan": (CALL, "values TWO", "plan"),
+    "contact_ledger Points::push": (CALL, "values TWO", "Points::push"),
+    "contact_ledger Points::copy": (CALL, "values TWO", "Points::copy"),
+    "contact_ledger Feature::copy": (CALL, "values TWO", "Feature::copy"),
+    "contact_ledger FeatureLedger::push": (CALL, "values TWO", "FeatureLedger::push"),
+    "contact_ledger ServerLedger::push": (CALL, "values TWO", "ServerLedger::push"),
+    "ledger_audit audit": (CALL, "values TWO", "audit"),
+    "link_world Simulated::new": (CALL, "values TWO", "Simulated::new"),
+    "server_core Server::new": (CALL, "values TWO", "Server::new"),
+    "tool_rack Setup::read": (CALL, "setups", "TOOL P1;TOOL P2;FRAME PART 100 0 0;SHIFT 0.002 0 0;SHIFT 0 0 0.004;SHIFT -0.001 0.001 0;"),
+    "link_world Schedule::read": (CALL, "schedules", "connect;# two;#;quiet ;"),
+    "contact_ledger read_features": (CALL, "features", "DME-FEATURES 1;FEATURE C 3;1.000 0.000 0.004;-0.001 1.001 0.000;-0.998 0.000 0.000;END;"),
+    "contact_ledger read_contacts": (CALL, "contacts", "DME-CONTACTS 1;1 HOMEDIS 2;"),
+    "contact_ledger write_features": (CALL, "world ONE 1", "files"),
+    "contact_ledger write_contacts": (CALL, "world ONE 1", "files"),
+    "client_core Client::connected": (CALL, "client FRAMES 1", "connected 1"),
+    "client_core Client::send": (CALL, "client FRAMES 1", "send"),
+    "client_core Client::feed": (CALL, "client FRAMES 1", "touched X(10.002), Y(0.000), Z(0.000)"),
+    "client_core Client::read_one": (CALL, "client FRAMES 1", "touched X(10.002), Y(0.000), Z(0.000)"),
+    "client_core Client::abort": (CALL, "client FRAMES 1", "abort"),
+    "client_core Client::resume": (CALL, "client FRAMES 1", "resume"),
+    "link_world report_of": (CALL, "client ONE 1#5", "report"),
+    "server_core Server::feed": (CALL, "server#7", "00001 StartSession()"),
+    "server_core Server::read_one": (CALL, "server#7", "00001 StartSession()"),
+    "server_core Server::turn": (CALL, "server#7", "turn"),
+    "server_core Server::machine": (CALL, "server#7", "done"),
+    "link_world write_contact_rows": (CALL, "server#7", "contact rows"),
+    "link_world World::new": (CALL, "world ONE 1", "[world ONE 1]"),
+    "link_world World::step Connect": (CALL, "world ONE 1", "connect"),
+    "link_world World::step ClientSends": (CALL, "world ONE 1", "clientsends"),
+    "link_world World::step Up": (CALL, "world ONE 1", "up 22"),
+    "link_world World::step ServerReads": (CALL, "world ONE 1", "serverreads"),
+    "link_world World::step ServerTurn": (CALL, "world ONE 1", "serverturn"),
+    "link_world World::step Machine": (CALL, "world ONE 1", "machine done"),
+    "link_world World::step Down": (CALL, "world ONE 1", "down 18"),
+    "link_world World::step ClientReads": (CALL, "world ONE 1#2", "clientreads"),
+    "link_world World::step Abort": (CALL, "world ONE 1#2", "abort"),
+    "link_world World::step Resume": (CALL, "world ONE 1#2", "resume"),
+    "link_world World::report": (CALL, "world ONE 1", "report"),
+    "link_world write_report": (CALL, "world ONE 1", "report"),
+    "link_world World::run": (CALL, "world TWO 1", "run"),
+    "link_world World::finish": (CALL, "world TWO 1", "finish"),
+    "link_world Schedule::play": (CALL, "world TWO 1#2", "play connect"),
+    "link_world quiet_run": (CALL, "quiets ONE 1", "SHIFT 0.002 0 0;SHIFT 0 0 0.004;SHIFT -0.001 0.001 0"),
+    "link_world client_turns": (CALL, "turns REST 1", "least 9, bound 100, again 1 < 00001 &|;"),
+    "link_world run_link": (CALL, "runs REST 1", "least 1, again 1 < all"),
+    "link_world watch_link": (CALL, "watches REST 1", "least 1, again 1 < all"),
+    "link_world loop_link": (CALL, "loops REST 1", "least 1, again 1 < all"),
+    "link_world serve_turns": (CALL, "serves#2", "least 22, bound 4, again 1 < 00001 StartSession()|;"),
+    "link_world serve_link": (CALL, "connections#2", "least 1, again 1 < 00001 StartSession()|;"),
+}
 
 
-def rows_with_answers():
-    """Each row with what it shows where no growth is refused."""
-    rows = (CRATE / "stdin").read_text().splitlines()
-    answers = dict(line.split(" => ", 1) for line in (CRATE / "stdout").read_text().splitlines())
-    must(rows and rows == list(answers), "the rows and their answers do not belong together")
-    return answers
+def crate_of(program):
+    return ROOT / "crates" / program
+
+
+def numbered(program, name):
+    """The parts of a file of a program by their heads, with the number behind those that are not the first with their head."""
+    parts, counts = {}, {}
+    for part in parts_of((crate_of(program) / name).read_text()):
+        head = part.partition("]")[0].removeprefix("[")
+        counts[head] = counts.get(head, 0) + 1
+        parts[head if counts[head] == 1 else f"{head}#{counts[head]}"] = part
+    return parts
+
+
+def texts_of(parts, head):
+    """The parts that one with this head is made of: the setup, and what bears the name of its program."""
+    name = head.partition("#")[0].split(" ")[1:2]
+    of_its_name = lambda words: words[0] in ("program", "held", "replies", "commands", "last") and words[-1:] == name
+    return "".join(part for it, part in parts.items() if it == "setup" or of_its_name(it.split(" ")))
+
+
+def is_one_of(words, head):
+    return head.partition("#")[0].split(" ")[0] in words
+
+
+def is_alone(head):
+    return not is_one_of(WHOLE, head)
+
+
+def case_of(program, head, row):
+    """The input of a case, and what it prints. A text that is read is asked twice."""
+    given, expected = numbered(program, "stdin"), numbered(program, "stdout")
+    texts = texts_of(given, head) if program == CALL else ""
+    if not is_alone(head):
+        return texts + given[head], texts + expected[head]
+    answer = next((it for it in expected[head].splitlines(keepends=True) if it.startswith(f"{row} => ")), None)
+    must(answer is not None, "no such row", row)
+    title = f"[{head.partition('#')[0]}]\n"
+    times = 2 if is_one_of(READ, head) else 1
+    return texts + title + f"{row}\n" * times, texts + title + answer * times
 
 
 def is_end(run):
-    """Whether the program has ended for want of memory, or since a port failed, with nothing printed."""
+    """Whether the program has ended out of memory, or since a port failed, with nothing printed."""
     return run[0] in (1, 4) and run[1:] == ("", "")
 
 
 def between_ends(runs):
-    """The runs whose growth is none of reading the row or of printing."""
-    first, behind = 0, len(runs)
-    while first < behind and is_end(runs[first]):
+    """The runs whose growth is none of reading the input or of printing."""
+    first, last = 0, len(runs)
+    while first < last and is_end(runs[first]):
         first += 1
-    while first < behind and is_end(runs[behind - 1]):
-        behind -= 1
-    return runs[first:behind]
+    while first < last and is_end(runs[last - 1]):
+        last -= 1
+    return runs[first:last]
 
 
-def refusals_of(refusing, row, answer):
-    """How many growths of a row's call were refused."""
-    given = f"{row}\n"
-    plain = (0, f"{row} => {answer}\n", "")
-    refused = (0, f"{row} => refused, as before; {answer}\n", "")
+def refused_row(output, whole):
+    """The row for whose call memory was short, and None where there is none. All others are as with all memory."""
+    found, lines, plain = [], output.splitlines(), whole.splitlines()
+    must(len(lines) == len(plain), "other rows", output)
+    for line, as_ever in zip(lines, plain):
+        row = as_ever.partition(" => ")[0]
+        if line != as_ever:
+            must(line.replace(WORDS, "", 1) == as_ever or line == f"{row} => {SHORT}", "another answer", line)
+            found.append(row)
+    must(len(found) <= 1, "more than one call was refused", found)
+    return found[0] if found else None
 
-    def run(number, counts):
-        return ended(refusing.started([PROGRAM], number, counts=counts, text=given), given)
 
-    whole, runs = refusing.all_of(run)
-    must(whole == plain, "with all memory", whole)
-    for one in between_ends(runs):
-        must(one in (plain, refused), "another answer", one)
-    count = runs.count(refused)
-    must(count > 0, "no growth of the call was met")
-    return count
+def refusals_of(refusing, program, head, row):
+    """The rows of a case for whose calls a growth was refused, each as often."""
+    given, expected = case_of(program, head, row)
+    path = crate_of(program) / "out" / program
+    whole, runs = refusing.all_of(lambda number, counts: ended(refusing.started([path], number, counts=counts, text=given), given))
+    must(whole == (0, expected, ""), "with all memory", whole)
+    refused = []
+    for run in between_ends(runs):
+        must(run[0] == 0 and run[2] == "", "another end", run)
+        refused.append(refused_row(run[1], expected))
+    return [it for it in refused if it is not None]
 
 
 def check_refusals(names=()):
-    """How many rows are as they have to be, and how many are not."""
-    wrong, refusals = 0, 0
+    """How many calls are as they have to be, and how many are not."""
+    calls = {call: where for call, where in CALLS.items() if not names or call.startswith(tuple(names))}
+    # One case for each row that stands by itself, and one for each other part.
+    cases = {call: (program, head, row if is_alone(head) else "") for call, (program, head, row) in calls.items()}
+    found, wrong, refusals = {}, 0, 0
     with tempfile.TemporaryDirectory() as room:
         refusing = Refusing(room)
-        rows = {row: answer for row, answer in rows_with_answers().items() if not names or row.startswith(tuple(names))}
-        for row, answer in rows.items():
+        for case in dict.fromkeys(cases.values()):
             try:
-                count = refusals_of(refusing, row, answer)
-                refusals += count
-                told = f"{count} growths refused"
-            except (Wrong, OSError, subprocess.SubprocessError, IndexError, ValueError) as why:
-                wrong += 1
-                told = f"not as it has to be: {why}"
-            if names or "not as" in told:
-                print(f"refusals of {row}: {told}")
-    print(f"rows of refused calls: {len(rows) - wrong} of {len(rows)}, {refusals} growths refused", flush=True)
-    return len(rows) - wrong, wrong
+                found[case] = refusals_of(refusing, *case)
+                refusals += len(found[case])
+            except (Wrong, OSError, subprocess.SubprocessError, IndexError, KeyError, ValueError) as why:
+                print(f"refusals of {' '.join(case)}: not as it has to be: {why}")
+    for call, (_, _, row) in calls.items():
+        count = found.get(cases[call], []).count(row)
+        wrong += count == 0
+        if names or count == 0:
+            print(f"refusals of {call}: {count} growths refused")
+    print(f"refused calls: {len(calls) - wrong} of {len(calls)}, {refusals} growths refused", flush=True)
+    return len(calls) - wrong, wrong
 
 
 if __name__ == "__main__":

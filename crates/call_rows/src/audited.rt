@@ -14,9 +14,7 @@ pub(crate) fn has_runs(
     features: &[Feature],
     ledger: &ServerLedger,
 ) -> Result<bool, Stop> {
-    let program = Program::read(alloc, made.program.as_bytes(), made.frames)
-        .ok()
-        .ok_or(Stop::Row)?;
+    let program = Program::read(alloc, made.program.as_bytes(), made.frames)?;
     match audit(alloc, &program, features, ledger)? {
         Verdict::Starts(_) => Ok(true),
         Verdict::NoRun(_) => Ok(false),

@@ -6,26 +6,37 @@
 // where no other text stands there. `ended n` and `sends n` do so with more commands and show no line. `letters n` feeds so many letters A,
 // `bare` a line that ends with LF alone; `aborts n` sends so many aborts that fail.
 
+use crate::hostile;
 use crate::shown::{push_act, push_debug, push_display, push_features, push_lines, push_text};
 use crate::stop::Stop;
+use crate::tried::{Called, Tries, front, push_appended};
 use client_core::{Client, ClientFault};
-use contact_ledger::{Act, FeatureLedger};
+use contact_ledger::{Act, FeatureLedger, read_features};
 use dmis_program::{Frames, Program};
+use link_world::{report_of, write_report};
 use std::alloc::{AllocError, Global};
 
-/// What a client is made of: the text of its program, the frames that it may recall, and its window.
+/// What a client is made of: the text of its program, the frames that it may recall, its window, and the text of the features that it holds.
 #[derive(Clone, Copy)]
 pub(crate) struct Made<'a> {
+    pub(crate) held: &'a str,
     pub(crate) program: &'a str,
     pub(crate) frames: &'a Frames,
     pub(crate) window: u8,
 }
 
+/// The features of a text; none where there is no text.
+fn held(alloc: Global, text: &str) -> Result<FeatureLedger, Stop> {
+    if text.is_empty() {
+        return Ok(FeatureLedger::new(alloc));
+    }
+    Ok(read_features(alloc, text.as_bytes())?)
+}
+
 fn new_client(alloc: Global, made: Made<'_>) -> Result<Client, Stop> {
-    let program = Program::read(alloc, made.program.as_bytes(), made.frames)
-        .ok()
-        .ok_or(Stop::Row)?;
-    match Client::new(alloc, program, FeatureLedger::new(alloc), made.window) {
+    let program = Program::read(alloc, made.program.as_bytes(), made.frames)?;
+    let features = held(alloc, made.held)?;
+    match Client::new(alloc, program, features, made.window) {
         Ok(client) => Ok(client),
         Err(_) => Err(Stop::Row),
     }
@@ -53,7 +64,7 @@ pub(crate) fn push_task<T: ClientTask>(
 
 /// A new client is connected, by connection 1.
 pub(crate) fn connect(client: &mut Client) -> Result<(), Stop> {
-    client.connected(1).ok().ok_or(Stop::Row)
+    Ok(client.connected(1)?)
 }
 
 /// What was written is sent.
@@ -62,11 +73,47 @@ fn take_out(client: &mut Client) {
     client.sent(count);
 }
 
-fn feed_line(client: &mut Client, parts: &[&[u8]]) -> Result<bool, ClientFault> {
-    for part in parts {
-        client.feed(part)?;
+/// A call for which memory can be short.
+#[derive(Clone, Copy)]
+enum Call<'a> {
+    Connected(u64),
+    Send,
+    Feed(&'a [u8]),
+    Read,
+    Abort,
+    Resume,
+}
+
+impl Called<Call<'_>, ClientFault> for Client {
+    fn push_all(&self, alloc: Global, out: &mut Vec<u8>) -> Result<(), AllocError> {
+        push_due(alloc, out, self)?;
+        push_debug(alloc, out, &(self.has_line(), self.is_on()))?;
+        hostile::push_client(alloc, out, self)
     }
-    client.read_one()
+
+    fn make(&mut self, call: &Call<'_>) -> Result<bool, ClientFault> {
+        match *call {
+            Call::Connected(number) => self.connected(number)?,
+            Call::Send => self.send()?,
+            Call::Feed(piece) => self.feed(piece)?,
+            Call::Read => return self.read_one(),
+            Call::Abort => self.abort()?,
+            Call::Resume => self.resume()?,
+        }
+        Ok(true)
+    }
+}
+
+/// Makes a call, once more where memory is short for it.
+fn make(tries: &mut Tries, client: &mut Client, call: Call<'_>) -> Result<bool, ClientFault> {
+    tries.call(client, ClientFault::Memory, &call)
+}
+
+fn feed_line(tries: &mut Tries, client: &mut Client, parts: &[&[u8]]) -> Result<bool, ClientFault> {
+    for part in parts {
+        make(tries, client, Call::Feed(part))?;
+    }
+    make(tries, client, Call::Read)
 }
 
 fn feed_letters(client: &mut Client, count: u32) -> Result<(), ClientFault> {
@@ -94,26 +141,31 @@ fn data_for<'a>(written: &[u8], text: &'a str) -> &'a str {
 }
 
 /// What was sent under a tag is received, given its data where there are some, and done.
-fn end_tagged(client: &mut Client, tag: &[u8], data: &str) -> Result<bool, ClientFault> {
-    feed_line(client, &[tag, b" &\r\n"])?;
+fn end_tagged(
+    tries: &mut Tries,
+    client: &mut Client,
+    tag: &[u8],
+    data: &str,
+) -> Result<bool, ClientFault> {
+    feed_line(tries, client, &[tag, b" &\r\n"])?;
     if !data.is_empty() {
-        feed_line(client, &[tag, b" # ", data.as_bytes(), b"\r\n"])?;
+        feed_line(tries, client, &[tag, b" # ", data.as_bytes(), b"\r\n"])?;
     }
-    feed_line(client, &[tag, b" %\r\n"])
+    feed_line(tries, client, &[tag, b" %\r\n"])
 }
 
 /// The command that is due is sent, received, given its data where a text stands here or it asks whether the machine is homed, and done.
-fn end_one(client: &mut Client, text: &str) -> Result<bool, ClientFault> {
-    client.send()?;
+fn end_one(tries: &mut Tries, client: &mut Client, text: &str) -> Result<bool, ClientFault> {
+    make(tries, client, Call::Send)?;
     let tag = tag_of(client.out());
     let data = data_for(client.out(), text);
-    end_tagged(client, &tag, data)
+    end_tagged(tries, client, &tag, data)
 }
 
 /// So many commands, one after another.
-fn end_all(client: &mut Client, count: u32) -> Result<(), ClientFault> {
+fn end_all(tries: &mut Tries, client: &mut Client, count: u32) -> Result<(), ClientFault> {
     for _ in 0..count {
-        end_one(client, "")?;
+        end_one(tries, client, "")?;
         take_out(client);
     }
     Ok(())
@@ -128,67 +180,101 @@ fn send_all(client: &mut Client, count: u32) -> Result<(), ClientFault> {
 }
 
 /// So many aborts that fail.
-fn abort_often(client: &mut Client, count: u32) -> Result<(), ClientFault> {
+fn abort_often(tries: &mut Tries, client: &mut Client, count: u32) -> Result<(), ClientFault> {
     for _ in 0..count {
         client.abort()?;
         let tag = tag_of(client.out());
-        feed_line(client, &[&tag, b" !\r\n"])?;
+        feed_line(tries, client, &[&tag, b" !\r\n"])?;
         take_out(client);
     }
     Ok(())
 }
 
 /// A call of one client that reads no line, by its word.
-fn called_alone(client: &mut Client, word: &str, rest: &str) -> Result<(), ClientFault> {
-    match word {
-        "connected" => client.connected(rest.parse().unwrap_or(0)),
-        "send" => client.send(),
-        "abort" => client.abort(),
-        "resume" => client.resume(),
-        "restart" => client.restart(rest.parse().unwrap_or(0)),
-        _ => {
-            client.leave();
-            Ok(())
-        }
-    }
+fn called_alone(
+    tries: &mut Tries,
+    client: &mut Client,
+    word: &str,
+    rest: &str,
+) -> Result<bool, ClientFault> {
+    let call = match word {
+        "connected" => Call::Connected(rest.parse().unwrap_or(0)),
+        "send" => Call::Send,
+        "abort" => Call::Abort,
+        _ => Call::Resume,
+    };
+    make(tries, client, call)
 }
 
-/// Calls that are made so often, by their word.
-fn called_often(client: &mut Client, word: &str, count: u32) -> Result<(), ClientFault> {
+/// A call for which memory is never short.
+fn called_freely(client: &mut Client, word: &str, rest: &str) -> Result<(), ClientFault> {
+    if word == "restart" {
+        return client.restart(rest.parse().unwrap_or(0));
+    }
+    client.leave();
+    Ok(())
+}
+
+/// Calls that are made so often, by their word; none of them is made again.
+fn called_often(
+    alloc: Global,
+    client: &mut Client,
+    word: &str,
+    count: u32,
+) -> Result<(), ClientFault> {
+    let mut tries = Tries::none(alloc);
     match word {
         "sends" => send_all(client, count),
-        "aborts" => abort_often(client, count),
+        "aborts" => abort_often(&mut tries, client, count),
         "letters" => feed_letters(client, count),
-        _ => end_all(client, count),
+        _ => end_all(&mut tries, client, count),
     }
 }
 
 /// A call that reads lines, by its word: of any other word the action itself is the line.
 fn called_reading(
+    tries: &mut Tries,
     client: &mut Client,
     (word, rest): (&str, &str),
     action: &str,
 ) -> Result<bool, ClientFault> {
     match word {
-        "ended" | "touched" | "told" => end_one(client, rest),
-        "read" => client.read_one(),
-        "bare" => feed_line(client, &[rest.as_bytes(), b"\n"]),
-        _ => feed_line(client, &[action.as_bytes(), b"\r\n"]),
+        "ended" | "touched" | "told" => end_one(tries, client, rest),
+        "read" => make(tries, client, Call::Read),
+        "bare" => feed_line(tries, client, &[rest.as_bytes(), b"\n"]),
+        _ => feed_line(tries, client, &[action.as_bytes(), b"\r\n"]),
+    }
+}
+
+/// Whether an action is made of many calls.
+fn is_often(word: &str, rest: &str) -> bool {
+    match word {
+        "sends" | "aborts" | "letters" => true,
+        "ended" => !rest.is_empty(),
+        _ => false,
     }
 }
 
 /// A call by its word; false where no line was read.
-pub(crate) fn called(client: &mut Client, action: &str) -> Result<bool, ClientFault> {
+pub(crate) fn called(
+    alloc: Global,
+    tries: &mut Tries,
+    client: &mut Client,
+    action: &str,
+) -> Result<bool, ClientFault> {
     let (word, rest) = action.split_once(" ").unwrap_or((action, ""));
-    match word {
-        "connected" | "send" | "abort" | "resume" | "leave" | "restart" => {
-            called_alone(client, word, rest)?;
-        }
-        "sends" | "aborts" | "letters" => called_often(client, word, rest.parse().unwrap_or(0))?,
-        "ended" if !rest.is_empty() => called_often(client, word, rest.parse().unwrap_or(0))?,
-        _ => return called_reading(client, (word, rest), action),
+    if is_often(word, rest) {
+        called_often(alloc, client, word, rest.parse().unwrap_or(0))?;
+        return Ok(true);
     }
-    Ok(true)
+    match word {
+        "connected" | "send" | "abort" | "resume" => called_alone(tries, client, word, rest),
+        "leave" | "restart" => {
+            called_freely(client, word, rest)?;
+            Ok(true)
+        }
+        _ => called_reading(tries, client, (word, rest), action),
+    }
 }
 
 // ---- what is shown of it
@@ -227,11 +313,13 @@ fn push_called(
     out: &mut Vec<u8>,
     client: &mut Client,
     action: &str,
-) -> Result<(), AllocError> {
-    let done = called(client, action);
+) -> Result<(), Stop> {
+    let mut tries = Tries::new(alloc);
+    let done = called(alloc, &mut tries, client, action);
+    tries.push(out)?;
     push_lines(out, client.out())?;
     take_out(client);
-    push_done(alloc, out, client, done)
+    Ok(push_done(alloc, out, client, done)?)
 }
 
 /// What a reader of a number or a state answers; false where the action is another.
@@ -266,13 +354,24 @@ fn push_list(
     Ok(true)
 }
 
+/// The report of a client, without a server's ledger.
+fn push_report(alloc: Global, out: &mut Vec<u8>, client: &Client) -> Result<(), Stop> {
+    let report = report_of(alloc, client, None).ok().ok_or(Stop::Refused)?;
+    let mut text = front(alloc)?;
+    let written = write_report(&mut text, &report);
+    push_appended(out, text.as_slice(), written)
+}
+
 /// What a reader answers, or what a call does.
 fn push_action(
     alloc: Global,
     out: &mut Vec<u8>,
     client: &mut Client,
     action: &str,
-) -> Result<(), AllocError> {
+) -> Result<(), Stop> {
+    if action == "report" {
+        return push_report(alloc, out, client);
+    }
     if push_read_out(alloc, out, client, action)? || push_list(alloc, out, client, action)? {
         return Ok(());
     }
@@ -280,11 +379,7 @@ fn push_action(
 }
 
 /// What an action shows.
-pub(crate) fn answer(
-    alloc: Global,
-    client: &mut Client,
-    action: &str,
-) -> Result<Vec<u8>, AllocError> {
+pub(crate) fn answer(alloc: Global, client: &mut Client, action: &str) -> Result<Vec<u8>, Stop> {
     let mut text = Vec::new(alloc);
     push_action(alloc, &mut text, client, action)?;
     if text.is_empty() {
@@ -296,10 +391,11 @@ pub(crate) fn answer(
 // ---- behind actions
 
 /// A new client is connected, and does actions that all succeed.
-pub(crate) fn call_all(client: &mut Client, actions: &str) -> Result<(), Stop> {
+pub(crate) fn call_all(alloc: Global, client: &mut Client, actions: &str) -> Result<(), Stop> {
     connect(client)?;
+    let mut tries = Tries::none(alloc);
     for action in actions.split(" / ") {
-        if called(client, action) != Ok(true) {
+        if !called(alloc, &mut tries, client, action)? {
             return Err(Stop::Row);
         }
         take_out(client);
@@ -321,7 +417,8 @@ fn push_read(
     client: &mut Client,
     line: &[&[u8]],
 ) -> Result<(), AllocError> {
-    match feed_line(client, line) {
+    let mut tries = Tries::none(alloc);
+    match feed_line(&mut tries, client, line) {
         Ok(_) => push_count(alloc, out, client),
         Err(ClientFault::Faulted(cause)) => push_debug(alloc, out, &cause),
         Err(fault) => push_debug(alloc, out, &fault),
@@ -337,7 +434,7 @@ struct Behind<'a> {
 
 impl ClientTask for Behind<'_> {
     fn push(&self, alloc: Global, out: &mut Vec<u8>, client: &mut Client) -> Result<(), Stop> {
-        call_all(client, self.actions)?;
+        call_all(alloc, client, self.actions)?;
         Ok(push_read(alloc, out, client, self.line)?)
     }
 }

@@ -153,9 +153,9 @@ fn work_once<M: Machine>(server: &mut Server, machine: &mut M) -> Result<(), Sto
     let number = server.ledger().contacts();
     if let Some(job) = server.running() {
         let outcome = machine.answer(job, number);
-        server.machine(outcome).ok().ok_or(Stop::Row)?;
+        server.machine(outcome)?;
     } else if server.may_turn() {
-        server.turn().ok().ok_or(Stop::Row)?;
+        server.turn()?;
     }
     Ok(())
 }
@@ -174,8 +174,8 @@ fn meet_again<M: Machine>(
     server: &mut Server,
     machine: &mut M,
 ) -> Result<(), Stop> {
-    client.connected(2).ok().ok_or(Stop::Row)?;
-    server.accept(2).ok().ok_or(Stop::Row)?;
+    client.connected(2)?;
+    server.accept(2)?;
     for _ in 0..100u32 {
         if client.due().is_some() {
             worlds::end_next(client, server, machine)?;
@@ -280,7 +280,7 @@ impl BothTask for Cut<'_> {
 /// A client behind actions.
 impl ClientTask for Cut<'_> {
     fn push(&self, alloc: Global, out: &mut Vec<u8>, client: &mut Client) -> Result<(), Stop> {
-        client::call_all(client, self.given.before)?;
+        client::call_all(alloc, client, self.given.before)?;
         hear_all(alloc, out, client, (self.given.bytes.as_slice(), self.size))?;
         Ok(push_client(alloc, out, client)?)
     }
@@ -289,7 +289,7 @@ impl ClientTask for Cut<'_> {
 /// A server behind actions.
 impl ServerTask for Cut<'_> {
     fn push(&self, alloc: Global, out: &mut Vec<u8>, server: &mut Server) -> Result<(), Stop> {
-        server::call_all(server, self.given.before)?;
+        server::call_all(alloc, server, self.given.before)?;
         read_all(alloc, out, server, (self.given.bytes.as_slice(), self.size))?;
         Ok(push_server(alloc, out, server)?)
     }

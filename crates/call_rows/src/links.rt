@@ -4,11 +4,17 @@
 // for the call that fails on either side's port, `takes` for the most bytes that go out at once; in a loop these are the client's ports. What
 // comes in is one piece, or `all` pieces that the program's part has: `replies NAME` for a client and `commands NAME` for a server. It shows
 // what the call answers, where the side then stands, the lines that went out, and the features.
+//
+// Where a row asks for `again`, a call for which memory is short is made again. A side has then left its connection, and keeps what it holds: what
+// it has measured or done until then may stand behind that. So it comes to the next connection first, and goes on from there; where all was
+// measured, what comes in is that of `last replies NAME` and `last commands NAME`.
 
 use crate::client::{self, ClientTask, Made, connect};
+use crate::hostile;
 use crate::server::{self, BothTask, ServerTask, accept, is_on, push_both_task};
-use crate::shown::{lined, push_answer, push_features, push_lines, push_text};
+use crate::shown::{lined, push_answer, push_debug, push_features, push_lines, push_text};
 use crate::stop::Stop;
+use crate::tried::{Called, Tries};
 use byte_ports::{Pieces, Takes};
 use client_core::Client;
 use contact_ledger::Feature;
@@ -24,6 +30,9 @@ use std::alloc::{AllocError, Global};
 pub(crate) struct Script<'a> {
     pub(crate) replies: &'a str,
     pub(crate) commands: &'a str,
+    /// The same where all was measured.
+    pub(crate) last_replies: &'a str,
+    pub(crate) last_commands: &'a str,
 }
 
 /// What a row asks for.
@@ -34,6 +43,7 @@ struct Asked {
     read: u32,
     write: u32,
     takes: u32,
+    again: u32,
 }
 
 /// What a row asks for that has no words: all at once, and no call that fails.
@@ -44,6 +54,7 @@ fn plain() -> Asked {
         read: 0,
         write: 0,
         takes: 1_000,
+        again: 0,
     }
 }
 
@@ -57,6 +68,7 @@ fn ask(asked: &mut Asked, pair: &str) -> Result<(), Stop> {
         "read" => asked.read = number,
         "write" => asked.write = number,
         "takes" => asked.takes = number,
+        "again" => asked.again = number,
         _ => return Err(Stop::Row),
     }
     Ok(())
@@ -248,20 +260,200 @@ fn push_called(
     }
 }
 
-/// A call of this word of a client or a server over new ports, into which these pieces come.
+/// A call of this word of a client or a server over new ports, into which these pieces come, or the last ones where all was measured.
 #[derive(Drop)]
 struct Call<'a> {
     asked: Asked,
     pieces: &'a str,
+    last_pieces: &'a str,
     word: &'a str,
+}
+
+impl Call<'_> {
+    fn push_of(
+        &self,
+        alloc: Global,
+        out: &mut Vec<u8>,
+        client: &mut Client,
+        pieces: &str,
+    ) -> Result<(), Stop> {
+        let mut ports = new_ports(alloc, self.asked, pieces)?;
+        let asked = (self.asked, self.word);
+        Ok(push_called(alloc, out, client, &mut ports, asked)?)
+    }
 }
 
 impl ClientTask for Call<'_> {
     fn push(&self, alloc: Global, out: &mut Vec<u8>, client: &mut Client) -> Result<(), Stop> {
+        if self.asked.again > 0 {
+            let mut calling = Calling::new(alloc, client);
+            return push_again(alloc, out, &mut calling, self);
+        }
         connect(client)?;
-        let mut ports = new_ports(alloc, self.asked, self.pieces)?;
-        let asked = (self.asked, self.word);
-        Ok(push_called(alloc, out, client, &mut ports, asked)?)
+        self.push_of(alloc, out, client, self.pieces)
+    }
+}
+
+// ---- calls that are made again
+
+/// What calls have shown that come to a connection of their own.
+pub(crate) trait Shows {
+    fn shown(&self) -> &[u8];
+}
+
+/// Makes a call that comes to a connection, and appends what it shows.
+fn push_again<C, V: Called<C, Stop> + Shows>(
+    alloc: Global,
+    out: &mut Vec<u8>,
+    value: &mut V,
+    call: &C,
+) -> Result<(), Stop> {
+    let mut tries = Tries::new(alloc);
+    let done = tries.call(value, Stop::Refused, call);
+    tries.push(out)?;
+    done?;
+    Ok(out.extend_from_slice(value.shown())?)
+}
+
+/// An answer of either side begins so.
+fn begins(shown: &[u8], answer: &[u8]) -> bool {
+    let inner = match shown.split_at_checked(7) {
+        Some((b"Client(" | b"Server(", inner)) => inner,
+        _ => shown,
+    };
+    inner.starts_with(answer)
+}
+
+/// Whether memory was short for a call that shows this. A port that fails has none for what goes out.
+fn judged(shown: &[u8]) -> Result<bool, Stop> {
+    if begins(shown, b"Memory") {
+        return Err(Stop::Refused);
+    }
+    if begins(shown, b"WriteFailed") {
+        return Err(Stop::Memory);
+    }
+    Ok(true)
+}
+
+/// The first of these features.
+fn push_first(
+    alloc: Global,
+    out: &mut Vec<u8>,
+    features: &[Feature],
+    count: usize,
+) -> Result<(), AllocError> {
+    match features.split_at_checked(count) {
+        Some((first, _)) => push_features(alloc, out, first),
+        None => push_text(out, "fewer"),
+    }
+}
+
+/// What a client is and has to send, and the features that it held.
+fn push_held(
+    alloc: Global,
+    out: &mut Vec<u8>,
+    client: &Client,
+    held: usize,
+) -> Result<(), AllocError> {
+    push_state(alloc, out, client)?;
+    push_lines(out, client.out())?;
+    push_first(alloc, out, client.features(), held)
+}
+
+/// A client that comes to its next connection for each call.
+#[derive(Drop)]
+struct Calling<'a> {
+    alloc: Global,
+    client: &'a mut Client,
+    held: usize,
+    last: u64,
+    shown: Vec<u8>,
+    /// What a watcher was told in all runs.
+    told: Told,
+}
+
+impl<'a> Calling<'a> {
+    fn new(alloc: Global, client: &'a mut Client) -> Calling<'a> {
+        let held = client.features().len();
+        Calling {
+            alloc,
+            client,
+            held,
+            last: 0,
+            shown: Vec::new(alloc),
+            told: Told::new(alloc),
+        }
+    }
+
+    fn watch(&mut self, asked: Asked, pieces: &str) -> Result<(), Stop> {
+        let mut ports = new_ports(self.alloc, asked, pieces)?;
+        let (input, output) = (&mut ports.input, &mut ports.output);
+        let answer = watch_link(self.client, input, output, &mut self.told);
+        push_answer(self.alloc, &mut self.shown, &answer)?;
+        Ok(self.told.push_to(&mut self.shown)?)
+    }
+
+    /// The call over new ports, into which these pieces come.
+    fn show(&mut self, call: &Call<'_>, pieces: &str) -> Result<(), Stop> {
+        if call.word == "watches" {
+            return self.watch(call.asked, pieces);
+        }
+        call.push_of(self.alloc, &mut self.shown, self.client, pieces)
+    }
+}
+
+impl Shows for Calling<'_> {
+    fn shown(&self) -> &[u8] {
+        self.shown.as_slice()
+    }
+}
+
+impl Called<Call<'_>, Stop> for Calling<'_> {
+    fn push_all(&self, alloc: Global, out: &mut Vec<u8>) -> Result<(), AllocError> {
+        push_held(alloc, out, self.client, self.held)
+    }
+
+    fn make(&mut self, call: &Call<'_>) -> Result<bool, Stop> {
+        self.last = self.last.saturating_add(1);
+        let is_last = self.client.features().len() > self.held;
+        let pieces = if is_last {
+            call.last_pieces
+        } else {
+            call.pieces
+        };
+        self.shown = Vec::new(self.alloc);
+        self.client.connected(self.last)?;
+        self.show(call, pieces)?;
+        judged(self.shown.as_slice())
+    }
+}
+
+/// A server that comes to its next connection for each call.
+#[derive(Drop)]
+struct Serving<'a> {
+    alloc: Global,
+    server: &'a mut Server,
+    last: u64,
+    shown: Vec<u8>,
+}
+
+impl Shows for Serving<'_> {
+    fn shown(&self) -> &[u8] {
+        self.shown.as_slice()
+    }
+}
+
+impl Called<Call<'_>, Stop> for Serving<'_> {
+    fn push_all(&self, alloc: Global, out: &mut Vec<u8>) -> Result<(), AllocError> {
+        hostile::push_server(alloc, out, self.server)
+    }
+
+    fn make(&mut self, call: &Call<'_>) -> Result<bool, Stop> {
+        self.last = self.last.saturating_add(1);
+        self.shown = Vec::new(self.alloc);
+        self.server.accept(self.last)?;
+        call.serve(self.alloc, &mut self.shown, self.server)?;
+        judged(self.shown.as_slice())
     }
 }
 
@@ -316,12 +508,27 @@ fn push_server_called(
     }
 }
 
-impl ServerTask for Call<'_> {
-    fn push(&self, alloc: Global, out: &mut Vec<u8>, server: &mut Server) -> Result<(), Stop> {
-        accept(server)?;
+impl Call<'_> {
+    fn serve(&self, alloc: Global, out: &mut Vec<u8>, server: &mut Server) -> Result<(), Stop> {
         let mut ports = new_ports(alloc, self.asked, self.pieces)?;
         let asked = (self.asked, self.word);
         Ok(push_server_called(alloc, out, server, &mut ports, asked)?)
+    }
+}
+
+impl ServerTask for Call<'_> {
+    fn push(&self, alloc: Global, out: &mut Vec<u8>, server: &mut Server) -> Result<(), Stop> {
+        if self.asked.again > 0 {
+            let mut serving = Serving {
+                alloc,
+                server,
+                last: 0,
+                shown: Vec::new(alloc),
+            };
+            return push_again(alloc, out, &mut serving, self);
+        }
+        accept(server)?;
+        self.serve(alloc, out, server)
     }
 }
 
@@ -389,7 +596,7 @@ fn push_both(
 struct Loop<'a> {
     asked: Asked,
     replies: &'a str,
-    commands: &'a str,
+    script: Script<'a>,
 }
 
 impl Loop<'_> {
@@ -399,9 +606,10 @@ impl Loop<'_> {
         out: &mut Vec<u8>,
         client: &mut Client,
         server: &mut Server,
+        (replies, commands): (&str, &str),
     ) -> Result<(), Stop> {
-        let mut ports = new_ports(alloc, self.asked, self.replies)?;
-        let mut others = new_ports(alloc, plain(), self.commands)?;
+        let mut ports = new_ports(alloc, self.asked, replies)?;
+        let mut others = new_ports(alloc, plain(), commands)?;
         Ok(push_both(alloc, out, client, &mut ports, server, &mut others)?)
     }
 }
@@ -414,10 +622,88 @@ impl BothTask for Loop<'_> {
         client: &mut Client,
         server: &mut Server,
     ) -> Result<(), Stop> {
+        if self.asked.again > 0 {
+            return push_looped_again(alloc, out, client, server, self);
+        }
         connect(client)?;
         accept(server)?;
-        self.push_run(alloc, out, client, server)
+        let script = (self.replies, self.script.commands);
+        self.push_run(alloc, out, client, server, script)
     }
+}
+
+/// Both sides, which come to their next connection for each run.
+#[derive(Drop)]
+struct Looping<'a> {
+    alloc: Global,
+    client: &'a mut Client,
+    server: &'a mut Server,
+    held: usize,
+    last: u64,
+    shown: Vec<u8>,
+}
+
+impl Shows for Looping<'_> {
+    fn shown(&self) -> &[u8] {
+        self.shown.as_slice()
+    }
+}
+
+/// Whether the machine is homed, on which connection the server is, and its first act.
+fn push_homed(alloc: Global, out: &mut Vec<u8>, server: &Server) -> Result<(), AllocError> {
+    let view = server.view();
+    push_debug(alloc, out, &(view.homed, view.connection))?;
+    push_debug(alloc, out, &server.ledger().acts().first())
+}
+
+impl Called<Loop<'_>, Stop> for Looping<'_> {
+    fn push_all(&self, alloc: Global, out: &mut Vec<u8>) -> Result<(), AllocError> {
+        push_held(alloc, out, self.client, self.held)?;
+        push_homed(alloc, out, self.server)
+    }
+
+    fn make(&mut self, call: &Loop<'_>) -> Result<bool, Stop> {
+        self.last = self.last.saturating_add(1);
+        let is_last = self.client.features().len() > self.held;
+        let script = if is_last {
+            (call.script.last_replies, call.script.last_commands)
+        } else {
+            (call.replies, call.script.commands)
+        };
+        self.shown = Vec::new(self.alloc);
+        self.client.connected(self.last)?;
+        self.server.accept(self.last)?;
+        call.push_run(
+            self.alloc,
+            &mut self.shown,
+            self.client,
+            self.server,
+            script,
+        )?;
+        judged(self.shown.as_slice())
+    }
+}
+
+/// Both sides run on a machine that is homed.
+fn push_looped_again(
+    alloc: Global,
+    out: &mut Vec<u8>,
+    client: &mut Client,
+    server: &mut Server,
+    call: &Loop<'_>,
+) -> Result<(), Stop> {
+    let homed = "accept 1 / 00001 StartSession() / turn / 00002 Home() / turn / done / leave";
+    server::call_all(alloc, server, homed)?;
+    let held = client.features().len();
+    let mut looping = Looping {
+        alloc,
+        client,
+        server,
+        held,
+        last: 1,
+        shown: Vec::new(alloc),
+    };
+    push_again(alloc, out, &mut looping, call)
 }
 
 // ---- rows
@@ -433,6 +719,7 @@ pub(crate) fn push_server_row(
     let call = Call {
         asked,
         pieces,
+        last_pieces: pieces,
         word,
     };
     server::push_task(alloc, out, setup, &call)
@@ -450,7 +737,7 @@ fn push_loop_row(
     let task = Loop {
         asked,
         replies,
-        commands: script.commands,
+        script,
     };
     push_both_task(alloc, out, ends, &task)
 }
@@ -470,6 +757,7 @@ pub(crate) fn push_client_row(
     let call = Call {
         asked,
         pieces,
+        last_pieces: script.last_replies,
         word,
     };
     client::push_task(alloc, out, made, &call)

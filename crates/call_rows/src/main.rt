@@ -8,11 +8,14 @@
 //! ends behind so many commands, `setups`, `schedules`, `features` and `contacts` for texts, `turns NAME W`, `runs NAME W`, `watches NAME W`,
 //! `loops NAME W`, `serves` and `connections` for turns and runs over ports, into which the texts `replies NAME` and `commands NAME` come. A line that begins
 //! with `-- ` says what the rows below it show. `files NAME W` has a schedule, and the features and contacts files that it leaves stand in its
-//! place. `quiets NAME W` has the deviations of a machine, as shifts, and `finishes NAME W` schedules behind each front of which a world is
+//! place. `world NAME W` is a world through all rows of its part, `values NAME` the calls of what both ends are made of, and `held NAME` the features
+//! that a client of a program begins with; `last replies NAME` and `last commands NAME` come in where all was measured. `quiets NAME W` has the deviations of a machine, as shifts, and `finishes NAME W` schedules behind each front of which a world is
 //! brought to its end.
 //!
 //! - `parts`: the parts of the input, and their rows
 //! - `client`, `server`: what an action does, and what it shows
+//! - `events`: a world through events, one a row
+//! - `values`: calls of the values that both ends are made of
 //! - `links`: turns and runs over ports in memory
 //! - `quiets`: undisturbed runs, and worlds that are brought to their end
 //! - `setups`: what setups say
@@ -21,11 +24,13 @@
 //! - `texts`: texts of features and of acts that are read and written again
 //! - `worlds`: worlds behind schedules, and both ends that are driven by hand
 //! - `shown`: lines, acts and features as rows show them
+//! - `tried`: calls that are made again where memory is short for them
 //! - `stop`: why it ends early
 #![tactic(auto)]
 
 mod audited;
 mod client;
+mod events;
 mod hostile;
 mod links;
 mod parts;
@@ -35,6 +40,8 @@ mod setups;
 mod shown;
 mod stop;
 mod texts;
+mod tried;
+mod values;
 mod worlds;
 
 use byte_ports::{Reading, Writing, pull_all, push_all};
@@ -64,7 +71,7 @@ fn run<R: Input + Print + AllocGlobal>(rt: &R) -> Result<(), Stop> {
 fn main(rt: HostRuntime) -> ExitCode {
     match run(&rt) {
         Ok(()) => ExitCode::from(0),
-        Err(Stop::Row | Stop::Port) => ExitCode::from(1),
         Err(Stop::Memory) => ExitCode::from(4),
+        Err(_) => ExitCode::from(1),
     }
 }

@@ -1,12 +1,14 @@
 // The parts of the input.
 
 use crate::client::{self, ClientTask, Made};
+use crate::events::{self, WorldTask};
 use crate::links::{self, Script};
 use crate::server::{self, ServerTask};
 use crate::shown::push_text;
 use crate::stop::Stop;
-use crate::{hostile, quiets, setups, texts, worlds};
+use crate::{hostile, quiets, setups, texts, tried, values, worlds};
 use client_core::Client;
+use link_world::World;
 use server_core::Server;
 use std::alloc::{AllocError, Global};
 use tool_rack::Setup;
@@ -40,18 +42,31 @@ fn push_row(out: &mut Vec<u8>, row: &str, answer: &[u8]) -> Result<(), AllocErro
     push_text(out, "\n")
 }
 
+/// The answer of a row, or the words for a call that was not as it has to be where memory was short for it.
+fn push_answer_of(out: &mut Vec<u8>, row: &str, answer: Result<Vec<u8>, Stop>) -> Result<(), Stop> {
+    match answer {
+        Ok(answer) => Ok(push_row(out, row, answer.as_slice())?),
+        Err(Stop::Changed) => Ok(push_row(out, row, b"changed")?),
+        Err(Stop::ForEver) => Ok(push_row(out, row, b"refused for ever")?),
+        Err(stop) => Err(stop),
+    }
+}
+
 /// A row of a client, which goes on from the one before.
 fn push_client_row(
     alloc: Global,
     out: &mut Vec<u8>,
     client: &mut Client,
     row: &str,
-) -> Result<(), AllocError> {
+) -> Result<(), Stop> {
     if is_comment(row) {
-        return push_line(out, row);
+        return Ok(push_line(out, row)?);
     }
-    let answer = client::answer(alloc, client, row)?;
-    push_row(out, row, answer.as_slice())
+    let answer = match client::answer(alloc, client, row) {
+        Err(Stop::Refused) => tried::again(alloc, client::answer(alloc, client, row)),
+        answer => answer,
+    };
+    push_answer_of(out, row, answer)
 }
 
 /// The rows of a part, one call of one end behind another.
@@ -79,6 +94,7 @@ fn push_program_row(
     match word {
         "marks" => client::push_marks_row(alloc, out, made, row),
         "texts" => client::push_text_row(alloc, out, made, row),
+        "values" => values::push_value_row(alloc, out, (made, setup), row),
         "homings" => worlds::push_homings_row(alloc, out, (made, setup), row),
         "reports" => worlds::push_reports_row(alloc, out, (made, setup), row),
         "quiets" => quiets::push_quiet_row(alloc, out, (made, setup), row),
@@ -107,7 +123,7 @@ fn push_text_row(
 /// Whether the rows of a part of this word are of a program.
 fn is_of_program(word: &str) -> bool {
     match word {
-        "marks" | "texts" | "homings" | "reports" | "quiets" | "finishes" => true,
+        "marks" | "texts" | "homings" | "reports" | "quiets" | "finishes" | "values" => true,
         "client_cuts" | "server_cuts" | "both_cuts" => true,
         _ => false,
     }
@@ -132,14 +148,6 @@ fn row_answer(alloc: Global, ends: (Made<'_>, &str), row: (&str, &str)) -> Resul
     Ok(answer)
 }
 
-/// The same; where memory was wanting it is asked once more.
-fn told_answer(alloc: Global, ends: (Made<'_>, &str), row: (&str, &str)) -> Result<Vec<u8>, Stop> {
-    match row_answer(alloc, ends, row) {
-        Err(Stop::Memory) => row_answer(alloc, ends, row),
-        answer => answer,
-    }
-}
-
 /// A row by itself.
 fn push_alone(
     alloc: Global,
@@ -150,8 +158,11 @@ fn push_alone(
     if is_comment(row) {
         return Ok(push_line(out, row)?);
     }
-    let answer = told_answer(alloc, ends, (word, row))?;
-    Ok(push_row(out, row, answer.as_slice())?)
+    let answer = match row_answer(alloc, ends, (word, row)) {
+        Err(Stop::Refused) => tried::again(alloc, row_answer(alloc, ends, (word, row))),
+        answer => answer,
+    };
+    push_answer_of(out, row, answer)
 }
 
 /// Rows, each by itself.
@@ -204,12 +215,15 @@ fn push_server_row(
     out: &mut Vec<u8>,
     server: &mut Server,
     row: &str,
-) -> Result<(), AllocError> {
+) -> Result<(), Stop> {
     if is_comment(row) {
-        return push_line(out, row);
+        return Ok(push_line(out, row)?);
     }
-    let answer = server::answer(alloc, server, row)?;
-    push_row(out, row, answer.as_slice())
+    let answer = match server::answer(alloc, server, row) {
+        Err(Stop::Refused) => tried::again(alloc, server::answer(alloc, server, row)),
+        answer => answer,
+    };
+    push_answer_of(out, row, answer)
 }
 
 impl ServerTask for Rows<'_> {
@@ -221,20 +235,46 @@ impl ServerTask for Rows<'_> {
     }
 }
 
-/// What comes in on either side of a program's connection.
-fn script<'a>(alloc: Global, input: &'a str, name: &str) -> Result<Script<'a>, Stop> {
-    let replies = format!(in alloc; "replies {name}")?;
-    let commands = format!(in alloc; "commands {name}")?;
-    Ok(Script {
-        replies: part(input, replies.as_str()).unwrap_or(""),
-        commands: part(input, commands.as_str()).unwrap_or(""),
-    })
+/// A row of a world, which goes on from the one before.
+fn push_world_row(
+    alloc: Global,
+    out: &mut Vec<u8>,
+    world: &mut World,
+    row: &str,
+) -> Result<(), Stop> {
+    if is_comment(row) {
+        return Ok(push_line(out, row)?);
+    }
+    let answer = match events::answer(alloc, world, row) {
+        Err(Stop::Refused) => tried::again(alloc, events::answer(alloc, world, row)),
+        answer => answer,
+    };
+    push_answer_of(out, row, answer)
 }
 
-/// The text of the program of this name; an empty one where there is none.
-fn program<'a>(alloc: Global, input: &'a str, name: &str) -> Result<&'a str, AllocError> {
-    let head = format!(in alloc; "program {name}")?;
+impl WorldTask for Rows<'_> {
+    fn push(&self, alloc: Global, out: &mut Vec<u8>, world: &mut World) -> Result<(), Stop> {
+        for row in self.text.lines() {
+            push_world_row(alloc, out, world, row)?;
+        }
+        Ok(())
+    }
+}
+
+/// The text of the part of this word and name; an empty one where there is none.
+fn named<'a>(alloc: Global, input: &'a str, word: &str, name: &str) -> Result<&'a str, AllocError> {
+    let head = format!(in alloc; "{word} {name}")?;
     Ok(part(input, head.as_str()).unwrap_or(""))
+}
+
+/// What comes in on either side of a program's connection.
+fn script<'a>(alloc: Global, input: &'a str, name: &str) -> Result<Script<'a>, Stop> {
+    Ok(Script {
+        replies: named(alloc, input, "replies", name)?,
+        commands: named(alloc, input, "commands", name)?,
+        last_replies: named(alloc, input, "last replies", name)?,
+        last_commands: named(alloc, input, "last commands", name)?,
+    })
 }
 
 /// Rows of turns and runs of a client, with what comes in of a program of this name.
@@ -259,6 +299,7 @@ fn push_made_rows(
 ) -> Result<(), Stop> {
     match word {
         "client" => client::push_task(alloc, out, ends.0, &Rows { text }),
+        "world" => events::push_task(alloc, out, ends, &Rows { text }),
         "files" => worlds::push_files(alloc, out, ends, text),
         "turns" | "runs" | "watches" | "loops" => {
             push_linked(alloc, out, ends, (input, name, word), text)
@@ -277,9 +318,11 @@ fn push_rows_of(
 ) -> Result<(), Stop> {
     let (name, window) = rest.split_once(" ").unwrap_or((rest, "1"));
     let window = window.parse().ok().ok_or(Stop::Row)?;
-    let program = program(alloc, input, name)?;
-    let read = Setup::read(alloc, setup.as_bytes()).ok().ok_or(Stop::Row)?;
+    let program = named(alloc, input, "program", name)?;
+    let held = named(alloc, input, "held", name)?;
+    let read = Setup::read(alloc, setup.as_bytes())?;
     let made = Made {
+        held,
         program,
         frames: read.frames(),
         window,
@@ -295,7 +338,7 @@ fn push_answers(
     (word, rest): (&str, &str),
     text: &str,
 ) -> Result<(), Stop> {
-    if let "program" | "setup" | "replies" | "commands" = word {
+    if let "program" | "held" | "setup" | "replies" | "commands" | "last" = word {
         return Ok(push_text(out, text)?);
     }
     let setup = part(input, "setup").ok_or(Stop::Row)?;
@@ -305,8 +348,22 @@ fn push_answers(
     push_rows_of(alloc, out, (input, setup), (word, rest), text)
 }
 
-/// A part with its answers.
+/// A part with its answers. Where the program is out of memory, or memory is short for what the part is made of, it is begun anew, once.
 fn push_part(alloc: Global, out: &mut Vec<u8>, input: &str, piece: &str) -> Result<(), Stop> {
+    let count = out.len();
+    match push_part_once(alloc, out, input, piece) {
+        Err(Stop::Memory) => out.truncate(count),
+        Err(Stop::Refused) => {
+            out.truncate(count);
+            push_text(out, "refused, as before; ")?;
+        }
+        done => return done,
+    }
+    push_part_once(alloc, out, input, piece)
+}
+
+/// A part with its answers.
+fn push_part_once(alloc: Global, out: &mut Vec<u8>, input: &str, piece: &str) -> Result<(), Stop> {
     let (head, text) = piece.split_once("]\n").ok_or(Stop::Row)?;
     push_line(out, format!(in alloc; "[{head}]")?.as_str())?;
     let words = head.split_once(" ").unwrap_or((head, ""));

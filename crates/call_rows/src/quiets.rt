@@ -10,7 +10,7 @@ use std::alloc::{AllocError, Global};
 use tool_rack::Setup;
 
 fn read_setup(alloc: Global, text: &str) -> Result<Setup, Stop> {
-    Setup::read(alloc, text.as_bytes()).ok().ok_or(Stop::Row)
+    Ok(Setup::read(alloc, text.as_bytes())?)
 }
 
 /// The state, the turns and the features of a run.
@@ -25,14 +25,12 @@ fn push_quiet(alloc: Global, answer: &mut Vec<u8>, quiet: &Quiet) -> Result<(), 
 /// A machine whose deviations are the shifts of a row.
 fn new_machine(alloc: Global, row: &str) -> Result<Simulated, Stop> {
     let shifts = lined(alloc, row)?;
-    let setup = Setup::read(alloc, shifts.as_slice()).ok().ok_or(Stop::Row)?;
+    let setup = Setup::read(alloc, shifts.as_slice())?;
     Ok(Simulated::new(alloc, &setup)?)
 }
 
 fn read_program(alloc: Global, text: &str, setup: &Setup) -> Result<Program, Stop> {
-    Program::read(alloc, text.as_bytes(), setup.frames())
-        .ok()
-        .ok_or(Stop::Row)
+    Ok(Program::read(alloc, text.as_bytes(), setup.frames())?)
 }
 
 /// What the undisturbed run leaves; none where there is no such window.
@@ -47,7 +45,7 @@ fn ran(
     match quiet_run(alloc, program, setup, made.window, machine) {
         Ok(quiet) => Ok(Some(quiet)),
         Err(NewFault::BadWindow(_program, _setup)) => Ok(None),
-        Err(NewFault::Memory) => Err(Stop::Memory),
+        Err(NewFault::Memory) => Err(Stop::Refused),
     }
 }
 

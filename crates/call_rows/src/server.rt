@@ -4,19 +4,22 @@
 // the call is refused. `homes n` reads 65 commands `Home()` behind tag number n.
 
 use crate::client::{self, ClientTask, Made};
+use crate::hostile;
 use crate::shown::{
     push_act, push_debug, push_direction, push_display, push_frame, push_lines, push_point,
     push_text,
 };
 use crate::stop::Stop;
+use crate::tried::{Called, Tries, front, push_appended};
 use client_core::Client;
 use fixed_um::{Dir, Frame, Name, Point, Um, read_um};
+use link_world::write_contact_rows;
 use server_core::{Job, Outcome, Server, ServerFault};
 use std::alloc::{AllocError, Global};
 use tool_rack::Setup;
 
 fn new_server(alloc: Global, setup: &str) -> Result<Server, Stop> {
-    let setup = Setup::read(alloc, setup.as_bytes()).ok().ok_or(Stop::Row)?;
+    let setup = Setup::read(alloc, setup.as_bytes())?;
     Ok(Server::new(alloc, setup)?)
 }
 
@@ -79,7 +82,7 @@ pub(crate) fn push_both_task<T: BothTask>(
 
 /// A new server accepts connection 1.
 pub(crate) fn accept(server: &mut Server) -> Result<(), Stop> {
-    server.accept(1).ok().ok_or(Stop::Row)
+    Ok(server.accept(1)?)
 }
 
 /// What was answered is sent.
@@ -111,10 +114,52 @@ fn point(text: &str) -> Point {
     }
 }
 
-fn feed_line(server: &mut Server, line: &[u8], end: &[u8]) -> Result<bool, ServerFault> {
-    server.feed(line)?;
-    server.feed(end)?;
-    server.read_one()
+/// A call for which memory can be short.
+#[derive(Clone, Copy)]
+enum Call<'a> {
+    Feed(&'a [u8]),
+    Read,
+    Turn,
+    Machine(&'a str, &'a str),
+}
+
+impl Called<Call<'_>, ServerFault> for Server {
+    fn push_all(&self, alloc: Global, out: &mut Vec<u8>) -> Result<(), AllocError> {
+        let may = (
+            self.has_line(),
+            self.may_turn(),
+            self.may_end(&Outcome::Done),
+        );
+        push_debug(alloc, out, &may)?;
+        push_debug(alloc, out, self.setup())?;
+        hostile::push_server(alloc, out, self)
+    }
+
+    fn make(&mut self, call: &Call<'_>) -> Result<bool, ServerFault> {
+        match *call {
+            Call::Feed(piece) => self.feed(piece)?,
+            Call::Read => return self.read_one(),
+            Call::Turn => self.turn()?,
+            Call::Machine(word, rest) => self.machine(outcome(word, rest))?,
+        }
+        Ok(true)
+    }
+}
+
+/// Makes a call, once more where memory is short for it.
+fn make(tries: &mut Tries, server: &mut Server, call: Call<'_>) -> Result<bool, ServerFault> {
+    tries.call(server, ServerFault::Memory, &call)
+}
+
+fn feed_line(
+    tries: &mut Tries,
+    server: &mut Server,
+    line: &[u8],
+    end: &[u8],
+) -> Result<bool, ServerFault> {
+    make(tries, server, Call::Feed(line))?;
+    make(tries, server, Call::Feed(end))?;
+    make(tries, server, Call::Read)
 }
 
 /// One byte more than a line may have.
@@ -137,28 +182,28 @@ fn tag(number: u32) -> [u8; 5] {
 }
 
 /// 65 commands `Home()` behind this number, with no turn between them.
-fn feed_homes(server: &mut Server, number: u32) -> Result<bool, ServerFault> {
+fn feed_homes(tries: &mut Tries, server: &mut Server, number: u32) -> Result<bool, ServerFault> {
     for nth in 1..=65u32 {
-        feed_line(server, &tag(number.saturating_add(nth)), b" Home()\r\n")?;
+        let tag = tag(number.saturating_add(nth));
+        feed_line(tries, server, &tag, b" Home()\r\n")?;
     }
     Ok(true)
 }
 
-/// A call that ends what runs, by its word.
-fn ended(server: &mut Server, word: &str, rest: &str) -> Result<(), ServerFault> {
-    server.machine(match word {
+/// How what runs ends, by its word.
+fn outcome(word: &str, rest: &str) -> Outcome {
+    match word {
         "done" => Outcome::Done,
         "missed" => Outcome::Missed,
         "fault" => Outcome::Fault,
         _ => Outcome::Touched(point(rest)),
-    })
+    }
 }
 
 /// Another call that reads no line, by its word.
 fn called_alone(server: &mut Server, word: &str, rest: &str) -> Result<(), ServerFault> {
     match word {
         "accept" => server.accept(rest.parse().unwrap_or(0)),
-        "turn" => server.turn(),
         "leave" => {
             server.leave();
             Ok(())
@@ -171,36 +216,44 @@ fn called_alone(server: &mut Server, word: &str, rest: &str) -> Result<(), Serve
 }
 
 /// The errors are cleared.
-fn clear(server: &mut Server) -> Result<(), ServerFault> {
-    feed_line(server, b"09999 ClearAllErrors()", b"\r\n")?;
-    server.turn()
+fn clear(tries: &mut Tries, server: &mut Server) -> Result<bool, ServerFault> {
+    feed_line(tries, server, b"09999 ClearAllErrors()", b"\r\n")?;
+    make(tries, server, Call::Turn)
 }
 
 /// A call that reads lines, by its word: of any other word the action itself is the line.
 fn called_reading(
+    tries: &mut Tries,
     server: &mut Server,
     (word, rest): (&str, &str),
     action: &str,
 ) -> Result<bool, ServerFault> {
     match word {
-        "read" => server.read_one(),
-        "homes" => feed_homes(server, rest.parse().unwrap_or(0)),
-        "bad" => feed_line(server, rest.as_bytes(), b"\n"),
+        "read" => make(tries, server, Call::Read),
+        "homes" => feed_homes(tries, server, rest.parse().unwrap_or(0)),
+        "bad" => feed_line(tries, server, rest.as_bytes(), b"\n"),
         "long" => feed_long(server),
-        _ => feed_line(server, action.as_bytes(), b"\r\n"),
+        _ => feed_line(tries, server, action.as_bytes(), b"\r\n"),
     }
 }
 
 /// A call by its word; false where no line was read.
-pub(crate) fn called(server: &mut Server, action: &str) -> Result<bool, ServerFault> {
+pub(crate) fn called(
+    tries: &mut Tries,
+    server: &mut Server,
+    action: &str,
+) -> Result<bool, ServerFault> {
     let (word, rest) = action.split_once(" ").unwrap_or((action, ""));
     match word {
-        "accept" | "turn" | "leave" | "restart" => called_alone(server, word, rest)?,
-        "done" | "missed" | "fault" | "touched" => ended(server, word, rest)?,
-        "clear" => clear(server)?,
-        _ => return called_reading(server, (word, rest), action),
+        "accept" | "leave" | "restart" => {
+            called_alone(server, word, rest)?;
+            Ok(true)
+        }
+        "turn" => make(tries, server, Call::Turn),
+        "done" | "missed" | "fault" | "touched" => make(tries, server, Call::Machine(word, rest)),
+        "clear" => clear(tries, server),
+        _ => called_reading(tries, server, (word, rest), action),
     }
-    Ok(true)
 }
 
 fn push_word(out: &mut Vec<u8>, is: bool, yes: &str, no: &str) -> Result<(), AllocError> {
@@ -297,25 +350,31 @@ fn push_called(
     out: &mut Vec<u8>,
     server: &mut Server,
     action: &str,
-) -> Result<(), AllocError> {
-    let done = called(server, action);
+) -> Result<(), Stop> {
+    let mut tries = Tries::new(alloc);
+    let done = called(&mut tries, server, action);
+    tries.push(out)?;
     push_lines(out, server.out())?;
     take_out(server);
     match done {
         Ok(true) => Ok(()),
-        Ok(false) => push_text(out, "no line;"),
-        Err(fault) => push_debug(alloc, out, &fault),
+        Ok(false) => Ok(push_text(out, "no line;")?),
+        Err(fault) => Ok(push_debug(alloc, out, &fault)?),
     }
 }
 
+/// The rows of the contacts.
+fn push_rows(alloc: Global, out: &mut Vec<u8>, server: &Server) -> Result<(), Stop> {
+    let mut text = front(alloc)?;
+    let written = write_contact_rows(&mut text, server.ledger());
+    push_appended(out, text.as_slice(), written)
+}
+
 /// What an action shows: the text of a reader, or what a call answers.
-pub(crate) fn answer(
-    alloc: Global,
-    server: &mut Server,
-    action: &str,
-) -> Result<Vec<u8>, AllocError> {
+pub(crate) fn answer(alloc: Global, server: &mut Server, action: &str) -> Result<Vec<u8>, Stop> {
     let mut text = Vec::new(alloc);
     match action {
+        "contact rows" => push_rows(alloc, &mut text, server)?,
         "state" => push_state(alloc, &mut text, server)?,
         "running" => push_job(&mut text, server)?,
         "ledger" => push_ledger(alloc, &mut text, server)?,
@@ -325,9 +384,10 @@ pub(crate) fn answer(
 }
 
 /// Actions that all succeed; what is answered is sent.
-pub(crate) fn call_all(server: &mut Server, actions: &str) -> Result<(), Stop> {
+pub(crate) fn call_all(alloc: Global, server: &mut Server, actions: &str) -> Result<(), Stop> {
+    let mut tries = Tries::none(alloc);
     for action in actions.split(" / ") {
-        if called(server, action) != Ok(true) {
+        if !called(&mut tries, server, action)? {
             return Err(Stop::Row);
         }
         take_out(server);

@@ -16,10 +16,8 @@ use tool_rack::Setup;
 
 /// A new world of a program and a setup.
 fn new_world(alloc: Global, made: Made<'_>, setup: &str) -> Result<World, Stop> {
-    let setup = Setup::read(alloc, setup.as_bytes()).ok().ok_or(Stop::Row)?;
-    let program = Program::read(alloc, made.program.as_bytes(), setup.frames())
-        .ok()
-        .ok_or(Stop::Row)?;
+    let setup = Setup::read(alloc, setup.as_bytes())?;
+    let program = Program::read(alloc, made.program.as_bytes(), setup.frames())?;
     World::new(alloc, program, setup, made.window)
         .ok()
         .ok_or(Stop::Row)
@@ -27,7 +25,7 @@ fn new_world(alloc: Global, made: Made<'_>, setup: &str) -> Result<World, Stop> 
 
 /// What a schedule says happens to a world.
 fn play(alloc: Global, world: &mut World, schedule: &[u8]) -> Result<(), Stop> {
-    let schedule = Schedule::read(alloc, schedule).ok().ok_or(Stop::Row)?;
+    let schedule = Schedule::read(alloc, schedule)?;
     Ok(schedule.play(world)?)
 }
 
@@ -107,20 +105,20 @@ pub(crate) fn push_homings_row(
 
 /// The server is fed what the client has written, and reads a line.
 fn hear_command(client: &mut Client, server: &mut Server) -> Result<(), Stop> {
-    server.feed(client.out()).ok().ok_or(Stop::Row)?;
+    server.feed(client.out())?;
     let count = client.out().len();
     client.sent(count);
-    server.read_one().ok().ok_or(Stop::Row)?;
+    server.read_one()?;
     Ok(())
 }
 
 /// What waits has its turn, and the machine ends what then runs.
 fn serve_one<M: Machine>(server: &mut Server, machine: &mut M) -> Result<(), Stop> {
-    server.turn().ok().ok_or(Stop::Row)?;
+    server.turn()?;
     let number = server.ledger().contacts();
     if let Some(job) = server.running() {
         let outcome = machine.answer(job, number);
-        server.machine(outcome).ok().ok_or(Stop::Row)?;
+        server.machine(outcome)?;
     }
     Ok(())
 }
@@ -131,18 +129,18 @@ fn serve_next<M: Machine>(
     server: &mut Server,
     machine: &mut M,
 ) -> Result<(), Stop> {
-    client.send().ok().ok_or(Stop::Row)?;
+    client.send()?;
     hear_command(client, server)?;
     serve_one(server, machine)
 }
 
 /// The client reads all that was answered, at most ten lines.
 fn hear_all(client: &mut Client, server: &mut Server) -> Result<(), Stop> {
-    client.feed(server.out()).ok().ok_or(Stop::Row)?;
+    client.feed(server.out())?;
     let count = server.out().len();
     server.sent(count);
     for _ in 0..10u32 {
-        client.read_one().ok().ok_or(Stop::Row)?;
+        client.read_one()?;
     }
     Ok(())
 }

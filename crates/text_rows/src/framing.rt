@@ -1,29 +1,78 @@
 // What comes of pieces that are fed to a framing buffer.
 
-use crate::escapes::{bytes_of, push_text};
-use line_framing::{FramingFault, Lines, LinesFault};
+use crate::escapes::{bytes_of, push_text, push_visible};
+use crate::stop::Stop;
+use crate::tried::push_refused;
+use line_framing::{ByteQueue, FramingFault, Line, Lines, LinesFault};
 use std::alloc::{AllocError, Global};
 
-/// Takes lines until there is none or a fault is met, and counts them.
-fn drain(lines: &mut Lines, count: &mut u64) -> Result<(), LinesFault> {
-    for _ in 0..64 {
-        if lines.next_line()?.is_none() {
-            return Ok(());
+/// What all readers of a buffer answer.
+fn readers_of(alloc: Global, lines: &Lines) -> Result<Vec<u8>, AllocError> {
+    let mut text = Vec::from_slice(alloc, lines.rest())?;
+    push_text(&mut text, if lines.has_line() { " line " } else { " " })?;
+    push_fault(alloc, &mut text, lines.fault())?;
+    Ok(text)
+}
+
+/// Feeds a piece, once more where memory is short for it.
+fn feed(
+    alloc: Global,
+    out: &mut Vec<u8>,
+    lines: &mut Lines,
+    piece: &[u8],
+) -> Result<Result<(), LinesFault>, Stop> {
+    let before = readers_of(alloc, lines)?;
+    match lines.feed(piece) {
+        Err(LinesFault::Memory) => {
+            push_refused(out, before.as_slice(), readers_of(alloc, lines)?.as_slice())?;
+            Ok(lines.feed(piece))
         }
-        *count = count.saturating_add(1);
+        answer => Ok(answer),
     }
-    Ok(())
+}
+
+/// Takes a line, once more where memory is short for it.
+fn next_line(
+    alloc: Global,
+    out: &mut Vec<u8>,
+    lines: &mut Lines,
+) -> Result<Result<Option<Line>, LinesFault>, Stop> {
+    let before = readers_of(alloc, lines)?;
+    match lines.next_line() {
+        Err(LinesFault::Memory) => {
+            push_refused(out, before.as_slice(), readers_of(alloc, lines)?.as_slice())?;
+            Ok(lines.next_line())
+        }
+        answer => Ok(answer),
+    }
+}
+
+/// Takes lines until there is none or a fault is met, and counts them.
+fn drain(
+    alloc: Global,
+    out: &mut Vec<u8>,
+    lines: &mut Lines,
+    count: &mut u64,
+) -> Result<Result<(), LinesFault>, Stop> {
+    for _ in 0..64 {
+        match next_line(alloc, out, lines)? {
+            Ok(Some(_)) => *count = count.saturating_add(1),
+            Ok(None) => return Ok(Ok(())),
+            Err(fault) => return Ok(Err(fault)),
+        }
+    }
+    Ok(Ok(()))
 }
 
 /// How many lines a piece gives; none behind a fault.
-fn fed(lines: &mut Lines, piece: &[u8]) -> Result<u64, AllocError> {
+fn fed(alloc: Global, out: &mut Vec<u8>, lines: &mut Lines, piece: &[u8]) -> Result<u64, Stop> {
     let mut count = 0u64;
-    let answer = match lines.feed(piece) {
-        Ok(()) => drain(lines, &mut count),
+    let answer = match feed(alloc, out, lines, piece)? {
+        Ok(()) => drain(alloc, out, lines, &mut count)?,
         Err(fault) => Err(fault),
     };
     match answer {
-        Err(LinesFault::Memory) => Err(AllocError),
+        Err(LinesFault::Memory) => Err(Stop::ForEver),
         Ok(()) | Err(LinesFault::Framing(_)) => Ok(count),
     }
 }
@@ -40,27 +89,22 @@ fn push_fault(
 }
 
 /// How many lines the pieces of a row gave, how many bytes are left, and the fault that was met.
-fn push_fed(
-    alloc: Global,
-    out: &mut Vec<u8>,
-    lines: &mut Lines,
-    row: &str,
-) -> Result<(), AllocError> {
+fn push_fed(alloc: Global, out: &mut Vec<u8>, lines: &mut Lines, row: &str) -> Result<(), Stop> {
     let mut count = 0u64;
     for piece in row.split("/") {
         let bytes = bytes_of(alloc, piece)?;
-        count = count.saturating_add(fed(lines, bytes.as_slice())?);
+        count = count.saturating_add(fed(alloc, out, lines, bytes.as_slice())?);
     }
     let left = lines.rest().len();
     push_text(
         out,
         format!(in alloc; "{count} lines, {left} left, ")?.as_str(),
     )?;
-    push_fault(alloc, out, lines.fault())
+    Ok(push_fault(alloc, out, lines.fault())?)
 }
 
 /// The same, and behind it for one more piece, and then of the buffer that is cleared.
-pub(crate) fn push_pieces(alloc: Global, out: &mut Vec<u8>, row: &str) -> Result<(), AllocError> {
+pub(crate) fn push_pieces(alloc: Global, out: &mut Vec<u8>, row: &str) -> Result<(), Stop> {
     let mut lines = Lines::new(alloc);
     push_fed(alloc, out, &mut lines, row)?;
     push_text(out, "; ")?;
@@ -68,4 +112,33 @@ pub(crate) fn push_pieces(alloc: Global, out: &mut Vec<u8>, row: &str) -> Result
     lines.clear();
     push_text(out, "; ")?;
     push_fed(alloc, out, &mut lines, "B|;")
+}
+
+/// Room is made for a piece, once more where memory is short for it, and it is appended; then the first byte that waits is taken.
+fn append(
+    alloc: Global,
+    out: &mut Vec<u8>,
+    queue: &mut ByteQueue,
+    piece: &[u8],
+) -> Result<(), Stop> {
+    let before = Vec::from_slice(alloc, queue.waiting())?;
+    if queue.reserve(piece.len()).is_err() {
+        push_refused(out, before.as_slice(), queue.waiting())?;
+        queue.reserve(piece.len()).ok().ok_or(Stop::ForEver)?;
+    }
+    queue.append(piece);
+    if !queue.waiting().is_empty() {
+        queue.take(1);
+    }
+    Ok(())
+}
+
+/// The bytes that wait behind all pieces of a row.
+pub(crate) fn push_queue(alloc: Global, out: &mut Vec<u8>, row: &str) -> Result<(), Stop> {
+    let mut queue = ByteQueue::new(alloc);
+    for piece in row.split("/") {
+        let bytes = bytes_of(alloc, piece)?;
+        append(alloc, out, &mut queue, bytes.as_slice())?;
+    }
+    Ok(push_visible(out, queue.waiting())?)
 }

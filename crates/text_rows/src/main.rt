@@ -4,11 +4,12 @@
 //!
 //! The input has parts, each behind a head in brackets; a line that begins with `-- ` says what the rows below it show. In a row `;` stands
 //! for LF, `|` for CR, and `\` with two hexadecimal digits for any byte. `numerals`, `directions`, `zeros` and `names` are values,
-//! `commands`, `responses`, `points`, `homed` and `errors` lines of the interface or parts of them, `pieces` what is fed to a framing buffer,
-//! with `/` between two pieces, `statements` and `programs` DMIS texts, and `long_lines` texts with a line of so many bytes.
+//! `commands`, `responses`, `points`, `homed`, `errors` and `writes` lines of the interface or parts of them, `pieces` what is fed to a framing
+//! buffer and `queues` what waits to be sent, with `/` between two pieces, `statements` and `programs` DMIS texts, and `long_lines` texts with a line of so many bytes.
 //!
 //! - `parts`: the parts of the input, and their rows
 //! - `values`, `wire`, `framing`, `statements`, `programs`: what a row shows
+//! - `tried`: what a row shows where memory is short for a call
 //! - `escapes`: the bytes of a row
 //! - `stop`: why it ends early
 #![tactic(auto)]
@@ -19,6 +20,7 @@ mod parts;
 mod programs;
 mod statements;
 mod stop;
+mod tried;
 mod values;
 mod wire;
 
@@ -40,7 +42,7 @@ fn run<R: Input + Print + AllocGlobal>(rt: &R) -> Result<(), Stop> {
 fn main(rt: HostRuntime) -> ExitCode {
     match run(&rt) {
         Ok(()) => ExitCode::from(0),
-        Err(Stop::Row | Stop::Port) => ExitCode::from(1),
         Err(Stop::Memory) => ExitCode::from(4),
+        Err(_) => ExitCode::from(1),
     }
 }

@@ -8,12 +8,12 @@ use std::alloc::{AllocError, Global};
 /// What the bytes of a row show in a part of this word.
 fn push_bytes(alloc: Global, out: &mut Vec<u8>, word: &str, bytes: &[u8]) -> Result<(), Stop> {
     match word {
-        "numerals" => Ok(values::push_numeral(alloc, out, bytes)?),
+        "numerals" => values::push_numeral(alloc, out, bytes),
         "zeros" => Ok(values::push_zero(out, bytes)?),
-        "names" => Ok(values::push_name(alloc, out, bytes)?),
-        "commands" => Ok(wire::push_command(alloc, out, bytes)?),
-        "responses" => Ok(wire::push_response(alloc, out, bytes)?),
-        "points" => Ok(wire::push_point(alloc, out, bytes)?),
+        "names" => values::push_name(alloc, out, bytes),
+        "commands" => wire::push_command(alloc, out, bytes),
+        "responses" => wire::push_response(alloc, out, bytes),
+        "points" => wire::push_point(alloc, out, bytes),
         "homed" => Ok(wire::push_homed(alloc, out, bytes)?),
         _ => Err(Stop::Row),
     }
@@ -22,10 +22,12 @@ fn push_bytes(alloc: Global, out: &mut Vec<u8>, word: &str, bytes: &[u8]) -> Res
 /// What a row shows in a part of this word.
 fn push_answer(alloc: Global, out: &mut Vec<u8>, word: &str, row: &str) -> Result<(), Stop> {
     match word {
-        "directions" => Ok(values::push_direction(alloc, out, row)?),
+        "directions" => values::push_direction(alloc, out, row),
         "errors" => wire::push_error(alloc, out, row),
-        "pieces" => Ok(framing::push_pieces(alloc, out, row)?),
-        "statements" => Ok(statements::push_text_row(alloc, out, row)?),
+        "writes" => wire::push_write(alloc, out, row),
+        "pieces" => framing::push_pieces(alloc, out, row),
+        "queues" => framing::push_queue(alloc, out, row),
+        "statements" => statements::push_text_row(alloc, out, row),
         "long_lines" => statements::push_long_row(alloc, out, row),
         "programs" => programs::push_program_row(alloc, out, row),
         _ => {
@@ -35,12 +37,37 @@ fn push_answer(alloc: Global, out: &mut Vec<u8>, word: &str, row: &str) -> Resul
     }
 }
 
+/// Appends what a row shows in the end, or why it is to be begun anew. The first is `changed` where memory was short for a call and its value is
+/// not as before, and `refused for ever` where memory is short for it again.
+fn push_once(alloc: Global, told: &mut Vec<u8>, word: &str, row: &str) -> Result<(), Stop> {
+    let mut out = Vec::new(alloc);
+    match push_answer(alloc, &mut out, word, row) {
+        Ok(()) => Ok(told.extend_from_slice(out.as_slice())?),
+        Err(Stop::Changed) => Ok(push_text(told, "changed")?),
+        Err(Stop::ForEver) => Ok(push_text(told, "refused for ever")?),
+        Err(stop) => Err(stop),
+    }
+}
+
+/// Appends what a row shows. Where memory was short for a call, or for the program itself, it is begun anew, once.
+fn push_told(alloc: Global, told: &mut Vec<u8>, word: &str, row: &str) -> Result<(), Stop> {
+    match push_once(alloc, told, word, row) {
+        Err(Stop::Memory) => {}
+        Err(Stop::Refused) => push_text(told, "refused, as before; ")?,
+        done => return done,
+    }
+    match push_once(alloc, told, word, row) {
+        Err(Stop::Refused) => Ok(push_text(told, "refused for ever")?),
+        done => done,
+    }
+}
+
 /// A line of the input in a part of this word: what says something of the rows below it as it stands, a row with its answer.
 fn push_line(alloc: Global, out: &mut Vec<u8>, word: &str, line: &str) -> Result<(), Stop> {
     push_text(out, line)?;
     if !line.starts_with("-- ") {
         push_text(out, " => ")?;
-        push_answer(alloc, out, word, line)?;
+        push_told(alloc, out, word, line)?;
     }
     Ok(out.push(b'\n')?)
 }

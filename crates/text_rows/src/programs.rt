@@ -2,6 +2,7 @@
 
 use crate::escapes::{bytes_of, push_text};
 use crate::stop::Stop;
+use crate::tried::push_refused;
 use dmis_program::{Frames, Program, ProgramFault, Step, Touch};
 use fixed_um::{Frame, Name, Point, Um, write_dir, write_um};
 use std::alloc::{AllocError, Global};
@@ -76,16 +77,35 @@ fn push_program(out: &mut Vec<u8>, program: &Program) -> Result<(), AllocError> 
     Ok(())
 }
 
+fn part(alloc: Global) -> Result<Name, Stop> {
+    Name::new(alloc, b"part")?.ok_or(Stop::Row)
+}
+
+/// Adds the frame PART, once more where memory is short for it.
+fn add(alloc: Global, out: &mut Vec<u8>, frames: &mut Frames, offset: Point) -> Result<bool, Stop> {
+    let (name, again) = (part(alloc)?, part(alloc)?);
+    if !offset.is_in_volume() {
+        return Err(Stop::Row);
+    }
+    match frames.add(name, offset) {
+        Ok(added) => Ok(added),
+        Err(AllocError) if frames.get(&again).is_none() => {
+            push_refused(out, b"", b"")?;
+            frames.add(again, offset).ok().ok_or(Stop::ForEver)
+        }
+        Err(AllocError) => Err(Stop::Changed),
+    }
+}
+
 /// The frame PART, whose zero point stands at x = 100 mm.
-fn stored(alloc: Global) -> Result<Frames, Stop> {
+fn stored(alloc: Global, out: &mut Vec<u8>) -> Result<Frames, Stop> {
     let mut frames = Frames::new(alloc);
-    let name = Name::new(alloc, b"part")?.ok_or(Stop::Row)?;
     let offset = Point {
         x: Um::new(100_000).ok_or(Stop::Row)?,
         y: Um::zero(),
         z: Um::zero(),
     };
-    if !offset.is_in_volume() || !frames.add(name, offset)? {
+    if !add(alloc, out, &mut frames, offset)? {
         return Err(Stop::Row);
     }
     Ok(frames)
@@ -97,17 +117,17 @@ fn push_reading(
     out: &mut Vec<u8>,
     text: &[u8],
     frames: &Frames,
-) -> Result<(), AllocError> {
+) -> Result<(), Stop> {
     match Program::read(alloc, text, frames) {
-        Ok(program) => push_program(out, &program),
-        Err(ProgramFault::Memory) => Err(AllocError),
-        Err(fault) => push_text(out, format!(in alloc; "{fault}")?.as_str()),
+        Ok(program) => Ok(push_program(out, &program)?),
+        Err(ProgramFault::Memory) => Err(Stop::Refused),
+        Err(fault) => Ok(push_text(out, format!(in alloc; "{fault}")?.as_str())?),
     }
 }
 
 /// Features and steps of a row's text, or why it is refused.
 pub(crate) fn push_program_row(alloc: Global, out: &mut Vec<u8>, row: &str) -> Result<(), Stop> {
     let text = bytes_of(alloc, row)?;
-    let frames = stored(alloc)?;
-    Ok(push_reading(alloc, out, text.as_slice(), &frames)?)
+    let frames = stored(alloc, out)?;
+    push_reading(alloc, out, text.as_slice(), &frames)
 }

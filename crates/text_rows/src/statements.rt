@@ -2,6 +2,7 @@
 
 use crate::escapes::{bytes_of, push_text, push_visible};
 use crate::stop::Stop;
+use crate::tried::push_refused;
 use dmis_text::{Statement, Statements, TextFault};
 use std::alloc::{AllocError, Global};
 
@@ -37,13 +38,25 @@ fn push_fault(alloc: Global, out: &mut Vec<u8>, fault: TextFault) -> Result<(), 
     }
 }
 
-/// The next statement; at the end the count of lines, and behind a refusal why. Whether it is over.
-fn push_next(
-    alloc: Global,
+/// The next statement of a text, read once more where memory is short for it.
+fn next<'a>(
     out: &mut Vec<u8>,
-    statements: &mut Statements,
-) -> Result<bool, AllocError> {
+    statements: &mut Statements<'a>,
+) -> Result<Result<Option<Statement<'a>>, TextFault>, Stop> {
+    let before = statements.lines();
     match statements.next() {
+        Err(TextFault::Memory) if statements.lines() == before => {
+            push_refused(out, b"", b"")?;
+            Ok(statements.next())
+        }
+        Err(TextFault::Memory) => Err(Stop::Changed),
+        answer => Ok(answer),
+    }
+}
+
+/// The next statement; at the end the count of lines, and behind a refusal why. Whether it is over.
+fn push_next(alloc: Global, out: &mut Vec<u8>, statements: &mut Statements) -> Result<bool, Stop> {
+    match next(out, statements)? {
         Ok(Some(statement)) => {
             push_statement(alloc, out, &statement)?;
             Ok(false)
@@ -53,6 +66,7 @@ fn push_next(
             push_text(out, format!(in alloc; "end {count}")?.as_str())?;
             Ok(true)
         }
+        Err(TextFault::Memory) => Err(Stop::ForEver),
         Err(fault) => {
             push_fault(alloc, out, fault)?;
             Ok(true)
@@ -61,7 +75,7 @@ fn push_next(
 }
 
 /// The statements of a text, at most twenty, and what stands behind them, which is answered twice.
-fn push_statements(alloc: Global, out: &mut Vec<u8>, text: &[u8]) -> Result<(), AllocError> {
+fn push_statements(alloc: Global, out: &mut Vec<u8>, text: &[u8]) -> Result<(), Stop> {
     let mut statements = Statements::new(alloc, text);
     for _ in 0..20u32 {
         if push_next(alloc, out, &mut statements)? {
@@ -70,11 +84,11 @@ fn push_statements(alloc: Global, out: &mut Vec<u8>, text: &[u8]) -> Result<(), 
             return Ok(());
         }
     }
-    push_text(out, "more than twenty")
+    Ok(push_text(out, "more than twenty")?)
 }
 
 /// The statements of a row's text.
-pub(crate) fn push_text_row(alloc: Global, out: &mut Vec<u8>, row: &str) -> Result<(), AllocError> {
+pub(crate) fn push_text_row(alloc: Global, out: &mut Vec<u8>, row: &str) -> Result<(), Stop> {
     let text = bytes_of(alloc, row)?;
     push_statements(alloc, out, text.as_slice())
 }
@@ -102,5 +116,5 @@ pub(crate) fn push_long_row(alloc: Global, out: &mut Vec<u8>, row: &str) -> Resu
     let (count, behind) = rest.split_once(" ").ok_or(Stop::Row)?;
     let count: u16 = count.parse().map_err(|_| Stop::Row)?;
     let text = long_text(alloc, front, count as usize, behind)?;
-    Ok(push_statements(alloc, out, text.as_slice())?)
+    push_statements(alloc, out, text.as_slice())
 }

@@ -2,15 +2,21 @@
 
 use std::alloc::{AllocError, AllocFailed};
 
-/// Why the program ends before the last row.
+/// Why the program ends before the last row, or a row shows no answer.
 #[derive(Clone, Copy, Debug, PartialEq, Eq)]
 pub(crate) enum Stop {
     /// A row or the head of its part is none.
     Row,
     /// A port has failed.
     Port,
-    /// Memory is wanting.
+    /// The program is out of memory.
     Memory,
+    /// Memory was short for a call, and its value is as before.
+    Refused,
+    /// Memory was short for a call, and its value is not as before.
+    Changed,
+    /// Memory was short for a call each time that it was made.
+    ForEver,
 }
 
 impl From<AllocError> for Stop {

@@ -1,33 +1,39 @@
 // Numerals, directions and names.
 
 use crate::escapes::push_text;
-use fixed_um::{Name, Um, is_zero, read_dir, read_um, write_dir, write_um};
+use crate::stop::Stop;
+use crate::tried::{front, push_appended};
+use fixed_um::{Dir, Name, Um, is_zero, read_dir, read_um, write_dir, write_um};
 use std::alloc::{AllocError, Global};
 
 /// The length of a numeral in millimetres within the volume limit, as it is written, or why it is none.
-pub(crate) fn push_numeral(
-    alloc: Global,
-    out: &mut Vec<u8>,
-    numeral: &[u8],
-) -> Result<(), AllocError> {
+pub(crate) fn push_numeral(alloc: Global, out: &mut Vec<u8>, numeral: &[u8]) -> Result<(), Stop> {
     match read_um(numeral, Um::volume_limit()) {
-        Ok(length) => write_um(out, length),
-        Err(fault) => push_text(out, format!(in alloc; "{fault:?}")?.as_str()),
+        Ok(length) => push_length(alloc, out, length),
+        Err(fault) => Ok(push_text(out, format!(in alloc; "{fault:?}")?.as_str())?),
     }
 }
 
+fn push_length(alloc: Global, out: &mut Vec<u8>, length: Um) -> Result<(), Stop> {
+    let mut text = front(alloc)?;
+    let written = write_um(&mut text, length);
+    push_appended(out, text.as_slice(), written)
+}
+
+fn push_dir(alloc: Global, out: &mut Vec<u8>, direction: Dir) -> Result<(), Stop> {
+    let mut text = front(alloc)?;
+    let written = write_dir(&mut text, direction, b", ");
+    push_appended(out, text.as_slice(), written)
+}
+
 /// The direction of three numerals, as it is written; `none` where all are zero.
-pub(crate) fn push_direction(
-    alloc: Global,
-    out: &mut Vec<u8>,
-    numerals: &str,
-) -> Result<(), AllocError> {
+pub(crate) fn push_direction(alloc: Global, out: &mut Vec<u8>, numerals: &str) -> Result<(), Stop> {
     let (i, rest) = numerals.split_once(" ").unwrap_or((numerals, ""));
     let (j, k) = rest.split_once(" ").unwrap_or((rest, ""));
     match read_dir(i.as_bytes(), j.as_bytes(), k.as_bytes()) {
-        Ok(Some(direction)) => write_dir(out, direction, b", "),
-        Ok(None) => push_text(out, "none"),
-        Err(fault) => push_text(out, format!(in alloc; "{fault:?}")?.as_str()),
+        Ok(Some(direction)) => push_dir(alloc, out, direction),
+        Ok(None) => Ok(push_text(out, "none")?),
+        Err(fault) => Ok(push_text(out, format!(in alloc; "{fault:?}")?.as_str())?),
     }
 }
 
@@ -37,9 +43,10 @@ pub(crate) fn push_zero(out: &mut Vec<u8>, numeral: &[u8]) -> Result<(), AllocEr
 }
 
 /// The name that a text is.
-pub(crate) fn push_name(alloc: Global, out: &mut Vec<u8>, text: &[u8]) -> Result<(), AllocError> {
-    match Name::new(alloc, text)? {
-        Some(name) => out.extend_from_slice(name.as_bytes()),
-        None => push_text(out, "no name"),
+pub(crate) fn push_name(alloc: Global, out: &mut Vec<u8>, text: &[u8]) -> Result<(), Stop> {
+    match Name::new(alloc, text) {
+        Ok(Some(name)) => Ok(out.extend_from_slice(name.as_bytes())?),
+        Ok(None) => Ok(push_text(out, "no name")?),
+        Err(AllocError) => Err(Stop::Refused),
     }
 }

@@ -5,22 +5,24 @@ ghost use Rattle.dme_line.specs.Tags.{IsTag};
 
 use crate::escapes::{push_text, push_visible};
 use crate::stop::Stop;
+use crate::tried::{front, push_appended};
 use dme_line::{
-    Kind, Mark, Tag, read_command, read_homed, read_point, read_response, write_command,
-    write_error, write_point,
+    Kind, Mark, Response, Tag, Text, read_command, read_homed, read_point, read_response,
+    write_command, write_data, write_error, write_homed, write_homed_data, write_point,
+    write_response,
 };
+use fixed_um::Point;
 use std::alloc::{AllocError, Global};
 
 /// The command of a line as it is written, or why it is none.
-pub(crate) fn push_command(
-    alloc: Global,
-    out: &mut Vec<u8>,
-    line: &[u8],
-) -> Result<(), AllocError> {
-    match read_command(alloc, line)? {
-        Ok((tag, command)) => write_command(out, tag, &command),
-        Err(fault) => push_text(out, format!(in alloc; "{fault:?}")?.as_str()),
-    }
+pub(crate) fn push_command(alloc: Global, out: &mut Vec<u8>, line: &[u8]) -> Result<(), Stop> {
+    let mut text = front(alloc)?;
+    let written = match read_command(alloc, line) {
+        Ok(Ok((tag, command))) => write_command(&mut text, tag, &command),
+        Ok(Err(fault)) => text.extend_from_slice(format!(in alloc; "{fault:?}")?.as_bytes()),
+        Err(AllocError) => return Err(Stop::Refused),
+    };
+    push_appended(out, text.as_slice(), written)
 }
 
 fn push_mark(out: &mut Vec<u8>, mark: &Mark) -> Result<(), AllocError> {
@@ -39,27 +41,30 @@ fn push_mark(out: &mut Vec<u8>, mark: &Mark) -> Result<(), AllocError> {
 }
 
 /// The tag, the mark and the text of the response of a line, or why it is none.
-pub(crate) fn push_response(
-    alloc: Global,
-    out: &mut Vec<u8>,
-    line: &[u8],
-) -> Result<(), AllocError> {
-    match read_response(alloc, line)? {
-        Ok(response) => {
+pub(crate) fn push_response(alloc: Global, out: &mut Vec<u8>, line: &[u8]) -> Result<(), Stop> {
+    match read_response(alloc, line) {
+        Ok(Ok(response)) => {
             let tag = response.tag;
             push_text(out, format!(in alloc; "{tag:?} ")?.as_str())?;
-            push_mark(out, &response.mark)
+            Ok(push_mark(out, &response.mark)?)
         }
-        Err(fault) => push_text(out, format!(in alloc; "{fault:?}")?.as_str()),
+        Ok(Err(fault)) => Ok(push_text(out, format!(in alloc; "{fault:?}")?.as_str())?),
+        Err(AllocError) => Err(Stop::Refused),
     }
 }
 
 /// The point of a text as it is written, or why it is none.
-pub(crate) fn push_point(alloc: Global, out: &mut Vec<u8>, text: &[u8]) -> Result<(), AllocError> {
+pub(crate) fn push_point(alloc: Global, out: &mut Vec<u8>, text: &[u8]) -> Result<(), Stop> {
     match read_point(text) {
-        Ok(point) => write_point(out, point),
-        Err(fault) => push_text(out, format!(in alloc; "{fault:?}")?.as_str()),
+        Ok(point) => push_read_point(alloc, out, point),
+        Err(fault) => Ok(push_text(out, format!(in alloc; "{fault:?}")?.as_str())?),
     }
+}
+
+fn push_read_point(alloc: Global, out: &mut Vec<u8>, point: Point) -> Result<(), Stop> {
+    let mut text = front(alloc)?;
+    let written = write_point(&mut text, point);
+    push_appended(out, text.as_slice(), written)
 }
 
 /// What a text answers to the question whether the machine is homed, or why it is no answer.
@@ -97,5 +102,48 @@ pub(crate) fn push_error(alloc: Global, out: &mut Vec<u8>, row: &str) -> Result<
     if number < 9001 || number > 9015 || !is_short(tag) {
         return Err(Stop::Row);
     }
-    Ok(write_error(out, tag, number, kind)?)
+    let mut text = front(alloc)?;
+    let written = write_error(&mut text, tag, number, kind);
+    push_appended(out, text.as_slice(), written)
+}
+
+/// A text that is made with these bytes.
+fn push_copy(alloc: Global, out: &mut Vec<u8>, bytes: &[u8]) -> Result<(), Stop> {
+    match Text::new(alloc, bytes) {
+        Ok(text) => Ok(out.extend_from_slice(text.as_slice())?),
+        Err(AllocError) => Err(Stop::Refused),
+    }
+}
+
+fn write_complete(text: &mut Vec<u8>) -> Result<(), AllocError> {
+    let response = Response {
+        tag: Tag::Std(8),
+        mark: Mark::Done,
+    };
+    write_response(text, &response)
+}
+
+/// Makes the call of a word: it writes a line under the eighth tag, or a part of one. It is an `Err` within where memory is short for it.
+fn write(text: &mut Vec<u8>, word: &str, rest: &str) -> Result<Result<(), AllocError>, Stop> {
+    match word {
+        "data" => {
+            let point = read_point(rest.as_bytes()).ok().ok_or(Stop::Row)?;
+            Ok(write_data(text, Tag::Std(8), point))
+        }
+        "homed_data" => Ok(write_homed_data(text, Tag::Std(8), rest == "1")),
+        "homed" => Ok(write_homed(text, rest == "1")),
+        "complete" => Ok(write_complete(text)),
+        _ => Err(Stop::Row),
+    }
+}
+
+/// What is written of a word and what follows it.
+pub(crate) fn push_write(alloc: Global, out: &mut Vec<u8>, row: &str) -> Result<(), Stop> {
+    let (word, rest) = row.split_once(" ").unwrap_or((row, ""));
+    if word == "text" {
+        return push_copy(alloc, out, rest.as_bytes());
+    }
+    let mut text = front(alloc)?;
+    let written = write(&mut text, word, rest)?;
+    push_appended(out, text.as_slice(), written)
 }

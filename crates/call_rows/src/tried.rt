@@ -1,0 +1,164 @@
+// Calls that are made again where memory is short for them.
+//
+// Where a call answers that it is out of memory, all readers of its value have to answer as before: then the words `refused, as before; ` stand
+// in front of what the row shows, and the call is made again. A row shows `changed` where a reader answers anything else, and
+// `refused for ever` where memory is short again.
+
+use crate::shown::{push_lines, push_text};
+use crate::stop::Stop;
+use std::alloc::{AllocError, Global};
+
+/// A value whose calls `C` are made again. `F` is why one is refused.
+pub(crate) trait Called<C, F> {
+    /// Appends what all readers of the value answer.
+    fn push_all(&self, alloc: Global, out: &mut Vec<u8>) -> Result<(), AllocError>;
+
+    /// Makes a call; false where it has found nothing to do.
+    fn make(&mut self, call: &C) -> Result<bool, F>;
+}
+
+fn readers_of<C, F, V: Called<C, F>>(
+    alloc: Global,
+    value: &V,
+    _call: &C,
+) -> Result<Vec<u8>, AllocError> {
+    let mut text = Vec::new(alloc);
+    value.push_all(alloc, &mut text)?;
+    Ok(text)
+}
+
+/// What came of the calls of a row for which memory was short.
+#[derive(Drop)]
+pub(crate) struct Tries {
+    alloc: Global,
+    /// Whether calls are made again.
+    is_on: bool,
+    told: Vec<u8>,
+    stop: Option<Stop>,
+}
+
+impl Tries {
+    pub(crate) fn new(alloc: Global) -> Tries {
+        Tries {
+            alloc,
+            is_on: true,
+            told: Vec::new(alloc),
+            stop: None,
+        }
+    }
+
+    /// Each call is made once.
+    pub(crate) fn none(alloc: Global) -> Tries {
+        Tries {
+            alloc,
+            is_on: false,
+            told: Vec::new(alloc),
+            stop: None,
+        }
+    }
+
+    /// Tells that memory was short and the value is as before.
+    fn tell(&mut self, before: &[u8], now: &[u8]) -> Result<(), Stop> {
+        if before != now {
+            return Err(Stop::Changed);
+        }
+        Ok(push_text(&mut self.told, "refused, as before; ")?)
+    }
+
+    /// What the call answers, once more where memory is short for it.
+    fn again<C, F: PartialEq + Copy, V: Called<C, F>>(
+        &mut self,
+        value: &mut V,
+        memory: F,
+        call: &C,
+    ) -> Result<Result<bool, F>, Stop> {
+        let before = readers_of(self.alloc, value, call)?;
+        match value.make(call) {
+            Err(fault) if fault == memory => {}
+            answer => return Ok(answer),
+        }
+        let now = readers_of(self.alloc, value, call)?;
+        self.tell(before.as_slice(), now.as_slice())?;
+        match value.make(call) {
+            Err(fault) if fault == memory => Err(Stop::ForEver),
+            answer => Ok(answer),
+        }
+    }
+
+    /// What a call of a value answers, which says by `memory` that memory is short. It is `memory` where the row ends (`push`).
+    pub(crate) fn call<C, F: PartialEq + Copy, V: Called<C, F>>(
+        &mut self,
+        value: &mut V,
+        memory: F,
+        call: &C,
+    ) -> Result<bool, F> {
+        if !self.is_on {
+            return value.make(call);
+        }
+        match self.again(value, memory, call) {
+            Ok(answer) => answer,
+            Err(stop) => {
+                self.stop = Some(stop);
+                Err(memory)
+            }
+        }
+    }
+
+    /// Appends what was told; an `Err` where a call was not as it has to be.
+    pub(crate) fn push(&self, out: &mut Vec<u8>) -> Result<(), Stop> {
+        out.extend_from_slice(self.told.as_slice())?;
+        match self.stop {
+            Some(stop) => Err(stop),
+            None => Ok(()),
+        }
+    }
+}
+
+/// Makes a call of a value that has to succeed.
+pub(crate) fn push_tried<C, F: PartialEq + Copy, V: Called<C, F>>(
+    alloc: Global,
+    out: &mut Vec<u8>,
+    value: &mut V,
+    memory: F,
+    call: &C,
+) -> Result<(), Stop> {
+    let mut tries = Tries::new(alloc);
+    let is_made = tries.call(value, memory, call).is_ok();
+    tries.push(out)?;
+    if is_made { Ok(()) } else { Err(Stop::Row) }
+}
+
+/// What stands in a text that is appended to.
+const FRONT: &[u8] = b"at ";
+
+/// A text that is appended to.
+pub(crate) fn front(alloc: Global) -> Result<Vec<u8>, AllocError> {
+    Vec::from_slice(alloc, FRONT)
+}
+
+/// Appends the lines that a call has appended to such a text. Where memory was short for the call, the text has to be as before.
+pub(crate) fn push_appended(
+    out: &mut Vec<u8>,
+    text: &[u8],
+    answer: Result<(), AllocError>,
+) -> Result<(), Stop> {
+    match (text.strip_prefix(FRONT), answer) {
+        (Some(appended), Ok(())) => Ok(push_lines(out, appended)?),
+        (Some([]), Err(AllocError)) => Err(Stop::Refused),
+        _ => Err(Stop::Changed),
+    }
+}
+
+/// What a row shows that was refused before, and is asked again.
+pub(crate) fn again(alloc: Global, answer: Result<Vec<u8>, Stop>) -> Result<Vec<u8>, Stop> {
+    match answer {
+        Ok(answer) => {
+            let mut told = Vec::new(alloc);
+            push_text(&mut told, "refused, as before; ")?;
+            told.extend_from_slice(answer.as_slice())?;
+            Ok(told)
+        }
+        Err(Stop::Refused) => Err(Stop::ForEver),
+        Err(stop) => Err(stop),
+    }
+}

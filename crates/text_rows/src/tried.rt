@@ -1,0 +1,37 @@
+// What a row shows where memory is short for a call.
+//
+// A call that makes a value or appends to a text is made again by a row that is begun anew. A buffer, and what else has more in it than its
+// readers show, is kept, and the call of it is made again.
+
+use crate::escapes::push_text;
+use crate::stop::Stop;
+use std::alloc::{AllocError, Global};
+
+/// What stands in a text that is appended to.
+const FRONT: &[u8] = b"at ";
+
+/// A text that is appended to.
+pub(crate) fn front(alloc: Global) -> Result<Vec<u8>, AllocError> {
+    Vec::from_slice(alloc, FRONT)
+}
+
+/// Appends what a call has appended to such a text. Where memory was short for the call, the text has to be as before.
+pub(crate) fn push_appended(
+    out: &mut Vec<u8>,
+    text: &[u8],
+    answer: Result<(), AllocError>,
+) -> Result<(), Stop> {
+    match (text.strip_prefix(FRONT), answer) {
+        (Some(appended), Ok(())) => Ok(out.extend_from_slice(appended)?),
+        (Some([]), Err(AllocError)) => Err(Stop::Refused),
+        _ => Err(Stop::Changed),
+    }
+}
+
+/// Appends that memory was short for a call, and that all readers answer as before.
+pub(crate) fn push_refused(out: &mut Vec<u8>, before: &[u8], now: &[u8]) -> Result<(), Stop> {
+    if before != now {
+        return Err(Stop::Changed);
+    }
+    Ok(push_text(out, "refused, as before; ")?)
+}
