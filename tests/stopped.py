@@ -7,7 +7,8 @@ the bytes up to it move, are read and done or are not, and either side leaves. T
 it, and nothing disturbs any more. Each such world has to end Done, the features that were held before have to be the first of those at the end,
 and the audit of both ends' files has to answer RUNS. Where nothing is done between the stop and the new connection, the whole end is computed
 here: labels, origins, points by the number of each contact, counted acts, contacts. Elsewhere each point is that of its touch and the shift of
-its contact's number. For each front one of these worlds is also played by `dme simulate`.
+its contact's number. For each front one of these worlds is also played by `dme simulate`. Worlds of three worked rows (a broken connection, an
+abort of open commands, an abort between two frames) are stopped at each event as well, by restarts of both sides; the whole end is computed.
 
 A world of 100,000 events of a fixed linear congruence, of which about one of nine can happen when it is asked for, is audited behind each
 thousandth in the program, and at ten places by `dme audit`.
@@ -79,13 +80,13 @@ SHIFT -0.001 0.001 0
 SHIFTS = [(2, 0, 0), (0, 0, 4), (-1, 1, 0)]
 MACHINE, PART = "M", "P 100.000 0.000 0.000"
 Block = collections.namedtuple("Block", "label frame targets moves changes")
-BLOCKS = [
-    Block("A", MACHINE, [(10, 20, 25)], 1, 1),
-    Block("B", MACHINE, [(1, 0, 0), (0, 1, 0)], 0, 0),
-    Block("C", PART, [(-1, 0, 0), (-2, 0, 0), (-3, 0, 0)], 1, 2),
-    Block("D", PART, [(7, 8, 9)], 0, 0),
-    Block("E", PART, [(4, 5, 6), (4, 5, 6)], 0, 0),
-]
+BLOCKS = (
+    Block("A", MACHINE, ((10, 20, 25),), 1, 1),
+    Block("B", MACHINE, ((1, 0, 0), (0, 1, 0)), 0, 0),
+    Block("C", PART, ((-1, 0, 0), (-2, 0, 0), (-3, 0, 0)), 1, 2),
+    Block("D", PART, ((7, 8, 9),), 0, 0),
+    Block("E", PART, ((4, 5, 6), (4, 5, 6)), 0, 0),
+)
 FILE_HEAD = "DME-FEATURES 2"
 
 
@@ -99,7 +100,7 @@ def length(micrometres):
 def points_of(block, phase):
     """The points of a feature whose first contact has a number of this rest by three."""
     return tuple(" ".join(length(1000 * at + by) for at, by in zip(target, SHIFTS[(phase + touch) % 3]))
-                 for touch, target in enumerate(BLOCKS[block].targets))
+                 for touch, target in enumerate(block.targets))
 
 
 Feature = collections.namedtuple("Feature", "label count connection frame points")
@@ -121,12 +122,11 @@ def features_of(text):
 
 
 @functools.cache
-def measured(kept, number, connection):
+def measured(kept, number, connection, blocks=BLOCKS):
     """What is held where these were kept, and the others are measured in a run from this contact on, on this connection."""
     features = list(kept)
-    for at in range(len(kept), len(BLOCKS)):
-        block = BLOCKS[at]
-        features.append(Feature(block.label, len(block.targets), connection, block.frame, points_of(at, number % 3)))
+    for block in blocks[len(kept):]:
+        features.append(Feature(block.label, len(block.targets), connection, block.frame, points_of(block, number % 3)))
         number += len(block.targets)
     return tuple(features), number
 
@@ -148,17 +148,16 @@ def row_of(text):
 
 
 @functools.cache
-def must_be_sound(row):
+def must_be_sound(row, blocks=BLOCKS):
     """The features are the first of the program, from ascending runs of contacts that do not meet, and each point is that of its touch."""
     word, *starts = row.verdict.split()
-    must(word == "RUNS" and len(starts) == len(row.features) <= len(BLOCKS), "another verdict", row)
+    must(word == "RUNS" and len(starts) == len(row.features) <= len(blocks), "another verdict", row)
     free = 0
-    for at, (feature, start) in enumerate(zip(row.features, map(int, starts))):
-        block = BLOCKS[at]
+    for block, feature, start in zip(blocks, row.features, map(int, starts)):
         must(start >= free, "runs meet", row)
         free = start + feature.count
         must((feature.label, feature.count, feature.frame) == (block.label, len(block.targets), block.frame), "another feature", row)
-        must(feature.points == points_of(at, start % 3), "other points", row)
+        must(feature.points == points_of(block, start % 3), "other points", row)
     must(free <= row.contacts, "more than was done", row)
 
 
@@ -216,10 +215,9 @@ ROWS = 20_000
 LEAST = 200
 
 
-def schedule_of(window):
-    """Those of the generator's events that happen, up to Done."""
-    rows = Events(*SEEDS[window]).rows(ROWS)
-    told = told_by_world_rows({f"events {window}": "".join(f"{it}\nshow\n" for it in rows)}).splitlines()
+def events_of_rows(rows, window, text=TEXT):
+    """Those of these events that happen, up to Done where they lead there."""
+    told = told_by_world_rows({"program": text, f"events {window}": "".join(f"{it}\nshow\n" for it in rows)}).splitlines()
     events, connections = [], 0
     for row, line in zip(rows, told):
         happened, state, _ = line.split("|", 2)
@@ -227,8 +225,8 @@ def schedule_of(window):
             connections += row == "connect"
             events.append(f"accept {connections}" if row == "accept" else row)
         if state == "Done":
-            return events
-    raise Wrong(f"not Done with window {window}")
+            break
+    return events
 
 
 ON = "serverreads all;" + "serverturn;machine auto;" * 17 + "clientreads all;"
@@ -317,7 +315,7 @@ def events_of(events, word):
 
 def stopped_worlds(window):
     """The length of a schedule, its fronts, and how many worlds of each kind were stopped behind them; none of which is wrong."""
-    events = schedule_of(window)
+    events = events_of_rows(Events(*SEEDS[window]).rows(ROWS), window)
     must(len(events) >= LEAST, "few events", len(events))
     told = told_by_world_rows({"ways": "".join(it + "\n" for it, _, _ in WAYS), "ending": ending(events_of(events, "connect")),
                                f"fronts {window}": "".join(it + "\n" for it in events)})
@@ -340,6 +338,71 @@ def stopped_worlds(window):
         ends = fronts[at][1]
         must_be_played(window, events[:at], *ends[at * 7 % len(ends)], ending(events_of(events, "connect")))
     return len(events), counts
+
+
+# ---- worked rows
+
+THREE = """\
+DMISMN/'THREE',05.2
+SNSLCT/S(P1)
+MEAS/CIRCLE,F(C),3
+PTMEAS/CART,1,0,0,-1,0,0
+PTMEAS/CART,0,1,0,0,-1,0
+PTMEAS/CART,-1,0,0,1,0,0
+ENDMES
+ENDFIL
+"""
+FRAMES = """\
+DMISMN/'FRAMES',05.2
+SNSLCT/S(P1)
+MEAS/POINT,F(A),1
+PTMEAS/CART,10,0,0,0,0,1
+ENDMES
+MEAS/LINE,F(B),2
+PTMEAS/CART,20,0,0,0,0,1
+RECALL/D(PART)
+PTMEAS/CART,30,0,0,0,0,1
+ENDMES
+ENDFIL
+"""
+CIRCLE = (Block("C", MACHINE, ((1, 0, 0), (0, 1, 0), (-1, 0, 0)), 0, 1),)
+POINT_AND_LINE = (Block("A", MACHINE, ((10, 0, 0),), 0, 1), Block("B", PART, ((20, 0, 0), (30, 0, 0)), 0, 1))
+# What single events do together.
+READ_ALL, GIVE_ALL = ["serverreads"] * 9, ["down all"] + ["clientreads"] * 30
+QUIET = ["clientsends"] * 4 + ["up all"] + READ_ALL + ["serverturn", "machine auto"] * 9 + GIVE_ALL
+TURN = ["clientsends", "up all", "serverreads", "serverturn"]
+# A broken connection, an abort among several open commands, and one between two frames: the program and its blocks, the window, events of which
+# some happen, and where they lead, with how many acts are counted there.
+Worked = collections.namedtuple("Worked", "name text blocks window rows state counted")
+WORKED = [
+    Worked("a broken connection", THREE, CIRCLE, 1,
+           ["connect", "accept"] + QUIET * 7 + TURN + ["machine auto", "down 47"] + ["clientreads"] * 9
+           + ["clientleaves", "serverleaves", "connect", "accept"] + QUIET * 20, "Done", 6),
+    Worked("an abort of three open commands", THREE, CIRCLE, 3,
+           ["connect", "accept"] + QUIET * 3 + ["clientsends"] * 3 + ["up all"] + READ_ALL
+           + ["serverturn", "abort", "up all", "serverreads"] + GIVE_ALL, "Halted", 3),
+    Worked("an abort between two frames", FRAMES, POINT_AND_LINE, 1,
+           ["connect", "accept"] + QUIET * 11 + TURN + ["abort", "up all", "serverreads"] + GIVE_ALL + ["resume"] + QUIET * 20, "Done", 13),
+]
+RESTARTS = "once clientrestart 0;serverrestart;"
+
+
+def stopped_row(worked):
+    """A world that is stopped at each event of a worked row by restarts of both sides, and runs on: all is measured anew, on a new connection."""
+    events = events_of_rows(worked.rows, worked.window, worked.text)
+    accepts = [f"accept {it};" for it in range(events_of(events, "connect") + 1, 0, -1)]
+    told = told_by_world_rows({"program": worked.text, "ways": RESTARTS + "\n", "ending": "".join(["connect;", *accepts, "quiet;"]),
+                               f"fronts {worked.window}": "".join(it + "\n" for it in events)})
+    lines = [line.partition("|") for line in told.splitlines()]
+    must([it[0] for it in lines] == ["front", "0 0"] * (len(events) + 1), "fronts", lines)
+    rows = [row_of(it[2]) for it in lines]
+    must((rows[-2].state, rows[-2].counted) == (worked.state, worked.counted), "led elsewhere", rows[-2])
+    for at, (front, end) in enumerate(zip(rows[::2], rows[1::2])):
+        must_be_sound(front, worked.blocks)
+        must_be_sound(end, worked.blocks)
+        connection = events_of(events[:at], "connect") + 1
+        must((end.state, end.features, end.contacts) == ("Done", *measured((), front.contacts, connection, worked.blocks)), "another end", front, end)
+    return f"{len(events)} events, {len(rows) // 2} worlds"
 
 
 # ---- a world of many events
@@ -437,8 +500,9 @@ def check_stopped():
     """How many parts are as they have to be, and how many are not."""
     if not WORLDS.exists():
         print(f"no executable: {WORLDS.relative_to(ROOT)}")
-        return 0, 4
+        return 0, len(SEEDS) + len(WORKED) + 1
     calls = [(f"worlds stopped with a window of {window}", functools.partial(of_schedule, window)) for window in SEEDS]
+    calls += [(f"worlds stopped at {worked.name}", functools.partial(stopped_row, worked)) for worked in WORKED]
     calls.append(("a world of many events", functools.partial(many, EVENTS)))
     with concurrent.futures.ProcessPoolExecutor(2) as pool:
         right = sum(pool.map(tried, *zip(*calls)))
