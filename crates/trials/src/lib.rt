@@ -1,6 +1,8 @@
-//! Tests of the crates between the texts and the program: what no clause says of them, as that a call succeeds where memory is there. They
-//! stand here so that no library is proved a second time for their sake. Rows of calls are the input of the program `call_rows`.
+//! Tests of what is no row: what no clause says, as that a call succeeds where memory is there, values that are made by hand, limits, and
+//! ports that fail. They use public calls alone and stand here so that no library is proved a second time for their sake. Rows of texts are
+//! the input of the program `text_rows`, rows of calls that of `call_rows`.
 //!
+//! - `values`: lengths, directions and names; `programs`: DMIS programs; `wire`, `framing`: lines of the interface; `ports`
 //! - `ledgers`, `queue`, `tags`, `plans`: the values and lists that both ends stand on
 //! - `client`, `world`: a client that is not made, and both ends with their connections
 //! - `made`: the programs and names that several of them stand on
@@ -16,14 +18,24 @@ mod audits;
 #[cfg(test)]
 mod client;
 #[cfg(test)]
+mod framing;
+#[cfg(test)]
 mod ledgers;
 #[cfg(test)]
 mod made;
 #[cfg(test)]
 mod plans;
 #[cfg(test)]
+mod ports;
+#[cfg(test)]
+mod programs;
+#[cfg(test)]
 mod queue;
 #[cfg(test)]
 mod tags;
+#[cfg(test)]
+mod values;
+#[cfg(test)]
+mod wire;
 #[cfg(test)]
 mod world;
