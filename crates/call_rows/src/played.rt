@@ -1,7 +1,8 @@
-// A world through many events.
+// A new world through many events: each shows `1` where it happens, else `0`; `show` and `files` are no events.
 
-use crate::made::{Made, WorldTask, do_task};
-use crate::shown::{push_files, push_text, push_world};
+use crate::ended::{push_files, push_world};
+use crate::fresh::{Made, WorldTask, do_task, program_of};
+use crate::shown::push_text;
 use crate::stop::Stop;
 use dmis_program::Program;
 use link_world::{Event, Instruction, Machine, Schedule, Simulated, World, WorldFault};
@@ -162,9 +163,14 @@ impl WorldTask for Rows<'_> {
 pub(crate) fn push_events(
     alloc: Global,
     out: &mut Vec<u8>,
-    (made, program): (Made<'_>, &Program),
+    made: Made<'_>,
     rows: &str,
 ) -> Result<(), Stop> {
-    let mut task = Rows { out, program, rows };
+    let program = program_of(alloc, made)?;
+    let mut task = Rows {
+        out,
+        program: &program,
+        rows,
+    };
     do_task(alloc, made, &mut task)
 }

@@ -1,15 +1,12 @@
-// Worlds as they are written, one a line.
+// What became of worlds, one a line.
 
+use crate::shown::push_text;
 use crate::stop::Stop;
 use contact_ledger::{write_contacts, write_features};
 use dmis_program::Program;
 use ledger_audit::{Verdict, audit};
 use link_world::World;
 use std::alloc::{AllocError, Global};
-
-pub(crate) fn push_text(out: &mut Vec<u8>, text: &str) -> Result<(), AllocError> {
-    out.extend_from_slice(text.as_bytes())
-}
 
 pub(crate) fn push_number(alloc: Global, out: &mut Vec<u8>, number: u64) -> Result<(), AllocError> {
     push_text(out, format!(in alloc; "{number}")?.as_str())

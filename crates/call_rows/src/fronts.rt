@@ -1,7 +1,8 @@
 // The worlds behind each front of a schedule.
 
-use crate::made::{Made, WorldTask, do_task, play};
-use crate::shown::{push_number, push_text, push_world};
+use crate::ended::{push_number, push_world};
+use crate::fresh::{Made, WorldTask, do_task, play, program_of};
+use crate::shown::push_text;
 use crate::stop::Stop;
 use dmis_program::Program;
 use link_world::{Event, World, WorldFault};
@@ -201,7 +202,7 @@ fn push_ways(
 }
 
 /// The world behind a front as it is, and then the worlds of each way.
-pub(crate) fn push_front(
+fn push_front(
     alloc: Global,
     out: &mut Vec<u8>,
     (made, program): (Made<'_>, &Program),
@@ -211,4 +212,21 @@ pub(crate) fn push_front(
     push_text(out, "front|")?;
     push_behind(alloc, out, (made, program), front)?;
     push_ways(alloc, out, (made, program), stops, front)
+}
+
+/// The fronts of a schedule, from the empty one to the whole.
+pub(crate) fn push_fronts(
+    alloc: Global,
+    out: &mut Vec<u8>,
+    made: Made<'_>,
+    stops: Stops<'_>,
+    schedule: &[u8],
+) -> Result<(), Stop> {
+    let program = program_of(alloc, made)?;
+    for at in 0..=schedule.len() {
+        if at == 0 || schedule[at - 1] == b'\n' {
+            push_front(alloc, out, (made, &program), stops, &schedule[..at])?;
+        }
+    }
+    Ok(())
 }
