@@ -1,4 +1,4 @@
-"""Worlds that are stopped anywhere, and worlds of many events, over the proved code of both ends (the program `world_rows`).
+"""Worlds that are stopped anywhere, and worlds of many events, over the proved code of both ends (the program `call_rows`).
 
 Three schedules of single events, for windows of 1, 4 and 16, bring a program of five features to Done, through breaks, aborts and
 restarts. Behind each front of each, a world is stopped in every way: either side leaves, or is restarted, with each count of the
@@ -13,7 +13,7 @@ abort of open commands, an abort between two frames) are stopped at each event a
 A world of 100,000 events of a fixed linear congruence, of which about one of nine can happen when it is asked for, is audited behind each
 thousandth in the program, and at ten places by `dme audit`.
 
-Wrong things that were tried on what `world_rows` wrote of a short schedule and of 3,000 events, and are refused: shifts in another order and a
+Wrong things that were tried on what `call_rows` wrote of a short schedule and of 3,000 events, and are refused: shifts in another order and a
 point of another shift (`other points`), an end that is not Done (`not Done`), a verdict with a run less (`another verdict`), and a restart of
 the client that is expected to keep all features (`are not kept`).
 
@@ -33,7 +33,7 @@ import time
 from growths import PROGRAM, ROOT, Wrong, must
 from hostile import Fixed
 
-WORLDS = ROOT / "crates" / "world_rows" / "out" / "world_rows"
+CALLS = ROOT / "crates" / "call_rows" / "out" / "call_rows"
 SECONDS = 600
 ALSO_PLAYED = 1  # of so many fronts one is also played by `dme`
 EVENTS = 100_000
@@ -201,11 +201,15 @@ class Events:
         return [self.next() for _ in range(count)]
 
 
-def told_by_world_rows(parts):
-    text = "".join(f"[{head}]\n{part}" for head, part in {"program": TEXT, "setup": SETUP, **parts}.items())
-    done = subprocess.run([str(WORLDS)], input=text, capture_output=True, text=True, timeout=SECONDS)
-    must(done.returncode == 0 and done.stderr == "", "world_rows", done.returncode, done.stderr)
-    return done.stdout
+def told_by_calls(parts):
+    """What the last of these parts writes. Its worlds are of the program, the ways and the ending of this name."""
+    whole = {"program STOPPED": TEXT, "setup": SETUP, **parts}
+    text = "".join(f"[{head}]\n{part}" for head, part in whole.items())
+    done = subprocess.run([str(CALLS)], input=text, capture_output=True, text=True, timeout=SECONDS)
+    must(done.returncode == 0 and done.stderr == "", "call_rows", done.returncode, done.stderr)
+    before, _, told = done.stdout.partition(f"[{list(whole)[-1]}]\n")
+    must(before == "".join(f"[{head}]\n{part}" for head, part in list(whole.items())[:-1]), "other parts", before)
+    return told
 
 
 # ---- schedules
@@ -217,7 +221,7 @@ LEAST = 200
 
 def events_of_rows(rows, window, text=TEXT):
     """Those of these events that happen, up to Done where they lead there."""
-    told = told_by_world_rows({"program": text, f"events {window}": "".join(f"{it}\nshow\n" for it in rows)}).splitlines()
+    told = told_by_calls({"program STOPPED": text, f"plays STOPPED {window}": "".join(f"{it}\nshow\n" for it in rows)}).splitlines()
     events, connections = [], 0
     for row, line in zip(rows, told):
         happened, state, _ = line.split("|", 2)
@@ -317,8 +321,8 @@ def stopped_worlds(window):
     """The length of a schedule, its fronts, and how many worlds of each kind were stopped behind them; none of which is wrong."""
     events = events_of_rows(Events(*SEEDS[window]).rows(ROWS), window)
     must(len(events) >= LEAST, "few events", len(events))
-    told = told_by_world_rows({"ways": "".join(it + "\n" for it, _, _ in WAYS), "ending": ending(events_of(events, "connect")),
-                               f"fronts {window}": "".join(it + "\n" for it in events)})
+    told = told_by_calls({"ways STOPPED": "".join(it + "\n" for it, _, _ in WAYS), "ending STOPPED": ending(events_of(events, "connect")),
+                               f"stops STOPPED {window}": "".join(it + "\n" for it in events)})
     counts, fronts = collections.Counter(), []
     for line in told.splitlines():
         name, _, shown = line.partition("|")
@@ -391,8 +395,8 @@ def stopped_row(worked):
     """A world that is stopped at each event of a worked row by restarts of both sides, and runs on: all is measured anew, on a new connection."""
     events = events_of_rows(worked.rows, worked.window, worked.text)
     accepts = [f"accept {it};" for it in range(events_of(events, "connect") + 1, 0, -1)]
-    told = told_by_world_rows({"program": worked.text, "ways": RESTARTS + "\n", "ending": "".join(["connect;", *accepts, "quiet;"]),
-                               f"fronts {worked.window}": "".join(it + "\n" for it in events)})
+    told = told_by_calls({"program STOPPED": worked.text, "ways STOPPED": RESTARTS + "\n", "ending STOPPED": "".join(["connect;", *accepts, "quiet;"]),
+                               f"stops STOPPED {worked.window}": "".join(it + "\n" for it in events)})
     lines = [line.partition("|") for line in told.splitlines()]
     must([it[0] for it in lines] == ["front", "0 0"] * (len(events) + 1), "fronts", lines)
     rows = [row_of(it[2]) for it in lines]
@@ -421,7 +425,7 @@ class Many:
         self.done, self.features, self.audits, self.row = 0, 0, 0, None
         self.rows = Events(seed, DISTURBED, RESTARTED).rows(count)
         self.files_at = max(count // 10, 1000)
-        self.judge(told_by_world_rows({f"events {window}": "".join(map(self.asked, range(count)))}))
+        self.judge(told_by_calls({f"plays STOPPED {window}": "".join(map(self.asked, range(count)))}))
 
     def asked(self, at):
         ends = at + 1
@@ -498,8 +502,8 @@ def many(count):
 
 def check_stopped():
     """How many parts are as they have to be, and how many are not."""
-    if not WORLDS.exists():
-        print(f"no executable: {WORLDS.relative_to(ROOT)}")
+    if not CALLS.exists():
+        print(f"no executable: {CALLS.relative_to(ROOT)}")
         return 0, len(SEEDS) + len(WORKED) + 1
     calls = [(f"worlds stopped with a window of {window}", functools.partial(of_schedule, window)) for window in SEEDS]
     calls += [(f"worlds stopped at {worked.name}", functools.partial(stopped_row, worked)) for worked in WORKED]

@@ -10,12 +10,20 @@
 //! with `-- ` says what the rows below it show. `files NAME W` has a schedule, and the features and contacts files that it leaves stand in its
 //! place. `world NAME W` is a world through all rows of its part, `values NAME` the calls of what both ends are made of, and `held NAME` the features
 //! that a client of a program begins with; `last replies NAME` and `last commands NAME` come in where all was measured. `quiets NAME W` has the deviations of a machine, as shifts, and `finishes NAME W` schedules behind each front of which a world is
-//! brought to its end.
+//! brought to its end. `stops NAME W` has a schedule: the world behind each front of it is written as `front`, and then each world that is
+//! stopped there in a way of `ways NAME` and brought to its end by `ending NAME`, with the numbers of the way and its own. A way is `once`,
+//! `features`, `up` or `down`, and instructions with `;` behind each, for one world, for each count of features that are held, or for each byte
+//! that waits; `*` is that number. `plays NAME W` has events, of which each shows whether it happens; `show` shows the world, `files` its files.
+//! `tests/stopped.py` gives worlds by thousands and judges what is written of them.
 //!
 //! - `parts`: the parts of the input, and their rows
 //! - `client`, `server`: what an action does, and what it shows
 //! - `events`: a world through events, one a row
 //! - `values`: calls of the values that both ends are made of
+//! - `fronts`: worlds that are stopped behind each front of a schedule
+//! - `played`: worlds through long lists of events
+//! - `fresh`: what such worlds are made of
+//! - `ended`: what became of them
 //! - `links`: turns and runs over ports in memory
 //! - `quiets`: undisturbed runs, and worlds that are brought to their end
 //! - `setups`: what setups say
@@ -30,10 +38,14 @@
 
 mod audited;
 mod client;
+mod ended;
 mod events;
+mod fresh;
+mod fronts;
 mod hostile;
 mod links;
 mod parts;
+mod played;
 mod quiets;
 mod server;
 mod setups;

@@ -2,11 +2,12 @@
 
 use crate::client::{self, ClientTask, Made};
 use crate::events::{self, WorldTask};
+use crate::fronts::{self, Stops};
 use crate::links::{self, Script};
 use crate::server::{self, ServerTask};
 use crate::shown::push_text;
 use crate::stop::Stop;
-use crate::{hostile, quiets, setups, texts, tried, values, worlds};
+use crate::{fresh, hostile, played, quiets, setups, texts, tried, values, worlds};
 use client_core::Client;
 use link_world::World;
 use server_core::Server;
@@ -289,6 +290,29 @@ fn push_linked(
     push_link_rows(alloc, out, ends, (script, word), text)
 }
 
+/// What became of worlds that were stopped behind each front of a schedule, or what a list of events did.
+fn push_stopped(
+    alloc: Global,
+    out: &mut Vec<u8>,
+    (made, setup): (Made<'_>, &str),
+    (input, name, word): (&str, &str, &str),
+    text: &str,
+) -> Result<(), Stop> {
+    let made = fresh::Made {
+        program: made.program,
+        setup,
+        window: made.window,
+    };
+    if word == "plays" {
+        return played::push_events(alloc, out, made, text);
+    }
+    let stops = Stops {
+        ways: named(alloc, input, "ways", name)?,
+        ending: named(alloc, input, "ending", name)?,
+    };
+    fronts::push_fronts(alloc, out, made, stops, text.as_bytes())
+}
+
 /// The rows of a part by its word, with what they are made of.
 fn push_made_rows(
     alloc: Global,
@@ -301,6 +325,7 @@ fn push_made_rows(
         "client" => client::push_task(alloc, out, ends.0, &Rows { text }),
         "world" => events::push_task(alloc, out, ends, &Rows { text }),
         "files" => worlds::push_files(alloc, out, ends, text),
+        "stops" | "plays" => push_stopped(alloc, out, ends, (input, name, word), text),
         "turns" | "runs" | "watches" | "loops" => {
             push_linked(alloc, out, ends, (input, name, word), text)
         }
@@ -330,6 +355,14 @@ fn push_rows_of(
     push_made_rows(alloc, out, (made, setup), (input, name, word), text)
 }
 
+/// Whether a part of this word is a text that others are made of.
+fn is_text(word: &str) -> bool {
+    match word {
+        "program" | "held" | "setup" | "replies" | "commands" | "last" | "ways" | "ending" => true,
+        _ => false,
+    }
+}
+
 /// The rows of a part by its head; of a text that others are made of the text as it stands.
 fn push_answers(
     alloc: Global,
@@ -338,7 +371,7 @@ fn push_answers(
     (word, rest): (&str, &str),
     text: &str,
 ) -> Result<(), Stop> {
-    if let "program" | "held" | "setup" | "replies" | "commands" | "last" = word {
+    if is_text(word) {
         return Ok(push_text(out, text)?);
     }
     let setup = part(input, "setup").ok_or(Stop::Row)?;

@@ -6,7 +6,7 @@ use Rattle.fixed_um.specs.declared.lengths.Point.{Point}
 use Rattle.fixed_um.specs.declared.frames.Frame.TheVariants as frame
 use Rattle.contact_ledger.specs.declared.acts.Act.{Act}
 use Rattle.contact_ledger.specs.declared.acts.Act.TheVariants as act
-use Rattle.protocol_model.specs.Rows.{at, neg, part, tool, from_above, feature_on}
+use Rattle.protocol_model.specs.Examples.{at, neg, part, tool, from_above, feature_on}
 use Rattle.protocol_model.specs.LedgerRows.{contact_of}
 use Rattle.protocol_model.specs.declared.states.State.{State}
 use Rattle.link_world.specs.Reports.{reported}

@@ -7,7 +7,7 @@ ghost use Rattle.fixed_um.specs.declared.lengths.Point.{Point};
 ghost use Rattle.contact_ledger.specs.Ledgers.{contact_count, is_contact};
 ghost use Rattle.contact_ledger.specs.declared.acts.Act.{Act};
 ghost use Rattle.contact_ledger.specs.declared.acts.Act.TheVariants as act;
-ghost use Rattle.protocol_model.specs.Rows.{at, neg};
+ghost use Rattle.protocol_model.specs.Examples.{at, neg};
 ghost use Rattle.protocol_model.specs.declared.states.State.{State};
 ghost use Rattle.link_world.specs.Reports.{contact_rows, reported, report_text, state_name};
 ghost use Rattle.link_world.specs.ReportRows.{

@@ -2,7 +2,7 @@
 // 13. Points are in micrometres.
 
 ghost use Rattle.std.specs.Prelude.{◌≡◌, [], ◌∷◌, ◌++◌, codes, Ok, pos, negsuc};
-ghost use Rattle.protocol_model.specs.Rows.{at};
+ghost use Rattle.protocol_model.specs.Examples.{at};
 ghost use Rattle.protocol_model.specs.declared.events.Event.TheVariants as event;
 ghost use Rattle.protocol_model.specs.declared.machine.Outcome.TheVariants as outcome;
 ghost use Rattle.link_world.specs.ScheduleTexts.{schedule_of};

@@ -1,4 +1,3 @@
--- The worked rows: their programs, and ledgers that the claim allows and refuses.
-pub mod Texts
+-- Examples: contacts and ledgers that the claim allows and refuses.
 pub mod Refused
 pub mod LedgerRefused

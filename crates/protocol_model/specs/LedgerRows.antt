@@ -12,7 +12,7 @@ use Rattle.contact_ledger.specs.declared.features.Feature.{Feature}
 use Rattle.dmis_program.specs.Meaning.{touch_with}
 use Rattle.dmis_program.specs.declared.features.Touch.{Touch}
 use Rattle.dmis_program.specs.declared.features.Wanted.{Wanted}
-use Rattle.protocol_model.specs.Rows.{at, from_above, tool, feature}
+use Rattle.protocol_model.specs.Examples.{at, from_above, tool, feature}
 
 -- an act of a ledger: a contact on this connection, for this target, direction, tool and frame,
 -- with this reported point

@@ -11,14 +11,11 @@ pub mod Streams
 pub mod Ends
 pub mod World
 pub mod Language
-pub mod Rows
+pub mod Examples
 pub mod LedgerRows
-pub mod TurnRows
-pub mod HomingRows
 pub mod PlanReading
 pub mod Positions
 pub mod Undisturbed
 pub mod Rounds
 pub mod PlainExecution
 pub mod Finishing
-pub mod PlainRows

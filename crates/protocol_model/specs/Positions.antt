@@ -1,19 +1,17 @@
 -- Where a plan goes on in the steps of a program: behind the last touch of its last completed
 -- feature (this profile).
-use Rattle.std.specs.Prelude.{◌≡◌, ℕ, pos, Option, Some, None, List, [], ◌∷◌, ◌++◌, codes}
+use Rattle.std.specs.Prelude.{◌≡◌, ℕ, Option, Some, None, List, [], ◌∷◌, ◌++◌}
 use Rattle.std.specs.List.{flat_map}
 use Rattle.fixed_um.specs.declared.frames.Frame.{Frame}
 use Rattle.fixed_um.specs.declared.frames.Frame.TheVariants as frame
 use Rattle.dme_line.specs.declared.commands.Csy.TheVariants.{MachineCsy}
 use Rattle.dme_line.specs.declared.commands.Command.{Command}
 use Rattle.dme_line.specs.declared.commands.Command.TheVariants as command
-use Rattle.dmis_program.specs.Meaning.{Meaning as Program, meaning_with, touch_with}
 use Rattle.dmis_program.specs.declared.features.Touch.{Touch}
 use Rattle.dmis_program.specs.declared.steps.Step.{Step}
 use Rattle.dmis_program.specs.declared.steps.Step.TheVariants as step
 use Rattle.protocol_model.specs.Plan.{tool_behind, frame_behind}
 use Rattle.protocol_model.specs.PlanReading.{opening, step_commands}
-use Rattle.protocol_model.specs.Rows.{at, from_above}
 use Rattle.protocol_model.specs.declared.plans.Start.{Start}
 
 -- the last of these steps is a touch
@@ -41,20 +39,3 @@ commands_from start passed left =
     ++ (tool_commands (tool_behind None passed)
     ++ (frame_commands (frame_behind frame.Machine passed)
     ++ (flat_map step_commands left ++ command.EndSession ∷ [])))
-
--- a program with a move and another tool between the last touch of its first feature and the end of
--- that block, and a move between the blocks
-abbrev pub moved_between : Program
-moved_between = meaning_with (
-    step.Tool (codes "P1")
-    ∷ step.Begin (codes "A")
-    ∷ step.Touch (touch_with (codes "P1") frame.Machine
-    (at (pos 1000) (pos 2000) (pos 3000)) from_above)
-    ∷ step.Goto (at (pos 1000) (pos 2000) (pos 10000))
-    ∷ step.Tool (codes "P2") ∷ step.End
-    ∷ step.Goto (at (pos 4000) (pos 5000) (pos 10000))
-    ∷ step.Begin (codes "B")
-    ∷ step.Touch (touch_with (codes "P2") frame.Machine
-    (at (pos 4000) (pos 5000) (pos 6000)) from_above)
-    ∷ step.End
-    ∷ [])

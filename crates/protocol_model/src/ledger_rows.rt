@@ -5,7 +5,7 @@ ghost use Rattle.std.specs.Prelude.{ℕ, pos, true, false, [], ◌∷◌, codes,
 ghost use Rattle.fixed_um.specs.declared.frames.Frame.TheVariants as frame;
 ghost use Rattle.contact_ledger.specs.declared.acts.Act.TheVariants as act;
 ghost use Rattle.protocol_model.specs.Claims.{Sound, Told};
-ghost use Rattle.protocol_model.specs.Rows.{at, along, from_above, tool, part, feature, feature_on};
+ghost use Rattle.protocol_model.specs.Examples.{at, along, from_above, tool, part, feature, feature_on};
 ghost use Rattle.protocol_model.specs.LedgerRows.{
   contact_of,
   one_wanted,

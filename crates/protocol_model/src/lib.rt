@@ -2,7 +2,7 @@
 //! data of which both ends speak.
 //!
 //! - `specs/`: lines as values, plans, open commands, the client, the server, what is claimed, their lines as bytes, both ends with the
-//!   bytes between them, the language of replies, and worked rows
+//!   bytes between them, the language of replies, and a few examples
 //! - `lines`, `machine`, `plans`, `held`, `states`, `events`: lines as values, jobs and outcomes, planned commands, open commands, states of
 //!   a client, what can happen between both ends
 //! - `theorem`: the theorem over every list of events, with the bytes between both ends
@@ -15,34 +15,28 @@
 //! - `undisturbed`: what is written, done and counted in a run that nothing disturbs
 //! - `quiet`: a broken link is brought to its end by quiet rounds, in a stated number of them
 //! - `readings`: that each line is read as the interface says
-//! - `rows`: worked rows, as examples that the definitions compute
-//! - `origins`: worked rows of where features come from
-//! - `homing`: worked rows of the question whether the machine is homed
-//! - `ledger_rows`: worked rows of what is claimed, beside ledgers that are written out
-//! - `plain_rows`: worked rows of what a program plainly measures, and of what that asks of the rack and the machine
-//! - `turn_rows`: worked rows of the order of checks, and of when a client is done
+//! - `examples`: what the claim refuses, and which check comes first, as examples that the definitions compute
+//! - `ledger_rows`: what is claimed, next to ledgers that are written out
+//!
+//! Whole scripts, with what they report, are the crate `protocol_examples`.
 #![tactic(auto)]
 
 pub mod events;
+pub mod examples;
 pub mod held;
-pub mod homing;
 pub mod ledger_rows;
 pub mod lines;
 pub mod machine;
-pub mod origins;
-pub mod plain_rows;
 pub mod plan_laws;
 pub mod plans;
 pub mod positions;
 pub mod quiet;
 pub mod readings;
 pub mod replies;
-pub mod rows;
 pub mod states;
 pub mod streams;
 pub mod tags;
 pub mod theorem;
-pub mod turn_rows;
 pub mod typed;
 pub mod undisturbed;
 

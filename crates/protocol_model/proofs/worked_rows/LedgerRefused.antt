@@ -12,7 +12,7 @@ use Rattle.contact_ledger.specs.declared.acts.Act.{Act}
 use Rattle.contact_ledger.specs.declared.acts.Act.TheVariants as act
 use Rattle.dmis_program.specs.declared.features.Touch.{Touch}
 use Rattle.protocol_model.specs.Claims.{Made, IsServed, Serves, AreRuns, Sound, Told}
-use Rattle.protocol_model.specs.Rows.{at, along, from_above, tool, part, feature}
+use Rattle.protocol_model.specs.Examples.{at, along, from_above, tool, part, feature}
 use Rattle.protocol_model.specs.LedgerRows.{contact_of, first_touch, second_touch, one_wanted, two_wanted, first_point, second_point}
 use Rattle.protocol_model.specs.LedgerRows.{first_contact, second_contact, ledger_with, right_ledger, measured_as, two_connections}
 use Rattle.protocol_model.specs.LedgerRows.{asked_twice}

@@ -3,7 +3,7 @@ use Rattle.std.proofs.Common.{◌≡◌, ℕ, zero, suc, pos, unsigned_abs, ◌+
 use Rattle.fixed_um.specs.declared.lengths.Point.{Point}
 use Rattle.dmis_program.specs.declared.features.Touch.{Touch}
 use Rattle.protocol_model.specs.Claims.{Made, Serves, AreRuns}
-use Rattle.protocol_model.specs.Rows.{made, alike, alike_wanted, alike_features, twice_wanted, twice_features, at}
+use Rattle.protocol_model.specs.Examples.{made, alike, alike_wanted, alike_features, twice_wanted, twice_features, at}
 
 -- one contact has none behind it
 none_behind : (n k : ℕ) (t : Touch) (p : Point) (m : Made) → Serves n (t ∷ []) (p ∷ []) (take 1 (drop (suc k) (m ∷ []))) → ⊥

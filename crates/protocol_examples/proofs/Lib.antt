@@ -1,0 +1,2 @@
+-- The programs of the examples are what their texts mean.
+pub mod Texts
