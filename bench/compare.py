@@ -3,7 +3,7 @@
 
 `check` is given each program and setup of examples/ and of the rows of tests/program, and some thousands of changed ones, made with a fixed
 seed; standard output, standard error and status are compared. `wire`, `server` and `client` print counts and sums, which are compared
-for several sizes, pieces and windows. What the cores answer to calls in each state is compared by the rows of crates/call_rows, and by
+for several sizes, pieces and windows. What the cores answer to calls in each state is compared by the rows of crates/test_calls, and by
 calls and lines made by chance. It needs the built programs (see counting.py), and builds the plain ones.
 
 usage: bench/compare.py [CHANGED_PROGRAMS]
@@ -18,7 +18,7 @@ import tempfile
 
 from counting import built, plain
 
-# Parts of the input of call_rows that plain programs play too.
+# Parts of the input of test_calls that plain programs play too.
 PLAYED = ("program", "setup", "client", "marks", "texts", "server")
 
 ROOT = pathlib.Path(__file__).resolve().parent.parent
@@ -170,7 +170,7 @@ def compare_check():
 
 
 def compare_sums():
-    ours, theirs = built("dme_bench"), plain()
+    ours, theirs = built("bench_world"), plain()
     rows = [["wire", side, str(lines), str(piece)]
             for side in ("commands", "responses") for lines in (0, 1, 9_999, 20_001) for piece in (1, 2, 7, 53, 4_096, 70_000)]
     rows += [["server", str(rounds)] for rounds in (0, 1, 2, 500, 4_999, 10_001, 25_000)]
@@ -216,7 +216,7 @@ def changed_setup(choose, givens):
 
 
 def played(text):
-    """The parts of an input of call_rows that plain programs play."""
+    """The parts of an input of test_calls that plain programs play."""
     pieces = text.split("[")[1:]
     return "".join("[" + piece for piece in pieces if re.split(r"[ \]]", piece)[0] in PLAYED)
 
@@ -293,7 +293,7 @@ def response_line(choose):
     return tag + choose.choice([" &", " %", " &", " %", " %  ", " !", " ! Error(3, 9014)", data, data, " #", "&", " &x", "  &"])
 
 
-# What the plans of the programs of call_rows send behind their first six commands, or behind a feature: T a tool, G a move, p a touch and
+# What the plans of the programs of test_calls send behind their first six commands, or behind a feature: T a tool, G a move, p a touch and
 # P the last one of its feature, X and F a frame.
 SENT = {"ONE": "TGP", "TWO": "TPP", "THREE": "TppP", "FRAMES": "TPpXFP", "MOVES": "G" * 14}
 
@@ -410,19 +410,19 @@ def text_rows(choose):
 
 def compare_rows():
     choose = random.Random(20240819)
-    folder = ROOT / "crates" / "call_rows"
+    folder = ROOT / "crates" / "test_calls"
     given, expected = (played((folder / name).read_text()) for name in ("stdin", "stdout"))
     answers = found([plain(), "rows"], given.encode())
     if answers != (0, expected.encode(), b""):
-        sys.exit("the rows of call_rows: the plain programs answer otherwise")
-    print(f"calls: {len(given.splitlines()):,} rows of call_rows alike")
+        sys.exit("the rows of test_calls: the plain programs answer otherwise")
+    print(f"calls: {len(given.splitlines()):,} rows of test_calls alike")
     base = given[:given.index("[client")]
     parts = 0
     lines = 0
     for make in (server_rows, client_rows, text_rows):
         for _ in range(CHANGED // 20):
             rows = make(choose)
-            compare([built("call_rows")], [plain(), "rows"], (base + rows).encode())
+            compare([built("test_calls")], [plain(), "rows"], (base + rows).encode())
             parts += 1
             lines += len(rows.splitlines())
     print(f"calls: {lines:,} rows made by chance alike, in {parts:,} parts")

@@ -160,14 +160,14 @@ def rows(folder):
     ]
     for side in ("commands", "responses"):
         for piece in (1, 7, 4_096):
-            given.append(Row(f"wire: {side} in pieces of {piece:,}", "dme_bench", LINES, "line",
+            given.append(Row(f"wire: {side} in pieces of {piece:,}", "bench_world", LINES, "line",
                              lambda lines, side=side, piece=piece: ["wire", side, str(lines), str(piece)],
                              lambda lines, side=side: f"{lines} {side}\n".encode(), lambda _: []))
-    given.append(Row("server: rounds of a move and a touch", "dme_bench", ROUNDS, "round",
+    given.append(Row("server: rounds of a move and a touch", "bench_world", ROUNDS, "round",
                      lambda rounds: ["server", str(rounds)], server_prints, lambda _: []))
     for window in (1, 16):
         # A client with window 0 is refused, once its program was read.
-        given.append(Row(f"client: touches, window {window}", "dme_bench", TOUCHES, "touch",
+        given.append(Row(f"client: touches, window {window}", "bench_world", TOUCHES, "touch",
                          lambda touches, window=window: ["client", str(touches), str(window)], client_prints,
                          lambda touches: [["client", str(touches), "0"]]))
     return given
@@ -178,7 +178,7 @@ def quiet_rows():
     def prints(window):
         return lambda touches: quiet_prints(touches, window)
     # A run with window 0 is refused, once its program was read.
-    return [Row(f"undisturbed run: touches, window {window}", "dme_bench", TOUCHES, "touch",
+    return [Row(f"undisturbed run: touches, window {window}", "bench_world", TOUCHES, "touch",
                 lambda touches, window=window: ["quiet", str(touches), str(window)], prints(window),
                 lambda touches: [["quiet", str(touches), "0"]])
             for window in (1, 16)]

@@ -2,7 +2,7 @@
 
 Of an order, each run has to end with status 4 and `dme: out of memory`. `check`, `simulate`, `audit`, `export` and `explain` have then printed
 nothing; an order over a connection has printed nothing, or the report of what was done until then, and left its file as it was or put such a
-front in it. Of the calls behind it (`call_rows`), each growth of a pump or of a whole connection has to be answered as want of memory, the side
+front in it. Of the calls behind it (`test_calls`), each growth of a pump or of a whole connection has to be answered as want of memory, the side
 has left, and a front of its lines has gone out. A run that asks for room beforehand and can do without it may be as if nothing was refused: one
 of a run.
 
@@ -22,7 +22,7 @@ TESTS = pathlib.Path(__file__).resolve().parent
 ROOT = TESTS.parent
 EXAMPLES = ROOT / "examples"
 PROGRAM = ROOT / "crates" / "dme_program" / "out" / "dme_program"
-CALLS = ROOT / "crates" / "call_rows" / "out" / "call_rows"
+CALLS = ROOT / "crates" / "test_calls" / "out" / "test_calls"
 WANT = (4, "dme: out of memory\n")
 SECONDS = 20
 
@@ -36,7 +36,7 @@ CALL_ROWS = {
     "a_run_of_a_server": ("connections", "least 1 < 00001 StartSession()|;00002 Home()|;", "() off: "),
 }
 
-# Rows of `call_rows` that stand by themselves, which it makes again where memory is wanting: what it prints has to be what it prints with all
+# Rows of `test_calls` that stand by themselves, which it makes again where memory is wanting: what it prints has to be what it prints with all
 # memory, or, where the refusal of a text has its own words, that memory was wanting.
 RETRIED_ROWS = {
     "setup": ("setups", "TOOL P1;TOOL P2;FRAME PART 100 0 0;SHIFT 0.002 0 0;SHIFT 0 0 0.004;SHIFT -0.001 0.001 0;"),
@@ -224,9 +224,9 @@ def serve_row(refusing):
 
 
 def call_row(refusing, group, row, answer):
-    """The call is made on its own by `call_rows`, whose own growths end it with status 1 or 4. Its ports keep what went out in memory, so that a
+    """The call is made on its own by `test_calls`, whose own growths end it with status 1 or 4. Its ports keep what went out in memory, so that a
     growth of theirs is a port that fails."""
-    parts = "".join(part for part in parts_of((ROOT / "crates" / "call_rows" / "stdin").read_text())
+    parts = "".join(part for part in parts_of((ROOT / "crates" / "test_calls" / "stdin").read_text())
                     if part.split("]")[0] in ("[program ONE", "[setup", "[replies ONE", "[commands ONE"))
     text = f"{parts}[{group}]\n{row}\n"
 
@@ -250,7 +250,7 @@ def call_row(refusing, group, row, answer):
 
 def retried_row(refusing, head, row):
     """Each growth is made up for, or the row says that memory was wanting, or the program itself ends for it."""
-    parts = "".join(part for part in parts_of((ROOT / "crates" / "call_rows" / "stdin").read_text()) if part.startswith(("[program ", "[setup]")))
+    parts = "".join(part for part in parts_of((ROOT / "crates" / "test_calls" / "stdin").read_text()) if part.startswith(("[program ", "[setup]")))
     text = f"{parts}[{head}]\n{row}\n"
     whole, runs = refusing.all_of(lambda number, counts: ended(refusing.started([CALLS], number, counts=counts, text=text), text))
     shown = whole[1].splitlines()[-1].removeprefix(f"{row} => ")

@@ -1,4 +1,4 @@
-"""Bytes that may be anything, given to either end and to both in pieces of 1, of 7 and of 200 bytes (`hostile` of call_rows).
+"""Bytes that may be anything, given to either end and to both in pieces of 1, of 7 and of 200 bytes (`hostile` of test_calls).
 
 256 fixed lists of 200 bytes that occur in lines and bytes that do not, and lists made of fragments of lines. Of each the three cuts have to
 leave an end alike; and what an end has read, why it stops and what it answers is compared with the tables of docs/PROTOCOL.md, written down
@@ -15,7 +15,7 @@ from decimal import Decimal
 
 from growths import CALLS, ROOT, Wrong, must, parts_of
 
-ROWS_OF_PROGRAMS = ROOT / "crates" / "call_rows" / "stdin"
+ROWS_OF_PROGRAMS = ROOT / "crates" / "test_calls" / "stdin"
 FRAGMENT_LISTS = 10_000
 SECONDS = 600
 

@@ -1,7 +1,7 @@
 """The most that there may be of a thing, and one more: statements of a program, touches of a feature, bytes of a line.
 
-What is expected is computed here. Other limits stand as rows: 64 waiting commands and one more (`homes` of call_rows), all tags held (`aborts
-9999` there, and the tests of `trials` for standard tags), connection 4,000,000,000 and the number behind it (`connected`, `accept`).
+What is expected is computed here. Other limits stand as rows: 64 waiting commands and one more (`homes` of test_calls), all tags held (`aborts
+9999` there, and the tests of `test_units` for standard tags), connection 4,000,000,000 and the number behind it (`connected`, `accept`).
 
 `run` calls this; by itself: tests/limits.py [NAME ..]
 """

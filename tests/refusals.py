@@ -1,7 +1,7 @@
 """Refuses each growth of calls in turn (refuse.c): of every public call that can answer that memory was short, of the crates from fixed_um to
 ledger_audit.
 
-The calls are made by rows of `text_rows` and of `call_rows`, which look at the value: where a call has said that memory was short they show
+The calls are made by rows of `test_texts` and of `test_calls`, which look at the value: where a call has said that memory was short they show
 `refused, as before; ` and make it again; they show `changed` where a reader of the value then answers anything else, and `refused for ever` where
 the call does not succeed. A text that is read says `out of memory` in its own words; its row is asked twice here.
 
@@ -44,7 +44,7 @@ OTHER_LINKS = {
 }
 
 # The program, the head of the part (behind `#` which of those with this head, the first where it says nothing), and the row.
-TEXT, CALL = "text_rows", "call_rows"
+TEXT, CALL = "test_texts", "test_calls"
 ONE_PROGRAM = "DMISMN/'ONE',05.2;SNSLCT/S(P1);MEAS/POINT,F(A),1;GOTO/10,20,30;PTMEAS/CART,10,20,25,0,0,1;ENDMES;ENDFIL"
 CALLS = {
     "fixed_um Name::new": (TEXT, "names", "probe_1a"),

@@ -1,4 +1,4 @@
-"""Worlds that are stopped anywhere, and worlds of many events, over the proved code of both ends (the program `call_rows`).
+"""Worlds that are stopped anywhere, and worlds of many events, over the proved code of both ends (the program `test_calls`).
 
 Three schedules of single events, for windows of 1, 4 and 16, bring a program of five features to Done, through breaks, aborts and
 restarts. Behind each front of each, a world is stopped in every way: either side leaves, or is restarted, with each count of the
@@ -13,7 +13,7 @@ abort of open commands, an abort between two frames) are stopped at each event a
 A world of 100,000 events of a fixed linear congruence, of which about one of nine can happen when it is asked for, is audited behind each
 thousandth in the program, and at ten places by `dme audit`.
 
-Wrong things that were tried on what `call_rows` wrote of a short schedule and of 3,000 events, and are refused: shifts in another order and a
+Wrong things that were tried on what `test_calls` wrote of a short schedule and of 3,000 events, and are refused: shifts in another order and a
 point of another shift (`other points`), an end that is not Done (`not Done`), a verdict with a run less (`another verdict`), and a restart of
 the client that is expected to keep all features (`are not kept`).
 
@@ -33,7 +33,7 @@ import time
 from growths import PROGRAM, ROOT, Wrong, must
 from hostile import Fixed
 
-CALLS = ROOT / "crates" / "call_rows" / "out" / "call_rows"
+CALLS = ROOT / "crates" / "test_calls" / "out" / "test_calls"
 SECONDS = 600
 ALSO_PLAYED = 1  # of so many fronts one is also played by `dme`
 EVENTS = 100_000
@@ -206,7 +206,7 @@ def told_by_calls(parts):
     whole = {"program STOPPED": TEXT, "setup": SETUP, **parts}
     text = "".join(f"[{head}]\n{part}" for head, part in whole.items())
     done = subprocess.run([str(CALLS)], input=text, capture_output=True, text=True, timeout=SECONDS)
-    must(done.returncode == 0 and done.stderr == "", "call_rows", done.returncode, done.stderr)
+    must(done.returncode == 0 and done.stderr == "", "test_calls", done.returncode, done.stderr)
     before, _, told = done.stdout.partition(f"[{list(whole)[-1]}]\n")
     must(before == "".join(f"[{head}]\n{part}" for head, part in list(whole.items())[:-1]), "other parts", before)
     return told

@@ -1,4 +1,4 @@
-//! Calls of a client and of a server, row by row, each shown with what it answers (call_rows/FORM.txt).
+//! Calls of a client and of a server, row by row, each shown with what it answers (test_calls/FORM.txt).
 
 use crate::client::{Client, Refusal, State};
 use crate::ledger::{write_act, write_direction, write_frame, write_measured, write_place};

@@ -1,5 +1,5 @@
 // What no clause says: that commands and responses that are made by hand are written as the interface has them, and that the calls succeed
-// with memory. What lines are read as is shown by the rows of text_rows.
+// with memory. What lines are read as is shown by the rows of test_texts.
 
 use dme_line::{
     Command, Csy, Kind, Mark, Response, Tag, read_command, write_command, write_data, write_homed,

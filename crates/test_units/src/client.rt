@@ -1,4 +1,4 @@
-// What a client hands back where it is not made. The rows of its calls are those of `call_rows`.
+// What a client hands back where it is not made. The rows of its calls are those of `test_calls`.
 
 use crate::made::{TWO, name, program};
 use client_core::{Client, NewFault};

@@ -1,4 +1,4 @@
-// What no clause says of framing, beside the rows of text_rows.
+// What no clause says of framing, beside the rows of test_texts.
 
 use line_framing::{FramingFault, Line, Lines, LinesFault};
 use std::alloc::Global;

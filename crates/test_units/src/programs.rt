@@ -1,4 +1,4 @@
-// The limits of this profile, and frames that are stored. What programs are read as is shown by the rows of text_rows.
+// The limits of this profile, and frames that are stored. What programs are read as is shown by the rows of test_texts.
 
 use dmis_program::{Frames, Program, ProgramFault, Refusal};
 use fixed_um::{Name, Point, Um};

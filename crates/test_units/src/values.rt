@@ -1,4 +1,4 @@
-// What no clause says of directions, names and lengths, beside the rows of text_rows.
+// What no clause says of directions, names and lengths, beside the rows of test_texts.
 
 use fixed_um::{Name, Um, read_dir, write_dir};
 use std::alloc::{AllocError, Global};

@@ -1,6 +1,6 @@
 //! Tests of what is no row: what no clause says, as that a call succeeds where memory is there, values that are made by hand, limits, and
 //! ports that fail. They use public calls alone and stand here so that no library is proved a second time for their sake. Rows of texts are
-//! the input of the program `text_rows`, rows of calls that of `call_rows`.
+//! the input of the program `test_texts`, rows of calls that of `test_calls`.
 //!
 //! - `values`: lengths, directions and names; `programs`: DMIS programs; `wire`, `framing`: lines of the interface; `ports`
 //! - `ledgers`, `queue`, `tags`, `plans`: the values and lists that both ends stand on
