@@ -39,26 +39,6 @@ fn come(client: &mut Client) -> Result<(), AllocError>
     }
 }
 
-/// The client has its turns; why they were broken off, where they were.
-fn turns_of_client<R: Source, W: Sink, N: Watcher>(
-    client: &mut Client,
-    source: &mut R,
-    sink: &mut W,
-    watcher: &mut N,
-) -> Option<LoopFault>
-    ensures came { RunCame client.old client.new (R.left source.old) (R.left source.new)
-        (W.taken sink.old) (W.taken sink.new) result }
-    ensures read { Blames (LoopFault.Client PumpFault.ReadFailed) result
-        (R.has_failed source.old) (R.has_failed source.new) }
-    ensures written { Blames (LoopFault.Client PumpFault.WriteFailed) result
-        (W.has_failed sink.old) (W.has_failed sink.new) }
-{
-    match watch_link(client, source, sink, watcher) {
-        Ok(()) => None,
-        Err(fault) => Some(LoopFault::Client(fault)),
-    }
-}
-
 /// The text of the features that a client holds. Fails only if out of memory.
 fn features_text(alloc: Global, client: &Client) -> Result<Vec<u8>, AllocError>
     ensures { IfOk result (λ text. IsFeaturesText client.now.client.table.tally.features
@@ -90,7 +70,7 @@ fn keep_features<F: TextFile>(
 
 /// A client has its turns, and its features are put in their file; how that has ended, and the report of it. Only want of memory is an
 /// `Err`.
-fn turned_lent<R: Source, W: Sink, N: Watcher, F: TextFile>(
+fn turned<R: Source, W: Sink, N: Watcher, F: TextFile>(
     alloc: Global,
     client: &mut Client,
     source: &mut R,
@@ -117,45 +97,15 @@ fn turned_lent<R: Source, W: Sink, N: Watcher, F: TextFile>(
         end.0.ended.broken (W.has_failed sink.old) (W.has_failed sink.new)) }
 {
     come(client)?;
-    let broken = turns_of_client(client, source, sink, watcher);
+    let broken = match watch_link(client, source, sink, watcher) {
+        Ok(()) => None,
+        Err(fault) => Some(LoopFault::Client(fault)),
+    };
     let is_kept = keep_features(alloc, client, file)?;
     let text = end_report(alloc, client)?;
     let state = client.state();
     let ended = Ended { state, broken };
     Ok((Driven { ended, is_kept }, text))
-}
-
-/// The same of a client that is given up.
-fn turned<R: Source, W: Sink, N: Watcher, F: TextFile>(
-    alloc: Global,
-    client: Client,
-    source: &mut R,
-    sink: &mut W,
-    watcher: &mut N,
-    file: &mut F,
-) -> Result<(Driven, Vec<u8>), AllocError>
-    requires { may_connect 1 client.client ≡ true }
-    ensures leaves { IfOk result (λ end. LeavesRun client
-        (run_told (R.left source.old) (W.taken sink.old)
-        (file_told (F.kept file.old) (F.has_failed file.old)))
-        (run_told (R.left source.new) (W.taken sink.new)
-        (file_told (F.kept file.new) (F.has_failed file.new)))
-        end.0 end.1.items) }
-    ensures some { IfOk result (λ end. 0 < length end.1.items) }
-    ensures stops { OnErr result (StopsRun client
-        (run_told (R.left source.old) (W.taken sink.old)
-        (file_told (F.kept file.old) (F.has_failed file.old)))
-        (run_told (R.left source.new) (W.taken sink.new)
-        (file_told (F.kept file.new) (F.has_failed file.new)))) }
-    ensures read { IfOk result (λ end. Blames (LoopFault.Client PumpFault.ReadFailed)
-        end.0.ended.broken (R.has_failed source.old) (R.has_failed source.new)) }
-    ensures written { IfOk result (λ end. Blames (LoopFault.Client PumpFault.WriteFailed)
-        end.0.ended.broken (W.has_failed sink.old) (W.has_failed sink.new)) }
-{
-    let mut client = client;
-    let end = turned_lent(alloc, &mut client, source, sink, watcher, file);
-    drop(client);
-    end
 }
 
 /// Runs a program on a server: a client that may come to connection 1 comes to it and has its turns, its features are put in their file,
@@ -194,7 +144,10 @@ pub fn drive<R: Source, W: Sink, N: Watcher, F: TextFile, O: Sink>(
     ensures written { IfOk result (λ driven. Blames (LoopFault.Client PumpFault.WriteFailed)
         driven.ended.broken (W.has_failed sink.old) (W.has_failed sink.new)) }
 {
-    let (driven, text) = turned(alloc, client, source, sink, watcher, file)?;
+    let mut client = client;
+    let end = turned(alloc, &mut client, source, sink, watcher, file);
+    drop(client);
+    let (driven, text) = end?;
     write_text(out, text.as_slice())?;
     Ok(driven)
 }

@@ -21,93 +21,6 @@ use server_core::Server;
 use std::alloc::{AllocError, Global};
 use tool_rack::Setup;
 
-/// Both ends have their turns; why they were broken off, where they were.
-fn turns_of_both<M: Machine, CR: Source, CW: Sink, SR: Source, SW: Sink, N: Watcher>(
-    client: &mut Client,
-    client_source: &mut CR,
-    client_sink: &mut CW,
-    server: &mut Server,
-    machine: &mut M,
-    server_source: &mut SR,
-    server_sink: &mut SW,
-    watcher: &mut N,
-) -> Option<LoopFault>
-    ensures came { LoopCame (M.answers machine.old)
-        (client_side client.old (CR.left client_source.old) (CW.taken client_sink.old))
-        (client_side client.new (CR.left client_source.new) (CW.taken client_sink.new))
-        (server_side server.old.end (SR.left server_source.old) (SW.taken server_sink.old))
-        (server_side server.new.end (SR.left server_source.new) (SW.taken server_sink.new))
-        result }
-    ensures client_read { Blames (LoopFault.Client PumpFault.ReadFailed)
-        result (CR.has_failed client_source.old) (CR.has_failed client_source.new) }
-    ensures client_write { Blames (LoopFault.Client PumpFault.WriteFailed)
-        result (CW.has_failed client_sink.old) (CW.has_failed client_sink.new) }
-    ensures server_read { Blames (LoopFault.Server PumpFault.ReadFailed)
-        result (SR.has_failed server_source.old) (SR.has_failed server_source.new) }
-    ensures server_write { Blames (LoopFault.Server PumpFault.WriteFailed)
-        result (SW.has_failed server_sink.old) (SW.has_failed server_sink.new) }
-{
-    match loop_link(
-        client,
-        client_source,
-        client_sink,
-        server,
-        machine,
-        server_source,
-        server_sink,
-        watcher,
-    ) {
-        Ok(()) => None,
-        Err(fault) => Some(fault),
-    }
-}
-
-/// Both ends have their turns; how that has ended, and the report of them. Only want of memory is an `Err`.
-fn turns_reported<M: Machine, CR: Source, CW: Sink, SR: Source, SW: Sink, N: Watcher>(
-    alloc: Global,
-    client: &mut Client,
-    client_source: &mut CR,
-    client_sink: &mut CW,
-    server: &mut Server,
-    machine: &mut M,
-    server_source: &mut SR,
-    server_sink: &mut SW,
-    watcher: &mut N,
-) -> Result<(Ended, Vec<u8>), AllocError>
-    ensures came { IfOk result (λ end. LoopCame (M.answers machine.old)
-        (client_side client.old (CR.left client_source.old) (CW.taken client_sink.old))
-        (client_side client.new (CR.left client_source.new) (CW.taken client_sink.new))
-        (server_side server.old.end (SR.left server_source.old) (SW.taken server_sink.old))
-        (server_side server.new.end (SR.left server_source.new) (SW.taken server_sink.new))
-        end.0.broken) }
-    ensures stands { IfOk result (λ end. end.0.state ≡ client.new.client.state) }
-    ensures told { IfOk result (λ end. end.1.items
-        ≡ report_text (ends_shown client.new server.new.end.server.ledger)) }
-    ensures some { IfOk result (λ end. 0 < length end.1.items) }
-    ensures client_read { IfOk result (λ end. Blames (LoopFault.Client PumpFault.ReadFailed)
-        end.0.broken (CR.has_failed client_source.old) (CR.has_failed client_source.new)) }
-    ensures client_write { IfOk result (λ end. Blames (LoopFault.Client PumpFault.WriteFailed)
-        end.0.broken (CW.has_failed client_sink.old) (CW.has_failed client_sink.new)) }
-    ensures server_read { IfOk result (λ end. Blames (LoopFault.Server PumpFault.ReadFailed)
-        end.0.broken (SR.has_failed server_source.old) (SR.has_failed server_source.new)) }
-    ensures server_write { IfOk result (λ end. Blames (LoopFault.Server PumpFault.WriteFailed)
-        end.0.broken (SW.has_failed server_sink.old) (SW.has_failed server_sink.new)) }
-{
-    let broken = turns_of_both(
-        client,
-        client_source,
-        client_sink,
-        server,
-        machine,
-        server_source,
-        server_sink,
-        watcher,
-    );
-    let text = ends_report(alloc, client, server.ledger())?;
-    let state = client.state();
-    Ok((Ended { state, broken }, text))
-}
-
 /// The simulated machine and the server of a setup, and a new client of a program, both on connection 1. Only want of memory is an `Err`.
 fn new_ends(
     alloc: Global,
@@ -133,7 +46,7 @@ fn new_ends(
     }
 }
 
-/// The same of the ends of a program and a setup.
+/// Both ends of a program and a setup have their turns; how that has ended, and the report of them. Fails only if out of memory.
 fn looped<CR: Source, CW: Sink, SR: Source, SW: Sink, N: Watcher>(
     alloc: Global,
     setup: Setup,
@@ -163,8 +76,7 @@ fn looped<CR: Source, CW: Sink, SR: Source, SW: Sink, N: Watcher>(
         end.0.broken (SW.has_failed server_sink.old) (SW.has_failed server_sink.new)) }
 {
     let (mut machine, mut server, mut client) = new_ends(alloc, setup, program, window)?;
-    let end = turns_reported(
-        alloc,
+    let result = loop_link(
         &mut client,
         client_source,
         client_sink,
@@ -174,10 +86,16 @@ fn looped<CR: Source, CW: Sink, SR: Source, SW: Sink, N: Watcher>(
         server_sink,
         watcher,
     );
+    let text = ends_report(alloc, &client, server.ledger());
+    let state = client.state();
     drop(client);
     drop(server);
     drop(machine);
-    end
+    let broken = match result {
+        Ok(()) => None,
+        Err(fault) => Some(fault),
+    };
+    Ok((Ended { state, broken }, text?))
 }
 
 /// Runs a program of both ends: a new client of the program, with this window, and the server of the setup with its simulated machine,
