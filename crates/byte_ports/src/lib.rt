@@ -6,6 +6,7 @@
 //! is written against these two traits, so that it is proved for each device.
 //!
 //! - `ports`: the traits and `Failed`.
+//! - `pair`: the two ports of a connection.
 //! - `reading` and `writing`: ports of a reader and a writer of std.
 //! - `transfers`: `push_all` and `pull_all`, which move all bytes there are.
 //! - `pieces` and `takes`: ports over memory that simulate slow and failing
@@ -13,6 +14,7 @@
 #![tactic(auto)]
 
 mod fuse;
+mod pair;
 mod pieces;
 mod ports;
 mod reading;
@@ -20,6 +22,7 @@ mod takes;
 mod transfers;
 mod writing;
 
+pub use pair::Ports;
 pub use pieces::Pieces;
 pub use ports::{Failed, Sink, Source};
 pub use reading::Reading;

@@ -15,7 +15,7 @@ use crate::server::{self, BothTask, ServerTask, accept, is_on, push_both_task};
 use crate::shown::{lined, push_answer, push_debug, push_features, push_lines, push_text};
 use crate::stop::Stop;
 use crate::tried::{Called, Tries};
-use byte_ports::{Pieces, Takes};
+use byte_ports::{Pieces, Ports, Takes};
 use client_core::Client;
 use contact_ledger::Feature;
 use link_world::{
@@ -111,17 +111,13 @@ fn parted<'a>(row: &'a str, all: &'a str) -> Result<(Asked, &'a str), Stop> {
 // ---- either side
 
 /// What comes in on a side, and what goes out.
-#[derive(Drop)]
-struct Ports {
-    input: Pieces,
-    output: Takes,
-}
+type MemoryPorts = Ports<Pieces, Takes>;
 
-fn new_ports(alloc: Global, asked: Asked, pieces: &str) -> Result<Ports, Stop> {
-    let input = source(alloc, asked, pieces)?;
+fn new_ports(alloc: Global, asked: Asked, pieces: &str) -> Result<MemoryPorts, Stop> {
+    let source = source(alloc, asked, pieces)?;
     Ok(Ports {
-        input,
-        output: sink(alloc, asked),
+        source,
+        sink: sink(alloc, asked),
     })
 }
 
@@ -206,18 +202,12 @@ fn push_turned(
     alloc: Global,
     out: &mut Vec<u8>,
     client: &mut Client,
-    ports: &mut Ports,
+    ports: &mut MemoryPorts,
     asked: Asked,
 ) -> Result<(), AllocError> {
-    let answer = client_turns(
-        client,
-        &mut ports.input,
-        &mut ports.output,
-        asked.least,
-        asked.bound as u64,
-    );
+    let answer = client_turns(client, ports, asked.least, asked.bound as u64);
     push_answer(alloc, out, &answer)?;
-    push_client(alloc, out, client, &ports.output)
+    push_client(alloc, out, client, &ports.sink)
 }
 
 /// A whole run of a client.
@@ -225,11 +215,11 @@ fn push_ran(
     alloc: Global,
     out: &mut Vec<u8>,
     client: &mut Client,
-    ports: &mut Ports,
+    ports: &mut MemoryPorts,
 ) -> Result<(), AllocError> {
-    let answer = run_link(client, &mut ports.input, &mut ports.output);
+    let answer = run_link(client, ports);
     push_answer(alloc, out, &answer)?;
-    push_client(alloc, out, client, &ports.output)
+    push_client(alloc, out, client, &ports.sink)
 }
 
 /// What the watcher of a whole run is told.
@@ -237,10 +227,10 @@ fn push_watched(
     alloc: Global,
     out: &mut Vec<u8>,
     client: &mut Client,
-    ports: &mut Ports,
+    ports: &mut MemoryPorts,
 ) -> Result<(), AllocError> {
     let mut told = Told::new(alloc);
-    let answer = watch_link(client, &mut ports.input, &mut ports.output, &mut told);
+    let answer = watch_link(client, ports, &mut told);
     push_answer(alloc, out, &answer)?;
     told.push_to(out)
 }
@@ -250,7 +240,7 @@ fn push_called(
     alloc: Global,
     out: &mut Vec<u8>,
     client: &mut Client,
-    ports: &mut Ports,
+    ports: &mut MemoryPorts,
     (asked, word): (Asked, &str),
 ) -> Result<(), AllocError> {
     match word {
@@ -387,8 +377,7 @@ impl<'a> Calling<'a> {
 
     fn watch(&mut self, asked: Asked, pieces: &str) -> Result<(), Stop> {
         let mut ports = new_ports(self.alloc, asked, pieces)?;
-        let (input, output) = (&mut ports.input, &mut ports.output);
-        let answer = watch_link(self.client, input, output, &mut self.told);
+        let answer = watch_link(self.client, &mut ports, &mut self.told);
         push_answer(self.alloc, &mut self.shown, &answer)?;
         Ok(self.told.push_to(&mut self.shown)?)
     }
@@ -465,19 +454,12 @@ fn push_served(
     out: &mut Vec<u8>,
     server: &mut Server,
     machine: &mut Simulated,
-    ports: &mut Ports,
+    ports: &mut MemoryPorts,
     asked: Asked,
 ) -> Result<(), AllocError> {
-    let answer = serve_turns(
-        server,
-        machine,
-        &mut ports.input,
-        &mut ports.output,
-        asked.least,
-        asked.bound as u64,
-    );
+    let answer = serve_turns(server, machine, ports, asked.least, asked.bound as u64);
     push_answer(alloc, out, &answer)?;
-    push_server(out, server, &ports.output)
+    push_server(out, server, &ports.sink)
 }
 
 /// A whole run of a server.
@@ -486,11 +468,11 @@ fn push_connection(
     out: &mut Vec<u8>,
     server: &mut Server,
     machine: &mut Simulated,
-    ports: &mut Ports,
+    ports: &mut MemoryPorts,
 ) -> Result<(), AllocError> {
-    let answer = serve_link(server, machine, &mut ports.input, &mut ports.output);
+    let answer = serve_link(server, machine, ports);
     push_answer(alloc, out, &answer)?;
-    push_server(out, server, &ports.output)
+    push_server(out, server, &ports.sink)
 }
 
 /// What a server's call of this word answers, and what it leaves.
@@ -498,7 +480,7 @@ fn push_server_called(
     alloc: Global,
     out: &mut Vec<u8>,
     server: &mut Server,
-    ports: &mut Ports,
+    ports: &mut MemoryPorts,
     (asked, word): (Asked, &str),
 ) -> Result<(), AllocError> {
     let mut machine = Simulated::new(alloc, server.setup())?;
@@ -537,22 +519,13 @@ impl ServerTask for Call<'_> {
 /// A whole run of both sides in turn.
 fn loop_both(
     client: &mut Client,
-    client_ports: &mut Ports,
+    client_ports: &mut MemoryPorts,
     server: &mut Server,
     machine: &mut Simulated,
-    server_ports: &mut Ports,
+    server_ports: &mut MemoryPorts,
     told: &mut Told,
 ) -> Result<(), LoopFault> {
-    loop_link(
-        client,
-        &mut client_ports.input,
-        &mut client_ports.output,
-        server,
-        machine,
-        &mut server_ports.input,
-        &mut server_ports.output,
-        told,
-    )
+    loop_link(client, client_ports, server, machine, server_ports, told)
 }
 
 /// What such a run answers on the simulated machine; its watcher tells nobody.
@@ -560,9 +533,9 @@ fn push_looped(
     alloc: Global,
     out: &mut Vec<u8>,
     client: &mut Client,
-    client_ports: &mut Ports,
+    client_ports: &mut MemoryPorts,
     server: &mut Server,
-    server_ports: &mut Ports,
+    server_ports: &mut MemoryPorts,
 ) -> Result<(), AllocError> {
     let mut machine = Simulated::new(alloc, server.setup())?;
     let mut told = Told::new(alloc);
@@ -582,13 +555,13 @@ fn push_both(
     alloc: Global,
     out: &mut Vec<u8>,
     client: &mut Client,
-    client_ports: &mut Ports,
+    client_ports: &mut MemoryPorts,
     server: &mut Server,
-    server_ports: &mut Ports,
+    server_ports: &mut MemoryPorts,
 ) -> Result<(), AllocError> {
     push_looped(alloc, out, client, client_ports, server, server_ports)?;
-    push_client(alloc, out, client, &client_ports.output)?;
-    push_server(out, server, &server_ports.output)
+    push_client(alloc, out, client, &client_ports.sink)?;
+    push_server(out, server, &server_ports.sink)
 }
 
 /// A run of both sides over new ports, of which the server's take and give all at once.

@@ -1,5 +1,7 @@
 -- Turns of one side of a connection over its ports (this profile): what a side does, in which order, which bytes move, and where it stops.
-use Rattle.std.specs.Prelude.{◌≡◌, ℕ, ◌+◌, ◌*◌, ◌<◌, ◌≤◌, true, ⊤, Option, None, Some, List, [], ◌++◌, length, take, is_some, Ok, Err}
+use Rattle.std.specs.Prelude.{◌≡◌, ℕ, ◌+◌, ◌*◌, ◌<◌, ◌≤◌, Bool, true, false, ⊤, Option, None, Some, List, [], ◌++◌, length, take, is_some}
+use Rattle.std.specs.Prelude.{Result, Ok, Err}
+use Rattle.std.specs.Result.{IsErrOf}
 use Rattle.std.specs.Io.KnownBytes.{Appends, Consumes, IsAtEnd}
 use Rattle.line_framing.specs.Next.{Front, next_of}
 use Rattle.protocol_model.specs.Client.{due}
@@ -12,6 +14,15 @@ use Rattle.client_core.specs.declared.faults.ClientFault.TheVariants as client_f
 use Rattle.link_world.specs.declared.pumps.Moved.{Moved}
 use Rattle.link_world.specs.declared.pumps.PumpFault.{PumpFault}
 use Rattle.link_world.specs.declared.pumps.PumpFault.TheVariants as fault
+
+-- this fault blames a port: it comes only where the port has failed, and always where one that worked has failed
+abbrev pub Blames : {A E : Type 0} → E → Result A E → (before after : Bool) → Type 0
+Blames why result before after = (IsErrOf result why → after ≡ true) × (before ≡ false → after ≡ true → IsErrOf result why)
+
+-- these faults blame the two ports of a connection
+abbrev pub BlamesPorts : {A E : Type 0} → (reading writing : E) → Result A E → (read read_now written written_now : Bool) → Type 0
+BlamesPorts reading writing result read read_now written written_now =
+    Blames reading result read read_now × Blames writing result written written_now
 
 -- a client's refusal as the fault of a pump: want of memory is a fault of its own
 abbrev pub of_client : ClientFault → PumpFault ClientFault

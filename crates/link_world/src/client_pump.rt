@@ -5,12 +5,12 @@ ghost use Rattle.std.specs.Result.{IsErrOf};
 ghost use Rattle.line_framing.specs.Next.{next_of};
 ghost use Rattle.protocol_model.specs.Client.{due};
 ghost use Rattle.client_core.specs.Clients.{may_read};
-ghost use Rattle.link_world.specs.Pumps.{Sending, ClientMovedWithin, ClientStoppedWithin, HasRefused};
+ghost use Rattle.link_world.specs.Pumps.{Sending, Blames, BlamesPorts, ClientMovedWithin, ClientStoppedWithin, HasRefused};
 ghost use Rattle.link_world.specs.PumpParts.{GoesOn, ReadsOn, AllOut, Came, CameShort, IsReadFault};
 ghost use Rattle.protocol_model.specs.Ends.{end_left};
 
 use crate::pumps::{Budget, Moved, PIECE, PumpFault, pull_counted, push_counted};
-use byte_ports::{Sink, Source};
+use byte_ports::{Ports, Sink, Source};
 use client_core::{Client, ClientFault};
 
 /// The client sends each command that is due.
@@ -38,9 +38,8 @@ fn give_out<W: Sink>(
         → ClientStoppedWithin budget.old.left (W.calls sink.old) (W.calls sink.new) least
         client.old (end_left client.new) left left (W.taken sink.old) (W.taken sink.new) fault) }
     ensures bounded { W.calls sink.new + budget.new.left ≤ W.calls sink.old + budget.old.left }
-    ensures failed { IsErrOf result PumpFault.WriteFailed → W.has_failed sink.new ≡ true }
-    ensures works { W.has_failed sink.old ≡ false → W.has_failed sink.new ≡ true
-        → IsErrOf result PumpFault.WriteFailed }
+    ensures blamed { Blames PumpFault.WriteFailed result (W.has_failed sink.old)
+        (W.has_failed sink.new) }
     ensures unread { IsErrOf result PumpFault.ReadFailed → ⊥ }
 {
     send_due(client)?;
@@ -67,9 +66,8 @@ fn take_in<R: Source>(
         ≤ R.calls source.old + budget.old.left }
     ensures short { IfErr result (λ fault. CameShort at_least client.old client.new
         (R.left source.old) (R.left source.new) budget.old.left fault) }
-    ensures failed { IsErrOf result PumpFault.ReadFailed → R.has_failed source.new ≡ true }
-    ensures works { R.has_failed source.old ≡ false → R.has_failed source.new ≡ true
-        → IsErrOf result PumpFault.ReadFailed }
+    ensures blamed { Blames PumpFault.ReadFailed result (R.has_failed source.old)
+        (R.has_failed source.new) }
 {
     let mut piece = [0u8; PIECE];
     let mut read = 0;
@@ -104,34 +102,28 @@ fn read_lines(client: &mut Client, budget: &mut Budget) -> Result<(), PumpFault<
 /// The client's turn, which does not leave.
 fn turn<R: Source, W: Sink>(
     client: &mut Client,
-    source: &mut R,
-    sink: &mut W,
+    ports: &mut Ports<R, W>,
     at_least: usize,
     bound: u64,
 ) -> Result<Moved, PumpFault<ClientFault>>
     ensures moved { IfOk result (λ moved. ClientMovedWithin bound
-        (R.calls source.old + W.calls sink.old) (R.calls source.new + W.calls sink.new)
-        at_least client.old client.new (R.left source.old) (R.left source.new)
-        (W.taken sink.old) (W.taken sink.new) moved) }
+        (R.calls ports.old.source + W.calls ports.old.sink) (R.calls ports.new.source + W.calls ports.new.sink)
+        at_least client.old client.new (R.left ports.old.source) (R.left ports.new.source)
+        (W.taken ports.old.sink) (W.taken ports.new.sink) moved) }
     ensures stopped { IfErr result (λ fault. ClientStoppedWithin bound
-        (R.calls source.old + W.calls sink.old) (R.calls source.new + W.calls sink.new)
-        at_least client.old (end_left client.new) (R.left source.old) (R.left source.new)
-        (W.taken sink.old) (W.taken sink.new) fault) }
+        (R.calls ports.old.source + W.calls ports.old.sink) (R.calls ports.new.source + W.calls ports.new.sink)
+        at_least client.old (end_left client.new) (R.left ports.old.source) (R.left ports.new.source)
+        (W.taken ports.old.sink) (W.taken ports.new.sink) fault) }
     ensures few { IfOk result (λ moved. moved.read < at_least + PIECE) }
-    ensures unasked { at_least ≡ 0 → source.new ≡ source.old }
-    ensures read_failed { IsErrOf result PumpFault.ReadFailed
-        → R.has_failed source.new ≡ true }
-    ensures write_failed { IsErrOf result PumpFault.WriteFailed
-        → W.has_failed sink.new ≡ true }
-    ensures source_works { R.has_failed source.old ≡ false → R.has_failed source.new ≡ true
-        → IsErrOf result PumpFault.ReadFailed }
-    ensures sink_works { W.has_failed sink.old ≡ false → W.has_failed sink.new ≡ true
-        → IsErrOf result PumpFault.WriteFailed }
+    ensures unasked { at_least ≡ 0 → ports.new.source ≡ ports.old.source }
+    ensures blamed { BlamesPorts PumpFault.ReadFailed PumpFault.WriteFailed result
+        (R.has_failed ports.old.source) (R.has_failed ports.new.source)
+        (W.has_failed ports.old.sink) (W.has_failed ports.new.sink) }
 {
     let mut budget = Budget { left: bound };
-    let written = give_out(client, sink, &mut budget)?;
+    let written = give_out(client, &mut ports.sink, &mut budget)?;
     client.feed(&[])?;
-    let read = take_in(client, source, at_least, &mut budget)?;
+    let read = take_in(client, &mut ports.source, at_least, &mut budget)?;
     read_lines(client, &mut budget)?;
     Ok(Moved { read, written })
 }
@@ -146,31 +138,25 @@ fn turn<R: Source, W: Sink>(
 /// was or is now Faulted; `Memory`, and only then may bytes that had come be lost.
 pub fn client_turns<R: Source, W: Sink>(
     client: &mut Client,
-    source: &mut R,
-    sink: &mut W,
+    ports: &mut Ports<R, W>,
     at_least: usize,
     bound: u64,
 ) -> Result<Moved, PumpFault<ClientFault>>
     ensures moved { IfOk result (λ moved. ClientMovedWithin bound
-        (R.calls source.old + W.calls sink.old) (R.calls source.new + W.calls sink.new)
-        at_least client.old client.new (R.left source.old) (R.left source.new)
-        (W.taken sink.old) (W.taken sink.new) moved) }
+        (R.calls ports.old.source + W.calls ports.old.sink) (R.calls ports.new.source + W.calls ports.new.sink)
+        at_least client.old client.new (R.left ports.old.source) (R.left ports.new.source)
+        (W.taken ports.old.sink) (W.taken ports.new.sink) moved) }
     ensures stopped { IfErr result (λ fault. ClientStoppedWithin bound
-        (R.calls source.old + W.calls sink.old) (R.calls source.new + W.calls sink.new)
-        at_least client.old client.new (R.left source.old) (R.left source.new)
-        (W.taken sink.old) (W.taken sink.new) fault) }
+        (R.calls ports.old.source + W.calls ports.old.sink) (R.calls ports.new.source + W.calls ports.new.sink)
+        at_least client.old client.new (R.left ports.old.source) (R.left ports.new.source)
+        (W.taken ports.old.sink) (W.taken ports.new.sink) fault) }
     ensures few { IfOk result (λ moved. moved.read < at_least + PIECE) }
-    ensures unasked { at_least ≡ 0 → source.new ≡ source.old }
-    ensures read_failed { IsErrOf result PumpFault.ReadFailed
-        → R.has_failed source.new ≡ true }
-    ensures write_failed { IsErrOf result PumpFault.WriteFailed
-        → W.has_failed sink.new ≡ true }
-    ensures source_works { R.has_failed source.old ≡ false → R.has_failed source.new ≡ true
-        → IsErrOf result PumpFault.ReadFailed }
-    ensures sink_works { W.has_failed sink.old ≡ false → W.has_failed sink.new ≡ true
-        → IsErrOf result PumpFault.WriteFailed }
+    ensures unasked { at_least ≡ 0 → ports.new.source ≡ ports.old.source }
+    ensures blamed { BlamesPorts PumpFault.ReadFailed PumpFault.WriteFailed result
+        (R.has_failed ports.old.source) (R.has_failed ports.new.source)
+        (W.has_failed ports.old.sink) (W.has_failed ports.new.sink) }
 {
-    let result = turn(client, source, sink, at_least, bound);
+    let result = turn(client, ports, at_least, bound);
     if result.is_err() {
         client.leave();
     }

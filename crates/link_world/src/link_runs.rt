@@ -1,14 +1,14 @@
 // A client and a server over the ports of one connection, which have their turns by turns.
 
 ghost use Rattle.std.specs.Prelude.{◌≡◌, ◌≤◌, ◌+◌, true, false, IfOk, OnOk, OnErr, IfErr};
-ghost use Rattle.std.specs.Result.{IsErrOf};
+ghost use Rattle.link_world.specs.Pumps.{BlamesPorts};
 ghost use Rattle.link_world.specs.LinkRuns.{calls_most, client_side, server_side, are_still, PairMoved, PairStopped, LoopRan, LoopStopped};
 
 use crate::links::{LoopFault, STEPS_MAX, TURNS_MAX, Watcher, watched_turn};
 use crate::machines::Machine;
 use crate::pumps::{Moved, PumpFault};
 use crate::server_pump::serve_turns;
-use byte_ports::{Sink, Source};
+use byte_ports::{Ports, Sink, Source};
 use client_core::Client;
 use server_core::Server;
 
@@ -23,57 +23,43 @@ fn are_still(by_client: Moved, by_server: Moved) -> bool
 /// stops, the other side leaves too.
 fn pair<M: Machine, CR: Source, CW: Sink, SR: Source, SW: Sink, N: Watcher>(
     client: &mut Client,
-    client_source: &mut CR,
-    client_sink: &mut CW,
+    client_ports: &mut Ports<CR, CW>,
     server: &mut Server,
     machine: &mut M,
-    server_source: &mut SR,
-    server_sink: &mut SW,
+    server_ports: &mut Ports<SR, SW>,
     down: usize,
     watcher: &mut N,
 ) -> Result<(Moved, Moved), LoopFault>
     ensures moved { IfOk result (λ moved. PairMoved (M.answers machine.old) down
-        (client_side client.old (CR.left client_source.old) (CW.taken client_sink.old))
-        (client_side client.new (CR.left client_source.new) (CW.taken client_sink.new))
-        (server_side server.old.end (SR.left server_source.old) (SW.taken server_sink.old))
-        (server_side server.new.end (SR.left server_source.new) (SW.taken server_sink.new))
+        (client_side client.old (CR.left client_ports.old.source) (CW.taken client_ports.old.sink))
+        (client_side client.new (CR.left client_ports.new.source) (CW.taken client_ports.new.sink))
+        (server_side server.old.end (SR.left server_ports.old.source) (SW.taken server_ports.old.sink))
+        (server_side server.new.end (SR.left server_ports.new.source) (SW.taken server_ports.new.sink))
         moved.0 moved.1) }
     ensures stopped { IfErr result (λ fault. PairStopped (M.answers machine.old) down
-        (client_side client.old (CR.left client_source.old) (CW.taken client_sink.old))
-        (client_side client.new (CR.left client_source.new) (CW.taken client_sink.new))
-        (server_side server.old.end (SR.left server_source.old) (SW.taken server_sink.old))
-        (server_side server.new.end (SR.left server_source.new) (SW.taken server_sink.new))
+        (client_side client.old (CR.left client_ports.old.source) (CW.taken client_ports.old.sink))
+        (client_side client.new (CR.left client_ports.new.source) (CW.taken client_ports.new.sink))
+        (server_side server.old.end (SR.left server_ports.old.source) (SW.taken server_ports.old.sink))
+        (server_side server.new.end (SR.left server_ports.new.source) (SW.taken server_ports.new.sink))
         fault) }
     ensures client_left { OnErr result (client.new.client.on ≡ false) }
     ensures server_left { OnErr result (server.new.end.server.on ≡ false) }
-    ensures client_bounded { CR.calls client_source.new + CW.calls client_sink.new
-        ≤ CR.calls client_source.old + CW.calls client_sink.old + STEPS_MAX }
-    ensures server_bounded { SR.calls server_source.new + SW.calls server_sink.new
-        ≤ SR.calls server_source.old + SW.calls server_sink.old + STEPS_MAX }
+    ensures client_bounded { CR.calls client_ports.new.source + CW.calls client_ports.new.sink
+        ≤ CR.calls client_ports.old.source + CW.calls client_ports.old.sink + STEPS_MAX }
+    ensures server_bounded { SR.calls server_ports.new.source + SW.calls server_ports.new.sink
+        ≤ SR.calls server_ports.old.source + SW.calls server_ports.old.sink + STEPS_MAX }
     ensures setup { server.new.setup ≡ server.old.setup }
     ensures keeps { M.answers machine.new ≡ M.answers machine.old }
-    ensures client_read_failed { IsErrOf result (LoopFault.Client PumpFault.ReadFailed)
-        → CR.has_failed client_source.new ≡ true }
-    ensures client_write_failed { IsErrOf result (LoopFault.Client PumpFault.WriteFailed)
-        → CW.has_failed client_sink.new ≡ true }
-    ensures server_read_failed { IsErrOf result (LoopFault.Server PumpFault.ReadFailed)
-        → SR.has_failed server_source.new ≡ true }
-    ensures server_write_failed { IsErrOf result (LoopFault.Server PumpFault.WriteFailed)
-        → SW.has_failed server_sink.new ≡ true }
-    ensures client_source_works { CR.has_failed client_source.old ≡ false
-        → CR.has_failed client_source.new ≡ true
-        → IsErrOf result (LoopFault.Client PumpFault.ReadFailed) }
-    ensures client_sink_works { CW.has_failed client_sink.old ≡ false
-        → CW.has_failed client_sink.new ≡ true
-        → IsErrOf result (LoopFault.Client PumpFault.WriteFailed) }
-    ensures server_source_works { SR.has_failed server_source.old ≡ false
-        → SR.has_failed server_source.new ≡ true
-        → IsErrOf result (LoopFault.Server PumpFault.ReadFailed) }
-    ensures server_sink_works { SW.has_failed server_sink.old ≡ false
-        → SW.has_failed server_sink.new ≡ true
-        → IsErrOf result (LoopFault.Server PumpFault.WriteFailed) }
+    ensures client_blamed { BlamesPorts (LoopFault.Client PumpFault.ReadFailed)
+        (LoopFault.Client PumpFault.WriteFailed) result
+        (CR.has_failed client_ports.old.source) (CR.has_failed client_ports.new.source)
+        (CW.has_failed client_ports.old.sink) (CW.has_failed client_ports.new.sink) }
+    ensures server_blamed { BlamesPorts (LoopFault.Server PumpFault.ReadFailed)
+        (LoopFault.Server PumpFault.WriteFailed) result
+        (SR.has_failed server_ports.old.source) (SR.has_failed server_ports.new.source)
+        (SW.has_failed server_ports.old.sink) (SW.has_failed server_ports.new.sink) }
 {
-    let by_client = match watched_turn(client, client_source, client_sink, down, watcher) {
+    let by_client = match watched_turn(client, client_ports, down, watcher) {
         Ok(moved) => moved,
         Err(fault) => {
             server.leave();
@@ -81,14 +67,7 @@ fn pair<M: Machine, CR: Source, CW: Sink, SR: Source, SW: Sink, N: Watcher>(
         }
     };
     let asked = by_client.written;
-    match serve_turns(
-        server,
-        machine,
-        server_source,
-        server_sink,
-        asked,
-        STEPS_MAX,
-    ) {
+    match serve_turns(server, machine, server_ports, asked, STEPS_MAX) {
         Ok(by_server) => Ok((by_client, by_server)),
         Err(fault) => {
             client.leave();
@@ -106,64 +85,48 @@ fn pair<M: Machine, CR: Source, CW: Sink, SR: Source, SW: Sink, N: Watcher>(
 /// there may be 1,000,000 pairs; behind them both sides leave, and the answer is that the client's turns are spent.
 pub fn loop_link<M: Machine, CR: Source, CW: Sink, SR: Source, SW: Sink, N: Watcher>(
     client: &mut Client,
-    client_source: &mut CR,
-    client_sink: &mut CW,
+    client_ports: &mut Ports<CR, CW>,
     server: &mut Server,
     machine: &mut M,
-    server_source: &mut SR,
-    server_sink: &mut SW,
+    server_ports: &mut Ports<SR, SW>,
     watcher: &mut N,
 ) -> Result<(), LoopFault>
     ensures ran { OnOk result (LoopRan (M.answers machine.old)
-        (client_side client.old (CR.left client_source.old) (CW.taken client_sink.old))
-        (client_side client.new (CR.left client_source.new) (CW.taken client_sink.new))
-        (server_side server.old.end (SR.left server_source.old) (SW.taken server_sink.old))
-        (server_side server.new.end (SR.left server_source.new) (SW.taken server_sink.new))) }
+        (client_side client.old (CR.left client_ports.old.source) (CW.taken client_ports.old.sink))
+        (client_side client.new (CR.left client_ports.new.source) (CW.taken client_ports.new.sink))
+        (server_side server.old.end (SR.left server_ports.old.source) (SW.taken server_ports.old.sink))
+        (server_side server.new.end (SR.left server_ports.new.source) (SW.taken server_ports.new.sink))) }
     ensures stopped { IfErr result (λ fault. LoopStopped (M.answers machine.old)
-        (client_side client.old (CR.left client_source.old) (CW.taken client_sink.old))
-        (client_side client.new (CR.left client_source.new) (CW.taken client_sink.new))
-        (server_side server.old.end (SR.left server_source.old) (SW.taken server_sink.old))
-        (server_side server.new.end (SR.left server_source.new) (SW.taken server_sink.new))
+        (client_side client.old (CR.left client_ports.old.source) (CW.taken client_ports.old.sink))
+        (client_side client.new (CR.left client_ports.new.source) (CW.taken client_ports.new.sink))
+        (server_side server.old.end (SR.left server_ports.old.source) (SW.taken server_ports.old.sink))
+        (server_side server.new.end (SR.left server_ports.new.source) (SW.taken server_ports.new.sink))
         fault) }
     ensures client_left { OnErr result (client.new.client.on ≡ false) }
     ensures server_left { OnErr result (server.new.end.server.on ≡ false) }
-    ensures client_bounded { CR.calls client_source.new + CW.calls client_sink.new
-        ≤ CR.calls client_source.old + CW.calls client_sink.old + calls_most }
-    ensures server_bounded { SR.calls server_source.new + SW.calls server_sink.new
-        ≤ SR.calls server_source.old + SW.calls server_sink.old + calls_most }
+    ensures client_bounded { CR.calls client_ports.new.source + CW.calls client_ports.new.sink
+        ≤ CR.calls client_ports.old.source + CW.calls client_ports.old.sink + calls_most }
+    ensures server_bounded { SR.calls server_ports.new.source + SW.calls server_ports.new.sink
+        ≤ SR.calls server_ports.old.source + SW.calls server_ports.old.sink + calls_most }
     ensures setup { server.new.setup ≡ server.old.setup }
     ensures keeps { M.answers machine.new ≡ M.answers machine.old }
-    ensures client_read_failed { IsErrOf result (LoopFault.Client PumpFault.ReadFailed)
-        → CR.has_failed client_source.new ≡ true }
-    ensures client_write_failed { IsErrOf result (LoopFault.Client PumpFault.WriteFailed)
-        → CW.has_failed client_sink.new ≡ true }
-    ensures server_read_failed { IsErrOf result (LoopFault.Server PumpFault.ReadFailed)
-        → SR.has_failed server_source.new ≡ true }
-    ensures server_write_failed { IsErrOf result (LoopFault.Server PumpFault.WriteFailed)
-        → SW.has_failed server_sink.new ≡ true }
-    ensures client_source_works { CR.has_failed client_source.old ≡ false
-        → CR.has_failed client_source.new ≡ true
-        → IsErrOf result (LoopFault.Client PumpFault.ReadFailed) }
-    ensures client_sink_works { CW.has_failed client_sink.old ≡ false
-        → CW.has_failed client_sink.new ≡ true
-        → IsErrOf result (LoopFault.Client PumpFault.WriteFailed) }
-    ensures server_source_works { SR.has_failed server_source.old ≡ false
-        → SR.has_failed server_source.new ≡ true
-        → IsErrOf result (LoopFault.Server PumpFault.ReadFailed) }
-    ensures server_sink_works { SW.has_failed server_sink.old ≡ false
-        → SW.has_failed server_sink.new ≡ true
-        → IsErrOf result (LoopFault.Server PumpFault.WriteFailed) }
+    ensures client_blamed { BlamesPorts (LoopFault.Client PumpFault.ReadFailed)
+        (LoopFault.Client PumpFault.WriteFailed) result
+        (CR.has_failed client_ports.old.source) (CR.has_failed client_ports.new.source)
+        (CW.has_failed client_ports.old.sink) (CW.has_failed client_ports.new.sink) }
+    ensures server_blamed { BlamesPorts (LoopFault.Server PumpFault.ReadFailed)
+        (LoopFault.Server PumpFault.WriteFailed) result
+        (SR.has_failed server_ports.old.source) (SR.has_failed server_ports.new.source)
+        (SW.has_failed server_ports.old.sink) (SW.has_failed server_ports.new.sink) }
 {
     let mut down = 0;
     for _pair in 0..TURNS_MAX {
         let (by_client, by_server) = pair(
             client,
-            client_source,
-            client_sink,
+            client_ports,
             server,
             machine,
-            server_source,
-            server_sink,
+            server_ports,
             down,
             watcher,
         )?;

@@ -2,14 +2,14 @@
 
 ghost use Rattle.std.specs.Prelude.{◌≡◌, ◌↔◌, ◌<◌, ◌≤◌, ◌+◌, true, false, IsOk, IfOk, OnOk, OnErr, IfErr};
 ghost use Rattle.std.specs.Result.{IsErrOf};
-ghost use Rattle.link_world.specs.Pumps.{ClientMovedWithin, ClientStoppedWithin};
+ghost use Rattle.link_world.specs.Pumps.{BlamesPorts, ClientMovedWithin, ClientStoppedWithin};
 ghost use Rattle.link_world.specs.LinkRuns.{calls_most, is_over, ClientRan, ClientRunStopped, ServerRunStopped};
 
 use crate::client_pump::client_turns;
 use crate::machines::Machine;
 use crate::pumps::{Moved, PIECE, PumpFault};
 use crate::server_pump::serve_turns;
-use byte_ports::{Sink, Source};
+use byte_ports::{Ports, Sink, Source};
 use client_core::{Client, ClientFault, State};
 use contact_ledger::Feature;
 use server_core::{Server, ServerFault};
@@ -61,32 +61,26 @@ fn tell<N: Watcher>(client: &Client, told: usize, watcher: &mut N) {
 /// One turn of a client, of whose features the watcher is told, whether it stops or not.
 pub(crate) fn watched_turn<R: Source, W: Sink, N: Watcher>(
     client: &mut Client,
-    source: &mut R,
-    sink: &mut W,
+    ports: &mut Ports<R, W>,
     at_least: usize,
     watcher: &mut N,
 ) -> Result<Moved, PumpFault<ClientFault>>
     ensures moved { IfOk result (λ moved. ClientMovedWithin STEPS_MAX
-        (R.calls source.old + W.calls sink.old) (R.calls source.new + W.calls sink.new)
-        at_least client.old client.new (R.left source.old) (R.left source.new)
-        (W.taken sink.old) (W.taken sink.new) moved) }
+        (R.calls ports.old.source + W.calls ports.old.sink) (R.calls ports.new.source + W.calls ports.new.sink)
+        at_least client.old client.new (R.left ports.old.source) (R.left ports.new.source)
+        (W.taken ports.old.sink) (W.taken ports.new.sink) moved) }
     ensures stopped { IfErr result (λ fault. ClientStoppedWithin STEPS_MAX
-        (R.calls source.old + W.calls sink.old) (R.calls source.new + W.calls sink.new)
-        at_least client.old client.new (R.left source.old) (R.left source.new)
-        (W.taken sink.old) (W.taken sink.new) fault) }
+        (R.calls ports.old.source + W.calls ports.old.sink) (R.calls ports.new.source + W.calls ports.new.sink)
+        at_least client.old client.new (R.left ports.old.source) (R.left ports.new.source)
+        (W.taken ports.old.sink) (W.taken ports.new.sink) fault) }
     ensures few { IfOk result (λ moved. moved.read < at_least + PIECE) }
-    ensures unasked { at_least ≡ 0 → source.new ≡ source.old }
-    ensures read_failed { IsErrOf result PumpFault.ReadFailed
-        → R.has_failed source.new ≡ true }
-    ensures write_failed { IsErrOf result PumpFault.WriteFailed
-        → W.has_failed sink.new ≡ true }
-    ensures source_works { R.has_failed source.old ≡ false → R.has_failed source.new ≡ true
-        → IsErrOf result PumpFault.ReadFailed }
-    ensures sink_works { W.has_failed sink.old ≡ false → W.has_failed sink.new ≡ true
-        → IsErrOf result PumpFault.WriteFailed }
+    ensures unasked { at_least ≡ 0 → ports.new.source ≡ ports.old.source }
+    ensures blamed { BlamesPorts PumpFault.ReadFailed PumpFault.WriteFailed result
+        (R.has_failed ports.old.source) (R.has_failed ports.new.source)
+        (W.has_failed ports.old.sink) (W.has_failed ports.new.sink) }
 {
     let told = client.features().len();
-    let result = client_turns(client, source, sink, at_least, STEPS_MAX);
+    let result = client_turns(client, ports, at_least, STEPS_MAX);
     tell(client, told, watcher);
     result
 }
@@ -100,26 +94,20 @@ pub(crate) fn watched_turn<R: Source, W: Sink, N: Watcher>(
 /// where 1,000,000 is at most the count of the bytes that went out and of twice those that came in or were held unread at first.
 pub fn watch_link<R: Source, W: Sink, N: Watcher>(
     client: &mut Client,
-    source: &mut R,
-    sink: &mut W,
+    ports: &mut Ports<R, W>,
     watcher: &mut N,
 ) -> Result<(), PumpFault<ClientFault>>
-    ensures ran { OnOk result (ClientRan client.old client.new (R.left source.old)
-        (R.left source.new) (W.taken sink.old) (W.taken sink.new)) }
+    ensures ran { OnOk result (ClientRan client.old client.new (R.left ports.old.source)
+        (R.left ports.new.source) (W.taken ports.old.sink) (W.taken ports.new.sink)) }
     ensures done { OnOk result (is_over client.new.client.state ≡ true) }
     ensures stopped { IfErr result (λ fault. ClientRunStopped client.old client.new
-        (R.left source.old) (R.left source.new) (W.taken sink.old) (W.taken sink.new) fault) }
+        (R.left ports.old.source) (R.left ports.new.source) (W.taken ports.old.sink) (W.taken ports.new.sink) fault) }
     ensures left { OnErr result (client.new.client.on ≡ false) }
-    ensures bounded { R.calls source.new + W.calls sink.new
-        ≤ R.calls source.old + W.calls sink.old + calls_most }
-    ensures read_failed { IsErrOf result PumpFault.ReadFailed
-        → R.has_failed source.new ≡ true }
-    ensures write_failed { IsErrOf result PumpFault.WriteFailed
-        → W.has_failed sink.new ≡ true }
-    ensures source_works { R.has_failed source.old ≡ false → R.has_failed source.new ≡ true
-        → IsErrOf result PumpFault.ReadFailed }
-    ensures sink_works { W.has_failed sink.old ≡ false → W.has_failed sink.new ≡ true
-        → IsErrOf result PumpFault.WriteFailed }
+    ensures bounded { R.calls ports.new.source + W.calls ports.new.sink
+        ≤ R.calls ports.old.source + W.calls ports.old.sink + calls_most }
+    ensures blamed { BlamesPorts PumpFault.ReadFailed PumpFault.WriteFailed result
+        (R.has_failed ports.old.source) (R.has_failed ports.new.source)
+        (W.has_failed ports.old.sink) (W.has_failed ports.new.sink) }
 {
     let mut turns = 0;
     while !is_over(client.state()) {
@@ -127,7 +115,7 @@ pub fn watch_link<R: Source, W: Sink, N: Watcher>(
             client.leave();
             return Err(PumpFault::TurnsSpent);
         }
-        watched_turn(client, source, sink, 1, watcher)?;
+        watched_turn(client, ports, 1, watcher)?;
         turns += 1;
     }
     Ok(())
@@ -136,27 +124,21 @@ pub fn watch_link<R: Source, W: Sink, N: Watcher>(
 /// A whole run of a client over the ports of its connection, as `watch_link`, with nobody to be told.
 pub fn run_link<R: Source, W: Sink>(
     client: &mut Client,
-    source: &mut R,
-    sink: &mut W,
+    ports: &mut Ports<R, W>,
 ) -> Result<(), PumpFault<ClientFault>>
-    ensures ran { OnOk result (ClientRan client.old client.new (R.left source.old)
-        (R.left source.new) (W.taken sink.old) (W.taken sink.new)) }
+    ensures ran { OnOk result (ClientRan client.old client.new (R.left ports.old.source)
+        (R.left ports.new.source) (W.taken ports.old.sink) (W.taken ports.new.sink)) }
     ensures done { OnOk result (is_over client.new.client.state ≡ true) }
     ensures stopped { IfErr result (λ fault. ClientRunStopped client.old client.new
-        (R.left source.old) (R.left source.new) (W.taken sink.old) (W.taken sink.new) fault) }
+        (R.left ports.old.source) (R.left ports.new.source) (W.taken ports.old.sink) (W.taken ports.new.sink) fault) }
     ensures left { OnErr result (client.new.client.on ≡ false) }
-    ensures bounded { R.calls source.new + W.calls sink.new
-        ≤ R.calls source.old + W.calls sink.old + calls_most }
-    ensures read_failed { IsErrOf result PumpFault.ReadFailed
-        → R.has_failed source.new ≡ true }
-    ensures write_failed { IsErrOf result PumpFault.WriteFailed
-        → W.has_failed sink.new ≡ true }
-    ensures source_works { R.has_failed source.old ≡ false → R.has_failed source.new ≡ true
-        → IsErrOf result PumpFault.ReadFailed }
-    ensures sink_works { W.has_failed sink.old ≡ false → W.has_failed sink.new ≡ true
-        → IsErrOf result PumpFault.WriteFailed }
+    ensures bounded { R.calls ports.new.source + W.calls ports.new.sink
+        ≤ R.calls ports.old.source + W.calls ports.old.sink + calls_most }
+    ensures blamed { BlamesPorts PumpFault.ReadFailed PumpFault.WriteFailed result
+        (R.has_failed ports.old.source) (R.has_failed ports.new.source)
+        (W.has_failed ports.old.sink) (W.has_failed ports.new.sink) }
 {
-    watch_link(client, source, sink, &mut Silent)
+    watch_link(client, ports, &mut Silent)
 }
 
 /// How a run of a server ends by the fault of a turn: the end of the input is none of the run.
@@ -179,32 +161,26 @@ fn end_of(fault: PumpFault<ServerFault>) -> Result<(), PumpFault<ServerFault>>
 pub fn serve_link<M: Machine, R: Source, W: Sink>(
     server: &mut Server,
     machine: &mut M,
-    source: &mut R,
-    sink: &mut W,
+    ports: &mut Ports<R, W>,
 ) -> Result<(), PumpFault<ServerFault>>
     ensures ended { OnOk result (ServerRunStopped (M.answers machine.old) server.old.end
-        server.new.end (R.left source.old) (R.left source.new) (W.taken sink.old)
-        (W.taken sink.new) PumpFault.Ended) }
+        server.new.end (R.left ports.old.source) (R.left ports.new.source) (W.taken ports.old.sink)
+        (W.taken ports.new.sink) PumpFault.Ended) }
     ensures stopped { IfErr result (λ fault. ServerRunStopped (M.answers machine.old)
-        server.old.end server.new.end (R.left source.old) (R.left source.new) (W.taken sink.old)
-        (W.taken sink.new) fault) }
+        server.old.end server.new.end (R.left ports.old.source) (R.left ports.new.source) (W.taken ports.old.sink)
+        (W.taken ports.new.sink) fault) }
     ensures normal { IsErrOf result PumpFault.Ended → ⊥ }
     ensures left { server.new.end.server.on ≡ false }
-    ensures bounded { R.calls source.new + W.calls sink.new
-        ≤ R.calls source.old + W.calls sink.old + calls_most }
+    ensures bounded { R.calls ports.new.source + W.calls ports.new.sink
+        ≤ R.calls ports.old.source + W.calls ports.old.sink + calls_most }
     ensures setup { server.new.setup ≡ server.old.setup }
     ensures keeps { M.answers machine.new ≡ M.answers machine.old }
-    ensures read_failed { IsErrOf result PumpFault.ReadFailed
-        → R.has_failed source.new ≡ true }
-    ensures write_failed { IsErrOf result PumpFault.WriteFailed
-        → W.has_failed sink.new ≡ true }
-    ensures source_works { R.has_failed source.old ≡ false → R.has_failed source.new ≡ true
-        → IsErrOf result PumpFault.ReadFailed }
-    ensures sink_works { W.has_failed sink.old ≡ false → W.has_failed sink.new ≡ true
-        → IsErrOf result PumpFault.WriteFailed }
+    ensures blamed { BlamesPorts PumpFault.ReadFailed PumpFault.WriteFailed result
+        (R.has_failed ports.old.source) (R.has_failed ports.new.source)
+        (W.has_failed ports.old.sink) (W.has_failed ports.new.sink) }
 {
     for _turn in 0..TURNS_MAX {
-        if let Err(fault) = serve_turns(server, machine, source, sink, 1, STEPS_MAX) {
+        if let Err(fault) = serve_turns(server, machine, ports, 1, STEPS_MAX) {
             return end_of(fault);
         }
     }

@@ -1,9 +1,9 @@
 // What pumps share: what moved, why they stop, how their steps are counted, and their pushes and pulls.
 
 ghost use Rattle.std.specs.Prelude.{◌≡◌, ◌+◌, ◌<◌, ◌≤◌, true, false, length, take, [], IfOk, OnOk, OnErr, IfErr};
-ghost use Rattle.std.specs.Result.{IsErrOf};
 ghost use Rattle.std.specs.Io.KnownBytes.{Appends, Consumes};
 ghost use Rattle.link_world.specs.PumpParts.{Pushed, IsPullFault};
+ghost use Rattle.link_world.specs.Pumps.{Blames};
 
 use byte_ports::{Failed, Sink, Source};
 use client_core::ClientFault;
@@ -98,9 +98,8 @@ pub(crate) fn push_counted<W: Sink, F>(
     ensures bounded { W.calls sink.new + budget.new.left ≤ W.calls sink.old + budget.old.left }
     ensures front { IfErr result (λ fault.
         Pushed bytes.now (W.taken sink.old) (W.taken sink.new) budget.old.left fault) }
-    ensures failed { IsErrOf result PumpFault.WriteFailed → W.has_failed sink.new ≡ true }
-    ensures works { W.has_failed sink.old ≡ false → W.has_failed sink.new ≡ true
-        → IsErrOf result PumpFault.WriteFailed }
+    ensures blamed { Blames PumpFault.WriteFailed result (W.has_failed sink.old)
+        (W.has_failed sink.new) }
 {
     let mut done = 0;
     while done < bytes.len() {
@@ -132,9 +131,8 @@ pub(crate) fn pull_counted<R: Source, F>(
     ensures none { OnErr result (Consumes (R.left source.old) (R.left source.new) []) }
     ensures faults { IfErr result (λ fault.
         IsPullFault budget.old.left (R.left source.new) fault) }
-    ensures failed { IsErrOf result PumpFault.ReadFailed → R.has_failed source.new ≡ true }
-    ensures works { R.has_failed source.old ≡ false → R.has_failed source.new ≡ true
-        → IsErrOf result PumpFault.ReadFailed }
+    ensures blamed { Blames PumpFault.ReadFailed result (R.has_failed source.old)
+        (R.has_failed source.new) }
 {
     budget.count()?;
     match source.pull(piece) {

@@ -11,13 +11,13 @@ ghost use Rattle.server_core.specs.Serving.{may_feed, may_turn, with_end};
 ghost use Rattle.server_core.specs.Steady.{IsRunnable};
 ghost use Rattle.protocol_model.specs.declared.machine.Job.{Job as OneJob};
 ghost use Rattle.protocol_model.specs.declared.machine.Outcome.{Outcome as OneOutcome};
-ghost use Rattle.link_world.specs.Pumps.{Reading, Working};
+ghost use Rattle.link_world.specs.Pumps.{Blames, BlamesPorts, Reading, Working};
 ghost use Rattle.link_world.specs.ServerPumps.{ServerMovedWithin, ServerStoppedWithin};
 ghost use Rattle.link_world.specs.ServerPumpParts.{ServerGoesOn, ServerCame, ServerCameShort, ServerReadStops, ReadIn, IsWorkFault, has_work, steps_of};
 
 use crate::machines::Machine;
 use crate::pumps::{Budget, Moved, PIECE, PumpFault, pull_counted, push_counted};
-use byte_ports::{Sink, Source};
+use byte_ports::{Ports, Sink, Source};
 use protocol_model::Outcome;
 use server_core::{Server, ServerFault};
 
@@ -38,9 +38,8 @@ fn take_in<R: Source>(
         ≤ R.calls source.old + budget.old.left }
     ensures short { IfErr result (λ fault. ServerCameShort at_least server.old server.new
         (R.left source.old) (R.left source.new) budget.old.left fault) }
-    ensures failed { IsErrOf result PumpFault.ReadFailed → R.has_failed source.new ≡ true }
-    ensures works { R.has_failed source.old ≡ false → R.has_failed source.new ≡ true
-        → IsErrOf result PumpFault.ReadFailed }
+    ensures blamed { Blames PumpFault.ReadFailed result (R.has_failed source.old)
+        (R.has_failed source.new) }
 {
     let mut piece = [0u8; PIECE];
     let mut read = 0;
@@ -91,10 +90,9 @@ fn read_in<R: Source>(
     ensures setup { server.new.setup ≡ server.old.setup }
     ensures few { IfOk result (λ count. count < at_least + PIECE) }
     ensures unasked { at_least ≡ 0 → source.new ≡ source.old }
-    ensures failed { IsErrOf result PumpFault.ReadFailed → R.has_failed source.new ≡ true }
+    ensures blamed { Blames PumpFault.ReadFailed result (R.has_failed source.old)
+        (R.has_failed source.new) }
     ensures unwritten { IsErrOf result PumpFault.WriteFailed → ⊥ }
-    ensures works { R.has_failed source.old ≡ false → R.has_failed source.new ≡ true
-        → IsErrOf result PumpFault.ReadFailed }
 {
     let _known = server.view();
     server.feed(&[])?;
@@ -169,37 +167,31 @@ fn work<M: Machine>(
 fn turn<M: Machine, R: Source, W: Sink>(
     server: &mut Server,
     machine: &mut M,
-    source: &mut R,
-    sink: &mut W,
+    ports: &mut Ports<R, W>,
     at_least: usize,
     bound: u64,
 ) -> Result<Moved, PumpFault<ServerFault>>
     ensures moved { IfOk result (λ moved. ServerMovedWithin (M.answers machine.old) bound
-        (R.calls source.old + W.calls sink.old) (R.calls source.new + W.calls sink.new)
-        at_least server.old.end server.new.end (R.left source.old) (R.left source.new)
-        (W.taken sink.old) (W.taken sink.new) moved) }
+        (R.calls ports.old.source + W.calls ports.old.sink) (R.calls ports.new.source + W.calls ports.new.sink)
+        at_least server.old.end server.new.end (R.left ports.old.source) (R.left ports.new.source)
+        (W.taken ports.old.sink) (W.taken ports.new.sink) moved) }
     ensures stopped { IfErr result (λ fault. ServerStoppedWithin (M.answers machine.old) bound
-        (R.calls source.old + W.calls sink.old) (R.calls source.new + W.calls sink.new)
-        at_least server.old.end (serving_left server.new.end) (R.left source.old)
-        (R.left source.new) (W.taken sink.old) (W.taken sink.new) fault) }
+        (R.calls ports.old.source + W.calls ports.old.sink) (R.calls ports.new.source + W.calls ports.new.sink)
+        at_least server.old.end (serving_left server.new.end) (R.left ports.old.source)
+        (R.left ports.new.source) (W.taken ports.old.sink) (W.taken ports.new.sink) fault) }
     ensures setup { server.new.setup ≡ server.old.setup }
     ensures keeps { M.answers machine.new ≡ M.answers machine.old }
     ensures few { IfOk result (λ moved. moved.read < at_least + PIECE) }
-    ensures unasked { at_least ≡ 0 → source.new ≡ source.old }
-    ensures read_failed { IsErrOf result PumpFault.ReadFailed
-        → R.has_failed source.new ≡ true }
-    ensures write_failed { IsErrOf result PumpFault.WriteFailed
-        → W.has_failed sink.new ≡ true }
-    ensures source_works { R.has_failed source.old ≡ false → R.has_failed source.new ≡ true
-        → IsErrOf result PumpFault.ReadFailed }
-    ensures sink_works { W.has_failed sink.old ≡ false → W.has_failed sink.new ≡ true
-        → IsErrOf result PumpFault.WriteFailed }
+    ensures unasked { at_least ≡ 0 → ports.new.source ≡ ports.old.source }
+    ensures blamed { BlamesPorts PumpFault.ReadFailed PumpFault.WriteFailed result
+        (R.has_failed ports.old.source) (R.has_failed ports.new.source)
+        (W.has_failed ports.old.sink) (W.has_failed ports.new.sink) }
 {
     let mut budget = Budget { left: bound };
-    let read = read_in(server, source, at_least, &mut budget)?;
+    let read = read_in(server, &mut ports.source, at_least, &mut budget)?;
     work(server, machine, &mut budget)?;
     let written = server.out().len();
-    push_counted(sink, server.out(), &mut budget)?;
+    push_counted(&mut ports.sink, server.out(), &mut budget)?;
     server.sent(written);
     Ok(Moved { read, written })
 }
@@ -215,33 +207,27 @@ fn turn<M: Machine, R: Source, W: Sink>(
 pub fn serve_turns<M: Machine, R: Source, W: Sink>(
     server: &mut Server,
     machine: &mut M,
-    source: &mut R,
-    sink: &mut W,
+    ports: &mut Ports<R, W>,
     at_least: usize,
     bound: u64,
 ) -> Result<Moved, PumpFault<ServerFault>>
     ensures moved { IfOk result (λ moved. ServerMovedWithin (M.answers machine.old) bound
-        (R.calls source.old + W.calls sink.old) (R.calls source.new + W.calls sink.new)
-        at_least server.old.end server.new.end (R.left source.old) (R.left source.new)
-        (W.taken sink.old) (W.taken sink.new) moved) }
+        (R.calls ports.old.source + W.calls ports.old.sink) (R.calls ports.new.source + W.calls ports.new.sink)
+        at_least server.old.end server.new.end (R.left ports.old.source) (R.left ports.new.source)
+        (W.taken ports.old.sink) (W.taken ports.new.sink) moved) }
     ensures stopped { IfErr result (λ fault. ServerStoppedWithin (M.answers machine.old) bound
-        (R.calls source.old + W.calls sink.old) (R.calls source.new + W.calls sink.new)
-        at_least server.old.end server.new.end (R.left source.old) (R.left source.new)
-        (W.taken sink.old) (W.taken sink.new) fault) }
+        (R.calls ports.old.source + W.calls ports.old.sink) (R.calls ports.new.source + W.calls ports.new.sink)
+        at_least server.old.end server.new.end (R.left ports.old.source) (R.left ports.new.source)
+        (W.taken ports.old.sink) (W.taken ports.new.sink) fault) }
     ensures setup { server.new.setup ≡ server.old.setup }
     ensures keeps { M.answers machine.new ≡ M.answers machine.old }
     ensures few { IfOk result (λ moved. moved.read < at_least + PIECE) }
-    ensures unasked { at_least ≡ 0 → source.new ≡ source.old }
-    ensures read_failed { IsErrOf result PumpFault.ReadFailed
-        → R.has_failed source.new ≡ true }
-    ensures write_failed { IsErrOf result PumpFault.WriteFailed
-        → W.has_failed sink.new ≡ true }
-    ensures source_works { R.has_failed source.old ≡ false → R.has_failed source.new ≡ true
-        → IsErrOf result PumpFault.ReadFailed }
-    ensures sink_works { W.has_failed sink.old ≡ false → W.has_failed sink.new ≡ true
-        → IsErrOf result PumpFault.WriteFailed }
+    ensures unasked { at_least ≡ 0 → ports.new.source ≡ ports.old.source }
+    ensures blamed { BlamesPorts PumpFault.ReadFailed PumpFault.WriteFailed result
+        (R.has_failed ports.old.source) (R.has_failed ports.new.source)
+        (W.has_failed ports.old.sink) (W.has_failed ports.new.sink) }
 {
-    let result = turn(server, machine, source, sink, at_least, bound);
+    let result = turn(server, machine, ports, at_least, bound);
     if result.is_err() {
         server.leave();
     }

@@ -6,14 +6,14 @@ use Rattle.link_world.proofs.link_runs.pair.Goals as goal
 
 pub returns-in-Err-clause-stopped : goal.returns-in-Err-clause-stopped
 returns-in-Err-clause-stopped g c = client_stops c.in-Err.fault c.in-Err.ensures.stopped.front
-    (ap (λ (s : Serving). server_side s.end (g.SR.Source.left c.args.server_source.now) (g.SW.Sink.taken c.args.server_sink.now))
+    (ap (λ (s : Serving). server_side s.end (g.SR.Source.left c.args.server_ports.now.source) (g.SW.Sink.taken c.args.server_ports.now.sink))
     c.leave.ensures)
 
 pub returns-in-Err-serve_turns-clause-stopped : goal.returns-in-Err-serve_turns-clause-stopped
 returns-in-Err-serve_turns-clause-stopped g c = server_stops
-    (client_side c.watched_turn.new.client (g.CR.Source.left c.watched_turn.new.source) (g.CW.Sink.taken c.watched_turn.new.sink))
+    (client_side c.watched_turn.new.client (g.CR.Source.left c.watched_turn.new.ports.source) (g.CW.Sink.taken c.watched_turn.new.ports.sink))
     c.in-Ok.moved c.in-Err-serve_turns.fault c.in-Ok.ensures.moved.whole c.in-Err-serve_turns.ensures.stopped.front
-    (ap (λ (e : ClientEnd). client_side e (g.CR.Source.left c.watched_turn.new.source) (g.CW.Sink.taken c.watched_turn.new.sink))
+    (ap (λ (e : ClientEnd). client_side e (g.CR.Source.left c.watched_turn.new.ports.source) (g.CW.Sink.taken c.watched_turn.new.ports.sink))
     c.leave-in-Err-serve_turns.ensures)
 
 pub returns-in-Err-clause-client_bounded : goal.returns-in-Err-clause-client_bounded

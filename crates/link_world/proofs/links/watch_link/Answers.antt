@@ -6,7 +6,7 @@ use Rattle.link_world.proofs.links.watch_link.Goals as goal
 
 pub loop-client-init : goal.loop-client-init
 loop-client-init g c = (
-  client_starts c.args.client.now (g.R.Source.left c.args.source.now) (g.W.Sink.taken c.args.sink.now),
+  client_starts c.args.client.now (g.R.Source.left c.args.ports.now.source) (g.W.Sink.taken c.args.ports.now.sink),
   omega arith,
   omega arith,
   λ works. works,
@@ -15,14 +15,14 @@ loop-client-init g c = (
 
 pub returns-then-turns-eq-TURNS_MAX-clause-stopped : goal.returns-then-turns-eq-TURNS_MAX-clause-stopped
 returns-then-turns-eq-TURNS_MAX-clause-stopped g c = client_spends c.loop-client.turns c.args.client.now c.loop-client.client
-    c.leave.new.self (g.R.Source.left c.args.source.now) (g.R.Source.left c.loop-client.source) (g.W.Sink.taken c.args.sink.now)
-    (g.W.Sink.taken c.loop-client.sink) c.loop-client.invariant.0 (search rules) (grind arith) c.leave.ensures
+    c.leave.new.self (g.R.Source.left c.args.ports.now.source) (g.R.Source.left c.loop-client.ports.source) (g.W.Sink.taken c.args.ports.now.sink)
+    (g.W.Sink.taken c.loop-client.ports.sink) c.loop-client.invariant.0 (search rules) (grind arith) c.leave.ensures
 
 pub returns-in_err-watched_turn-clause-stopped : goal.returns-in_err-watched_turn-clause-stopped
 returns-in_err-watched_turn-clause-stopped g c = if_err c.from_residual.result _ _ c.from_residual.ensures.0 c.from_residual.ensures.1
-    (client_stops c.loop-client.turns c.args.client.now c.loop-client.client c.watched_turn.new.client (g.R.Source.left c.args.source.now)
-    (g.R.Source.left c.loop-client.source) (g.R.Source.left c.watched_turn.new.source) (g.W.Sink.taken c.args.sink.now)
-    (g.W.Sink.taken c.loop-client.sink) (g.W.Sink.taken c.watched_turn.new.sink) c.in_err-watched_turn.field-0.0
+    (client_stops c.loop-client.turns c.args.client.now c.loop-client.client c.watched_turn.new.client (g.R.Source.left c.args.ports.now.source)
+    (g.R.Source.left c.loop-client.ports.source) (g.R.Source.left c.watched_turn.new.ports.source) (g.W.Sink.taken c.args.ports.now.sink)
+    (g.W.Sink.taken c.loop-client.ports.sink) (g.W.Sink.taken c.watched_turn.new.ports.sink) c.in_err-watched_turn.field-0.0
     c.loop-client.invariant.0 (search rules) (grind arith) c.in_err-watched_turn.ensures.stopped.front)
 
 pub returns-in_err-watched_turn-clause-bounded : goal.returns-in_err-watched_turn-clause-bounded
@@ -33,9 +33,9 @@ returns-in_err-watched_turn-clause-bounded g c =
 
 pub loop-client-preserved : goal.loop-client-preserved
 loop-client-preserved g c = (
-  client_goes c.loop-client.turns c.args.client.now c.loop-client.client c.watched_turn.new.client (g.R.Source.left c.args.source.now)
-      (g.R.Source.left c.loop-client.source) (g.R.Source.left c.watched_turn.new.source) (g.W.Sink.taken c.args.sink.now)
-      (g.W.Sink.taken c.loop-client.sink) (g.W.Sink.taken c.watched_turn.new.sink) c.in_ok-watched_turn.field-0
+  client_goes c.loop-client.turns c.args.client.now c.loop-client.client c.watched_turn.new.client (g.R.Source.left c.args.ports.now.source)
+      (g.R.Source.left c.loop-client.ports.source) (g.R.Source.left c.watched_turn.new.ports.source) (g.W.Sink.taken c.args.ports.now.sink)
+      (g.W.Sink.taken c.loop-client.ports.sink) (g.W.Sink.taken c.watched_turn.new.ports.sink) c.in_ok-watched_turn.field-0
       c.loop-client.invariant.0 (search rules) c.in_ok-watched_turn.ensures.moved.whole,
   grind (arith, common_steps),
   (let before = c.loop-client.invariant.2 in
