@@ -14,6 +14,16 @@ use Rattle.dme_orders.specs.declared.faults.OrderFault.TheVariants as fault
 abbrev pub Blames : LoopFault → Option LoopFault → Bool → Bool → Type 0
 Blames fault broken before after = (broken ≡ Some fault → after ≡ true) × (before ≡ false → after ≡ true → broken ≡ Some fault)
 
+-- the two ports of the client are blamed so
+abbrev pub BlamesClient : Option LoopFault → (read read_now written written_now : Bool) → Type 0
+BlamesClient broken read read_now written written_now =
+    Blames (link.Client pump.ReadFailed) broken read read_now × Blames (link.Client pump.WriteFailed) broken written written_now
+
+-- and so those of the server
+abbrev pub BlamesServer : Option LoopFault → (read read_now written written_now : Bool) → Type 0
+BlamesServer broken read read_now written written_now =
+    Blames (link.Server pump.ReadFailed) broken read read_now × Blames (link.Server pump.WriteFailed) broken written written_now
+
 -- what a client's refusal says of its connection
 abbrev pub client_cause : ClientFault → List ℕ
 client_cause (client_fault.Faulted cause) = codes "the server answered what has no place\n"

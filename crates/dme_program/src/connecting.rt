@@ -8,7 +8,7 @@ use crate::faults::Fault;
 use crate::files::Sources;
 use crate::progress::Progress;
 use crate::tracing::Traced;
-use byte_ports::{Reading, Writing};
+use byte_ports::{Ports, Reading, Writing};
 use dme_orders::{FilesFault, InputFiles, OrderFault, loop_over, setup_and_program, shown_fault};
 use dme_words::Loop;
 use dmis_program::Program;
@@ -75,17 +75,21 @@ fn loop_ends<R: Print + Eprint + Net<Listener = TcpListener, Stream = TcpStream>
         Err(error) => return Err(no_connection(&error, shown.progress)),
     };
     let mut watcher = Progress::new(rt, shown.progress, program.features().len());
-    let mut client_sink = Traced::new(rt, Writing::new(&near), ">", shown.trace);
-    let mut server_sink = Traced::new(rt, Writing::new(&far), "<", shown.trace);
+    let mut client_ports = Ports {
+        source: Reading::new(&near),
+        sink: Traced::new(rt, Writing::new(&near), ">", shown.trace),
+    };
+    let mut server_ports = Ports {
+        source: Reading::new(&far),
+        sink: Traced::new(rt, Writing::new(&far), "<", shown.trace),
+    };
     let result = loop_over(
         rt.alloc(),
         setup,
         program,
         window,
-        &mut Reading::new(&near),
-        &mut client_sink,
-        &mut Reading::new(&far),
-        &mut server_sink,
+        &mut client_ports,
+        &mut server_ports,
         &mut watcher,
         &mut Writing::new(io::writer(rt)),
     );

@@ -9,7 +9,7 @@ use crate::faults::Fault;
 use crate::files::Sources;
 use crate::progress::Progress;
 use crate::text_files::NamedFile;
-use byte_ports::{Reading, Writing};
+use byte_ports::{Ports, Reading, Writing};
 use contact_ledger::FeatureLedger;
 use dme_orders::{Driven, InputFiles, OrderFault, drive, features_and_program, kept_client};
 use dme_words::Run;
@@ -63,11 +63,14 @@ fn drive_program<
         Ok(stream) => stream,
         Err(error) => return Err(no_connection(&error, call.progress)),
     };
+    let mut ports = Ports {
+        source: Reading::new(&stream),
+        sink: Writing::new(&stream),
+    };
     let result = drive(
         rt.alloc(),
         client,
-        &mut Reading::new(&stream),
-        &mut Writing::new(&stream),
+        &mut ports,
         &mut watcher,
         &mut file,
         &mut Writing::new(io::writer(rt)),

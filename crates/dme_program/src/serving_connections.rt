@@ -5,7 +5,7 @@ use crate::explaining::refused;
 use crate::faults::Fault;
 use crate::files::Sources;
 use crate::text_files::NamedFile;
-use byte_ports::{Reading, Writing};
+use byte_ports::{Ports, Reading, Writing};
 use dme_orders::{
     InputFiles, OrderFault, close_service, read_setup, serve_one, shown_break, with_break,
 };
@@ -50,9 +50,11 @@ fn serve_connections<R: Eprint + Net<Listener = TcpListener, Stream = TcpStream>
             return with_break(broken, Err(PumpFault::ReadFailed));
         };
         tell(rt, post.progress, number, "taken");
-        let mut source = Reading::new(&stream);
-        let mut sink = Writing::new(&stream);
-        let result = serve_one(server, machine, number, &mut source, &mut sink);
+        let mut ports = Ports {
+            source: Reading::new(&stream),
+            sink: Writing::new(&stream),
+        };
+        let result = serve_one(server, machine, number, &mut ports);
         broken = with_break(broken, result);
         tell(rt, post.progress, number, "left");
     }
