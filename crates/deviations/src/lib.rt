@@ -3,11 +3,13 @@
 //! - `along`: a deviation, and its part along the normal of the surface
 //! - `rows`: the measured points of features with what asked for them and how far they lie from there
 //! - `records`: the table as comma-separated values; `objects`: as JSON; `printed`: how values are printed
+//! - `forms`: the forms in which what was measured is printed; a drawing is that of the crate `drawings`
 //! - `faults`: why there are none
 #![tactic(auto)]
 
 pub mod along;
 mod faults;
+pub mod forms;
 mod objects;
 mod printed;
 mod records;
@@ -15,6 +17,7 @@ pub mod rows;
 
 pub use along::{Deviation, along_normal, one_length_is_along};
 pub use faults::RowsFault;
+pub use forms::Form;
 pub use objects::write_json;
 pub use records::write_csv;
 pub use rows::{Row, rows_of};

@@ -1,5 +1,5 @@
 -- What follows from how both ends have had their turns.
-use Rattle.std.proofs.Common.{◌≡◌, ℕ, List, [], subst, Result, Ok, Err, IfOk}
+use Rattle.std.proofs.Common.{◌≡◌, ℕ, List, [], subst}
 use Rattle.fixed_um.specs.declared.lengths.Point.{Point}
 use Rattle.tool_rack.specs.Setups.{SetupValue}
 use Rattle.dmis_program.specs.Meaning.{Meaning}
@@ -44,19 +44,3 @@ loop_leaves window setup program ports now shifts client_old client server_old s
       stands = stands;
       told = told;
     }
-
--- the same where there is such a report
-pub loops_leave : {V E : Type 0} (result : Result (Ended × V) E) (items : V → List ℕ) (window : ℕ) (setup : SetupValue) (program : Meaning)
-    (ports now : FourTold) (shifts : List Point) (client_old client : ClientEnd) (server_old server : Serving)
-    → IfOk result (λ end. LoopCame (simulated shifts) (client_side client_old ports.client_left ports.client_taken)
-    (client_side client now.client_left now.client_taken) (server_side server_old.end ports.server_left ports.server_taken)
-    (server_side server.end now.server_left now.server_taken) end.0.broken)
-    → shifts ≡ setup.shifts → client_old ≡ first_client program [] window
-    → server_old ≡ record { setup = setup; end = first_server setup } → IfOk result (λ end. end.0.state ≡ client.client.state)
-    → IfOk result (λ end. items end.1 ≡ report_text (ends_shown client server.end.server.ledger))
-    → IfOk result (λ end. LeavesLoop window setup program ports now end.0 (items end.1))
-loops_leave (Ok end) items window setup program ports now shifts client_old client server_old server came machine begun served stands told =
-    loop_leaves window setup program ports now shifts client_old client server_old server end.0 (items end.1) came machine begun served
-    stands told
-loops_leave (Err fault) items window setup program ports now shifts client_old client server_old server came machine begun served stands told =
-    tt

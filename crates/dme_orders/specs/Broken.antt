@@ -4,7 +4,6 @@ use Rattle.client_core.specs.declared.faults.ClientFault.{ClientFault}
 use Rattle.client_core.specs.declared.faults.ClientFault.TheVariants as client_fault
 use Rattle.server_core.specs.declared.faults.ServerFault.{ServerFault}
 use Rattle.server_core.specs.declared.faults.ServerFault.TheVariants as server_fault
-use Rattle.link_world.specs.declared.pumps.PumpFault.{PumpFault}
 use Rattle.link_world.specs.declared.pumps.PumpFault.TheVariants as pump
 use Rattle.link_world.specs.declared.links.LoopFault.{LoopFault}
 use Rattle.link_world.specs.declared.links.LoopFault.TheVariants as link
@@ -14,6 +13,16 @@ use Rattle.dme_orders.specs.declared.faults.OrderFault.TheVariants as fault
 -- this fault blames a port: it broke the connection off only where the port has failed, and it did where a port that worked has failed
 abbrev pub Blames : LoopFault → Option LoopFault → Bool → Bool → Type 0
 Blames fault broken before after = (broken ≡ Some fault → after ≡ true) × (before ≡ false → after ≡ true → broken ≡ Some fault)
+
+-- the two ports of the client are blamed so
+abbrev pub BlamesClient : Option LoopFault → (read read_now written written_now : Bool) → Type 0
+BlamesClient broken read read_now written written_now =
+    Blames (link.Client pump.ReadFailed) broken read read_now × Blames (link.Client pump.WriteFailed) broken written written_now
+
+-- and so those of the server
+abbrev pub BlamesServer : Option LoopFault → (read read_now written written_now : Bool) → Type 0
+BlamesServer broken read read_now written written_now =
+    Blames (link.Server pump.ReadFailed) broken read read_now × Blames (link.Server pump.WriteFailed) broken written written_now
 
 -- what a client's refusal says of its connection
 abbrev pub client_cause : ClientFault → List ℕ

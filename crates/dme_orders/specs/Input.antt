@@ -1,5 +1,5 @@
 -- The files of an order, each read to its end and understood before the next is read (this profile).
-use Rattle.std.specs.Prelude.{◌≡◌, ◌⊎◌, ℕ, List, [], Bool, Option, Some, None}
+use Rattle.std.specs.Prelude.{◌⊎◌, ℕ, List, [], Bool, Option, Some, None}
 use Rattle.fixed_um.specs.declared.lengths.Point.{Point}
 use Rattle.contact_ledger.specs.declared.acts.Act.{Act}
 use Rattle.contact_ledger.specs.declared.features.Feature.{Feature}

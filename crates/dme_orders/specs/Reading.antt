@@ -1,11 +1,13 @@
 -- What reading a file of an order leaves, from any source that tells its bytes.
-use Rattle.std.specs.Prelude.{◌≡◌, ℕ, List, [], Bool, true, false, Option, Some, Ok, Err, IfSome}
+use Rattle.std.specs.Prelude.{◌≡◌, ℕ, List, [], Bool, false, Option, Some, Ok, Err, IfSome}
 use Rattle.fixed_um.specs.declared.lengths.Point.{Point}
 use Rattle.contact_ledger.specs.FeatureTexts.{IsFeatures, IsDamagedFeatures}
 use Rattle.contact_ledger.specs.ContactTexts.{IsContacts, IsDamagedContacts}
 use Rattle.contact_ledger.specs.declared.acts.Act.{Act}
 use Rattle.contact_ledger.specs.declared.features.Feature.{Feature}
 use Rattle.contact_ledger.specs.declared.faults.TextFault.TheVariants as ledger
+use Rattle.deviations.specs.declared.faults.RowsFault.{RowsFault}
+use Rattle.deviations.specs.declared.faults.RowsFault.TheVariants as rows
 use Rattle.tool_rack.specs.Setups.{SetupValue, setup_of}
 use Rattle.tool_rack.specs.declared.faults.SetupFault.TheVariants as setup
 use Rattle.link_world.specs.ScheduleTexts.{schedule_of}
@@ -14,19 +16,15 @@ use Rattle.link_world.specs.declared.schedule_faults.ScheduleFault.TheVariants a
 use Rattle.dmis_program.specs.Meaning.{Meaning, program_of}
 use Rattle.dmis_program.specs.declared.faults.ProgramFault.TheVariants as program
 use Rattle.dme_orders.specs.Checked.{IsUnread}
-use Rattle.dme_orders.specs.declared.check.CheckFault.{CheckFault}
-use Rattle.dme_orders.specs.declared.check.CheckFault.TheVariants as check
 use Rattle.dme_orders.specs.declared.reading.Role.{Role}
 use Rattle.dme_orders.specs.declared.reading.Role.TheVariants as role
 use Rattle.dme_orders.specs.declared.reading.FilesFault.{FilesFault}
 use Rattle.dme_orders.specs.declared.reading.FilesFault.TheVariants as fault
 
--- what the fault of a check is to an order
-abbrev pub told_of_program : CheckFault → FilesFault
-told_of_program (check.Program cause) = fault.Program cause
-told_of_program check.Read = fault.Unread role.Program
-told_of_program check.Write = fault.Write
-told_of_program check.Memory = fault.Memory
+-- what features without a table are to an order
+abbrev pub told_of_rows : RowsFault → FilesFault
+told_of_rows rows.NotOurs = fault.NotOurs
+told_of_rows rows.Memory = fault.Memory
 
 -- a source that told this text was read to its end, and this holds of the text
 pub record WasRead (left : Option (List ℕ)) (Holds : List ℕ → Type 0) (text : List ℕ) : Type 0 where

@@ -51,30 +51,40 @@ fn audited(
     end
 }
 
+/// The files of an audit, as sources.
+#[derive(Drop)]
+pub struct AuditFiles<S, F, C, R> {
+    /// The machine's setup.
+    pub setup: S,
+    /// The features that the client holds.
+    pub features: F,
+    /// The contacts that the server made.
+    pub contacts: C,
+    /// The DMIS program.
+    pub program: R,
+}
+
 /// Reads a setup, then features, then contacts, then a program under the setup's frames, each to the end of its text and understood before
 /// the next is read.
 fn audit_input<S: Source, F: Source, C: Source, R: Source>(
     alloc: Global,
-    setup: &mut S,
-    features: &mut F,
-    contacts: &mut C,
-    program: &mut R,
+    files: &mut AuditFiles<S, F, C, R>,
 ) -> Result<(FeatureLedger, ServerLedger, Program), FilesFault>
     ensures ok { IfOk result (λ read. (said : SetupValue)
-        × ReadsAudit (came S.left S.has_failed setup.old setup.new)
-        (came F.left F.has_failed features.old features.new)
-        (came C.left C.has_failed contacts.old contacts.new)
-        (came R.left R.has_failed program.old program.new)
+        × ReadsAudit (came S.left S.has_failed files.old.setup files.new.setup)
+        (came F.left F.has_failed files.old.features files.new.features)
+        (came C.left C.has_failed files.old.contacts files.new.contacts)
+        (came R.left R.has_failed files.old.program files.new.program)
         (record { setup = said; features = read.0; ledger = read.1; program = read.2 })) }
-    ensures err { IfErr result (WhyNoAudit (came S.left S.has_failed setup.old setup.new)
-        (came F.left F.has_failed features.old features.new)
-        (came C.left C.has_failed contacts.old contacts.new)
-        (came R.left R.has_failed program.old program.new)) }
+    ensures err { IfErr result (WhyNoAudit (came S.left S.has_failed files.old.setup files.new.setup)
+        (came F.left F.has_failed files.old.features files.new.features)
+        (came C.left C.has_failed files.old.contacts files.new.contacts)
+        (came R.left R.has_failed files.old.program files.new.program)) }
 {
-    let setup = read_setup(alloc, setup)?;
-    let features = features_from(alloc, features)?;
-    let ledger = contacts_from(alloc, contacts)?;
-    let program = read_program(alloc, setup.frames(), program)?;
+    let setup = read_setup(alloc, &mut files.setup)?;
+    let features = features_from(alloc, &mut files.features)?;
+    let ledger = contacts_from(alloc, &mut files.contacts)?;
+    let program = read_program(alloc, setup.frames(), &mut files.program)?;
     Ok((features, ledger, program))
 }
 
@@ -85,19 +95,16 @@ fn audit_input<S: Source, F: Source, C: Source, R: Source>(
 /// It writes only once the whole line stands. No file is blamed but for its own first refusal, or where it was not read.
 pub fn audit_files<S: Source, F: Source, C: Source, R: Source, W: Sink>(
     alloc: Global,
-    setup: &mut S,
-    features: &mut F,
-    contacts: &mut C,
-    program: &mut R,
+    files: &mut AuditFiles<S, F, C, R>,
     sink: &mut W,
 ) -> Result<u8, FilesFault>
-    ensures { Audits (came S.left S.has_failed setup.old setup.new)
-        (came F.left F.has_failed features.old features.new)
-        (came C.left C.has_failed contacts.old contacts.new)
-        (came R.left R.has_failed program.old program.new)
+    ensures { Audits (came S.left S.has_failed files.old.setup files.new.setup)
+        (came F.left F.has_failed files.old.features files.new.features)
+        (came C.left C.has_failed files.old.contacts files.new.contacts)
+        (came R.left R.has_failed files.old.program files.new.program)
         (went W.taken W.has_failed sink.old sink.new) result }
 {
-    let (features, ledger, program) = audit_input(alloc, setup, features, contacts, program)?;
+    let (features, ledger, program) = audit_input(alloc, files)?;
     let (status, text) = audited(alloc, features, ledger, program)?;
     write_text(sink, text.as_slice())?;
     Ok(status)

@@ -3,7 +3,7 @@
 ghost use Rattle.std.specs.Prelude.{◌≡◌, ◌<◌, length, true, Some, OnOk, OnErr, IfOk, IsErrOf};
 ghost use Rattle.protocol_model.specs.Ends.{end_connected};
 ghost use Rattle.client_core.specs.Clients.{may_connect};
-ghost use Rattle.dme_orders.specs.Broken.{Blames};
+ghost use Rattle.dme_orders.specs.Broken.{BlamesClient};
 ghost use Rattle.dme_orders.specs.Driving.{file_told, run_told, IsFeaturesText, RunCame, Keeps, LeavesRun, StopsRun};
 ghost use Rattle.dme_orders.specs.Orders.{went, Prints};
 
@@ -12,10 +12,10 @@ use crate::ends::end_report;
 use crate::reading::FilesFault;
 use crate::simulating::write_text;
 use crate::text_files::TextFile;
-use byte_ports::{Failed, Sink, Source};
+use byte_ports::{Failed, Ports, Sink, Source};
 use client_core::{Client, ClientFault};
 use contact_ledger::write_features;
-use link_world::{LoopFault, PumpFault, Watcher, watch_link};
+use link_world::{LoopFault, Watcher, watch_link};
 use std::alloc::{AllocError, Global};
 
 /// How a run on a server has ended.
@@ -36,26 +36,6 @@ fn come(client: &mut Client) -> Result<(), AllocError>
         Ok(()) => Ok(()),
         Err(ClientFault::Memory) => Err(AllocError),
         Err(_) => unreachable!(),
-    }
-}
-
-/// The client has its turns; why they were broken off, where they were.
-fn turns_of_client<R: Source, W: Sink, N: Watcher>(
-    client: &mut Client,
-    source: &mut R,
-    sink: &mut W,
-    watcher: &mut N,
-) -> Option<LoopFault>
-    ensures came { RunCame client.old client.new (R.left source.old) (R.left source.new)
-        (W.taken sink.old) (W.taken sink.new) result }
-    ensures read { Blames (LoopFault.Client PumpFault.ReadFailed) result
-        (R.has_failed source.old) (R.has_failed source.new) }
-    ensures written { Blames (LoopFault.Client PumpFault.WriteFailed) result
-        (W.has_failed sink.old) (W.has_failed sink.new) }
-{
-    match watch_link(client, source, sink, watcher) {
-        Ok(()) => None,
-        Err(fault) => Some(LoopFault::Client(fault)),
     }
 }
 
@@ -90,72 +70,40 @@ fn keep_features<F: TextFile>(
 
 /// A client has its turns, and its features are put in their file; how that has ended, and the report of it. Only want of memory is an
 /// `Err`.
-fn turned_lent<R: Source, W: Sink, N: Watcher, F: TextFile>(
+fn turned<R: Source, W: Sink, N: Watcher, F: TextFile>(
     alloc: Global,
     client: &mut Client,
-    source: &mut R,
-    sink: &mut W,
+    ports: &mut Ports<R, W>,
     watcher: &mut N,
     file: &mut F,
 ) -> Result<(Driven, Vec<u8>), AllocError>
     requires { may_connect 1 client.old.client ≡ true }
     ensures leaves { IfOk result (λ end. LeavesRun client.old
-        (run_told (R.left source.old) (W.taken sink.old)
+        (run_told (R.left ports.old.source) (W.taken ports.old.sink)
         (file_told (F.kept file.old) (F.has_failed file.old)))
-        (run_told (R.left source.new) (W.taken sink.new)
+        (run_told (R.left ports.new.source) (W.taken ports.new.sink)
         (file_told (F.kept file.new) (F.has_failed file.new)))
         end.0 end.1.items) }
     ensures some { IfOk result (λ end. 0 < length end.1.items) }
     ensures stops { OnErr result (StopsRun client.old
-        (run_told (R.left source.old) (W.taken sink.old)
+        (run_told (R.left ports.old.source) (W.taken ports.old.sink)
         (file_told (F.kept file.old) (F.has_failed file.old)))
-        (run_told (R.left source.new) (W.taken sink.new)
+        (run_told (R.left ports.new.source) (W.taken ports.new.sink)
         (file_told (F.kept file.new) (F.has_failed file.new)))) }
-    ensures read { IfOk result (λ end. Blames (LoopFault.Client PumpFault.ReadFailed)
-        end.0.ended.broken (R.has_failed source.old) (R.has_failed source.new)) }
-    ensures written { IfOk result (λ end. Blames (LoopFault.Client PumpFault.WriteFailed)
-        end.0.ended.broken (W.has_failed sink.old) (W.has_failed sink.new)) }
+    ensures blamed { IfOk result (λ end. BlamesClient end.0.ended.broken
+        (R.has_failed ports.old.source) (R.has_failed ports.new.source)
+        (W.has_failed ports.old.sink) (W.has_failed ports.new.sink)) }
 {
     come(client)?;
-    let broken = turns_of_client(client, source, sink, watcher);
+    let broken = match watch_link(client, ports, watcher) {
+        Ok(()) => None,
+        Err(fault) => Some(LoopFault::Client(fault)),
+    };
     let is_kept = keep_features(alloc, client, file)?;
     let text = end_report(alloc, client)?;
     let state = client.state();
     let ended = Ended { state, broken };
     Ok((Driven { ended, is_kept }, text))
-}
-
-/// The same of a client that is given up.
-fn turned<R: Source, W: Sink, N: Watcher, F: TextFile>(
-    alloc: Global,
-    client: Client,
-    source: &mut R,
-    sink: &mut W,
-    watcher: &mut N,
-    file: &mut F,
-) -> Result<(Driven, Vec<u8>), AllocError>
-    requires { may_connect 1 client.client ≡ true }
-    ensures leaves { IfOk result (λ end. LeavesRun client
-        (run_told (R.left source.old) (W.taken sink.old)
-        (file_told (F.kept file.old) (F.has_failed file.old)))
-        (run_told (R.left source.new) (W.taken sink.new)
-        (file_told (F.kept file.new) (F.has_failed file.new)))
-        end.0 end.1.items) }
-    ensures some { IfOk result (λ end. 0 < length end.1.items) }
-    ensures stops { OnErr result (StopsRun client
-        (run_told (R.left source.old) (W.taken sink.old)
-        (file_told (F.kept file.old) (F.has_failed file.old)))
-        (run_told (R.left source.new) (W.taken sink.new)
-        (file_told (F.kept file.new) (F.has_failed file.new)))) }
-    ensures read { IfOk result (λ end. Blames (LoopFault.Client PumpFault.ReadFailed)
-        end.0.ended.broken (R.has_failed source.old) (R.has_failed source.new)) }
-    ensures written { IfOk result (λ end. Blames (LoopFault.Client PumpFault.WriteFailed)
-        end.0.ended.broken (W.has_failed sink.old) (W.has_failed sink.new)) }
-{
-    let mut client = client;
-    let end = turned_lent(alloc, &mut client, source, sink, watcher, file);
-    drop(client);
-    end
 }
 
 /// Runs a program on a server: a client that may come to connection 1 comes to it and has its turns, its features are put in their file,
@@ -164,8 +112,7 @@ fn turned<R: Source, W: Sink, N: Watcher, F: TextFile>(
 pub fn drive<R: Source, W: Sink, N: Watcher, F: TextFile, O: Sink>(
     alloc: Global,
     client: Client,
-    source: &mut R,
-    sink: &mut W,
+    ports: &mut Ports<R, W>,
     watcher: &mut N,
     file: &mut F,
     out: &mut O,
@@ -175,26 +122,28 @@ pub fn drive<R: Source, W: Sink, N: Watcher, F: TextFile, O: Sink>(
     // The report of what the client has become was written, and its file keeps what it then holds; or there was no memory for that, or the
     // output has failed.
     ensures prints { Prints (LeavesRun client
-        (run_told (R.left source.old) (W.taken sink.old)
+        (run_told (R.left ports.old.source) (W.taken ports.old.sink)
         (file_told (F.kept file.old) (F.has_failed file.old)))
-        (run_told (R.left source.new) (W.taken sink.new)
+        (run_told (R.left ports.new.source) (W.taken ports.new.sink)
         (file_told (F.kept file.new) (F.has_failed file.new))))
         (went O.taken O.has_failed out.old out.new) result }
 
     // The file has the text that it had, or keeps what the client then holds, whatever is answered.
     ensures stops { IsErrOf result FilesFault.Memory → StopsRun client
-        (run_told (R.left source.old) (W.taken sink.old)
+        (run_told (R.left ports.old.source) (W.taken ports.old.sink)
         (file_told (F.kept file.old) (F.has_failed file.old)))
-        (run_told (R.left source.new) (W.taken sink.new)
+        (run_told (R.left ports.new.source) (W.taken ports.new.sink)
         (file_told (F.kept file.new) (F.has_failed file.new))) }
 
     // A port of the connection is told as what broke it off where it has failed, and only there.
-    ensures read { IfOk result (λ driven. Blames (LoopFault.Client PumpFault.ReadFailed)
-        driven.ended.broken (R.has_failed source.old) (R.has_failed source.new)) }
-    ensures written { IfOk result (λ driven. Blames (LoopFault.Client PumpFault.WriteFailed)
-        driven.ended.broken (W.has_failed sink.old) (W.has_failed sink.new)) }
+    ensures blamed { IfOk result (λ driven. BlamesClient driven.ended.broken
+        (R.has_failed ports.old.source) (R.has_failed ports.new.source)
+        (W.has_failed ports.old.sink) (W.has_failed ports.new.sink)) }
 {
-    let (driven, text) = turned(alloc, client, source, sink, watcher, file)?;
+    let mut client = client;
+    let end = turned(alloc, &mut client, ports, watcher, file);
+    drop(client);
+    let (driven, text) = end?;
     write_text(out, text.as_slice())?;
     Ok(driven)
 }

@@ -11,88 +11,40 @@ use crate::reading::{FilesFault, features_from, named_setup, program_under};
 use crate::simulating::write_text;
 use byte_ports::{Sink, Source};
 use contact_ledger::{Feature, FeatureLedger};
-use deviations::{Row, RowsFault, rows_of, write_csv, write_json};
+use deviations::{Form, Row, rows_of, write_csv, write_json};
 use dmis_program::Program;
 use drawings::write_drawing;
 use std::alloc::{AllocError, Global};
 
-/// A form in which what was measured is printed.
-#[derive(Clone, Copy, Debug, PartialEq, Eq)]
-pub enum Form {
-    /// Comma-separated values (RFC 4180).
-    Csv,
-    /// JSON (RFC 8259).
-    Json,
-    /// A drawing (SVG 1.1).
-    Svg,
-}
-
-/// Why an export was not carried out.
-#[derive(Clone, Copy, Debug, PartialEq, Eq)]
-pub enum ExportFault {
-    /// A file is refused or was not read, the sink has failed, or memory is wanting.
-    Files(FilesFault),
-    /// The features are not the first ones of the program, by labels and counts of points.
-    NotOurs,
-}
-
-impl From<FilesFault> for ExportFault {
-    ghost use Rattle.std.specs.Prelude.{◌≡◌};
-    ghost use Rattle.dme_orders.specs.declared.exporting.ExportFault.TheVariants as fault;
-
-    ghost from_gives = { λ cause e. e ≡ fault.Files cause };
-
-    fn from(cause: FilesFault) -> ExportFault {
-        ExportFault::Files(cause)
-    }
-}
-
-impl From<AllocError> for ExportFault {
-    ghost use Rattle.std.specs.Prelude.{◌≡◌};
-    ghost use Rattle.dme_orders.specs.declared.reading.FilesFault.TheVariants.{Memory};
-    ghost use Rattle.dme_orders.specs.declared.exporting.ExportFault.TheVariants as fault;
-
-    ghost from_gives = { λ _ e. e ≡ fault.Files Memory };
-
-    fn from(_error: AllocError) -> ExportFault {
-        ExportFault::Files(FilesFault::Memory)
-    }
-}
-
-impl From<RowsFault> for ExportFault {
-    ghost use Rattle.std.specs.Prelude.{◌≡◌};
-    ghost use Rattle.dme_orders.specs.Exporting.{told_of_rows};
-
-    ghost from_gives = { λ cause e. e ≡ told_of_rows cause };
-
-    fn from(cause: RowsFault) -> ExportFault {
-        match cause {
-            RowsFault::NotOurs => ExportFault::NotOurs,
-            RowsFault::Memory => ExportFault::Files(FilesFault::Memory),
-        }
-    }
+/// The files of an export, as sources.
+#[derive(Drop)]
+pub struct ExportFiles<S, F, R> {
+    /// The machine's setup, if one is named.
+    pub setup: Option<S>,
+    /// The features that were measured.
+    pub features: F,
+    /// The DMIS program.
+    pub program: R,
 }
 
 /// Reads a setup where one is named, then features, then a program under the setup's frames, each to the end of its text and understood
 /// before the next is read.
 fn export_input<S: Source, F: Source, R: Source>(
     alloc: Global,
-    setup: &mut Option<S>,
-    features: &mut F,
-    program: &mut R,
+    files: &mut ExportFiles<S, F, R>,
 ) -> Result<(FeatureLedger, Program), FilesFault>
     ensures ok { IfOk result (λ read. (said : Option SetupValue)
-        × ReadsExport (named S.left S.has_failed setup.old setup.new)
-        (came F.left F.has_failed features.old features.new)
-        (came R.left R.has_failed program.old program.new)
+        × ReadsExport (named S.left S.has_failed files.old.setup files.new.setup)
+        (came F.left F.has_failed files.old.features files.new.features)
+        (came R.left R.has_failed files.old.program files.new.program)
         (record { setup = said; features = read.0; program = read.1 })) }
-    ensures err { IfErr result (WhyNoExport (named S.left S.has_failed setup.old setup.new)
-        (came F.left F.has_failed features.old features.new)
-        (came R.left R.has_failed program.old program.new)) }
+    ensures err { IfErr result (WhyNoExport (named S.left S.has_failed files.old.setup files.new.setup)
+        (came F.left F.has_failed files.old.features files.new.features)
+        (came R.left R.has_failed files.old.program files.new.program)) }
 {
-    let setup = named_setup(alloc, setup)?;
-    let features = features_from(alloc, features)?;
-    let program = program_under(alloc, &setup, program)?;
+    let setup = named_setup(alloc, &mut files.setup)?;
+    let features = features_from(alloc, &mut files.features)?;
+    let program = program_under(alloc, &setup, &mut files.program)?;
     Ok((features, program))
 }
 
@@ -135,7 +87,7 @@ fn table_text(
     form: Form,
     program: &Program,
     features: &[Feature],
-) -> Result<Vec<u8>, ExportFault>
+) -> Result<Vec<u8>, FilesFault>
     ensures leaves { IfOk result (λ text. LeavesTable form program.now features.now text.items) }
     ensures some { IfOk result (λ text. 0 < length text.items) }
     ensures refused { IfErr result (RefusesFeatures program.now features.now) }
@@ -152,17 +104,15 @@ fn table_text(
 pub fn export_files<S: Source, F: Source, R: Source, W: Sink>(
     alloc: Global,
     form: Form,
-    setup: &mut Option<S>,
-    features: &mut F,
-    program: &mut R,
+    files: &mut ExportFiles<S, F, R>,
     sink: &mut W,
-) -> Result<(), ExportFault>
-    ensures { Exports form (named S.left S.has_failed setup.old setup.new)
-        (came F.left F.has_failed features.old features.new)
-        (came R.left R.has_failed program.old program.new)
+) -> Result<(), FilesFault>
+    ensures { Exports form (named S.left S.has_failed files.old.setup files.new.setup)
+        (came F.left F.has_failed files.old.features files.new.features)
+        (came R.left R.has_failed files.old.program files.new.program)
         (went W.taken W.has_failed sink.old sink.new) result }
 {
-    let (features, program) = export_input(alloc, setup, features, program)?;
+    let (features, program) = export_input(alloc, files)?;
     let text = table_text(alloc, form, &program, features.list())?;
     Ok(write_text(sink, text.as_slice())?)
 }

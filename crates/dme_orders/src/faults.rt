@@ -2,9 +2,8 @@
 
 ghost use Rattle.std.specs.Prelude.{◌≡◌, [], IfOk, string_bytes};
 ghost use Rattle.refusal_guide.specs.Places.{Places};
-ghost use Rattle.dme_orders.specs.Printed.{status_of, name_in, text_in, AreFilesShown, IsExportShown, IsPlaceShown};
+ghost use Rattle.dme_orders.specs.Printed.{status_of, file_in, IsFaultShown, IsPlaceShown};
 
-use crate::exporting::ExportFault;
 use crate::reading::{FilesFault, Role};
 use contact_ledger::TextFault;
 use dmis_program::ProgramFault;
@@ -91,20 +90,60 @@ impl OrderFault {
     }
 }
 
-/// The names of an order's files. A file that the order does not have has an empty name.
+/// A file that an order reads: its name, and what was read of it, as far as it was kept.
 #[derive(Debug, Drop)]
-pub struct FileNames {
-    pub setup: String,
-    pub schedule: String,
-    pub features: String,
-    pub contacts: String,
-    pub program: String,
+pub struct InputFile {
+    pub name: String,
+    pub text: Vec<u8>,
+    /// Whether there was no memory to keep more of the text.
+    pub is_short: bool,
 }
 
-impl FileNames {
-    /// The name of the file that is this to the order.
-    fn of(self, role: Role) -> String
-        ensures { string_bytes result ≡ name_in self role }
+impl InputFile {
+    /// A file without a name, of which nothing was read.
+    fn unnamed(alloc: Global) -> InputFile {
+        InputFile {
+            name: String::new(alloc),
+            text: Vec::new(alloc),
+            is_short: false,
+        }
+    }
+}
+
+/// The files that an order reads. One that the order does not have has an empty name.
+#[derive(Debug, Drop)]
+pub struct InputFiles {
+    pub setup: InputFile,
+    pub schedule: InputFile,
+    pub features: InputFile,
+    pub contacts: InputFile,
+    pub program: InputFile,
+}
+
+impl InputFiles {
+    /// Files without names.
+    pub fn unnamed(alloc: Global) -> InputFiles {
+        InputFiles {
+            setup: InputFile::unnamed(alloc),
+            schedule: InputFile::unnamed(alloc),
+            features: InputFile::unnamed(alloc),
+            contacts: InputFile::unnamed(alloc),
+            program: InputFile::unnamed(alloc),
+        }
+    }
+
+    /// Whether there was no memory to keep the whole text of one of them.
+    pub fn is_short(&self) -> bool {
+        self.setup.is_short
+            || self.schedule.is_short
+            || self.features.is_short
+            || self.contacts.is_short
+            || self.program.is_short
+    }
+
+    /// The file that is this to the order.
+    fn into_file(self, role: Role) -> InputFile
+        ensures { result ≡ file_in self role }
     {
         match role {
             Role::Setup => self.setup,
@@ -116,68 +155,36 @@ impl FileNames {
     }
 }
 
-/// The texts of an order's files, as far as they were read and kept. That of a file that the order does not have is empty.
-#[derive(Debug, Drop)]
-pub struct FileTexts {
-    pub setup: Vec<u8>,
-    pub schedule: Vec<u8>,
-    pub features: Vec<u8>,
-    pub contacts: Vec<u8>,
-    pub program: Vec<u8>,
-    /// Whether memory was wanting for one of them.
-    pub is_short: bool,
-}
-
-impl FileTexts {
-    /// Texts of which nothing was read.
-    pub fn new(alloc: Global) -> FileTexts {
-        FileTexts {
-            setup: Vec::new(alloc),
-            schedule: Vec::new(alloc),
-            features: Vec::new(alloc),
-            contacts: Vec::new(alloc),
-            program: Vec::new(alloc),
-            is_short: false,
-        }
-    }
-}
-
-/// Where a text is refused and what is wrong there. Only want of memory is an `Err`.
-fn placed(alloc: Global, refused: Refused, name: &str, text: &[u8]) -> Result<Vec<u8>, AllocError>
-    ensures { IfOk result (λ shown. Places refused name.now text.now [] shown.items) }
+/// Where a file is refused and what is wrong there. Fails only if out of memory.
+fn placed(alloc: Global, refused: Refused, file: &InputFile) -> Result<Vec<u8>, AllocError>
+    ensures { IfOk result (λ shown. Places refused (string_bytes file.now.name) file.now.text.items
+        [] shown.items) }
 {
     let mut out = Vec::new(alloc);
-    write_place(&mut out, refused, name, text)?;
+    write_place(&mut out, refused, file.name.as_str(), file.text.as_slice())?;
     Ok(out)
 }
 
-/// Where a file is refused and what is wrong there, as `write_place` shows it; nothing where no file is refused. Only want of memory is an
-/// `Err`.
-pub fn place_of(
-    alloc: Global,
-    fault: FilesFault,
-    names: &FileNames,
-    texts: &FileTexts,
-) -> Result<Vec<u8>, AllocError>
-    ensures { IfOk result (λ shown. IsPlaceShown fault (name_in names.now) (text_in texts.now)
-        shown.items) }
+/// Where a file is refused and what is wrong there, as `write_place` shows it; nothing if no file is refused. Fails only if out of memory.
+pub fn place_of(alloc: Global, fault: FilesFault, files: &InputFiles) -> Result<Vec<u8>, AllocError>
+    ensures { IfOk result (λ shown. IsPlaceShown fault (file_in files.now) shown.items) }
 {
-    let (refused, name, text) = match fault {
-        FilesFault::Setup(cause) => (Refused::Setup(cause), &names.setup, &texts.setup),
-        FilesFault::Schedule(cause) => (Refused::Schedule(cause), &names.schedule, &texts.schedule),
-        FilesFault::Features(cause) => (Refused::Features(cause), &names.features, &texts.features),
-        FilesFault::Contacts(cause) => (Refused::Contacts(cause), &names.contacts, &texts.contacts),
-        FilesFault::Program(cause) => (Refused::Program(cause), &names.program, &texts.program),
-        FilesFault::Unread(_) | FilesFault::Write | FilesFault::Memory => {
+    let (refused, file) = match fault {
+        FilesFault::Setup(cause) => (Refused::Setup(cause), &files.setup),
+        FilesFault::Schedule(cause) => (Refused::Schedule(cause), &files.schedule),
+        FilesFault::Features(cause) => (Refused::Features(cause), &files.features),
+        FilesFault::Contacts(cause) => (Refused::Contacts(cause), &files.contacts),
+        FilesFault::Program(cause) => (Refused::Program(cause), &files.program),
+        FilesFault::Unread(_) | FilesFault::NotOurs | FilesFault::Write | FilesFault::Memory => {
             return Ok(Vec::new(alloc));
         }
     };
-    placed(alloc, refused, name.as_str(), text.as_slice())
+    placed(alloc, refused, file)
 }
 
-/// What is shown for the fault of an order, with the names of its files.
-pub fn shown_files(fault: FilesFault, names: FileNames) -> OrderFault
-    ensures { AreFilesShown fault (name_in names) result }
+/// What is shown for the fault of an order, with the name of the file that it blames.
+pub fn shown_fault(fault: FilesFault, files: InputFiles) -> OrderFault
+    ensures { IsFaultShown fault (file_in files) result }
 {
     match fault {
         FilesFault::Setup(SetupFault::Memory)
@@ -191,17 +198,8 @@ pub fn shown_files(fault: FilesFault, names: FileNames) -> OrderFault
         FilesFault::Features(cause) => OrderFault::Features(cause),
         FilesFault::Contacts(cause) => OrderFault::Contacts(cause),
         FilesFault::Program(cause) => OrderFault::Program(cause),
-        FilesFault::Unread(role) => OrderFault::CannotRead(names.of(role)),
+        FilesFault::Unread(role) => OrderFault::CannotRead(files.into_file(role).name),
+        FilesFault::NotOurs => OrderFault::NotOurs,
         FilesFault::Write => OrderFault::CannotWriteOutput,
-    }
-}
-
-/// What is shown for the fault of an export, with the names of its files.
-pub fn shown_export(fault: ExportFault, names: FileNames) -> OrderFault
-    ensures { IsExportShown fault (name_in names) result }
-{
-    match fault {
-        ExportFault::Files(cause) => shown_files(cause, names),
-        ExportFault::NotOurs => OrderFault::NotOurs,
     }
 }

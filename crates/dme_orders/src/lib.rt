@@ -36,14 +36,14 @@ mod simulating;
 mod text_files;
 mod verdicts;
 
-pub use auditing::audit_files;
+pub use auditing::{AuditFiles, audit_files};
 pub use check::{CheckFault, check_plan};
 pub use driving::{Driven, drive};
 pub use ended::{Ended, shown_break};
 pub use ends::kept_client;
 pub use explaining::explain;
-pub use exporting::{ExportFault, Form, export_files};
-pub use faults::{FileNames, FileTexts, OrderFault, place_of, shown_export, shown_files};
+pub use exporting::{ExportFiles, export_files};
+pub use faults::{InputFile, InputFiles, OrderFault, place_of, shown_fault};
 pub use looping::loop_over;
 pub use orders::check_under_setup;
 pub use plan::plan_text;

@@ -5,7 +5,7 @@ ghost use Rattle.client_core.specs.Clients.{is_window};
 ghost use Rattle.link_world.specs.LinkRuns.{client_side, server_side};
 ghost use Rattle.link_world.specs.Reports.{report_text};
 ghost use Rattle.dme_orders.specs.Ends.{first_client, first_server, ends_shown};
-ghost use Rattle.dme_orders.specs.Broken.{Blames};
+ghost use Rattle.dme_orders.specs.Broken.{BlamesClient, BlamesServer};
 ghost use Rattle.dme_orders.specs.Looping.{four_told, LoopCame, LeavesLoop};
 ghost use Rattle.dme_orders.specs.Orders.{went, Prints};
 
@@ -13,100 +13,13 @@ use crate::ended::Ended;
 use crate::ends::{ends_report, first_client, first_server};
 use crate::reading::FilesFault;
 use crate::simulating::write_text;
-use byte_ports::{Sink, Source};
+use byte_ports::{Ports, Sink, Source};
 use client_core::Client;
 use dmis_program::Program;
-use link_world::{LoopFault, Machine, PumpFault, Simulated, Watcher, loop_link};
+use link_world::{Simulated, Watcher, loop_link};
 use server_core::Server;
 use std::alloc::{AllocError, Global};
 use tool_rack::Setup;
-
-/// Both ends have their turns; why they were broken off, where they were.
-fn turns_of_both<M: Machine, CR: Source, CW: Sink, SR: Source, SW: Sink, N: Watcher>(
-    client: &mut Client,
-    client_source: &mut CR,
-    client_sink: &mut CW,
-    server: &mut Server,
-    machine: &mut M,
-    server_source: &mut SR,
-    server_sink: &mut SW,
-    watcher: &mut N,
-) -> Option<LoopFault>
-    ensures came { LoopCame (M.answers machine.old)
-        (client_side client.old (CR.left client_source.old) (CW.taken client_sink.old))
-        (client_side client.new (CR.left client_source.new) (CW.taken client_sink.new))
-        (server_side server.old.end (SR.left server_source.old) (SW.taken server_sink.old))
-        (server_side server.new.end (SR.left server_source.new) (SW.taken server_sink.new))
-        result }
-    ensures client_read { Blames (LoopFault.Client PumpFault.ReadFailed)
-        result (CR.has_failed client_source.old) (CR.has_failed client_source.new) }
-    ensures client_write { Blames (LoopFault.Client PumpFault.WriteFailed)
-        result (CW.has_failed client_sink.old) (CW.has_failed client_sink.new) }
-    ensures server_read { Blames (LoopFault.Server PumpFault.ReadFailed)
-        result (SR.has_failed server_source.old) (SR.has_failed server_source.new) }
-    ensures server_write { Blames (LoopFault.Server PumpFault.WriteFailed)
-        result (SW.has_failed server_sink.old) (SW.has_failed server_sink.new) }
-{
-    match loop_link(
-        client,
-        client_source,
-        client_sink,
-        server,
-        machine,
-        server_source,
-        server_sink,
-        watcher,
-    ) {
-        Ok(()) => None,
-        Err(fault) => Some(fault),
-    }
-}
-
-/// Both ends have their turns; how that has ended, and the report of them. Only want of memory is an `Err`.
-fn turns_reported<M: Machine, CR: Source, CW: Sink, SR: Source, SW: Sink, N: Watcher>(
-    alloc: Global,
-    client: &mut Client,
-    client_source: &mut CR,
-    client_sink: &mut CW,
-    server: &mut Server,
-    machine: &mut M,
-    server_source: &mut SR,
-    server_sink: &mut SW,
-    watcher: &mut N,
-) -> Result<(Ended, Vec<u8>), AllocError>
-    ensures came { IfOk result (λ end. LoopCame (M.answers machine.old)
-        (client_side client.old (CR.left client_source.old) (CW.taken client_sink.old))
-        (client_side client.new (CR.left client_source.new) (CW.taken client_sink.new))
-        (server_side server.old.end (SR.left server_source.old) (SW.taken server_sink.old))
-        (server_side server.new.end (SR.left server_source.new) (SW.taken server_sink.new))
-        end.0.broken) }
-    ensures stands { IfOk result (λ end. end.0.state ≡ client.new.client.state) }
-    ensures told { IfOk result (λ end. end.1.items
-        ≡ report_text (ends_shown client.new server.new.end.server.ledger)) }
-    ensures some { IfOk result (λ end. 0 < length end.1.items) }
-    ensures client_read { IfOk result (λ end. Blames (LoopFault.Client PumpFault.ReadFailed)
-        end.0.broken (CR.has_failed client_source.old) (CR.has_failed client_source.new)) }
-    ensures client_write { IfOk result (λ end. Blames (LoopFault.Client PumpFault.WriteFailed)
-        end.0.broken (CW.has_failed client_sink.old) (CW.has_failed client_sink.new)) }
-    ensures server_read { IfOk result (λ end. Blames (LoopFault.Server PumpFault.ReadFailed)
-        end.0.broken (SR.has_failed server_source.old) (SR.has_failed server_source.new)) }
-    ensures server_write { IfOk result (λ end. Blames (LoopFault.Server PumpFault.WriteFailed)
-        end.0.broken (SW.has_failed server_sink.old) (SW.has_failed server_sink.new)) }
-{
-    let broken = turns_of_both(
-        client,
-        client_source,
-        client_sink,
-        server,
-        machine,
-        server_source,
-        server_sink,
-        watcher,
-    );
-    let text = ends_report(alloc, client, server.ledger())?;
-    let state = client.state();
-    Ok((Ended { state, broken }, text))
-}
 
 /// The simulated machine and the server of a setup, and a new client of a program, both on connection 1. Only want of memory is an `Err`.
 fn new_ends(
@@ -133,51 +46,50 @@ fn new_ends(
     }
 }
 
-/// The same of the ends of a program and a setup.
+/// Both ends of a program and a setup have their turns; how that has ended, and the report of them. Fails only if out of memory.
 fn looped<CR: Source, CW: Sink, SR: Source, SW: Sink, N: Watcher>(
     alloc: Global,
     setup: Setup,
     program: Program,
     window: u8,
-    client_source: &mut CR,
-    client_sink: &mut CW,
-    server_source: &mut SR,
-    server_sink: &mut SW,
+    client_ports: &mut Ports<CR, CW>,
+    server_ports: &mut Ports<SR, SW>,
     watcher: &mut N,
 ) -> Result<(Ended, Vec<u8>), AllocError>
     requires { is_window window ≡ true }
     ensures leaves { IfOk result (λ end. LeavesLoop window setup program
-        (four_told (CR.left client_source.old) (CW.taken client_sink.old)
-        (SR.left server_source.old) (SW.taken server_sink.old))
-        (four_told (CR.left client_source.new) (CW.taken client_sink.new)
-        (SR.left server_source.new) (SW.taken server_sink.new))
+        (four_told (CR.left client_ports.old.source) (CW.taken client_ports.old.sink)
+        (SR.left server_ports.old.source) (SW.taken server_ports.old.sink))
+        (four_told (CR.left client_ports.new.source) (CW.taken client_ports.new.sink)
+        (SR.left server_ports.new.source) (SW.taken server_ports.new.sink))
         end.0 end.1.items) }
     ensures some { IfOk result (λ end. 0 < length end.1.items) }
-    ensures client_read { IfOk result (λ end. Blames (LoopFault.Client PumpFault.ReadFailed)
-        end.0.broken (CR.has_failed client_source.old) (CR.has_failed client_source.new)) }
-    ensures client_write { IfOk result (λ end. Blames (LoopFault.Client PumpFault.WriteFailed)
-        end.0.broken (CW.has_failed client_sink.old) (CW.has_failed client_sink.new)) }
-    ensures server_read { IfOk result (λ end. Blames (LoopFault.Server PumpFault.ReadFailed)
-        end.0.broken (SR.has_failed server_source.old) (SR.has_failed server_source.new)) }
-    ensures server_write { IfOk result (λ end. Blames (LoopFault.Server PumpFault.WriteFailed)
-        end.0.broken (SW.has_failed server_sink.old) (SW.has_failed server_sink.new)) }
+    ensures client_blamed { IfOk result (λ end. BlamesClient end.0.broken
+        (CR.has_failed client_ports.old.source) (CR.has_failed client_ports.new.source)
+        (CW.has_failed client_ports.old.sink) (CW.has_failed client_ports.new.sink)) }
+    ensures server_blamed { IfOk result (λ end. BlamesServer end.0.broken
+        (SR.has_failed server_ports.old.source) (SR.has_failed server_ports.new.source)
+        (SW.has_failed server_ports.old.sink) (SW.has_failed server_ports.new.sink)) }
 {
     let (mut machine, mut server, mut client) = new_ends(alloc, setup, program, window)?;
-    let end = turns_reported(
-        alloc,
+    let result = loop_link(
         &mut client,
-        client_source,
-        client_sink,
+        client_ports,
         &mut server,
         &mut machine,
-        server_source,
-        server_sink,
+        server_ports,
         watcher,
     );
+    let text = ends_report(alloc, &client, server.ledger());
+    let state = client.state();
     drop(client);
     drop(server);
     drop(machine);
-    end
+    let broken = match result {
+        Ok(()) => None,
+        Err(fault) => Some(fault),
+    };
+    Ok((Ended { state, broken }, text?))
 }
 
 /// Runs a program of both ends: a new client of the program, with this window, and the server of the setup with its simulated machine,
@@ -188,10 +100,8 @@ pub fn loop_over<CR: Source, CW: Sink, SR: Source, SW: Sink, N: Watcher, W: Sink
     setup: Setup,
     program: Program,
     window: u8,
-    client_source: &mut CR,
-    client_sink: &mut CW,
-    server_source: &mut SR,
-    server_sink: &mut SW,
+    client_ports: &mut Ports<CR, CW>,
+    server_ports: &mut Ports<SR, SW>,
     watcher: &mut N,
     sink: &mut W,
 ) -> Result<Ended, FilesFault>
@@ -199,31 +109,27 @@ pub fn loop_over<CR: Source, CW: Sink, SR: Source, SW: Sink, N: Watcher, W: Sink
 
     // The report of what both ends have become was written; or there was no memory for it, or the sink has failed.
     ensures prints { Prints (LeavesLoop window setup program
-        (four_told (CR.left client_source.old) (CW.taken client_sink.old)
-        (SR.left server_source.old) (SW.taken server_sink.old))
-        (four_told (CR.left client_source.new) (CW.taken client_sink.new)
-        (SR.left server_source.new) (SW.taken server_sink.new)))
+        (four_told (CR.left client_ports.old.source) (CW.taken client_ports.old.sink)
+        (SR.left server_ports.old.source) (SW.taken server_ports.old.sink))
+        (four_told (CR.left client_ports.new.source) (CW.taken client_ports.new.sink)
+        (SR.left server_ports.new.source) (SW.taken server_ports.new.sink)))
         (went W.taken W.has_failed sink.old sink.new) result }
 
     // A port of the connection is told as what broke it off where it has failed, and only there.
-    ensures client_read { IfOk result (λ ended. Blames (LoopFault.Client PumpFault.ReadFailed)
-        ended.broken (CR.has_failed client_source.old) (CR.has_failed client_source.new)) }
-    ensures client_write { IfOk result (λ ended. Blames (LoopFault.Client PumpFault.WriteFailed)
-        ended.broken (CW.has_failed client_sink.old) (CW.has_failed client_sink.new)) }
-    ensures server_read { IfOk result (λ ended. Blames (LoopFault.Server PumpFault.ReadFailed)
-        ended.broken (SR.has_failed server_source.old) (SR.has_failed server_source.new)) }
-    ensures server_write { IfOk result (λ ended. Blames (LoopFault.Server PumpFault.WriteFailed)
-        ended.broken (SW.has_failed server_sink.old) (SW.has_failed server_sink.new)) }
+    ensures client_blamed { IfOk result (λ ended. BlamesClient ended.broken
+        (CR.has_failed client_ports.old.source) (CR.has_failed client_ports.new.source)
+        (CW.has_failed client_ports.old.sink) (CW.has_failed client_ports.new.sink)) }
+    ensures server_blamed { IfOk result (λ ended. BlamesServer ended.broken
+        (SR.has_failed server_ports.old.source) (SR.has_failed server_ports.new.source)
+        (SW.has_failed server_ports.old.sink) (SW.has_failed server_ports.new.sink)) }
 {
     let (ended, text) = looped(
         alloc,
         setup,
         program,
         window,
-        client_source,
-        client_sink,
-        server_source,
-        server_sink,
+        client_ports,
+        server_ports,
         watcher,
     )?;
     write_text(sink, text.as_slice())?;

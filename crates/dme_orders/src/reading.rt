@@ -5,9 +5,9 @@ ghost use Rattle.dme_orders.specs.Reading.{came, Reads, WhyNoText, ReadsSetup, W
 ghost use Rattle.dme_orders.specs.Reading.{ReadsFeatures, WhyNoFeatures, ReadsContacts, WhyNoContacts};
 ghost use Rattle.dme_orders.specs.Input.{named, ReadsNamed, WhyNoNamed, frames_under};
 
-use crate::check::{CheckFault, read_input};
-use byte_ports::Source;
+use byte_ports::{PullFault, Source, pull_all};
 use contact_ledger::{FeatureLedger, ServerLedger, TextFault, read_contacts, read_features};
+use deviations::RowsFault;
 use dmis_program::{Frames, Program, ProgramFault};
 use link_world::{Schedule, ScheduleFault};
 use std::alloc::{AllocError, Global};
@@ -43,24 +43,24 @@ pub enum FilesFault {
     Program(ProgramFault),
     /// A source has failed, or a million pulls have not come to the end of its text.
     Unread(Role),
+    /// The features are not the first ones of the program, by labels and counts of points.
+    NotOurs,
     /// The sink has failed; it may have taken a front of the text.
     Write,
     /// Want of memory.
     Memory,
 }
 
-impl From<CheckFault> for FilesFault {
+impl From<RowsFault> for FilesFault {
     ghost use Rattle.std.specs.Prelude.{◌≡◌};
-    ghost use Rattle.dme_orders.specs.Reading.{told_of_program};
+    ghost use Rattle.dme_orders.specs.Reading.{told_of_rows};
 
-    ghost from_gives = { λ fault e. e ≡ told_of_program fault };
+    ghost from_gives = { λ cause e. e ≡ told_of_rows cause };
 
-    fn from(fault: CheckFault) -> FilesFault {
-        match fault {
-            CheckFault::Program(cause) => FilesFault::Program(cause),
-            CheckFault::Read => FilesFault::Unread(Role::Program),
-            CheckFault::Write => FilesFault::Write,
-            CheckFault::Memory => FilesFault::Memory,
+    fn from(cause: RowsFault) -> FilesFault {
+        match cause {
+            RowsFault::NotOurs => FilesFault::NotOurs,
+            RowsFault::Memory => FilesFault::Memory,
         }
     }
 }
@@ -83,11 +83,10 @@ fn read_text<S: Source>(alloc: Global, source: &mut S, role: Role) -> Result<Vec
     ensures unread { IfErr result (WhyNoText (came S.left S.has_failed source.old source.new)
         role) }
 {
-    match read_input(alloc, source) {
+    match pull_all(alloc, source, 1_000_000) {
         Ok(text) => Ok(text),
-        Err(CheckFault::Read) => Err(FilesFault::Unread(role)),
-        Err(CheckFault::Memory) => Err(FilesFault::Memory),
-        Err(CheckFault::Program(_) | CheckFault::Write) => unreachable!(),
+        Err(PullFault::Failed | PullFault::TooMany) => Err(FilesFault::Unread(role)),
+        Err(PullFault::Memory) => Err(FilesFault::Memory),
     }
 }
 

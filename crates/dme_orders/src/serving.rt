@@ -4,13 +4,14 @@ ghost use Rattle.std.specs.Prelude.{◌≡◌, ◌⊎◌, Bool, true, false, OnE
 ghost use Rattle.contact_ledger.specs.ContactTexts.{contacts_text};
 ghost use Rattle.protocol_model.specs.Ends.{serving_accepted};
 ghost use Rattle.server_core.specs.Serving.{may_accept};
+ghost use Rattle.link_world.specs.Pumps.{BlamesPorts};
 ghost use Rattle.dme_orders.specs.Driving.{file_told, Keeps};
 ghost use Rattle.dme_orders.specs.Orders.{went, Prints};
 ghost use Rattle.dme_orders.specs.Serving.{ServeCame, break_after, LeavesLedger};
 
 use crate::reading::FilesFault;
 use crate::text_files::TextFile;
-use byte_ports::{Failed, Sink, Source, push_all};
+use byte_ports::{Failed, Ports, Sink, Source, push_all};
 use contact_ledger::{ServerLedger, write_contacts};
 use link_world::{Machine, PumpFault, serve_link, write_contact_rows};
 use server_core::{Server, ServerFault};
@@ -22,13 +23,12 @@ pub fn serve_one<M: Machine, R: Source, W: Sink>(
     server: &mut Server,
     machine: &mut M,
     number: u64,
-    source: &mut R,
-    sink: &mut W,
+    ports: &mut Ports<R, W>,
 ) -> Result<(), PumpFault<ServerFault>>
     ensures came { may_accept number server.old.end.server ≡ true
         → ServeCame (M.answers machine.old) (serving_accepted number server.old.end)
-        server.new.end (R.left source.old) (R.left source.new) (W.taken sink.old)
-        (W.taken sink.new) result }
+        server.new.end (R.left ports.old.source) (R.left ports.new.source) (W.taken ports.old.sink)
+        (W.taken ports.new.sink) result }
     ensures refused { may_accept number server.old.end.server ≡ false
         → IsErrOf result (PumpFault.Core ServerFault.NotNow) × (server.new ≡ server.old) }
     ensures left { may_accept number server.old.end.server ≡ true
@@ -36,15 +36,12 @@ pub fn serve_one<M: Machine, R: Source, W: Sink>(
     ensures keeps { M.answers machine.new ≡ M.answers machine.old }
 
     // A port is blamed where it has failed, and only there.
-    ensures read_failed { IsErrOf result PumpFault.ReadFailed → R.has_failed source.new ≡ true }
-    ensures write_failed { IsErrOf result PumpFault.WriteFailed → W.has_failed sink.new ≡ true }
-    ensures source_works { R.has_failed source.old ≡ false → R.has_failed source.new ≡ true
-        → IsErrOf result PumpFault.ReadFailed }
-    ensures sink_works { W.has_failed sink.old ≡ false → W.has_failed sink.new ≡ true
-        → IsErrOf result PumpFault.WriteFailed }
+    ensures blamed { BlamesPorts PumpFault.ReadFailed PumpFault.WriteFailed result
+        (R.has_failed ports.old.source) (R.has_failed ports.new.source)
+        (W.has_failed ports.old.sink) (W.has_failed ports.new.sink) }
 {
     server.accept(number)?;
-    serve_link(server, machine, source, sink)
+    serve_link(server, machine, ports)
 }
 
 /// Why connections were broken off: running out of memory, if one was for that, else the first cause of them; none if none was.

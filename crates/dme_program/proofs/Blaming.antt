@@ -23,6 +23,7 @@ on_any P (files.Unread role.Schedule) p = tt
 on_any P (files.Unread role.Features) p = tt
 on_any P (files.Unread role.Contacts) p = tt
 on_any P (files.Unread role.Program) p = tt
+on_any P files.NotOurs p = tt
 on_any P files.Write p = tt
 on_any P files.Memory p = tt
 
@@ -42,6 +43,7 @@ of_program r said P (files.Unread role.Schedule) why = tt
 of_program r said P (files.Unread role.Features) why = tt
 of_program r said P (files.Unread role.Contacts) why = tt
 of_program r said P (files.Unread role.Program) why = tt
+of_program r said P files.NotOurs why = tt
 of_program r said P files.Write why = tt
 of_program r said P files.Memory why = tt
 

@@ -5,13 +5,12 @@ ghost use Rattle.client_core.specs.Clients.{is_window};
 
 use crate::explaining::refused;
 use crate::faults::Fault;
-use crate::files::NamedSource;
+use crate::files::Sources;
 use crate::progress::Progress;
 use crate::tracing::Traced;
-use byte_ports::{Reading, Writing};
-use dme_orders::{
-    Ended, FileNames, FileTexts, FilesFault, OrderFault, loop_over, setup_and_program, shown_files,
-};
+use byte_ports::{Ports, Reading, Writing};
+use dme_orders::{FilesFault, InputFiles, OrderFault, loop_over, setup_and_program, shown_fault};
+use dme_words::Loop;
 use dmis_program::Program;
 use std::io::{self, ErrorKind};
 use std::net::{Net, TcpListener, TcpStream};
@@ -47,124 +46,83 @@ fn own_connection<R: Net<Listener = TcpListener, Stream = TcpStream>>(
     Ok((near, far))
 }
 
-/// Both ends of a program over this connection, and their report on standard output.
-fn loop_ends<'a, R: Print + Eprint + Net<Listener = TcpListener, Stream = TcpStream> + AllocGlobal>(
-    rt: &'a R,
-    near: &'a TcpStream,
-    far: &'a TcpStream,
-    setup: Setup,
-    program: Program,
-    window: u8,
-    is_told: bool,
-    is_traced: bool,
-) -> Result<Ended, FilesFault>
-    requires { is_window window ≡ true }
-{
-    let mut watcher = Progress::new(rt, is_told, program.features().len());
-    let mut client_sink = Traced::new(rt, Writing::new(near), ">", is_traced);
-    let mut server_sink = Traced::new(rt, Writing::new(far), "<", is_traced);
-    loop_over(
-        rt.alloc(),
-        setup,
-        program,
-        window,
-        &mut Reading::new(near),
-        &mut client_sink,
-        &mut Reading::new(far),
-        &mut server_sink,
-        &mut watcher,
-        &mut Writing::new(io::writer(rt)),
-    )
+/// What is shown for a fault of no file.
+pub(crate) fn of_output<R: AllocGlobal>(rt: &R, fault: FilesFault) -> OrderFault {
+    shown_fault(fault, InputFiles::unnamed(rt.alloc()))
 }
 
-/// Both ends of a program over a connection of this process to itself.
-fn loop_program<R: Print + Eprint + Net<Listener = TcpListener, Stream = TcpStream> + AllocGlobal>(
+/// What a run over a connection shows on standard error.
+#[derive(Clone, Copy)]
+struct Shown {
+    /// How far it is, and why the connection failed.
+    progress: bool,
+    /// The lines of both sides.
+    trace: bool,
+}
+
+/// Both ends of a program over a connection of this process to itself, and their report on standard output.
+fn loop_ends<R: Print + Eprint + Net<Listener = TcpListener, Stream = TcpStream> + AllocGlobal>(
     rt: &R,
     setup: Setup,
     program: Program,
     window: u8,
-    is_told: bool,
-    is_traced: bool,
+    shown: Shown,
 ) -> Result<u8, OrderFault>
     requires { is_window window ≡ true }
 {
     let (near, far) = match own_connection(rt) {
         Ok(ends) => ends,
-        Err(error) => return Err(no_connection(&error, is_told)),
+        Err(error) => return Err(no_connection(&error, shown.progress)),
     };
-    match loop_ends(rt, &near, &far, setup, program, window, is_told, is_traced) {
-        Ok(ended) => ended.verdict(is_told),
+    let mut watcher = Progress::new(rt, shown.progress, program.features().len());
+    let mut client_ports = Ports {
+        source: Reading::new(&near),
+        sink: Traced::new(rt, Writing::new(&near), ">", shown.trace),
+    };
+    let mut server_ports = Ports {
+        source: Reading::new(&far),
+        sink: Traced::new(rt, Writing::new(&far), "<", shown.trace),
+    };
+    let result = loop_over(
+        rt.alloc(),
+        setup,
+        program,
+        window,
+        &mut client_ports,
+        &mut server_ports,
+        &mut watcher,
+        &mut Writing::new(io::writer(rt)),
+    );
+    match result {
+        Ok(ended) => ended.verdict(shown.progress),
         Err(fault) => Err(of_output(rt, fault)),
     }
 }
 
-/// What is shown for a fault of no file.
-pub(crate) fn of_output<R: AllocGlobal>(rt: &R, fault: FilesFault) -> OrderFault {
-    let alloc = rt.alloc();
-    let names = FileNames {
-        setup: String::new(alloc),
-        schedule: String::new(alloc),
-        features: String::new(alloc),
-        contacts: String::new(alloc),
-        program: String::new(alloc),
-    };
-    shown_files(fault, names)
-}
-
-/// The setup of a file is read, then the program; `-` is standard input, which is empty for the program where the setup was read from it.
-fn loop_files<'a, R: Files + Input + AllocGlobal>(
-    rt: &'a R,
-    setup: &'a str,
-    program: &'a str,
-    texts: &mut FileTexts,
-    is_explained: bool,
-) -> Result<(Setup, Program), FilesFault> {
-    let mut setup_source = NamedSource::new(rt, setup, false).keeping(is_explained);
-    let mut source = NamedSource::new(rt, program, setup == "-").keeping(is_explained);
-    let result = setup_and_program(rt.alloc(), &mut setup_source, &mut source);
-    texts.setup = setup_source.into_text(&mut texts.is_short);
-    texts.program = source.into_text(&mut texts.is_short);
-    result
-}
-
-/// The order `loop`, on files of these names: its exit status.
-pub fn loop_named<
+/// The order `loop`: its exit status.
+pub fn loop_program<
     R: Files
         + Input
         + Print
         + Eprint
         + Net<Listener = TcpListener, Stream = TcpStream>
         + AllocGlobal,
->(
-    rt: &R,
-    setup: String,
-    window: u8,
-    is_told: bool,
-    is_traced: bool,
-    is_explained: bool,
-    program: String,
-) -> Result<u8, Fault>
-    requires { is_window window ≡ true }
+>(rt: &R, order: Loop) -> Result<u8, Fault>
+    requires { is_window order.window ≡ true }
 {
-    let alloc = rt.alloc();
-    let mut texts = FileTexts::new(alloc);
-    match loop_files(
-        rt,
-        setup.as_str(),
-        program.as_str(),
-        &mut texts,
-        is_explained,
-    ) {
-        Ok((setup, program)) => Ok(loop_program(rt, setup, program, window, is_told, is_traced)?),
-        Err(fault) => {
-            let names = FileNames {
-                setup,
-                schedule: String::new(alloc),
-                features: String::new(alloc),
-                contacts: String::new(alloc),
-                program,
-            };
-            Err(refused(alloc, fault, names, &texts, is_explained))
-        }
+    let mut sources = Sources::new(rt, order.explain);
+    let mut setup = sources.file(order.setup);
+    let mut program = sources.file(order.program);
+    let read = setup_and_program(rt.alloc(), &mut setup, &mut program);
+    let mut files = InputFiles::unnamed(rt.alloc());
+    files.setup = setup.into_file();
+    files.program = program.into_file();
+    let shown = Shown {
+        progress: order.progress,
+        trace: order.trace,
+    };
+    match read {
+        Ok((setup, program)) => Ok(loop_ends(rt, setup, program, order.window, shown)?),
+        Err(fault) => Err(refused(rt.alloc(), fault, files, order.explain)),
     }
 }

@@ -6,43 +6,17 @@ ghost use Rattle.client_core.specs.Clients.{is_window};
 use crate::connecting::{no_connection, of_output};
 use crate::explaining::refused;
 use crate::faults::Fault;
-use crate::files::NamedSource;
+use crate::files::Sources;
 use crate::progress::Progress;
 use crate::text_files::NamedFile;
-use byte_ports::{Reading, Writing};
+use byte_ports::{Ports, Reading, Writing};
 use contact_ledger::FeatureLedger;
-use dme_orders::{
-    Driven, FileNames, FileTexts, FilesFault, OrderFault, drive, features_and_program, kept_client,
-};
+use dme_orders::{Driven, InputFiles, OrderFault, drive, features_and_program, kept_client};
+use dme_words::Run;
 use dmis_program::Program;
 use std::io;
 use std::net::{Net, TcpListener, TcpStream};
 use std::rt::Files;
-
-/// The setup of a file is read, then the features where there is such a file, then the program; `-` is standard input for the setup and the
-/// program, which is empty for the program where the setup was read from it.
-fn run_files<'a, R: Files + Input + AllocGlobal>(
-    rt: &'a R,
-    setup: &'a str,
-    features: Option<&'a str>,
-    program: &'a str,
-    texts: &mut FileTexts,
-    is_explained: bool,
-) -> Result<(FeatureLedger, Program), FilesFault> {
-    let mut setup_source = NamedSource::new(rt, setup, false).keeping(is_explained);
-    let mut features_source = NamedSource::kept(rt, features).keeping(is_explained);
-    let mut source = NamedSource::new(rt, program, setup == "-").keeping(is_explained);
-    let result = features_and_program(
-        rt.alloc(),
-        &mut setup_source,
-        &mut features_source,
-        &mut source,
-    );
-    texts.setup = setup_source.into_text(&mut texts.is_short);
-    texts.features = features_source.into_text(&mut texts.is_short);
-    texts.program = source.into_text(&mut texts.is_short);
-    result
-}
 
 /// What is shown of a run: where its file could not be written, that too, and behind it what broke its connection off.
 fn run_verdict<R: Eprint>(
@@ -65,94 +39,81 @@ fn run_verdict<R: Eprint>(
     }
 }
 
-/// A program on a server, and its report on standard output.
-fn run_program<
-    R: Files + Print + Eprint + Net<Listener = TcpListener, Stream = TcpStream> + AllocGlobal,
->(
-    rt: &R,
-    kept: FeatureLedger,
-    program: Program,
-    host: &str,
+/// How a run calls its server, and what it keeps and shows.
+#[derive(Drop)]
+struct Call {
+    host: String,
     port: u16,
     window: u8,
+    /// The file that the features are written to.
     features: Option<String>,
-    is_told: bool,
-) -> Result<u8, OrderFault>
-    requires { is_window window ≡ true }
+    progress: bool,
+}
+
+/// A program on a server, and its report on standard output.
+fn drive_program<
+    R: Files + Print + Eprint + Net<Listener = TcpListener, Stream = TcpStream> + AllocGlobal,
+>(rt: &R, kept: FeatureLedger, program: Program, call: Call) -> Result<u8, OrderFault>
+    requires { is_window call.window ≡ true }
 {
-    let mut file = NamedFile::new(rt, features.as_deref())?;
-    let mut watcher = Progress::new(rt, is_told, program.features().len());
-    let client = kept_client(rt.alloc(), program, kept, window)?;
-    let stream = match TcpStream::connect(rt, (host, port)) {
+    let mut file = NamedFile::new(rt, call.features.as_deref())?;
+    let mut watcher = Progress::new(rt, call.progress, program.features().len());
+    let client = kept_client(rt.alloc(), program, kept, call.window)?;
+    let stream = match TcpStream::connect(rt, (call.host.as_str(), call.port)) {
         Ok(stream) => stream,
-        Err(error) => return Err(no_connection(&error, is_told)),
+        Err(error) => return Err(no_connection(&error, call.progress)),
+    };
+    let mut ports = Ports {
+        source: Reading::new(&stream),
+        sink: Writing::new(&stream),
     };
     let result = drive(
         rt.alloc(),
         client,
-        &mut Reading::new(&stream),
-        &mut Writing::new(&stream),
+        &mut ports,
         &mut watcher,
         &mut file,
         &mut Writing::new(io::writer(rt)),
     );
     drop(file);
     match result {
-        Ok(driven) => run_verdict(rt, driven, features, is_told),
+        Ok(driven) => run_verdict(rt, driven, call.features, call.progress),
         Err(fault) => Err(of_output(rt, fault)),
     }
 }
 
-/// The order `run`, on files of these names: its exit status.
-pub fn run_named<
+/// The order `run`: its exit status. Its features file is read if there is one, and never from standard input.
+pub fn run_program<
     R: Files
         + Input
         + Print
         + Eprint
         + Net<Listener = TcpListener, Stream = TcpStream>
         + AllocGlobal,
->(
-    rt: &R,
-    setup: String,
-    host: String,
-    port: u16,
-    window: u8,
-    features: Option<String>,
-    is_told: bool,
-    is_explained: bool,
-    program: String,
-) -> Result<u8, Fault>
-    requires { is_window window ≡ true }
+>(rt: &R, order: Run) -> Result<u8, Fault>
+    requires { is_window order.window ≡ true }
 {
-    let alloc = rt.alloc();
-    let mut texts = FileTexts::new(alloc);
-    match run_files(
-        rt,
-        setup.as_str(),
-        features.as_deref(),
-        program.as_str(),
-        &mut texts,
-        is_explained,
-    ) {
-        Ok((kept, read)) => Ok(run_program(
-            rt,
-            kept,
-            read,
-            host.as_str(),
-            port,
-            window,
-            features,
-            is_told,
-        )?),
-        Err(fault) => {
-            let names = FileNames {
-                setup,
-                schedule: String::new(alloc),
-                features: features.unwrap_or(String::new(alloc)),
-                contacts: String::new(alloc),
-                program,
-            };
-            Err(refused(alloc, fault, names, &texts, is_explained))
-        }
-    }
+    let is_kept = order.features.is_some();
+    let mut sources = Sources::new(rt, order.explain);
+    let mut setup = sources.file(order.setup);
+    let mut features = sources.kept(order.features);
+    let mut program = sources.file(order.program);
+    let read = features_and_program(rt.alloc(), &mut setup, &mut features, &mut program);
+    let mut files = InputFiles::unnamed(rt.alloc());
+    files.setup = setup.into_file();
+    files.features = features.into_file();
+    files.program = program.into_file();
+    let (kept, program) = match read {
+        Ok(read) => read,
+        Err(fault) => return Err(refused(rt.alloc(), fault, files, order.explain)),
+    };
+    let features = files.features;
+    let call = Call {
+        host: order.host,
+        port: order.port,
+        window: order.window,
+        features: if is_kept { Some(features.name) } else { None },
+        progress: order.progress,
+    };
+    Ok(drive_program(rt, kept, program, call)?)
 }

@@ -1,8 +1,9 @@
 // The files of an order as sources.
 
-ghost use Rattle.std.specs.Prelude.{◌≡◌, ◌≤◌, length, None, IfOk};
+ghost use Rattle.std.specs.Prelude.{◌≡◌, ◌≤◌, is_some, length, None, IfOk};
 
 use byte_ports::{Failed, Source};
+use dme_orders::InputFile;
 use std::io::{ErrorKind, Read};
 use std::rt::Files;
 use std::{fs, io};
@@ -12,13 +13,13 @@ use std::{fs, io};
 enum Place<F, I> {
     /// The file of the source's name, which is not open yet.
     Closed,
-    /// The file of the source's name, which is not open yet; where there is none, nothing is left.
+    /// The file of the source's name, which is not open yet; if there is no such file, nothing is left.
     Kept,
     /// A file that is open.
     Open(F),
     /// Standard input.
     Input(I),
-    /// Standard input that an earlier file of the order was read from: nothing is left.
+    /// Nothing is left: standard input that an earlier file of the order was read from, or no file.
     Taken,
 }
 
@@ -27,7 +28,7 @@ enum Place<F, I> {
 #[derive(Drop)]
 pub struct NamedSource<'a, R: Files + Input> {
     rt: &'a R,
-    name: &'a str,
+    name: String,
     place: Place<R::File, R::Reader>,
     has_failed: bool,
     text: Vec<u8>,
@@ -35,52 +36,75 @@ pub struct NamedSource<'a, R: Files + Input> {
     is_short: bool,
 }
 
-impl<'a, R: Files + Input + AllocGlobal> NamedSource<'a, R> {
-    /// The file of this name; `-` is standard input, or nothing where an earlier file was read from it.
-    pub fn new(rt: &'a R, name: &'a str, input_is_taken: bool) -> Self {
-        let place = match (name, input_is_taken) {
+impl<'a, R: Files + Input> NamedSource<'a, R> {
+    /// The file's name, and what was read of it, as far as it was kept.
+    pub fn into_file(self) -> InputFile {
+        InputFile {
+            name: self.name,
+            text: self.text,
+            is_short: self.is_short,
+        }
+    }
+}
+
+/// Gives an order the files that it reads, as sources.
+#[derive(Drop)]
+pub struct Sources<'a, R> {
+    rt: &'a R,
+    is_explained: bool,
+    input_is_taken: bool,
+}
+
+impl<'a, R: Files + Input + AllocGlobal> Sources<'a, R> {
+    /// Sources that keep the texts that are read from them, if refusals are explained.
+    pub fn new(rt: &'a R, is_explained: bool) -> Self {
+        Sources {
+            rt,
+            is_explained,
+            input_is_taken: false,
+        }
+    }
+
+    /// The source of a file of which nothing was read.
+    fn source(&self, name: String, place: Place<R::File, R::Reader>) -> NamedSource<'a, R> {
+        NamedSource {
+            rt: self.rt,
+            name,
+            place,
+            has_failed: false,
+            text: Vec::new(self.rt.alloc()),
+            is_kept: self.is_explained,
+            is_short: false,
+        }
+    }
+
+    /// The file of this name; `-` is standard input, or nothing if an earlier file of the order is.
+    pub fn file(&mut self, name: String) -> NamedSource<'a, R> {
+        let place = match (name.as_str(), self.input_is_taken) {
             ("-", true) => Place::Taken,
-            ("-", false) => Place::Input(rt.reader()),
+            ("-", false) => Place::Input(self.rt.reader()),
             _ => Place::Closed,
         };
-        NamedSource {
-            rt,
-            name,
-            place,
-            has_failed: false,
-            text: Vec::new(rt.alloc()),
-            is_kept: false,
-            is_short: false,
+        self.input_is_taken = self.input_is_taken || name.as_str() == "-";
+        self.source(name, place)
+    }
+
+    /// Likewise, if a file is named.
+    pub fn maybe(&mut self, name: Option<String>) -> Option<NamedSource<'a, R>>
+        ensures { is_some result ≡ is_some name }
+    {
+        match name {
+            Some(name) => Some(self.file(name)),
+            None => None,
         }
     }
 
-    /// The file of this name, `-` too; nothing where there is no such file, and where none is named.
-    pub fn kept(rt: &'a R, name: Option<&'a str>) -> Self {
-        let (name, place) = match name {
-            Some(name) => (name, Place::Kept),
-            None => ("", Place::Taken),
-        };
-        NamedSource {
-            rt,
-            name,
-            place,
-            has_failed: false,
-            text: Vec::new(rt.alloc()),
-            is_kept: false,
-            is_short: false,
+    /// The file of this name, `-` too; nothing if there is no such file, and if none is named.
+    pub fn kept(&self, name: Option<String>) -> NamedSource<'a, R> {
+        match name {
+            Some(name) => self.source(name, Place::Kept),
+            None => self.source(String::new(self.rt.alloc()), Place::Taken),
         }
-    }
-
-    /// The same source, which keeps the text that is read where that is asked for.
-    pub fn keeping(mut self, is_kept: bool) -> Self {
-        self.is_kept = is_kept;
-        self
-    }
-
-    /// The text that was read, as far as it was kept; that it is short is told where memory was wanting for it.
-    pub fn into_text(self, is_short: &mut bool) -> Vec<u8> {
-        *is_short = *is_short || self.is_short;
-        self.text
     }
 }
 
@@ -100,7 +124,7 @@ impl<'a, R: Files + Input> NamedSource<'a, R> {
         ensures within { IfOk result (λ n. n ≤ length buf.new) }
         ensures same { self.new.has_failed ≡ self.old.has_failed }
     {
-        let mut file = fs::open(self.rt, self.name)?;
+        let mut file = fs::open(self.rt, self.name.as_str())?;
         let count = file.read(buf)?;
         self.place = Place::Open(file);
         Ok(count)

@@ -3,19 +3,29 @@
 use crate::connecting::{no_connection, of_output};
 use crate::explaining::refused;
 use crate::faults::Fault;
-use crate::files::NamedSource;
+use crate::files::Sources;
 use crate::text_files::NamedFile;
-use byte_ports::{Reading, Writing};
+use byte_ports::{Ports, Reading, Writing};
 use dme_orders::{
-    FileNames, FileTexts, FilesFault, OrderFault, close_service, read_setup, serve_one,
-    shown_break, with_break,
+    InputFiles, OrderFault, close_service, read_setup, serve_one, shown_break, with_break,
 };
+use dme_words::Service;
 use link_world::{LoopFault, PumpFault, Simulated};
 use server_core::{Server, ServerFault};
 use std::io;
 use std::net::{Net, TcpListener, TcpStream};
 use std::rt::Files;
 use tool_rack::Setup;
+
+/// Where a server listens, for how many connections, and what it keeps and shows.
+#[derive(Drop)]
+struct Post {
+    port: u16,
+    connections: u32,
+    /// The file that the contacts are written to.
+    contacts: Option<String>,
+    progress: bool,
+}
 
 /// Tells that a connection is taken or left, where it is asked for. A line that cannot be written changes nothing.
 fn tell<R: Eprint>(rt: &R, is_told: bool, number: u64, what: &str) {
@@ -31,21 +41,22 @@ fn serve_connections<R: Eprint + Net<Listener = TcpListener, Stream = TcpStream>
     listener: &TcpListener,
     server: &mut Server,
     machine: &mut Simulated,
-    connections: u32,
-    is_told: bool,
+    post: &Post,
 ) -> Option<PumpFault<ServerFault>> {
     let mut broken = None;
-    for count in 0..connections {
+    for count in 0..post.connections {
         let number = count as u64 + 1;
         let Ok((stream, _)) = listener.accept() else {
             return with_break(broken, Err(PumpFault::ReadFailed));
         };
-        tell(rt, is_told, number, "taken");
-        let mut source = Reading::new(&stream);
-        let mut sink = Writing::new(&stream);
-        let result = serve_one(server, machine, number, &mut source, &mut sink);
+        tell(rt, post.progress, number, "taken");
+        let mut ports = Ports {
+            source: Reading::new(&stream),
+            sink: Writing::new(&stream),
+        };
+        let result = serve_one(server, machine, number, &mut ports);
         broken = with_break(broken, result);
-        tell(rt, is_told, number, "left");
+        tell(rt, post.progress, number, "left");
     }
     broken
 }
@@ -69,32 +80,18 @@ fn service_verdict<R: Eprint>(
     }
 }
 
-/// The server of a setup at a port, for so many connections.
+/// The server of a setup, and its contacts on standard output.
 fn serve_setup<
     R: Files + Print + Eprint + Net<Listener = TcpListener, Stream = TcpStream> + AllocGlobal,
->(
-    rt: &R,
-    setup: Setup,
-    port: u16,
-    connections: u32,
-    contacts: Option<String>,
-    is_told: bool,
-) -> Result<u8, OrderFault> {
-    let mut file = NamedFile::new(rt, contacts.as_deref())?;
+>(rt: &R, setup: Setup, post: Post) -> Result<u8, OrderFault> {
+    let mut file = NamedFile::new(rt, post.contacts.as_deref())?;
     let mut machine = Simulated::new(rt.alloc(), &setup)?;
     let mut server = Server::new(rt.alloc(), setup)?;
-    let listener = match TcpListener::bind(rt, ("127.0.0.1", port)) {
+    let listener = match TcpListener::bind(rt, ("127.0.0.1", post.port)) {
         Ok(listener) => listener,
-        Err(error) => return Err(no_connection(&error, is_told)),
+        Err(error) => return Err(no_connection(&error, post.progress)),
     };
-    let broken = serve_connections(
-        rt,
-        &listener,
-        &mut server,
-        &mut machine,
-        connections,
-        is_told,
-    );
+    let broken = serve_connections(rt, &listener, &mut server, &mut machine, &post);
     let result = close_service(
         rt.alloc(),
         server.ledger(),
@@ -104,56 +101,37 @@ fn serve_setup<
     drop(file);
     match result {
         Ok(is_kept) => {
-            let unwritten = if is_kept { None } else { contacts };
-            service_verdict(rt, broken, unwritten, is_told)
+            let unwritten = if is_kept { None } else { post.contacts };
+            service_verdict(rt, broken, unwritten, post.progress)
         }
         Err(fault) => Err(of_output(rt, fault)),
     }
 }
 
-/// The setup of a file is read; `-` is standard input.
-fn serve_file<'a, R: Files + Input + AllocGlobal>(
-    rt: &'a R,
-    setup: &'a str,
-    texts: &mut FileTexts,
-    is_explained: bool,
-) -> Result<Setup, FilesFault> {
-    let mut source = NamedSource::new(rt, setup, false).keeping(is_explained);
-    let result = read_setup(rt.alloc(), &mut source);
-    texts.setup = source.into_text(&mut texts.is_short);
-    result
-}
-
-/// The order `serve`, on files of these names: its exit status.
-pub fn serve_named<
+/// The order `serve`: its exit status.
+pub fn serve<
     R: Files
         + Input
         + Print
         + Eprint
         + Net<Listener = TcpListener, Stream = TcpStream>
         + AllocGlobal,
->(
-    rt: &R,
-    setup: String,
-    port: u16,
-    connections: u32,
-    contacts: Option<String>,
-    is_told: bool,
-    is_explained: bool,
-) -> Result<u8, Fault> {
-    let alloc = rt.alloc();
-    let mut texts = FileTexts::new(alloc);
-    match serve_file(rt, setup.as_str(), &mut texts, is_explained) {
-        Ok(read) => Ok(serve_setup(rt, read, port, connections, contacts, is_told)?),
+>(rt: &R, order: Service) -> Result<u8, Fault> {
+    let mut source = Sources::new(rt, order.explain).file(order.setup);
+    let setup = match read_setup(rt.alloc(), &mut source) {
+        Ok(setup) => setup,
         Err(fault) => {
-            let names = FileNames {
-                setup,
-                schedule: String::new(alloc),
-                features: String::new(alloc),
-                contacts: String::new(alloc),
-                program: String::new(alloc),
-            };
-            Err(refused(alloc, fault, names, &texts, is_explained))
+            let mut files = InputFiles::unnamed(rt.alloc());
+            files.setup = source.into_file();
+            return Err(refused(rt.alloc(), fault, files, order.explain));
         }
-    }
+    };
+    drop(source);
+    let post = Post {
+        port: order.port,
+        connections: order.connections,
+        contacts: order.contacts,
+        progress: order.progress,
+    };
+    Ok(serve_setup(rt, setup, post)?)
 }

@@ -5,7 +5,7 @@ use Rattle.std.specs.Prelude.{IsErrAnd, IsSomeAnd, ◌≢◌}
 use Rattle.clap.specs.Words.{App, FailsBy, IsAmong, is_simple, subcommand_of, HasKind, kind_of, HasMatchesOf, Row, Text, fault_of}
 use Rattle.clap.specs.Words.{subcommand_rows_of}
 use Rattle.clap.specs.declared.parser.matches.ArgMatches.{ArgMatches}
-use Rattle.dme_words.specs.declared.words.Order.{Order}
+use Rattle.dme_words.specs.declared.orders.Order.{Order}
 use Rattle.dme_words.specs.CommandLine.{whole_line}
 use Rattle.dme_words.specs.Ordered.{Asks, AsksForNothing, HasFault, HasNoValue, IsAskable, IsCalled, IsOrderOf, IsRefusal}
 use Rattle.dme_words.specs.declared.words.WordsFault.{WordsFault}

@@ -10,11 +10,18 @@ use Rattle.clap.specs.Words.{IsAmong, IsSignedIn, Row, Text, fault_of, first_of,
 use Rattle.client_core.specs.Clients.{is_window}
 use Rattle.refusal_guide.specs.Titles.{is_called, title_of}
 use Rattle.refusal_guide.specs.declared.topics.Topic.{Topic}
+use Rattle.deviations.specs.declared.forms.Form.{Form}
+use Rattle.deviations.specs.declared.forms.Form.TheVariants.{Csv, Json, Svg}
 use Rattle.dme_words.specs.CommandLine.{whole_line}
-use Rattle.dme_words.specs.declared.words.Form.{Form}
-use Rattle.dme_words.specs.declared.words.Form.TheVariants.{Csv, Json, Svg}
-use Rattle.dme_words.specs.declared.words.Order.{Order}
-use Rattle.dme_words.specs.declared.words.Order.TheVariants.{Audit, Check, Explain, Export, Loop, Run, Serve, Simulate}
+use Rattle.dme_words.specs.declared.orders.Audit.{Audit}
+use Rattle.dme_words.specs.declared.orders.Check.{Check}
+use Rattle.dme_words.specs.declared.orders.Export.{Export}
+use Rattle.dme_words.specs.declared.orders.Loop.{Loop}
+use Rattle.dme_words.specs.declared.orders.Order.{Order}
+use Rattle.dme_words.specs.declared.orders.Order.TheVariants as order
+use Rattle.dme_words.specs.declared.orders.Run.{Run}
+use Rattle.dme_words.specs.declared.orders.Service.{Service}
+use Rattle.dme_words.specs.declared.orders.Simulation.{Simulation}
 use Rattle.dme_words.specs.declared.words.WordsFault.{WordsFault}
 use Rattle.dme_words.specs.declared.words.WordsFault.TheVariants.{Line, Memory, NoCode, NoForm}
 
@@ -59,58 +66,51 @@ abbrev pub IsExplainedOf : List Row → Bool → Type 0
 IsExplainedOf = IsFlagOf (codes "explain")
 
 -- a check of the program with the named setup, or with none where none is named
-abbrev pub IsCheckOf : List Row → Order → Type 0
-IsCheckOf rows (Check setup explain program) =
-    IsMaybeOf (codes "setup") rows (option_map string_bytes setup) × IsExplainedOf rows explain × IsProgramOf rows (string_bytes program)
-IsCheckOf rows _ = ⊥
+abbrev pub IsCheckOf : List Row → Check → Type 0
+IsCheckOf rows o =
+    IsMaybeOf (codes "setup") rows (option_map string_bytes o.setup) × IsExplainedOf rows o.explain × IsProgramOf rows (string_bytes o.program)
 
 -- a simulation of the program with the named setup and schedule, and the named window
-abbrev pub IsSimulateOf : List Row → Order → Type 0
-IsSimulateOf rows (Simulate setup schedule window trace explain program) =
-    IsValueOf (codes "setup") rows (string_bytes setup) × IsValueOf (codes "schedule") rows (string_bytes schedule)
-    × IsWindowOf rows window × IsFlagOf (codes "trace") rows trace × IsExplainedOf rows explain
-    × IsProgramOf rows (string_bytes program)
-IsSimulateOf rows _ = ⊥
+abbrev pub IsSimulateOf : List Row → Simulation → Type 0
+IsSimulateOf rows o =
+    IsValueOf (codes "setup") rows (string_bytes o.setup) × IsValueOf (codes "schedule") rows (string_bytes o.schedule)
+    × IsWindowOf rows o.window × IsFlagOf (codes "trace") rows o.trace × IsExplainedOf rows o.explain
+    × IsProgramOf rows (string_bytes o.program)
 
 -- an audit of the program with the named setup, features and contacts
-abbrev pub IsAuditOf : List Row → Order → Type 0
-IsAuditOf rows (Audit setup features contacts explain program) =
-    IsValueOf (codes "setup") rows (string_bytes setup) × IsValueOf (codes "features") rows (string_bytes features)
-    × IsValueOf (codes "contacts") rows (string_bytes contacts) × IsExplainedOf rows explain × IsProgramOf rows (string_bytes program)
-IsAuditOf rows _ = ⊥
+abbrev pub IsAuditOf : List Row → Audit → Type 0
+IsAuditOf rows o =
+    IsValueOf (codes "setup") rows (string_bytes o.setup) × IsValueOf (codes "features") rows (string_bytes o.features)
+    × IsValueOf (codes "contacts") rows (string_bytes o.contacts) × IsExplainedOf rows o.explain × IsProgramOf rows (string_bytes o.program)
 
 -- a run of the program over one connection to itself, with the named setup and window
-abbrev pub IsLoopOf : List Row → Order → Type 0
-IsLoopOf rows (Loop setup window progress trace explain program) =
-    IsValueOf (codes "setup") rows (string_bytes setup) × IsWindowOf rows window × IsFlagOf (codes "progress") rows progress
-    × IsFlagOf (codes "trace") rows trace × IsExplainedOf rows explain × IsProgramOf rows (string_bytes program)
-IsLoopOf rows _ = ⊥
+abbrev pub IsLoopOf : List Row → Loop → Type 0
+IsLoopOf rows o =
+    IsValueOf (codes "setup") rows (string_bytes o.setup) × IsWindowOf rows o.window × IsFlagOf (codes "progress") rows o.progress
+    × IsFlagOf (codes "trace") rows o.trace × IsExplainedOf rows o.explain × IsProgramOf rows (string_bytes o.program)
 
 -- a server with the named setup at the named port, for so many connections, with the named file for its contacts, if any
-abbrev pub IsServeOf : List Row → Order → Type 0
-IsServeOf rows (Serve setup port connections contacts progress explain) =
-    IsValueOf (codes "setup") rows (string_bytes setup) × IsPortOf rows port × IsConnectionsOf rows connections
-    × IsMaybeOf (codes "contacts") rows (option_map string_bytes contacts) × IsFlagOf (codes "progress") rows progress
-    × IsExplainedOf rows explain
-IsServeOf rows _ = ⊥
+abbrev pub IsServeOf : List Row → Service → Type 0
+IsServeOf rows o =
+    IsValueOf (codes "setup") rows (string_bytes o.setup) × IsPortOf rows o.port × IsConnectionsOf rows o.connections
+    × IsMaybeOf (codes "contacts") rows (option_map string_bytes o.contacts) × IsFlagOf (codes "progress") rows o.progress
+    × IsExplainedOf rows o.explain
 
 -- a run of the program against the server at the named host and port, with the named setup and window, and the named file of features,
 -- if any
-abbrev pub IsRunOf : List Row → Order → Type 0
-IsRunOf rows (Run setup host port window features progress explain program) =
-    IsValueOf (codes "setup") rows (string_bytes setup) × IsValueOf (codes "host") rows (string_bytes host) × IsPortOf rows port
-    × IsWindowOf rows window × IsMaybeOf (codes "features") rows (option_map string_bytes features)
-    × IsFlagOf (codes "progress") rows progress × IsExplainedOf rows explain × IsProgramOf rows (string_bytes program)
-IsRunOf rows _ = ⊥
+abbrev pub IsRunOf : List Row → Run → Type 0
+IsRunOf rows o =
+    IsValueOf (codes "setup") rows (string_bytes o.setup) × IsValueOf (codes "host") rows (string_bytes o.host) × IsPortOf rows o.port
+    × IsWindowOf rows o.window × IsMaybeOf (codes "features") rows (option_map string_bytes o.features)
+    × IsFlagOf (codes "progress") rows o.progress × IsExplainedOf rows o.explain × IsProgramOf rows (string_bytes o.program)
 
 -- a code that a refusal is called by, its letters in any case
 abbrev pub IsCodeOf : Topic → Text → Type 0
 IsCodeOf topic code = is_called (title_of topic) code ≡ true
 
--- the page of the refusal that is called by the named code
-abbrev pub IsExplainOf : List Row → Order → Type 0
-IsExplainOf rows (Explain topic) = IsSomeAnd (first_of (codes "CODE") rows) (IsCodeOf topic)
-IsExplainOf rows _ = ⊥
+-- the refusal that is called by the named code
+abbrev pub IsExplainOf : List Row → Topic → Type 0
+IsExplainOf rows topic = IsSomeAnd (first_of (codes "CODE") rows) (IsCodeOf topic)
 
 -- the word for a form
 abbrev pub form_word : Form → Text
@@ -119,23 +119,25 @@ form_word Json = codes "json"
 form_word Svg = codes "svg"
 
 -- what was measured of the program, in the named form, with the named features, and with the named setup or with none where none is named
-abbrev pub IsExportOf : List Row → Order → Type 0
-IsExportOf rows (Export form setup features explain program) =
-    IsValueOf (codes "as") rows (form_word form) × IsMaybeOf (codes "setup") rows (option_map string_bytes setup)
-    × IsValueOf (codes "features") rows (string_bytes features) × IsExplainedOf rows explain × IsProgramOf rows (string_bytes program)
-IsExportOf rows _ = ⊥
-
--- the order of one of the last four subcommands with its values, by its name
-abbrev pub IsLaterOrderOf : Text × List Row → Order → Type 0
-IsLaterOrderOf p order = ((p.0 ≡ codes "serve") × IsServeOf p.1 order) ⊎ ((p.0 ≡ codes "run") × IsRunOf p.1 order)
-    ⊎ ((p.0 ≡ codes "explain") × IsExplainOf p.1 order) ⊎ ((p.0 ≡ codes "export") × IsExportOf p.1 order)
+abbrev pub IsExportOf : List Row → Export → Type 0
+IsExportOf rows o =
+    IsValueOf (codes "as") rows (form_word o.form) × IsMaybeOf (codes "setup") rows (option_map string_bytes o.setup)
+    × IsValueOf (codes "features") rows (string_bytes o.features) × IsExplainedOf rows o.explain × IsProgramOf rows (string_bytes o.program)
 
 -- the order of a subcommand with its values, by its name
+abbrev pub IsNamedOrderOf : Text × List Row → Order → Type 0
+IsNamedOrderOf p (order.Check o) = (p.0 ≡ codes "check") × IsCheckOf p.1 o
+IsNamedOrderOf p (order.Simulate o) = (p.0 ≡ codes "simulate") × IsSimulateOf p.1 o
+IsNamedOrderOf p (order.Audit o) = (p.0 ≡ codes "audit") × IsAuditOf p.1 o
+IsNamedOrderOf p (order.Loop o) = (p.0 ≡ codes "loop") × IsLoopOf p.1 o
+IsNamedOrderOf p (order.Serve o) = (p.0 ≡ codes "serve") × IsServeOf p.1 o
+IsNamedOrderOf p (order.Run o) = (p.0 ≡ codes "run") × IsRunOf p.1 o
+IsNamedOrderOf p (order.Explain topic) = (p.0 ≡ codes "explain") × IsExplainOf p.1 topic
+IsNamedOrderOf p (order.Export o) = (p.0 ≡ codes "export") × IsExportOf p.1 o
+
+-- the order of the subcommand that was found
 abbrev pub IsOrderOf : Option (Text × List Row) → Order → Type 0
-IsOrderOf None order = ⊥
-IsOrderOf (Some p) order = ((p.0 ≡ codes "check") × IsCheckOf p.1 order) ⊎ ((p.0 ≡ codes "simulate") × IsSimulateOf p.1 order)
-    ⊎ ((p.0 ≡ codes "audit") × IsAuditOf p.1 order) ⊎ ((p.0 ≡ codes "loop") × IsLoopOf p.1 order)
-    ⊎ IsLaterOrderOf p order
+IsOrderOf found asked = IsSomeAnd found (λ p. IsNamedOrderOf p asked)
 
 -- the option with this id has a value
 abbrev pub HasValue : Text → List Row → Type 0
@@ -228,19 +230,19 @@ IsAskable p = ((p.0 ≡ codes "check") × HasExplained p.1) ⊎ ((p.0 ≡ codes 
 
 -- the window is one that a client takes, the port is one that can be listened on, and the count is one of a server's connections
 abbrev pub IsReady : Order → Type 0
-IsReady (Simulate setup schedule window trace explain program) = is_window window ≡ true
-IsReady (Check setup explain program) = Unit {0}
-IsReady (Audit setup features contacts explain program) = Unit {0}
-IsReady (Loop setup window progress trace explain program) = is_window window ≡ true
-IsReady (Serve setup port connections contacts progress explain) = (1 ≤ port) × (1 ≤ connections) × (connections ≤ 4000000000)
-IsReady (Run setup host port window features progress explain program) = (1 ≤ port) × (is_window window ≡ true)
-IsReady (Explain topic) = Unit {0}
-IsReady (Export form setup features explain program) = Unit {0}
+IsReady (order.Check o) = Unit {0}
+IsReady (order.Simulate o) = is_window o.window ≡ true
+IsReady (order.Audit o) = Unit {0}
+IsReady (order.Loop o) = is_window o.window ≡ true
+IsReady (order.Serve o) = (1 ≤ o.port) × (1 ≤ o.connections) × (o.connections ≤ 4000000000)
+IsReady (order.Run o) = (1 ≤ o.port) × (is_window o.window ≡ true)
+IsReady (order.Explain topic) = Unit {0}
+IsReady (order.Export o) = Unit {0}
 
 -- the words are a command line without a fault, and this is the order of the subcommand that they name, with its values
-pub record Asks (words : List Text) (order : Order) : Type 0 where
+pub record Asks (words : List Text) (asked : Order) : Type 0 where
   pub faultless : fault_of whole_line words ≡ []
-  pub named : IsOrderOf (subcommand_of whole_line words) order
+  pub named : IsOrderOf (subcommand_of whole_line words) asked
 
 -- the words have a fault, and the text is that of this fault, which is never want of memory
 pub record HasFault (words : List Text) (error : Error) : Type 0 where

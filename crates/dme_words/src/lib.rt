@@ -1,10 +1,13 @@
 //! The command line of `dme` and what its words ask for. The command line is this profile's; the crate `clap` reads it.
 //!
 //! - `line`: the command line, as `clap` is told it
-//! - `words`: what its words ask for, or why they ask for nothing
+//! - `orders`: what words ask for
+//! - `words`: which of these the words of a command line ask for, or why they ask for nothing
 #![tactic(auto)]
 
 mod line;
+pub mod orders;
 pub mod words;
 
-pub use words::{Form, Order, WordsFault, read_words};
+pub use orders::{Audit, Check, Export, Loop, Order, Run, Service, Simulation};
+pub use words::{WordsFault, read_words};

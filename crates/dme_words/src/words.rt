@@ -9,134 +9,16 @@ ghost use Rattle.dme_words.specs.Ordered.{IsCheckOf, IsSimulateOf, IsAuditOf, Is
 ghost use Rattle.dme_words.specs.Ordered.{IsExplainOf, IsExportOf, HasExport, AsksForNothing, IsNoCode, IsNoForm, IsCodeOf, form_word, HasNoTopic, HasNoForm};
 ghost use Rattle.dme_words.specs.Ordered.{HasValue, HasWindow, HasPort, HasConnections, HasFlag, HasExplained};
 ghost use Rattle.dme_words.specs.Ordered.{HasSimulation, HasAudit, HasLoop, HasService, HasRun};
-ghost use Rattle.dme_words.specs.Ordered.{IsLaterAskable, IsLaterOrderOf};
+ghost use Rattle.dme_words.specs.Ordered.{IsLaterAskable};
 ghost use Rattle.dme_words.specs.Ordered.{IsAskable, IsReady, Asks, IsRefusal, IsCalled};
 
 use crate::line::whole_command;
+use crate::orders::{Audit, Check, Export, Loop, Order, Run, Service, Simulation};
 use clap::error::ErrorKind;
 use clap::{ArgMatches, Error};
+use deviations::Form;
 use refusal_guide::Topic;
 use std::alloc::{AllocError, Global};
-
-/// A form in which what was measured is printed.
-#[derive(Clone, Copy, Debug, PartialEq, Eq)]
-pub enum Form {
-    /// Comma-separated values (RFC 4180).
-    Csv,
-    /// JSON (RFC 8259).
-    Json,
-    /// A drawing (SVG 1.1).
-    Svg,
-}
-
-/// What the words of a command line ask for, with its values.
-#[derive(Debug, Drop)]
-pub enum Order {
-    /// Print the command lines of a program's plan.
-    Check {
-        /// The file of the machine's setup, whose frames the program may recall; `-` is standard input.
-        setup: Option<String>,
-        /// Whether a line that is refused is shown, with what is wrong with it.
-        explain: bool,
-        /// The file of the program; `-` is standard input.
-        program: String,
-    },
-    /// Run a program on a simulated machine by a schedule, and print the report.
-    Simulate {
-        /// The file of the machine's setup; `-` is standard input.
-        setup: String,
-        /// The file of the schedule; `-` is standard input.
-        schedule: String,
-        /// How many commands may be open at once, from 1 to 16.
-        window: u8,
-        /// Whether each line that either side writes is shown.
-        trace: bool,
-        /// Whether a line that is refused is shown, with what is wrong with it.
-        explain: bool,
-        /// The file of the program; `-` is standard input.
-        program: String,
-    },
-    /// Say in which runs of the server's contacts the client's features were measured.
-    Audit {
-        /// The file of the machine's setup; `-` is standard input.
-        setup: String,
-        /// The file of the features that the client holds; `-` is standard input.
-        features: String,
-        /// The file of the contacts that the server made; `-` is standard input.
-        contacts: String,
-        /// Whether a line that is refused is shown, with what is wrong with it.
-        explain: bool,
-        /// The file of the program; `-` is standard input.
-        program: String,
-    },
-    /// Run a program on a simulated machine over one connection to itself, and print the report.
-    Loop {
-        /// The file of the machine's setup; `-` is standard input.
-        setup: String,
-        /// How many commands may be open at once, from 1 to 16.
-        window: u8,
-        /// Whether it tells how far it is.
-        progress: bool,
-        /// Whether each line that either side writes is shown.
-        trace: bool,
-        /// Whether a line that is refused is shown, with what is wrong with it.
-        explain: bool,
-        /// The file of the program; `-` is standard input.
-        program: String,
-    },
-    /// Be the server of a simulated machine, and print the contacts that it made.
-    Serve {
-        /// The file of the machine's setup; `-` is standard input.
-        setup: String,
-        /// The port that is listened on, at least 1.
-        port: u16,
-        /// How many connections are served, one after the other, from 1 to 4,000,000,000.
-        connections: u32,
-        /// The file that the contacts are written to; `-` is a file of that name.
-        contacts: Option<String>,
-        /// Whether it tells how far it is.
-        progress: bool,
-        /// Whether a line that is refused is shown, with what is wrong with it.
-        explain: bool,
-    },
-    /// Run a program on the machine of a server, and print the report.
-    Run {
-        /// The file of the machine's setup; `-` is standard input.
-        setup: String,
-        /// The server's host, as a name or as an address.
-        host: String,
-        /// The server's port, at least 1.
-        port: u16,
-        /// How many commands may be open at once, from 1 to 16.
-        window: u8,
-        /// The file of the features that are there already, to which they are written in the end; `-` is a file of that name.
-        features: Option<String>,
-        /// Whether it tells how far it is.
-        progress: bool,
-        /// Whether a line that is refused is shown, with what is wrong with it.
-        explain: bool,
-        /// The file of the program; `-` is standard input.
-        program: String,
-    },
-    /// Say what a refusal means and what to do about it.
-    Explain {
-        /// The refusal.
-        topic: Topic,
-    },
-    /// Print how far the measured points of features lie from their nominal points.
-    Export {
-        /// The form that is printed.
-        form: Form,
-        /// The file of the machine's setup, whose frames the program may recall; `-` is standard input.
-        setup: Option<String>,
-        /// The file of the features that were measured; `-` is standard input.
-        features: String,
-        /// Whether a line that is refused is shown, with what is wrong with it.
-        explain: bool,
-        /// The file of the program; `-` is standard input.
-        program: String,
-    },
-}
 
 /// Why words ask for nothing.
 #[derive(Debug, Drop)]
@@ -253,29 +135,26 @@ fn flag_of(values: &ArgMatches, id: &str) -> bool
     values.get_flag(id)
 }
 
-/// The order of `check` with these values. Only want of memory is an `Err`.
-fn check_order(alloc: Global, values: &ArgMatches) -> Result<Order, WordsFault>
+/// The values of `check`. Fails only if out of memory.
+fn check_order(alloc: Global, values: &ArgMatches) -> Result<Check, AllocError>
     requires { HasExplained (rows_of (found_of values.now)) }
-    ensures named { IfOk result (IsCheckOf (rows_of (found_of values.now))) }
-    ensures ready { IfOk result IsReady }
-    ensures short { IfErr result (λ fault. fault ≡ WordsFault.Memory) }
+    ensures { IfOk result (IsCheckOf (rows_of (found_of values.now))) }
 {
     let setup = copied_maybe(alloc, values, "setup")?;
     let explain = flag_of(values, "explain");
     let program = copied_program(alloc, values)?;
-    Ok(Order::Check {
+    Ok(Check {
         setup,
         explain,
         program,
     })
 }
 
-/// The order of `simulate` with these values. Only want of memory is an `Err`.
-fn simulate_order(alloc: Global, values: &ArgMatches) -> Result<Order, WordsFault>
+/// The values of `simulate`. Fails only if out of memory.
+fn simulate_order(alloc: Global, values: &ArgMatches) -> Result<Simulation, AllocError>
     requires { HasSimulation (rows_of (found_of values.now)) }
     ensures named { IfOk result (IsSimulateOf (rows_of (found_of values.now))) }
-    ensures ready { IfOk result IsReady }
-    ensures short { IfErr result (λ fault. fault ≡ WordsFault.Memory) }
+    ensures ready { IfOk result (λ order. is_window order.window ≡ true) }
 {
     let setup = copied_value(alloc, values, "setup")?;
     let schedule = copied_value(alloc, values, "schedule")?;
@@ -283,7 +162,7 @@ fn simulate_order(alloc: Global, values: &ArgMatches) -> Result<Order, WordsFaul
     let trace = flag_of(values, "trace");
     let explain = flag_of(values, "explain");
     let program = copied_program(alloc, values)?;
-    Ok(Order::Simulate {
+    Ok(Simulation {
         setup,
         schedule,
         window,
@@ -293,19 +172,17 @@ fn simulate_order(alloc: Global, values: &ArgMatches) -> Result<Order, WordsFaul
     })
 }
 
-/// The order of `audit` with these values. Only want of memory is an `Err`.
-fn audit_order(alloc: Global, values: &ArgMatches) -> Result<Order, WordsFault>
+/// The values of `audit`. Fails only if out of memory.
+fn audit_order(alloc: Global, values: &ArgMatches) -> Result<Audit, AllocError>
     requires { HasAudit (rows_of (found_of values.now)) }
-    ensures named { IfOk result (IsAuditOf (rows_of (found_of values.now))) }
-    ensures ready { IfOk result IsReady }
-    ensures short { IfErr result (λ fault. fault ≡ WordsFault.Memory) }
+    ensures { IfOk result (IsAuditOf (rows_of (found_of values.now))) }
 {
     let setup = copied_value(alloc, values, "setup")?;
     let features = copied_value(alloc, values, "features")?;
     let contacts = copied_value(alloc, values, "contacts")?;
     let explain = flag_of(values, "explain");
     let program = copied_program(alloc, values)?;
-    Ok(Order::Audit {
+    Ok(Audit {
         setup,
         features,
         contacts,
@@ -314,12 +191,11 @@ fn audit_order(alloc: Global, values: &ArgMatches) -> Result<Order, WordsFault>
     })
 }
 
-/// The order of `loop` with these values. Only want of memory is an `Err`.
-fn loop_order(alloc: Global, values: &ArgMatches) -> Result<Order, WordsFault>
+/// The values of `loop`. Fails only if out of memory.
+fn loop_order(alloc: Global, values: &ArgMatches) -> Result<Loop, AllocError>
     requires { HasLoop (rows_of (found_of values.now)) }
     ensures named { IfOk result (IsLoopOf (rows_of (found_of values.now))) }
-    ensures ready { IfOk result IsReady }
-    ensures short { IfErr result (λ fault. fault ≡ WordsFault.Memory) }
+    ensures ready { IfOk result (λ order. is_window order.window ≡ true) }
 {
     let setup = copied_value(alloc, values, "setup")?;
     let window = window_of(values);
@@ -327,7 +203,7 @@ fn loop_order(alloc: Global, values: &ArgMatches) -> Result<Order, WordsFault>
     let trace = flag_of(values, "trace");
     let explain = flag_of(values, "explain");
     let program = copied_program(alloc, values)?;
-    Ok(Order::Loop {
+    Ok(Loop {
         setup,
         window,
         progress,
@@ -337,12 +213,12 @@ fn loop_order(alloc: Global, values: &ArgMatches) -> Result<Order, WordsFault>
     })
 }
 
-/// The order of `serve` with these values. Only want of memory is an `Err`.
-fn serve_order(alloc: Global, values: &ArgMatches) -> Result<Order, WordsFault>
+/// The values of `serve`. Fails only if out of memory.
+fn serve_order(alloc: Global, values: &ArgMatches) -> Result<Service, AllocError>
     requires { HasService (rows_of (found_of values.now)) }
     ensures named { IfOk result (IsServeOf (rows_of (found_of values.now))) }
-    ensures ready { IfOk result IsReady }
-    ensures short { IfErr result (λ fault. fault ≡ WordsFault.Memory) }
+    ensures ready { IfOk result (λ order. (1 ≤ order.port)
+        × (1 ≤ order.connections) × (order.connections ≤ 4000000000)) }
 {
     let setup = copied_value(alloc, values, "setup")?;
     let port = port_of(values);
@@ -350,7 +226,7 @@ fn serve_order(alloc: Global, values: &ArgMatches) -> Result<Order, WordsFault>
     let contacts = copied_maybe(alloc, values, "contacts")?;
     let progress = flag_of(values, "progress");
     let explain = flag_of(values, "explain");
-    Ok(Order::Serve {
+    Ok(Service {
         setup,
         port,
         connections,
@@ -360,12 +236,12 @@ fn serve_order(alloc: Global, values: &ArgMatches) -> Result<Order, WordsFault>
     })
 }
 
-/// The order of `run` with these values. Only want of memory is an `Err`.
-fn run_order(alloc: Global, values: &ArgMatches) -> Result<Order, WordsFault>
+/// The values of `run`. Fails only if out of memory.
+fn run_order(alloc: Global, values: &ArgMatches) -> Result<Run, AllocError>
     requires { HasRun (rows_of (found_of values.now)) }
     ensures named { IfOk result (IsRunOf (rows_of (found_of values.now))) }
-    ensures ready { IfOk result IsReady }
-    ensures short { IfErr result (λ fault. fault ≡ WordsFault.Memory) }
+    ensures ready { IfOk result (λ order. (1 ≤ order.port)
+        × (is_window order.window ≡ true)) }
 {
     let setup = copied_value(alloc, values, "setup")?;
     let host = copied_value(alloc, values, "host")?;
@@ -375,7 +251,7 @@ fn run_order(alloc: Global, values: &ArgMatches) -> Result<Order, WordsFault>
     let progress = flag_of(values, "progress");
     let explain = flag_of(values, "explain");
     let program = copied_program(alloc, values)?;
-    Ok(Order::Run {
+    Ok(Run {
         setup,
         host,
         port,
@@ -399,16 +275,14 @@ fn topic_of(code: String) -> Result<Topic, WordsFault>
     }
 }
 
-/// The order of `explain` with these values.
-fn explain_order(alloc: Global, values: &ArgMatches) -> Result<Order, WordsFault>
+/// The refusal that `explain` names.
+fn explain_order(alloc: Global, values: &ArgMatches) -> Result<Topic, WordsFault>
     requires { HasValue (codes "CODE") (rows_of (found_of values.now)) }
     ensures named { IfOk result (IsExplainOf (rows_of (found_of values.now))) }
-    ensures ready { IfOk result IsReady }
     ensures none { IfErr result (HasNoTopic (rows_of (found_of values.now))) }
 {
     let code = copied_value(alloc, values, "CODE")?;
-    let topic = topic_of(code)?;
-    Ok(Order::Explain { topic })
+    topic_of(code)
 }
 
 /// The form that a word stands for.
@@ -425,16 +299,15 @@ fn form_of(word: String) -> Result<Form, WordsFault>
     }
 }
 
-/// The order of `export` with these values.
-fn export_order(alloc: Global, values: &ArgMatches) -> Result<Order, WordsFault>
+/// The values of `export`.
+fn export_order(alloc: Global, values: &ArgMatches) -> Result<Export, WordsFault>
     requires { HasExport (rows_of (found_of values.now)) }
     ensures named { IfOk result (IsExportOf (rows_of (found_of values.now))) }
-    ensures ready { IfOk result IsReady }
     ensures none { IfErr result (HasNoForm (rows_of (found_of values.now))) }
 {
     let word = copied_value(alloc, values, "as")?;
     let form = form_of(word)?;
-    Ok(Order::Export {
+    Ok(Export {
         form,
         setup: copied_maybe(alloc, values, "setup")?,
         features: copied_value(alloc, values, "features")?,
@@ -446,16 +319,16 @@ fn export_order(alloc: Global, values: &ArgMatches) -> Result<Order, WordsFault>
 /// The order of one of the last four subcommands, with its values.
 fn later_order(alloc: Global, name: &str, values: &ArgMatches) -> Result<Order, WordsFault>
     requires { IsLaterAskable (name.now, rows_of (found_of values.now)) }
-    ensures named { IfOk result (IsLaterOrderOf (name.now, rows_of (found_of values.now))) }
+    ensures named { IfOk result (IsOrderOf (Some (name.now, rows_of (found_of values.now)))) }
     ensures ready { IfOk result IsReady }
     ensures none { IfErr result
         (AsksForNothing (Some (name.now, rows_of (found_of values.now)))) }
 {
     match name {
-        "serve" => serve_order(alloc, values),
-        "run" => run_order(alloc, values),
-        "explain" => explain_order(alloc, values),
-        "export" => export_order(alloc, values),
+        "serve" => Ok(Order::Serve(serve_order(alloc, values)?)),
+        "run" => Ok(Order::Run(run_order(alloc, values)?)),
+        "explain" => Ok(Order::Explain(explain_order(alloc, values)?)),
+        "export" => Ok(Order::Export(export_order(alloc, values)?)),
         _ => unreachable!(),
     }
 }
@@ -468,10 +341,10 @@ fn order_of(alloc: Global, matches: &ArgMatches) -> Result<Order, WordsFault>
     ensures none { IfErr result (AsksForNothing (subcommand_rows_of matches.now)) }
 {
     match matches.subcommand() {
-        Some(("check", values)) => check_order(alloc, values),
-        Some(("simulate", values)) => simulate_order(alloc, values),
-        Some(("audit", values)) => audit_order(alloc, values),
-        Some(("loop", values)) => loop_order(alloc, values),
+        Some(("check", values)) => Ok(Order::Check(check_order(alloc, values)?)),
+        Some(("simulate", values)) => Ok(Order::Simulate(simulate_order(alloc, values)?)),
+        Some(("audit", values)) => Ok(Order::Audit(audit_order(alloc, values)?)),
+        Some(("loop", values)) => Ok(Order::Loop(loop_order(alloc, values)?)),
         Some((name, values)) => later_order(alloc, name, values),
         None => unreachable!(),
     }

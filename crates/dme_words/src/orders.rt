@@ -1,0 +1,138 @@
+// What the words of a command line ask for.
+
+use deviations::Form;
+use refusal_guide::Topic;
+
+/// What the words of a command line ask for, with its values.
+#[derive(Debug, Drop)]
+pub enum Order {
+    /// Print the command lines of a program's plan.
+    Check(Check),
+    /// Run a program on a simulated machine by a schedule, and print the report.
+    Simulate(Simulation),
+    /// Say in which runs of the server's contacts the client's features were measured.
+    Audit(Audit),
+    /// Run a program on a simulated machine over one connection to itself, and print the report.
+    Loop(Loop),
+    /// Be the server of a simulated machine, and print the contacts that it made.
+    Serve(Service),
+    /// Run a program on the machine of a server, and print the report.
+    Run(Run),
+    /// Say what a refusal means and what to do about it.
+    Explain(Topic),
+    /// Print how far the measured points of features lie from their nominal points.
+    Export(Export),
+}
+
+/// The values of `check`.
+#[derive(Debug, Drop)]
+pub struct Check {
+    /// The file of the machine's setup, whose frames the program may recall; `-` is standard input.
+    pub setup: Option<String>,
+    /// Whether a line that is refused is shown, with what is wrong with it.
+    pub explain: bool,
+    /// The file of the program; `-` is standard input.
+    pub program: String,
+}
+
+/// The values of `simulate`.
+#[derive(Debug, Drop)]
+pub struct Simulation {
+    /// The file of the machine's setup; `-` is standard input.
+    pub setup: String,
+    /// The file of the schedule; `-` is standard input.
+    pub schedule: String,
+    /// How many commands may be open at once, from 1 to 16.
+    pub window: u8,
+    /// Whether each line that either side writes is shown.
+    pub trace: bool,
+    /// Whether a line that is refused is shown, with what is wrong with it.
+    pub explain: bool,
+    /// The file of the program; `-` is standard input.
+    pub program: String,
+}
+
+/// The values of `audit`.
+#[derive(Debug, Drop)]
+pub struct Audit {
+    /// The file of the machine's setup; `-` is standard input.
+    pub setup: String,
+    /// The file of the features that the client holds; `-` is standard input.
+    pub features: String,
+    /// The file of the contacts that the server made; `-` is standard input.
+    pub contacts: String,
+    /// Whether a line that is refused is shown, with what is wrong with it.
+    pub explain: bool,
+    /// The file of the program; `-` is standard input.
+    pub program: String,
+}
+
+/// The values of `loop`.
+#[derive(Debug, Drop)]
+pub struct Loop {
+    /// The file of the machine's setup; `-` is standard input.
+    pub setup: String,
+    /// How many commands may be open at once, from 1 to 16.
+    pub window: u8,
+    /// Whether it reports how far it is.
+    pub progress: bool,
+    /// Whether each line that either side writes is shown.
+    pub trace: bool,
+    /// Whether a line that is refused is shown, with what is wrong with it.
+    pub explain: bool,
+    /// The file of the program; `-` is standard input.
+    pub program: String,
+}
+
+/// The values of `serve`.
+#[derive(Debug, Drop)]
+pub struct Service {
+    /// The file of the machine's setup; `-` is standard input.
+    pub setup: String,
+    /// The port that is listened on, at least 1.
+    pub port: u16,
+    /// How many connections are served, one after the other, from 1 to 4,000,000,000.
+    pub connections: u32,
+    /// The file that the contacts are written to; `-` is a file of that name.
+    pub contacts: Option<String>,
+    /// Whether it reports how far it is.
+    pub progress: bool,
+    /// Whether a line that is refused is shown, with what is wrong with it.
+    pub explain: bool,
+}
+
+/// The values of `run`.
+#[derive(Debug, Drop)]
+pub struct Run {
+    /// The file of the machine's setup; `-` is standard input.
+    pub setup: String,
+    /// The server's host, as a name or as an address.
+    pub host: String,
+    /// The server's port, at least 1.
+    pub port: u16,
+    /// How many commands may be open at once, from 1 to 16.
+    pub window: u8,
+    /// The file of the features that are there already, to which they are written in the end; `-` is a file of that name.
+    pub features: Option<String>,
+    /// Whether it reports how far it is.
+    pub progress: bool,
+    /// Whether a line that is refused is shown, with what is wrong with it.
+    pub explain: bool,
+    /// The file of the program; `-` is standard input.
+    pub program: String,
+}
+
+/// The values of `export`.
+#[derive(Debug, Drop)]
+pub struct Export {
+    /// The form that is printed.
+    pub form: Form,
+    /// The file of the machine's setup, whose frames the program may recall; `-` is standard input.
+    pub setup: Option<String>,
+    /// The file of the features that were measured; `-` is standard input.
+    pub features: String,
+    /// Whether a line that is refused is shown, with what is wrong with it.
+    pub explain: bool,
+    /// The file of the program; `-` is standard input.
+    pub program: String,
+}
