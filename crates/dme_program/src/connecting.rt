@@ -9,7 +9,9 @@ use crate::files::Sources;
 use crate::progress::Progress;
 use crate::tracing::Traced;
 use byte_ports::{Ports, Reading, Writing};
-use dme_orders::{FilesFault, InputFiles, OrderFault, loop_over, setup_and_program, shown_fault};
+use dme_orders::{
+    Ended, FilesFault, InputFiles, OrderFault, loop_over, setup_and_program, shown_fault,
+};
 use dme_words::Loop;
 use dmis_program::Program;
 use std::io::{self, ErrorKind};
@@ -51,50 +53,61 @@ pub(crate) fn of_output<R: AllocGlobal>(rt: &R, fault: FilesFault) -> OrderFault
     shown_fault(fault, InputFiles::unnamed(rt.alloc()))
 }
 
-/// What a run over a connection shows on standard error.
-#[derive(Clone, Copy)]
-struct Shown {
-    /// How far it is, and why the connection failed.
-    progress: bool,
-    /// The lines of both sides.
-    trace: bool,
-}
-
-/// Both ends of a program over a connection of this process to itself, and their report on standard output.
-fn loop_ends<R: Print + Eprint + Net<Listener = TcpListener, Stream = TcpStream> + AllocGlobal>(
-    rt: &R,
+/// What is run over one connection, and what is shown of it.
+#[derive(Drop)]
+struct Task {
     setup: Setup,
     program: Program,
     window: u8,
-    shown: Shown,
-) -> Result<u8, OrderFault>
-    requires { is_window window ≡ true }
+    progress: bool,
+    trace: bool,
+}
+
+/// Both ends of a program over this connection, and their report on standard output. (It is apart from the connection's making, since the
+/// ports of both ends have one lifetime.)
+fn loop_ends<'a, R: Print + Eprint + Net<Listener = TcpListener, Stream = TcpStream> + AllocGlobal>(
+    rt: &'a R,
+    near: &'a TcpStream,
+    far: &'a TcpStream,
+    task: Task,
+) -> Result<Ended, FilesFault>
+    requires { is_window task.window ≡ true }
 {
-    let (near, far) = match own_connection(rt) {
-        Ok(ends) => ends,
-        Err(error) => return Err(no_connection(&error, shown.progress)),
-    };
-    let mut watcher = Progress::new(rt, shown.progress, program.features().len());
+    let mut watcher = Progress::new(rt, task.progress, task.program.features().len());
     let mut client_ports = Ports {
-        source: Reading::new(&near),
-        sink: Traced::new(rt, Writing::new(&near), ">", shown.trace),
+        source: Reading::new(near),
+        sink: Traced::new(rt, Writing::new(near), ">", task.trace),
     };
     let mut server_ports = Ports {
-        source: Reading::new(&far),
-        sink: Traced::new(rt, Writing::new(&far), "<", shown.trace),
+        source: Reading::new(far),
+        sink: Traced::new(rt, Writing::new(far), "<", task.trace),
     };
-    let result = loop_over(
+    loop_over(
         rt.alloc(),
-        setup,
-        program,
-        window,
+        task.setup,
+        task.program,
+        task.window,
         &mut client_ports,
         &mut server_ports,
         &mut watcher,
         &mut Writing::new(io::writer(rt)),
-    );
-    match result {
-        Ok(ended) => ended.verdict(shown.progress),
+    )
+}
+
+/// Both ends of a program over a connection of this process to itself.
+fn loop_task<R: Print + Eprint + Net<Listener = TcpListener, Stream = TcpStream> + AllocGlobal>(
+    rt: &R,
+    task: Task,
+) -> Result<u8, OrderFault>
+    requires { is_window task.window ≡ true }
+{
+    let is_told = task.progress;
+    let (near, far) = match own_connection(rt) {
+        Ok(ends) => ends,
+        Err(error) => return Err(no_connection(&error, is_told)),
+    };
+    match loop_ends(rt, &near, &far, task) {
+        Ok(ended) => ended.verdict(is_told),
         Err(fault) => Err(of_output(rt, fault)),
     }
 }
@@ -117,12 +130,16 @@ pub fn loop_program<
     let mut files = InputFiles::unnamed(rt.alloc());
     files.setup = setup.into_file();
     files.program = program.into_file();
-    let shown = Shown {
+    let (setup, program) = match read {
+        Ok(read) => read,
+        Err(fault) => return Err(refused(rt.alloc(), fault, files, order.explain)),
+    };
+    let task = Task {
+        setup,
+        program,
+        window: order.window,
         progress: order.progress,
         trace: order.trace,
     };
-    match read {
-        Ok((setup, program)) => Ok(loop_ends(rt, setup, program, order.window, shown)?),
-        Err(fault) => Err(refused(rt.alloc(), fault, files, order.explain)),
-    }
+    Ok(loop_task(rt, task)?)
 }

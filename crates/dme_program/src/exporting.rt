@@ -23,12 +23,17 @@ pub fn export<R: Files + Input + Print + AllocGlobal>(rt: &R, order: Export) -> 
     let Err(fault) = export_files(rt.alloc(), order.form, &mut sought, &mut sink) else {
         return Ok(0);
     };
+    let ExportFiles {
+        setup,
+        features,
+        program,
+    } = sought;
     let mut files = InputFiles::unnamed(rt.alloc());
-    if let Some(setup) = sought.setup {
+    if let Some(setup) = setup {
         files.setup = setup.into_file();
     }
-    files.features = sought.features.into_file();
-    files.program = sought.program.into_file();
+    files.features = features.into_file();
+    files.program = program.into_file();
     Err(refused(rt.alloc(), fault, files, order.explain))
 }
 

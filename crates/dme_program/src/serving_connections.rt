@@ -17,13 +17,11 @@ use std::net::{Net, TcpListener, TcpStream};
 use std::rt::Files;
 use tool_rack::Setup;
 
-/// Where a server listens, for how many connections, and what it keeps and shows.
-#[derive(Drop)]
+/// Where a server listens, for how many connections, and whether it reports how far it is.
+#[derive(Clone, Copy)]
 struct Post {
     port: u16,
     connections: u32,
-    /// The file that the contacts are written to.
-    contacts: Option<String>,
     progress: bool,
 }
 
@@ -41,7 +39,7 @@ fn serve_connections<R: Eprint + Net<Listener = TcpListener, Stream = TcpStream>
     listener: &TcpListener,
     server: &mut Server,
     machine: &mut Simulated,
-    post: &Post,
+    post: Post,
 ) -> Option<PumpFault<ServerFault>> {
     let mut broken = None;
     for count in 0..post.connections {
@@ -80,18 +78,18 @@ fn service_verdict<R: Eprint>(
     }
 }
 
-/// The server of a setup, and its contacts on standard output.
+/// The server of a setup, whose contacts are written to a file, if one is named, and to standard output.
 fn serve_setup<
     R: Files + Print + Eprint + Net<Listener = TcpListener, Stream = TcpStream> + AllocGlobal,
->(rt: &R, setup: Setup, post: Post) -> Result<u8, OrderFault> {
-    let mut file = NamedFile::new(rt, post.contacts.as_deref())?;
+>(rt: &R, setup: Setup, post: Post, contacts: Option<String>) -> Result<u8, OrderFault> {
+    let mut file = NamedFile::new(rt, contacts.as_deref())?;
     let mut machine = Simulated::new(rt.alloc(), &setup)?;
     let mut server = Server::new(rt.alloc(), setup)?;
     let listener = match TcpListener::bind(rt, ("127.0.0.1", post.port)) {
         Ok(listener) => listener,
         Err(error) => return Err(no_connection(&error, post.progress)),
     };
-    let broken = serve_connections(rt, &listener, &mut server, &mut machine, &post);
+    let broken = serve_connections(rt, &listener, &mut server, &mut machine, post);
     let result = close_service(
         rt.alloc(),
         server.ledger(),
@@ -101,7 +99,7 @@ fn serve_setup<
     drop(file);
     match result {
         Ok(is_kept) => {
-            let unwritten = if is_kept { None } else { post.contacts };
+            let unwritten = if is_kept { None } else { contacts };
             service_verdict(rt, broken, unwritten, post.progress)
         }
         Err(fault) => Err(of_output(rt, fault)),
@@ -130,8 +128,7 @@ pub fn serve<
     let post = Post {
         port: order.port,
         connections: order.connections,
-        contacts: order.contacts,
         progress: order.progress,
     };
-    Ok(serve_setup(rt, setup, post)?)
+    Ok(serve_setup(rt, setup, post, order.contacts)?)
 }
