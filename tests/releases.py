@@ -73,10 +73,10 @@ def program_run(refusing, row, number, counts):
 def part_runs():
     """Each part of the rows of calls, with the texts that it is made of."""
     parts = parts_of((ROOT / "crates" / "test_calls" / "stdin").read_text())
-    texts = "".join(it for it in parts if it.startswith(("[program ", "[setup]", "[replies ", "[commands ")))
+    texts = "".join(it for it in parts if it.startswith(("[program ", "[setup]", "[replies ", "[commands ", "[ways ", "[ending ")))
     for at, it in enumerate(parts):
         head = it.split("]")[0].removeprefix("[")
-        if not head.startswith(("program ", "setup", "replies ", "commands ")):
+        if not head.startswith(("program ", "setup", "replies ", "commands ", "ways ", "ending ")):
             yield f"{head}, part {at}", texts + it
 
 

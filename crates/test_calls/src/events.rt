@@ -4,17 +4,15 @@
 // whose events are not made again; `finish`, which brings the world to its end; `report`; or `files`, the texts of both files. It shows the
 // state, how many bytes the client has written on its last connection, and how many acts are done and counted.
 
-use crate::client::{self, Made};
+use crate::client;
 use crate::shown::{lined, push_debug, push_features, push_text};
 use crate::stop::Stop;
 use crate::tried::{Called, front, push_appended, push_tried};
 use contact_ledger::{write_contacts, write_features};
-use dmis_program::Program;
 use link_world::{
-    Event, Instruction, NewFault, RunCount, Schedule, Simulated, World, WorldFault, write_report,
+    Event, Instruction, RunCount, Schedule, Simulated, World, WorldFault, write_report,
 };
 use std::alloc::{AllocError, Global};
-use tool_rack::Setup;
 
 /// The state and the counts.
 fn push_told(alloc: Global, out: &mut Vec<u8>, world: &World) -> Result<(), AllocError> {
@@ -203,40 +201,4 @@ pub(crate) fn answer(alloc: Global, world: &mut World, row: &str) -> Result<Vec<
         _ => push_changed(alloc, &mut out, world, row)?,
     }
     Ok(out)
-}
-
-// ---- a new world
-
-/// What a new world is made for.
-pub(crate) trait WorldTask {
-    /// What it shows.
-    fn push(&self, alloc: Global, out: &mut Vec<u8>, world: &mut World) -> Result<(), Stop>;
-}
-
-/// A new world; where memory is short for it, there is none.
-fn new_world(alloc: Global, program: Program, setup: Setup, window: u8) -> Result<World, Stop> {
-    match World::new(alloc, program, setup, window) {
-        Ok(world) => Ok(world),
-        Err(NewFault::Memory) => Err(Stop::Refused),
-        Err(NewFault::BadWindow(_, _)) => Err(Stop::Row),
-    }
-}
-
-fn read_world(alloc: Global, given: Made<'_>, setup: &str) -> Result<World, Stop> {
-    let setup = Setup::read(alloc, setup.as_bytes())?;
-    let program = Program::read(alloc, given.program.as_bytes(), setup.frames())?;
-    new_world(alloc, program, setup, given.window)
-}
-
-/// What a task of a new world shows.
-pub(crate) fn push_task<T: WorldTask>(
-    alloc: Global,
-    out: &mut Vec<u8>,
-    (given, setup): (Made<'_>, &str),
-    task: &T,
-) -> Result<(), Stop> {
-    let mut world = read_world(alloc, given, setup)?;
-    let done = task.push(alloc, out, &mut world);
-    drop(world);
-    done
 }

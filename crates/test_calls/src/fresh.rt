@@ -1,8 +1,9 @@
 // What worlds are made of, and what is done with them.
 
+use crate::client;
 use crate::stop::Stop;
 use dmis_program::Program;
-use link_world::{Schedule, World};
+use link_world::{NewFault, Schedule, World};
 use std::alloc::Global;
 use tool_rack::Setup;
 
@@ -14,31 +15,44 @@ pub(crate) struct Made<'a> {
     pub(crate) window: u8,
 }
 
+impl<'a> Made<'a> {
+    /// The same of what a client is made of, and a setup.
+    pub(crate) fn of(client: client::Made<'a>, setup: &'a str) -> Made<'a> {
+        Made {
+            program: client.program,
+            setup,
+            window: client.window,
+        }
+    }
+}
+
 fn read_setup(alloc: Global, made: Made<'_>) -> Result<Setup, Stop> {
-    Setup::read(alloc, made.setup.as_bytes())
-        .ok()
-        .ok_or(Stop::Row)
+    Ok(Setup::read(alloc, made.setup.as_bytes())?)
 }
 
 fn read_program(alloc: Global, made: Made<'_>, setup: &Setup) -> Result<Program, Stop> {
-    Program::read(alloc, made.program.as_bytes(), setup.frames())
-        .ok()
-        .ok_or(Stop::Row)
+    Ok(Program::read(alloc, made.program.as_bytes(), setup.frames())?)
+}
+
+/// A new world; where memory is short for it, there is none.
+fn new_world(alloc: Global, program: Program, setup: Setup, window: u8) -> Result<World, Stop> {
+    match World::new(alloc, program, setup, window) {
+        Ok(world) => Ok(world),
+        Err(NewFault::Memory) => Err(Stop::Refused),
+        Err(NewFault::BadWindow(_, _)) => Err(Stop::Row),
+    }
 }
 
 /// A world in which nothing has happened.
-fn new_world(alloc: Global, made: Made<'_>) -> Result<World, Stop> {
+fn read_world(alloc: Global, made: Made<'_>) -> Result<World, Stop> {
     let setup = read_setup(alloc, made)?;
     let program = read_program(alloc, made, &setup)?;
-    match World::new(alloc, program, setup, made.window) {
-        Ok(world) => Ok(world),
-        Err(_) => Err(Stop::Row),
-    }
+    new_world(alloc, program, setup, made.window)
 }
 
 /// The instructions of a text are played.
 pub(crate) fn play(alloc: Global, world: &mut World, text: &[u8]) -> Result<(), Stop> {
-    let schedule = Schedule::read(alloc, text).ok().ok_or(Stop::Row)?;
+    let schedule = Schedule::read(alloc, text)?;
     Ok(schedule.play(world)?)
 }
 
@@ -54,7 +68,7 @@ pub(crate) fn do_task<T: WorldTask>(
     made: Made<'_>,
     task: &mut T,
 ) -> Result<(), Stop> {
-    let mut world = new_world(alloc, made)?;
+    let mut world = read_world(alloc, made)?;
     let done = task.done(alloc, &mut world);
     drop(world);
     done

@@ -1,13 +1,13 @@
 // The parts of the input.
 
 use crate::client::{self, ClientTask, Made};
-use crate::events::{self, WorldTask};
+use crate::fresh::{self, WorldTask, do_task};
 use crate::fronts::{self, Stops};
 use crate::links::{self, Script};
 use crate::server::{self, ServerTask};
 use crate::shown::push_text;
 use crate::stop::Stop;
-use crate::{fresh, hostile, played, quiets, setups, texts, tried, values, worlds};
+use crate::{events, hostile, played, quiets, setups, texts, tried, values, worlds};
 use client_core::Client;
 use link_world::World;
 use server_core::Server;
@@ -253,12 +253,28 @@ fn push_world_row(
     push_answer_of(out, row, answer)
 }
 
-impl WorldTask for Rows<'_> {
-    fn push(&self, alloc: Global, out: &mut Vec<u8>, world: &mut World) -> Result<(), Stop> {
-        for row in self.text.lines() {
-            push_world_row(alloc, out, world, row)?;
-        }
-        Ok(())
+fn push_world_rows(
+    alloc: Global,
+    out: &mut Vec<u8>,
+    world: &mut World,
+    text: &str,
+) -> Result<(), Stop> {
+    for row in text.lines() {
+        push_world_row(alloc, out, world, row)?;
+    }
+    Ok(())
+}
+
+/// The rows of a part, one call of a world behind another.
+#[derive(Drop)]
+struct WorldRows<'a> {
+    out: &'a mut Vec<u8>,
+    text: &'a str,
+}
+
+impl WorldTask for WorldRows<'_> {
+    fn done(&mut self, alloc: Global, world: &mut World) -> Result<(), Stop> {
+        push_world_rows(alloc, self.out, world, self.text)
     }
 }
 
@@ -298,11 +314,7 @@ fn push_stopped(
     (input, name, word): (&str, &str, &str),
     text: &str,
 ) -> Result<(), Stop> {
-    let made = fresh::Made {
-        program: made.program,
-        setup,
-        window: made.window,
-    };
+    let made = fresh::Made::of(made, setup);
     if word == "plays" {
         return played::push_events(alloc, out, made, text);
     }
@@ -323,7 +335,11 @@ fn push_made_rows(
 ) -> Result<(), Stop> {
     match word {
         "client" => client::push_task(alloc, out, ends.0, &Rows { text }),
-        "world" => events::push_task(alloc, out, ends, &Rows { text }),
+        "world" => do_task(
+            alloc,
+            fresh::Made::of(ends.0, ends.1),
+            &mut WorldRows { out, text },
+        ),
         "files" => worlds::push_files(alloc, out, ends, text),
         "stops" | "plays" => push_stopped(alloc, out, ends, (input, name, word), text),
         "turns" | "runs" | "watches" | "loops" => {

@@ -1,33 +1,17 @@
 // Worlds behind schedules, and both ends that are driven by hand.
 
 use crate::client::{Made, connect};
+use crate::fresh::{self, WorldTask, do_task, play};
 use crate::server::{BothTask, accept, push_both_task};
 use crate::shown::{lined, push_debug, push_display, push_lines, push_text};
 use crate::stop::Stop;
 use client_core::{Client, State};
 use contact_ledger::{ServerLedger, write_contacts, write_features};
-use dmis_program::Program;
 use link_world::{
     Machine, Schedule, Simulated, World, WorldFault, report_of, write_contact_rows, write_report,
 };
 use server_core::Server;
 use std::alloc::{AllocError, Global};
-use tool_rack::Setup;
-
-/// A new world of a program and a setup.
-fn new_world(alloc: Global, made: Made<'_>, setup: &str) -> Result<World, Stop> {
-    let setup = Setup::read(alloc, setup.as_bytes())?;
-    let program = Program::read(alloc, made.program.as_bytes(), setup.frames())?;
-    World::new(alloc, program, setup, made.window)
-        .ok()
-        .ok_or(Stop::Row)
-}
-
-/// What a schedule says happens to a world.
-fn play(alloc: Global, world: &mut World, schedule: &[u8]) -> Result<(), Stop> {
-    let schedule = Schedule::read(alloc, schedule)?;
-    Ok(schedule.play(world)?)
-}
 
 /// How many lines of a text home the machine.
 fn homings(text: &[u8]) -> usize {
@@ -78,6 +62,20 @@ fn push_played(
     }
 }
 
+/// What is shown of a world behind a schedule is written.
+#[derive(Drop)]
+struct Played<'a> {
+    out: &'a mut Vec<u8>,
+    schedule: &'a [u8],
+    shown: Shown,
+}
+
+impl WorldTask for Played<'_> {
+    fn done(&mut self, alloc: Global, world: &mut World) -> Result<(), Stop> {
+        push_played(alloc, self.out, world, self.schedule, self.shown)
+    }
+}
+
 /// The same of a new world.
 pub(crate) fn push_new_played(
     alloc: Global,
@@ -86,10 +84,12 @@ pub(crate) fn push_new_played(
     schedule: &[u8],
     shown: Shown,
 ) -> Result<(), Stop> {
-    let mut world = new_world(alloc, made, setup)?;
-    let done = push_played(alloc, out, &mut world, schedule, shown);
-    drop(world);
-    done
+    let mut task = Played {
+        out,
+        schedule,
+        shown,
+    };
+    do_task(alloc, fresh::Made::of(made, setup), &mut task)
 }
 
 /// The client's state and its homings behind the schedule of a row.
