@@ -26,7 +26,8 @@ use Rattle.dmis_program.specs.Meaning.{Meaning}
 use Rattle.dmis_program.specs.declared.features.Wanted.{Wanted}
 use Rattle.protocol_model.specs.Replies.{Mark, tag_is}
 use Rattle.protocol_model.specs.Open.{is_asking, is_failed, count_open}
-use Rattle.protocol_model.specs.Client.{Client, Table, heard, heard_on, faulted, new_client, client_connected, may_go, first_due, due}
+use Rattle.protocol_model.specs.Client.{Client, Table, heard_on, faulted, new_client, client_connected, may_go, first_due, due}
+use Rattle.protocol_model.proofs.HeardTables.{heard}
 use Rattle.protocol_model.specs.Client.{held_now, sends_next, next_number, sends_abort, may_abort, first_state, last_state, state_behind}
 use Rattle.protocol_model.specs.Client.{is_running, is_whole, ends_abort, client_hears, client_read, client_resumed, client_left}
 use Rattle.protocol_model.specs.Client.{left_state, client_restarted}

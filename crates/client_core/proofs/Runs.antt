@@ -28,7 +28,8 @@ use Rattle.dmis_program.specs.declared.features.Wanted.{Wanted}
 use Rattle.protocol_model.specs.Replies.{Mark, tag_is}
 use Rattle.protocol_model.specs.Open.{Effect, Heard as Heardings, heard_in, asks_homed, is_asking, count_open}
 use Rattle.protocol_model.specs.Client.{Client, Table, Tally, act_of, origin_of, measured, counted_next, begins_session, tells_homed}
-use Rattle.protocol_model.specs.Client.{passed_over, tallied, heard}
+use Rattle.protocol_model.specs.Client.{passed_over, tallied}
+use Rattle.protocol_model.proofs.HeardTables.{heard}
 use Rattle.protocol_model.specs.Client.{heard_on}
 use Rattle.protocol_model.specs.Client.{faulted, new_client, client_connected, is_running, first_due, due, held_now, sends_next}
 use Rattle.protocol_model.specs.Client.{next_number, sends_abort, may_abort, first_state, last_state, state_behind, is_whole, ends_abort}

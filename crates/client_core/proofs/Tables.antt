@@ -16,7 +16,8 @@ use Rattle.protocol_model.specs.declared.held.Datum.{Datum}
 use Rattle.dme_line.specs.declared.commands.Kind.{Kind}
 use Rattle.client_core.specs.declared.progress.Progress.{Progress}
 use Rattle.client_core.specs.Progress.{tally_of, seen}
-use Rattle.client_core.specs.Tables.{table_of, tallied_on, is_count}
+use Rattle.client_core.specs.Tables.{table_of, is_count}
+use Rattle.client_core.proofs.TalliesOn.{tallied_on}
 
 fst_of : {A B C : Type 0} (x y : A) (v w : B) → Path (Result (A × B) C) (Ok (x, v)) (Ok (y, w)) → x ≡ y
 fst_of x y v w is = ap (λ r. elim r [ Ok p ↦ p.0 | Err e ↦ x ]) is

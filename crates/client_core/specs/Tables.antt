@@ -1,22 +1,16 @@
 -- The open commands and what is counted, as one table (this profile).
-use Rattle.std.specs.Prelude.{Bool, true, false, List, Option, Some, None}
+use Rattle.std.specs.Prelude.{Bool, true, false, Option, Some, None}
 use Rattle.dme_line.specs.declared.tags.Tag.{Tag}
 use Rattle.dme_line.specs.declared.tags.Tag.TheVariants.{Std, Event}
 use Rattle.dme_line.specs.declared.commands.Command.{Command}
-use Rattle.dmis_program.specs.declared.features.Wanted.{Wanted}
 use Rattle.dme_tags.specs.Opened.{Opened}
 use Rattle.protocol_model.specs.Open.{Effect}
-use Rattle.protocol_model.specs.Client.{Client, Table, Tally, tallied}
+use Rattle.protocol_model.specs.Client.{Client, Table, Tally}
 use Rattle.protocol_model.specs.declared.plans.Planned.{Planned}
 
 -- the table of open commands and a tally
 abbrev pub table_of : Opened → Tally → Table
 table_of o y = record { standard = o.standard; event = o.event; tally = y }
-
--- what a standard command's reply does is counted
-abbrev pub tallied_on : Tag → List Wanted → Effect → Tally → Tally
-tallied_on (Std n) ws effect y = tallied ws effect y
-tallied_on (Event n) ws effect y = y
 
 -- the command that is planned
 abbrev pub planned_command : Option Planned → Option Command

@@ -11,7 +11,8 @@ use Rattle.contact_ledger.specs.Ledgers.{IsOrigin}
 use Rattle.contact_ledger.specs.FeatureTexts.{AreFeatureLines, AreFeatures, IsFeatures, IsDamagedFeatures, IsWrittenOrigin, CanBeWritten}
 use Rattle.contact_ledger.specs.declared.features.Origin.{Origin}
 use Rattle.contact_ledger.specs.declared.openings.Version.{Version}
-use Rattle.contact_ledger.specs.Places.{Next, Leads}
+use Rattle.contact_ledger.specs.Places.{Next}
+use Rattle.contact_ledger.proofs.LeadingPlaces.{Leads}
 use Rattle.contact_ledger.specs.declared.features.Feature.{Feature}
 use Rattle.contact_ledger.specs.declared.places.Place.{Place}
 use Rattle.contact_ledger.specs.declared.places.Place.TheVariants.{Start, Between, Within}

@@ -10,7 +10,8 @@ use Rattle.fixed_um.specs.declared.frames.Frame.TheVariants.{Machine, Part}
 use Rattle.contact_ledger.specs.Fields.{IsOnWire, IsFrame, point_fields, frame_fields}
 use Rattle.contact_ledger.specs.FeatureTexts.{IsOpening, IsWrittenOrigin, IsKnown, header}
 use Rattle.contact_ledger.specs.FeatureTexts.{known_fields, origin_fields, opening_line, point_line}
-use Rattle.contact_ledger.specs.Places.{Next, Leads, AddsPoint}
+use Rattle.contact_ledger.specs.Places.{Next, AddsPoint}
+use Rattle.contact_ledger.proofs.LeadingPlaces.{Leads}
 use Rattle.contact_ledger.specs.declared.features.Feature.{Feature}
 use Rattle.contact_ledger.specs.declared.features.Origin.{Origin}
 use Rattle.contact_ledger.specs.declared.openings.Opening.{Opening}

@@ -8,7 +8,8 @@ use Rattle.contact_ledger.specs.Fields.{IsOnWire}
 use Rattle.contact_ledger.specs.FeatureTexts.{IsOpening, IsFeature, AreFeatures, header}
 use Rattle.contact_ledger.specs.FeatureTexts.{opening_line, point_line, opening_of, feature_lines}
 use Rattle.contact_ledger.specs.FeatureTexts.{lines_of_all, IsTorn, AreFeatureLines, none, some}
-use Rattle.contact_ledger.specs.Places.{Next, Leads, feature_of}
+use Rattle.contact_ledger.specs.Places.{Next, feature_of}
+use Rattle.contact_ledger.proofs.LeadingPlaces.{Leads}
 use Rattle.contact_ledger.specs.declared.features.Feature.{Feature}
 use Rattle.contact_ledger.specs.declared.openings.Opening.{Opening}
 use Rattle.contact_ledger.specs.declared.openings.Version.{Version}

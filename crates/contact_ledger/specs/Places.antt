@@ -45,9 +45,3 @@ Next features (Between version) line new place = (o : Opening) × IsOpening vers
     × (new ≡ features) × (place ≡ Within version o [])
 Next features (Within version o points) line new place = AddsPoint features version o points line new place
     ⊎ EndsFeature features version o points line new place
-
--- lines lead from a place to another
-abbrev pub Leads : List Feature → Place → List (List ℕ) → List Feature → Place → Type 0
-Leads features place [] new then = (new ≡ features) × (then ≡ place)
-Leads features place (line ∷ lines) new then = (mid : List Feature) × (at : Place) × Next features place line mid at
-    × Leads mid at lines new then

@@ -1,4 +1,5 @@
+pub mod LoopingLemmas
+pub mod NumberedLines
+pub mod OrderLemmas
 pub mod PlanLemmas
 pub mod ReadingLemmas
-pub mod LoopingLemmas
-pub mod OrderLemmas

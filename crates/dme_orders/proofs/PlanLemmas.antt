@@ -7,7 +7,8 @@ use Rattle.dme_line.specs.Written.{written_command}
 use Rattle.protocol_model.specs.declared.plans.Planned.{Planned}
 use Rattle.dmis_program.specs.Meaning.{Meaning}
 use Rattle.dme_orders.specs.Plan.{lines_behind, plan_text}
-use Rattle.dme_orders.specs.Numbered.{number_behind, lines_from}
+use Rattle.dme_orders.specs.Numbered.{number_behind}
+use Rattle.dme_orders.proofs.NumberedLines.{lines_from}
 
 -- the number behind is that of one command more
 number_step : (count : ℕ) (b : Bool) → (count % 9999 + 1 == 9999) ≡ b → cond b 1 (count % 9999 + 1 + 1) ≡ (count + 1) % 9999 + 1

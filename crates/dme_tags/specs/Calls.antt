@@ -36,11 +36,6 @@ behind_call o (Failed t) = behind_answer o (heard o t Mark.Error)
 behind_call o (Complete t) = behind_answer o (heard o t Mark.Done)
 behind_call o BeginPlan = record o { failed = false }
 
--- what is open behind a list of calls
-abbrev pub behind_calls : Opened → List Call → Opened
-behind_calls o [] = o
-behind_calls o (call ∷ calls) = behind_calls (behind_call o call) calls
-
 -- the marks behind one that was taken in: `%` is the last
 abbrev pub until_end : Mark → List Placed → List Placed
 until_end Mark.Ack later = later

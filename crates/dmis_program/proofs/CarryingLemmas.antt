@@ -16,9 +16,10 @@ use Rattle.dmis_program.specs.Judging.{judged, word_refusal, refused_by, is_too_
 use Rattle.dmis_program.specs.Meaning.{Meaning, meaning_with, meant, meaning_of, program_of, closes, ended, steps_of, touch_with}
 use Rattle.dmis_program.specs.Meaning.{touch_steps, recall_steps, steps_from, with_front, continued}
 use Rattle.dmis_program.specs.Carrying.{Carried, no_statement, context_of, count_wanted, counted, changed, touched_with as carry_touch}
-use Rattle.dmis_program.specs.Carrying.{recalled_at, touches_left, next, ran, run}
+use Rattle.dmis_program.specs.Carrying.{recalled_at, touches_left, next}
+use Rattle.dmis_program.proofs.CarryingRuns.{ran, run}
 use Rattle.dmis_program.specs.Programs.{IsProgram}
-use Rattle.dmis_program.specs.Sound.{MayFollow, IsAllowed, IsSound}
+use Rattle.dmis_program.proofs.Sound.{MayFollow, IsAllowed, IsSound}
 use Rattle.dmis_program.proofs.JudgingLemmas.{judged_if}
 use Rattle.dmis_program.proofs.SoundLemmas.{sound_after, sound_at_start}
 use Rattle.dmis_program.proofs.ProgramLemmas.{done_is, program_is}

@@ -11,7 +11,7 @@ use Rattle.dmis_program.specs.Offsets.{offset_of}
 use Rattle.dmis_program.specs.LookBack.{saying}
 use Rattle.dmis_program.specs.Judging.{is_start, is_unsupported, misplaced, word_refusal, refused_by, is_too_few, settled, judged}
 use Rattle.dmis_program.specs.Carrying.{Carried, context_of, count_wanted}
-use Rattle.dmis_program.specs.Sound.{SaidBy, IsAllowed, MayFollow}
+use Rattle.dmis_program.proofs.Sound.{SaidBy, IsAllowed, MayFollow}
 use Rattle.dmis_program.proofs.SayingLemmas.{bind_if, unless_if, said_of_if}
 use Rattle.dmis_program.specs.declared.faults.Refusal.{Refusal}
 use Rattle.dmis_program.specs.declared.faults.Refusal.TheVariants.{NotDmis, Unsupported}

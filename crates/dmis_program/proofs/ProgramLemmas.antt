@@ -6,7 +6,7 @@ use Rattle.fixed_um.specs.declared.frames.Frame.TheVariants.{Machine}
 use Rattle.dmis_program.specs.Meaning.{features_of, block_touches}
 use Rattle.dmis_program.specs.Programs.{IsTouch, IsStep, IsFeature, IsProgram, AreBlocks, FollowSelections, touches_of, feature_touches}
 use Rattle.dmis_program.specs.Carrying.{Carried}
-use Rattle.dmis_program.specs.Sound.{IsSound}
+use Rattle.dmis_program.proofs.Sound.{IsSound}
 use Rattle.dmis_program.specs.declared.steps.Step.{Step}
 use Rattle.dmis_program.specs.declared.steps.Step.TheVariants.{Goto, Begin, Touch, Tool, Recall, End}
 use Rattle.dmis_program.specs.declared.features.Touch as touch

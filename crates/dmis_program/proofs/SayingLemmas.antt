@@ -23,7 +23,7 @@ use Rattle.dmis_program.specs.Positions.{length_of, component_of, position_of, d
 use Rattle.dmis_program.specs.Parameters.{is_letters, begins, before_close, name_of, name_within, count_of, within_count, without_cart}
 use Rattle.dmis_program.specs.Sayings.{goes, begun, begins_block, touches_at, touches, without_parameters, selected, selects, recalled}
 use Rattle.dmis_program.specs.Sayings.{recalls_frame, recalls, units, mode, said_by, is_badly_formed, said_of}
-use Rattle.dmis_program.specs.Sound.{SaidBy}
+use Rattle.dmis_program.proofs.Sound.{SaidBy}
 use Rattle.dmis_program.specs.declared.faults.Refusal.{Refusal}
 use Rattle.dmis_program.specs.declared.faults.Refusal.TheVariants.{BadArguments}
 use Rattle.dmis_program.specs.declared.keywords.Keyword.{Keyword}

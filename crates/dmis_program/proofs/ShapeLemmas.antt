@@ -16,8 +16,9 @@ use Rattle.dmis_program.specs.Judging.{judged}
 use Rattle.dmis_program.specs.Meaning.{Meaning, meant, meaning_of, program_of, closes, steps_of, touch_steps, recall_steps, with_front}
 use Rattle.dmis_program.specs.Meaning.{continued, steps_from}
 use Rattle.dmis_program.specs.Programs.{IsProgram, FrameIsStored, StepIsStored}
-use Rattle.dmis_program.specs.Carrying.{Carried, no_statement, next, ran, run}
-use Rattle.dmis_program.specs.Sound.{IsSound}
+use Rattle.dmis_program.specs.Carrying.{Carried, no_statement, next}
+use Rattle.dmis_program.proofs.CarryingRuns.{ran, run}
+use Rattle.dmis_program.proofs.Sound.{IsSound}
 use Rattle.dmis_program.proofs.SoundLemmas.{sound_at_start}
 use Rattle.dmis_program.proofs.CarryingLemmas.{keeps_sound, starts}
 use Rattle.dmis_program.specs.declared.faults.Refusal.{Refusal}

@@ -15,7 +15,7 @@ use Rattle.dmis_program.specs.Meaning.{features_of, block_touches, touch_with}
 use Rattle.dmis_program.specs.Programs.{IsFrame, IsStep, AreBlocks, FollowSelections}
 use Rattle.dmis_program.specs.Carrying.{Carried, no_statement, with_step, touched_with, recalled_at, counted, changed, touches_left}
 use Rattle.dmis_program.specs.Carrying.{closed_block}
-use Rattle.dmis_program.specs.Sound.{MayFollow, under_way, open_count, IsSound}
+use Rattle.dmis_program.proofs.Sound.{MayFollow, under_way, open_count, IsSound}
 use Rattle.dmis_program.specs.declared.sayings.Said.{Said}
 use Rattle.dmis_program.specs.declared.sayings.Said.TheVariants as said
 use Rattle.dmis_program.specs.declared.steps.Step.{Step}

@@ -1,8 +1,7 @@
 -- What the code carries forward from statement to statement. No public clause cites it: specs/Meaning.antt looks back instead,
 -- and proofs/CarryingLemmas.antt shows that both give the same.
-use Rattle.std.specs.Prelude.{◌≡◌, ℕ, ◌+◌, Bool, true, false, List, [], ◌∷◌, ◌++◌, length, Option, Some, None, Result, Ok, Err}
+use Rattle.std.specs.Prelude.{◌≡◌, ℕ, ◌+◌, Bool, List, [], ◌∷◌, ◌++◌, length, Option, Some, None, Result, Ok, Err}
 use Rattle.dmis_text.specs.declared.elements.Statement.{Statement}
-use Rattle.dmis_text.specs.declared.reading.TextFault.{TextFault}
 use Rattle.fixed_um.specs.declared.frames.Frame.{Frame}
 use Rattle.fixed_um.specs.declared.frames.Frame.TheVariants.{Machine, Part}
 use Rattle.fixed_um.specs.declared.lengths.Point.{Point}
@@ -11,7 +10,7 @@ use Rattle.dmis_program.specs.Outcomes.{◌>>=◌}
 use Rattle.dmis_program.specs.Offsets.{offset_of}
 use Rattle.dmis_program.specs.LookBack.{Context}
 use Rattle.dmis_program.specs.Judging.{judged, settled}
-use Rattle.dmis_program.specs.Meaning.{Meaning, closes, ended, touch_with}
+use Rattle.dmis_program.specs.Meaning.{closes, touch_with}
 use Rattle.dmis_program.specs.declared.faults.Refusal.{Refusal}
 use Rattle.dmis_program.specs.declared.faults.StatementFault.{StatementFault}
 use Rattle.dmis_program.specs.declared.faults.StatementFault.TheVariants as faults
@@ -103,13 +102,3 @@ abbrev pub GivesNext : Result Bool StatementFault → Carried → Result (Bool �
 GivesNext (Ok closed) new due = due ≡ Ok (closed, new)
 GivesNext (Err (faults.Refused refusal)) new due = due ≡ Err refusal
 GivesNext (Err faults.Memory) new due = Unit {0}
-
--- from here to the end of the program
-abbrev pub ran : ℕ → Result (Bool × Carried) Refusal → (Carried → Result Meaning (Refusal × ℕ)) → Result Meaning (Refusal × ℕ)
-ran line (Err refusal) behind = Err (refusal, line)
-ran line (Ok (true, c)) behind = Ok (record { features = c.done; steps = c.steps })
-ran line (Ok (false, c)) behind = behind c
-
-abbrev pub run : List (List ℕ × Point) → Option TextFault → ℕ → List Statement → Carried → Result Meaning (Refusal × ℕ)
-run frames fault lines [] c = Err (ended fault c.number lines)
-run frames fault lines (s ∷ statements) c = ran s.line (next frames c s) (run frames fault lines statements)

@@ -9,6 +9,5 @@ pub mod Judging
 pub mod Meaning
 pub mod Carrying
 pub mod Programs
-pub mod Sound
 pub mod Order
 pub mod Messages

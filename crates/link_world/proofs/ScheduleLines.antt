@@ -5,7 +5,7 @@ use Rattle.std.specs.List.{position_from}
 use Rattle.std.specs.Str.Lines.{lines}
 use Rattle.tool_rack.specs.Fields.{is_dropped}
 use Rattle.link_world.specs.ScheduleTexts.{instruction_on, is_refused, instructions_on, schedule_on, schedule_of}
-use Rattle.link_world.specs.ScheduleCarrying.{read_behind}
+use Rattle.link_world.proofs.ScheduleRuns.{read_behind}
 use Rattle.link_world.specs.declared.schedules.Instruction.{Instruction}
 use Rattle.link_world.specs.declared.schedule_faults.ScheduleFault.{ScheduleFault}
 use Rattle.link_world.specs.declared.schedule_faults.ScheduleFault.TheVariants.{BadLine}

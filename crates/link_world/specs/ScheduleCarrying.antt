@@ -14,14 +14,3 @@ read_more n above (Some instruction) = Ok (above ++ instruction ∷ [])
 -- the instructions above, with what line n asks for
 abbrev pub read_line : ℕ → List Instruction → List ℕ → Result (List Instruction) ScheduleFault
 read_line n above line = if is_dropped line then Ok above else read_more n above (instruction_on line)
-
--- one step, and then the next with what it gave
-abbrev pub and_behind : Result (List Instruction) ScheduleFault → (List Instruction → Result (List Instruction) ScheduleFault)
-    → Result (List Instruction) ScheduleFault
-and_behind (Ok instructions) f = f instructions
-and_behind (Err fault) f = Err fault
-
--- the instructions behind more lines, of which the first has number n
-abbrev pub read_behind : ℕ → List Instruction → List (List ℕ) → Result (List Instruction) ScheduleFault
-read_behind n above [] = Ok above
-read_behind n above (line ∷ lines) = and_behind (read_line n above line) (λ more. read_behind (n + 1) more lines)

@@ -143,10 +143,6 @@ abbrev pub heard_on : List Wanted → Table → Tag → Mark → Result Table Ca
 heard_on ws b (Std n) m = heard_standard ws b (heard_in (not b.tally.failed) b.standard (Std n) m)
 heard_on ws b (Event n) m = heard_event b (heard_in true b.event (Event n) m)
 
--- the table after a reply, or why it can be none; what comes on the event tag number 0 changes nothing
-abbrev pub heard : List Wanted → Table → Tag → Mark → Result Table Cause
-heard ws b t m = if tag_is t (Event 0) then Ok b else heard_on ws b t m
-
 -- a client: its program, how many commands may be open, whether it is on a connection and the number of the last one, its state and why it
 -- is Faulted, what replies change, the numbers of the tags drawn last, and the tag of the abort that was sent last
 pub record Client : Type 0 where

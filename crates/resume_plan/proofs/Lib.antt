@@ -1,1 +1,2 @@
+pub mod PlacesBehind
 pub mod SendableLemmas

@@ -14,7 +14,8 @@ use Rattle.dmis_program.proofs.OffsetLemmas.{frames_more}
 use Rattle.tool_rack.specs.Entries.{entry_on}
 use Rattle.tool_rack.specs.Setups.{SetupValue, has_name, is_twice, tool_in, frame_in, shift_in, setup_with, judged, and_then, entries_from}
 use Rattle.tool_rack.specs.Setups.{setup_of, IsSetup}
-use Rattle.tool_rack.specs.Carrying.{setup_more, line_more, setup_behind}
+use Rattle.tool_rack.specs.Carrying.{setup_more, line_more}
+use Rattle.tool_rack.proofs.SetupRuns.{setup_behind}
 use Rattle.tool_rack.specs.declared.entries.Entry.{Entry}
 use Rattle.tool_rack.specs.declared.entries.Entry.TheVariants as entry
 use Rattle.tool_rack.specs.declared.faults.SetupFault.{SetupFault}

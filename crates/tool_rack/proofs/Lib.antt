@@ -1,5 +1,6 @@
 pub mod FieldCuts
-pub mod Lengths
 pub mod Growing
+pub mod Lengths
 pub mod LineLaws
+pub mod SetupRuns
 pub mod SpacingLaws

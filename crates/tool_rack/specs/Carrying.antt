@@ -20,8 +20,3 @@ line_more n s entry = if is_twice s entry then Err (fault.Twice n) else Ok (setu
 
 abbrev pub read_line : ℕ → SetupValue → List ℕ → Result SetupValue SetupFault
 read_line n s line = and_then (entry_on n line) (line_more n s)
-
--- the setup behind more lines, of which the first has number n
-abbrev pub setup_behind : ℕ → SetupValue → List (List ℕ) → Result SetupValue SetupFault
-setup_behind n s [] = Ok s
-setup_behind n s (line ∷ lines) = and_then (read_line n s line) (λ more. setup_behind (n + 1) more lines)

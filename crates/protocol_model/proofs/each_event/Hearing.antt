@@ -8,7 +8,8 @@ use Rattle.dme_line.specs.declared.tags.Tag.TheVariants.{Std, Event}
 use Rattle.dmis_program.specs.declared.features.Wanted.{Wanted}
 use Rattle.protocol_model.specs.Replies.{Mark, Reply, tag_of, mark_of, tag_is}
 use Rattle.protocol_model.specs.Open.{Effect, heard_in, count_open}
-use Rattle.protocol_model.specs.Client.{Client, Table, heard, heard_on, ends_abort, first_state, last_state, is_whole, state_behind}
+use Rattle.protocol_model.specs.Client.{Client, Table, heard_on, ends_abort, first_state, last_state, is_whole, state_behind}
+use Rattle.protocol_model.proofs.HeardTables.{heard}
 use Rattle.protocol_model.specs.Client.{client_hears, client_read}
 use Rattle.protocol_model.specs.Typed.{World, client_reads}
 use Rattle.protocol_model.proofs.table.Basics.{if_true, if_false}

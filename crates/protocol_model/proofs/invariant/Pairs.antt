@@ -12,7 +12,8 @@ use Rattle.dme_line.specs.declared.commands.Kind.TheVariants as kind
 use Rattle.dmis_program.specs.declared.features.Wanted.{Wanted}
 use Rattle.protocol_model.specs.Replies.{Mark, Reply, tag_is}
 use Rattle.protocol_model.specs.Open.{Effect, judged, judged_given, judged_done, settled, put_before, heard_in, asks_data, fits, is_held}
-use Rattle.protocol_model.specs.Client.{Tally, Table, counted_next, tallied, heard}
+use Rattle.protocol_model.specs.Client.{Tally, Table, counted_next, tallied}
+use Rattle.protocol_model.proofs.HeardTables.{heard}
 use Rattle.protocol_model.specs.Server.{fails, all_fail, running_fails}
 use Rattle.protocol_model.proofs.table.Basics.{if_cases, tag_is-refl}
 use Rattle.protocol_model.proofs.table.Walks.{two, heard_at, heard_past}

@@ -13,7 +13,8 @@ use Rattle.line_framing.specs.Next.{next_of}
 use Rattle.protocol_model.specs.Replies.{Reply, Mark, tag_of, mark_of, tag_is}
 use Rattle.protocol_model.specs.Open.{Effect, Becomes, Breaks, Closes, Counts, judged_ack, heard_in, is_asking, count_open}
 use Rattle.protocol_model.specs.Plan.{is_empty}
-use Rattle.protocol_model.specs.Client.{Client, Table, Tally, counted_next, tallied, heard, heard_on, client_hears, sends_next}
+use Rattle.protocol_model.specs.Client.{Client, Table, Tally, counted_next, tallied, heard_on, client_hears, sends_next}
+use Rattle.protocol_model.proofs.HeardTables.{heard}
 use Rattle.protocol_model.specs.Client.{next_number, held_now, state_behind, last_state, first_state, is_whole, ends_abort}
 use Rattle.protocol_model.specs.Server.{Server, Answer, answers, queued, server_read, server_turned, server_machined, turned_to, machined}
 use Rattle.protocol_model.specs.Server.{job_run}

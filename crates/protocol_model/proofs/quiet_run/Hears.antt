@@ -16,7 +16,8 @@ use Rattle.protocol_model.specs.Readings.{response_of, point_of, homed_of}
 use Rattle.line_framing.specs.Next.{Front}
 use Rattle.line_framing.specs.declared.faults.FramingFault.TheVariants as framing
 use Rattle.protocol_model.specs.Replies.{Mark, tag_is}
-use Rattle.protocol_model.specs.Client.{Client, Table, faulted, client_hears, client_read, heard_on, heard}
+use Rattle.protocol_model.specs.Client.{Client, Table, faulted, client_hears, client_read, heard_on}
+use Rattle.protocol_model.proofs.HeardTables.{heard}
 use Rattle.protocol_model.specs.Ends.{held_under, given_point, given_homed, given_for, given_under, response_read, line_read}
 use Rattle.protocol_model.specs.Ends.{front_read}
 use Rattle.protocol_model.proofs.table.Basics.{if_false}

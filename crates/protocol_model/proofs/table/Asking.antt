@@ -11,7 +11,8 @@ use Rattle.dmis_program.specs.declared.features.Wanted.{Wanted}
 use Rattle.protocol_model.specs.Replies.{Mark, Reply, tag_of, mark_of, tag_is}
 use Rattle.protocol_model.specs.Open.{Effect, Becomes, Counts, judged, heard_in, is_failed, asks_homed, is_asking}
 use Rattle.protocol_model.specs.Client.{Tally, Table, act_of, measured, begins_session, counted_next, tallied, tells_homed}
-use Rattle.protocol_model.specs.Client.{passed_over, heard_on, heard}
+use Rattle.protocol_model.specs.Client.{passed_over, heard_on}
+use Rattle.protocol_model.proofs.HeardTables.{heard}
 use Rattle.protocol_model.specs.declared.held.Datum.{Datum}
 use Rattle.protocol_model.specs.declared.held.Datum.TheVariants as datum
 use Rattle.protocol_model.specs.declared.held.Held.{Held}

@@ -12,7 +12,8 @@ use Rattle.protocol_model.specs.Replies.{Mark, Reply, tag_of, mark_of, tag_is}
 use Rattle.protocol_model.specs.Open.{Effect, Heard, heard_in, count_open, is_held}
 use Rattle.protocol_model.specs.Client.{Tally, Table, act_of, origin_of, joined, measured, begins_session, counted_next, tallied}
 use Rattle.protocol_model.specs.Client.{passed_over, tells_homed}
-use Rattle.protocol_model.specs.Client.{heard_standard, heard_event, heard_on, heard}
+use Rattle.protocol_model.specs.Client.{heard_standard, heard_event, heard_on}
+use Rattle.protocol_model.proofs.HeardTables.{heard}
 use Rattle.protocol_model.proofs.table.Basics.{if_cases, if_true, if_false}
 use Rattle.protocol_model.proofs.table.Walks.{two, heard_more, not_held_keeps, AreDistinct, distinct_keeps}
 use Rattle.protocol_model.proofs.table.Counts.{AreFailed, OnlyEnds, only_ends, count_keeps}

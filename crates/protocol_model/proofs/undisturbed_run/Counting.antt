@@ -12,7 +12,8 @@ use Rattle.dmis_program.specs.declared.features.Wanted.{Wanted}
 use Rattle.protocol_model.specs.Replies.{Mark, Reply, tag_of, mark_of}
 use Rattle.protocol_model.specs.Open.{Effect, Becomes, judged, heard_in, is_failed, asks_homed}
 use Rattle.protocol_model.specs.Client.{Tally, Table, act_of, begins_session, measured, counted_next, tallied, tells_homed, passed_over}
-use Rattle.protocol_model.specs.Client.{is_homing, without_homing, heard}
+use Rattle.protocol_model.specs.Client.{is_homing, without_homing}
+use Rattle.protocol_model.proofs.HeardTables.{heard}
 use Rattle.protocol_model.specs.Undisturbed.{act_in, acts_planned, AreActs, followed}
 use Rattle.protocol_model.proofs.table.Basics.{if_true}
 use Rattle.protocol_model.proofs.table.Walks.{two, staged, heard_cases}

@@ -23,7 +23,8 @@ use Rattle.dme_line.specs.declared.tags.Tag.TheVariants.{Std}
 use Rattle.dmis_program.specs.declared.features.Wanted.{Wanted}
 use Rattle.protocol_model.specs.Replies.{Mark}
 use Rattle.protocol_model.specs.Open.{Effect, heard_in, is_failed, asks_homed}
-use Rattle.protocol_model.specs.Client.{Tally, Table, is_homing, without_homing, passed_over, tells_homed, heard}
+use Rattle.protocol_model.specs.Client.{Tally, Table, is_homing, without_homing, passed_over, tells_homed}
+use Rattle.protocol_model.proofs.HeardTables.{heard}
 use Rattle.protocol_model.specs.Undisturbed.{without_homings, followed}
 use Rattle.protocol_model.proofs.table.Basics.{if_true, if_false}
 use Rattle.protocol_model.proofs.table.Walks.{two, heard_cases}

@@ -26,7 +26,8 @@ use Rattle.protocol_model.specs.Replies.{Mark, tag_is}
 use Rattle.protocol_model.specs.Lines.{command_bytes}
 use Rattle.protocol_model.specs.Open.{is_failed, asks_homed, is_asking, count_open}
 use Rattle.protocol_model.specs.Client.{Client, Tally, Table, is_homing, faulted, is_apart, held_now, sends_next, client_hears, client_read}
-use Rattle.protocol_model.specs.Client.{heard_on, heard}
+use Rattle.protocol_model.specs.Client.{heard_on}
+use Rattle.protocol_model.proofs.HeardTables.{heard}
 use Rattle.protocol_model.specs.Client.{first_state, last_state, is_whole, ends_abort, client_connected}
 use Rattle.protocol_model.specs.Ends.{held_under, given_point, given_homed, given_for, given_under, response_read, line_read}
 use Rattle.protocol_model.specs.Ends.{front_read}

@@ -1,5 +1,5 @@
 use Rattle.std.proofs.Common.{◌≡◌, ◌++◌, drop}
-use Rattle.dme_orders.specs.Numbered.{lines_from}
+use Rattle.dme_orders.proofs.NumberedLines.{lines_from}
 use Rattle.dme_orders.proofs.plan.lines_text.Given as goal
 
 abbrev pub invariant-loop-planned : goal.invariant-loop-planned

@@ -1,6 +1,6 @@
 use Rattle.std.proofs.Common.{length}
 use Rattle.std.specs.Option.{option_copied}
-use Rattle.resume_plan.specs.Positions.{IsBehind}
+use Rattle.resume_plan.proofs.PlacesBehind.{IsBehind}
 use Rattle.resume_plan.proofs.position.position_behind.Given as goal
 
 abbrev pub invariant-loop-left : goal.invariant-loop-left

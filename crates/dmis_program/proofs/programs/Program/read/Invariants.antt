@@ -1,7 +1,7 @@
 use Rattle.std.proofs.Common.{◌≡◌, length}
 use Rattle.dmis_program.specs.Meaning.{program_of}
-use Rattle.dmis_program.specs.Carrying.{run}
-use Rattle.dmis_program.specs.Sound.{IsSound}
+use Rattle.dmis_program.proofs.CarryingRuns.{run}
+use Rattle.dmis_program.proofs.Sound.{IsSound}
 use Rattle.dmis_program.proofs.programs.Program.read.Given as goal
 
 -- what is carried and the statements left give the meaning of the whole text

@@ -1,7 +1,7 @@
 use Rattle.std.proofs.Common.{◌≡◌, ◌+◌, ◌≤◌, length}
 use Rattle.std.specs.Str.Lines.{lines}
 use Rattle.link_world.specs.ScheduleTexts.{schedule_of}
-use Rattle.link_world.specs.ScheduleCarrying.{read_behind}
+use Rattle.link_world.proofs.ScheduleRuns.{read_behind}
 use Rattle.link_world.proofs.schedules.Schedule.read.Given as goal
 
 -- the instructions so far, behind the lines that are left, are those of the whole text

@@ -1,7 +1,7 @@
 use Rattle.std.proofs.Common.{◌≡◌, ◌+◌, ◌≤◌, length}
 use Rattle.std.specs.Str.Lines.{lines}
 use Rattle.tool_rack.specs.Setups.{setup_of}
-use Rattle.tool_rack.specs.Carrying.{setup_behind}
+use Rattle.tool_rack.proofs.SetupRuns.{setup_behind}
 use Rattle.tool_rack.proofs.setups.Setup.read.Given as goal
 
 -- the setup so far, behind the lines that are left, is that of the whole text

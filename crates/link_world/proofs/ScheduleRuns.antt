@@ -1,0 +1,16 @@
+-- What only proofs speak of.
+use Rattle.std.specs.Prelude.{ℕ, ◌+◌, List, [], ◌∷◌, Result, Ok, Err}
+use Rattle.link_world.specs.declared.schedules.Instruction.{Instruction}
+use Rattle.link_world.specs.declared.schedule_faults.ScheduleFault.{ScheduleFault}
+use Rattle.link_world.specs.ScheduleCarrying.{read_line}
+
+-- one step, and then the next with what it gave
+abbrev pub and_behind : Result (List Instruction) ScheduleFault → (List Instruction → Result (List Instruction) ScheduleFault)
+    → Result (List Instruction) ScheduleFault
+and_behind (Ok instructions) f = f instructions
+and_behind (Err fault) f = Err fault
+
+-- the instructions behind more lines, of which the first has number n
+abbrev pub read_behind : ℕ → List Instruction → List (List ℕ) → Result (List Instruction) ScheduleFault
+read_behind n above [] = Ok above
+read_behind n above (line ∷ lines) = and_behind (read_line n above line) (λ more. read_behind (n + 1) more lines)
