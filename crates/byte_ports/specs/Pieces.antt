@@ -2,7 +2,7 @@
 use Rattle.std.specs.Prelude.{◌≡◌, ℕ, ◌<◌, List, [], ◌∷◌, length, drop, Option, Bool, if◌then◌else◌, nat_lt}
 
 -- the pieces that are still to come; how many pulls work from now on, or all; whether a pull has failed; how many pulls there were
-pub record Stored : Type 0 where
+pub record PiecesValue : Type 0 where
   pub pieces : List (List ℕ)
   pub calls_left : Option ℕ
   pub has_failed : Bool

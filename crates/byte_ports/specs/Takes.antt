@@ -3,7 +3,7 @@ use Rattle.std.specs.Prelude.{ℕ, List, Option, Bool}
 
 -- the bytes that were taken; the most that one push takes; how many bytes fit before it grows; how many pushes work from now on, or all;
 -- whether a push has failed; how many pushes there were
-pub record Kept : Type 0 where
+pub record TakesValue : Type 0 where
   pub taken : List ℕ
   pub most : ℕ
   pub room : ℕ

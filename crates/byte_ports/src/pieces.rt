@@ -23,9 +23,9 @@ pub struct Pieces {
 
 impl Model for Pieces {
     ghost use Rattle.std.specs.Prelude.{map};
-    ghost use Rattle.byte_ports.specs.Pieces.{Stored, without_front, HoldMore};
+    ghost use Rattle.byte_ports.specs.Pieces.{PiecesValue, without_front, HoldMore};
 
-    ghost Value = { Stored };
+    ghost Value = { PiecesValue };
 
     ghost view = { λ p. record {
       pieces = without_front p.given (map (λ v. v.items) p.pieces.items);

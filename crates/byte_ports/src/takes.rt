@@ -21,9 +21,9 @@ pub struct Takes {
 
 impl Model for Takes {
     ghost use Rattle.std.specs.Prelude.{◌-◌, ◌<◌, vec_len, vec_capacity};
-    ghost use Rattle.byte_ports.specs.Takes.{Kept};
+    ghost use Rattle.byte_ports.specs.Takes.{TakesValue};
 
-    ghost Value = { Kept };
+    ghost Value = { TakesValue };
 
     ghost view = { λ t. record {
       taken = t.taken.items;

@@ -34,7 +34,7 @@ use Rattle.protocol_model.specs.Client.{left_state, client_restarted}
 use Rattle.protocol_model.specs.Ends.{ClientEnd, new_client_end, held_under, given_point, given_homed, given_for, given_under}
 use Rattle.protocol_model.specs.Ends.{response_read, line_read, front_read}
 use Rattle.protocol_model.specs.declared.held.Datum.TheVariants as datum
-use Rattle.protocol_model.specs.declared.held.Held.{Held}
+use Rattle.protocol_model.specs.declared.held.OpenCommand.{OpenCommand}
 use Rattle.protocol_model.specs.declared.plans.Planned.{Planned}
 use Rattle.protocol_model.specs.declared.states.State.{State}
 use Rattle.protocol_model.specs.declared.states.Cause.{Cause}
@@ -232,7 +232,7 @@ may_fewer c e = go (is_running c.state && not (is_asking c.table.standard)) e
     go true is = due_fewer c.window (count_open c.table.standard) c.table.tally.unsent is
     go false is = absurd (false≢true is)
 
-open_more : (hs : List Held) (x : Held) → count_open (hs ++ x ∷ []) ≤ suc (count_open hs)
+open_more : (hs : List OpenCommand) (x : OpenCommand) → count_open (hs ++ x ∷ []) ≤ suc (count_open hs)
 open_more [] x = go (is_failed x.stage)
   where
     go : (b : Bool) → cond b 0 1 ≤ 1

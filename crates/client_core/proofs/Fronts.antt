@@ -8,7 +8,7 @@ use Rattle.protocol_model.specs.Replies.{Mark}
 use Rattle.protocol_model.specs.Open.{Effect, Becomes, Closes, Counts, judged, heard_in, is_failed, asks_homed, is_asking, count_open}
 use Rattle.protocol_model.specs.declared.held.Datum.{Datum}
 use Rattle.protocol_model.specs.declared.held.Stage.{Stage}
-use Rattle.protocol_model.specs.declared.held.Held.{Held}
+use Rattle.protocol_model.specs.declared.held.OpenCommand.{OpenCommand}
 use Rattle.protocol_model.proofs.table.Asking.{AskNothing, ask_nothing}
 use Rattle.protocol_model.proofs.table.Walks.{two, staged, heard_cases}
 use Rattle.protocol_model.proofs.table.Basics.{if_true, if_false, and_false}
@@ -17,14 +17,14 @@ use Rattle.protocol_model.proofs.undisturbed_run.Following.{becomes_calm, become
 use Rattle.protocol_model.proofs.undisturbed_run.Following.{IsGiven, IsFilled, AreFilled}
 
 -- the kinds of those that have not failed, in sending order
-abbrev pub live_kinds : List Held → List Kind
+abbrev pub live_kinds : List OpenCommand → List Kind
 live_kinds [] = []
 live_kinds (h ∷ hs) = cond (is_failed h.stage) (live_kinds hs) (h.kind ∷ live_kinds hs)
 
-pub live_failed : (h : Held) (hs : List Held) → is_failed h.stage ≡ true → live_kinds (h ∷ hs) ≡ live_kinds hs
+pub live_failed : (h : OpenCommand) (hs : List OpenCommand) → is_failed h.stage ≡ true → live_kinds (h ∷ hs) ≡ live_kinds hs
 live_failed h hs e = if_true {A = List Kind} (is_failed h.stage) (live_kinds hs) (h.kind ∷ live_kinds hs) e
 
-pub live_calm : (h : Held) (hs : List Held) → is_failed h.stage ≡ false → live_kinds (h ∷ hs) ≡ h.kind ∷ live_kinds hs
+pub live_calm : (h : OpenCommand) (hs : List OpenCommand) → is_failed h.stage ≡ false → live_kinds (h ∷ hs) ≡ h.kind ∷ live_kinds hs
 live_calm h hs e = if_false {A = List Kind} (is_failed h.stage) (live_kinds hs) (h.kind ∷ live_kinds hs) e
 
 -- what a reply's effect means for them: they stay, one has failed, or the first is counted, with the data that it asks for
@@ -40,7 +40,7 @@ behind_one k ks ls Effect.Failure h = tt
 behind_one k ks ls (Effect.Count kind given) h = absurd (false≢true h.0)
 
 -- the mark stands at the command's own tag
-becomes_front : (front : Bool) (h : Held) (hs : List Held) (m : Mark) (s : Stage) (b : Bool) → is_failed h.stage ≡ b
+becomes_front : (front : Bool) (h : OpenCommand) (hs : List OpenCommand) (m : Mark) (s : Stage) (b : Bool) → is_failed h.stage ≡ b
     → judged front h.kind h.stage m ≡ Becomes s
     → Fronted front (live_kinds (h ∷ hs)) (live_kinds (staged h s ∷ hs)) Effect.Quiet
 becomes_front front h hs m s true failed v =
@@ -50,13 +50,13 @@ becomes_front front h hs m s true failed v =
 becomes_front front h hs m s false calm v = live_calm (staged h s) hs (becomes_calm front h.kind h.stage m s calm v)
     ∙ sym (live_calm h hs calm)
 
-closes_front : (front : Bool) (h : Held) (hs : List Held) (m : Mark) (b : Bool) → is_failed h.stage ≡ b
+closes_front : (front : Bool) (h : OpenCommand) (hs : List OpenCommand) (m : Mark) (b : Bool) → is_failed h.stage ≡ b
     → judged front h.kind h.stage m ≡ Closes
     → Fronted front (live_kinds (h ∷ hs)) (live_kinds hs) Effect.Quiet
 closes_front front h hs m true failed v = sym (live_failed h hs failed)
 closes_front front h hs m false calm v = absurd (no_closes front h.kind h.stage m calm v)
 
-counts_front : (front : Bool) (h : Held) (hs : List Held) (m : Mark) (given : Option Datum) (b : Bool) → is_failed h.stage ≡ b
+counts_front : (front : Bool) (h : OpenCommand) (hs : List OpenCommand) (m : Mark) (given : Option Datum) (b : Bool) → is_failed h.stage ≡ b
     → IsFilled h.kind h.stage → judged front h.kind h.stage m ≡ Counts given
     → Fronted front (live_kinds (h ∷ hs)) (live_kinds hs) (Effect.Count h.kind given)
 counts_front front h hs m given true failed filled v = absurd (never_counts front h.kind m given
@@ -65,7 +65,7 @@ counts_front true h hs m given false calm filled v = (refl, live_calm h hs calm,
 counts_front false h hs m given false calm filled v = absurd (no_counts h.kind h.stage m given v)
 
 -- the mark stands behind it
-past_front : (front : Bool) (h : Held) (hs rest : List Held) (e : Effect) (b : Bool) → is_failed h.stage ≡ b
+past_front : (front : Bool) (h : OpenCommand) (hs rest : List OpenCommand) (e : Effect) (b : Bool) → is_failed h.stage ≡ b
     → Fronted (front && b) (live_kinds hs) (live_kinds rest) e
     → Fronted front (live_kinds (h ∷ hs)) (live_kinds (h ∷ rest)) e
 past_front front h hs rest e true failed later =
@@ -84,7 +84,8 @@ past_front front h hs rest e false calm later =
     looser f ks ls Effect.Failure g = tt
     looser f ks ls (Effect.Count k given) g = absurd (false≢true g.0)
 
-pub fronted : (front : Bool) (hs : List Held) (t : Tag) (m : Mark) (gs : List Held) (e : Effect) → heard_in front hs t m ≡ two gs e
+pub fronted : (front : Bool) (hs : List OpenCommand) (t : Tag) (m : Mark) (gs : List OpenCommand) (e : Effect)
+    → heard_in front hs t m ≡ two gs e
     → AreFilled hs → Fronted front (live_kinds hs) (live_kinds gs) e
 fronted front [] t m gs e is filled = absurd (cc)
 fronted front (h ∷ hs) t m gs e is filled =
@@ -97,7 +98,7 @@ fronted front (h ∷ hs) t m gs e is filled =
     (fronted (front && is_failed h.stage) hs t m rest e later filled.1)))
 
 -- where none is open, none is left that has not failed
-pub none_live : (hs : List Held) → count_open hs ≡ 0 → live_kinds hs ≡ []
+pub none_live : (hs : List OpenCommand) → count_open hs ≡ 0 → live_kinds hs ≡ []
 none_live [] e = refl
 none_live (h ∷ hs) e = go (is_failed h.stage) refl (none_live hs)
   where
@@ -108,7 +109,8 @@ none_live (h ∷ hs) e = go (is_failed h.stage) refl (none_live hs)
         sym (if_false {A = ℕ} (is_failed h.stage) (count_open hs) (suc (count_open hs)) calm) ∙ e in absurd (cc)
 
 -- a command that was just sent is the last of them
-pub live_more : (hs : List Held) (x : Held) → is_failed x.stage ≡ false → live_kinds (hs ++ x ∷ []) ≡ live_kinds hs ++ x.kind ∷ []
+pub live_more : (hs : List OpenCommand) (x : OpenCommand) → is_failed x.stage ≡ false
+    → live_kinds (hs ++ x ∷ []) ≡ live_kinds hs ++ x.kind ∷ []
 live_more [] x calm = live_calm x [] calm
 live_more (h ∷ hs) x calm = go (is_failed h.stage) refl (live_more hs x calm)
   where
@@ -122,7 +124,8 @@ live_more (h ∷ hs) x calm = go (is_failed h.stage) refl (live_more hs x calm)
 -- ---- the data that they were given
 
 -- they still are those that are asked for
-pub stay_filled : (front : Bool) (hs : List Held) (t : Tag) (m : Mark) (gs : List Held) (e : Effect) → heard_in front hs t m ≡ two gs e
+pub stay_filled : (front : Bool) (hs : List OpenCommand) (t : Tag) (m : Mark) (gs : List OpenCommand) (e : Effect)
+    → heard_in front hs t m ≡ two gs e
     → AreFilled hs → AreFilled gs
 stay_filled front [] t m gs e is filled = absurd (cc)
 stay_filled front (h ∷ hs) t m gs e is filled =
@@ -134,7 +137,7 @@ stay_filled front (h ∷ hs) t m gs e is filled =
     (λ rest other later g. rw g (filled.0, stay_filled (front && is_failed h.stage) hs t m rest e later filled.1))
 
 -- a command that was just sent has none
-pub filled_more : (hs : List Held) (x : Held) → AreFilled hs → IsFilled x.kind x.stage → AreFilled (hs ++ x ∷ [])
+pub filled_more : (hs : List OpenCommand) (x : OpenCommand) → AreFilled hs → IsFilled x.kind x.stage → AreFilled (hs ++ x ∷ [])
 filled_more [] x h one = (one, tt)
 filled_more (y ∷ hs) x h one = (h.0, filled_more hs x h.1 one)
 
@@ -146,7 +149,7 @@ ask [] = false
 ask (k ∷ ks) = asks_homed k || ask ks
 
 -- where it is not open, none that has not failed asks it
-pub none_asks : (hs : List Held) → is_asking hs ≡ false → ask (live_kinds hs) ≡ false
+pub none_asks : (hs : List OpenCommand) → is_asking hs ≡ false → ask (live_kinds hs) ≡ false
 none_asks [] e = refl
 none_asks (h ∷ hs) e =
     let a : AskNothing h hs = ask_nothing h hs e in

@@ -43,7 +43,7 @@ use Rattle.protocol_model.specs.declared.states.State.{State}
 use Rattle.protocol_model.specs.declared.states.Cause.{Cause}
 use Rattle.protocol_model.specs.declared.held.Datum.{Datum}
 use Rattle.protocol_model.specs.declared.held.Datum.TheVariants as datum
-use Rattle.protocol_model.specs.declared.held.Held.{Held}
+use Rattle.protocol_model.specs.declared.held.OpenCommand.{OpenCommand}
 use Rattle.protocol_model.specs.declared.plans.Planned.{Planned}
 use Rattle.protocol_model.specs.declared.plans.Does.{Does}
 use Rattle.protocol_model.specs.declared.plans.Start.{Start}
@@ -76,12 +76,12 @@ use Rattle.client_core.proofs.Homing.{told_by, told_asks, untold}
 
 -- what is open of a plan of which no command has failed, and what is unsent of it, are what is to be counted; behind the question whether
 -- the machine is homed nothing is open
-pub record IsCalm (hs : List Held) (y : Tally) : Type 0 where
+pub record IsCalm (hs : List OpenCommand) (y : Tally) : Type 0 where
   pub kinds : live_kinds hs ++ kinds_of y.unsent ≡ kinds_of y.todo
   pub asked_last : IsAskedLast (live_kinds hs)
 
 -- the present plan: its counted front, the acts and the features that it gave, and what is open of it
-pub record IsOnPlan (p : Meaning) (hs : List Held) (y : Tally) (plans : Plans) : Type 0 where
+pub record IsOnPlan (p : Meaning) (hs : List OpenCommand) (y : Tally) (plans : Plans) : Type 0 where
   pub finished : List Planned
   pub first : List Act
   pub since : List Act
@@ -292,7 +292,7 @@ follows_on p program plans finished rest q since more true parts acts are tells 
     front_asked [] ys h = tt
     front_asked (x ∷ xs) ys h = (h.0, front_asked xs ys h.1)
 
-counts_on : (p : Meaning) → IsProgram p → (y : Tally) (hs gs : List Held) (kind : Kind) (given : Option Datum) (todo : List Planned)
+counts_on : (p : Meaning) → IsProgram p → (y : Tally) (hs gs : List OpenCommand) (kind : Kind) (given : Option Datum) (todo : List Planned)
     (plans : Plans) → (f : IsOnPlan p hs y plans) → y.todo ≡ todo → IsCalm hs y → live_kinds hs ≡ kind ∷ live_kinds gs
     → IsGiven kind given → AreFilled gs → IsOnPlan p gs (counted_next p.features kind given todo y) plans
 counts_on p program y hs gs kind given [] plans f is calm live given_one filled =
@@ -401,7 +401,7 @@ not_true : (b : Bool) → not b ≡ true → b ≡ false
 not_true true e = absurd (false≢true e)
 not_true false e = refl
 
-effect_on : (p : Meaning) → IsProgram p → (hs gs : List Held) (y : Tally) (plans : Plans) (e : Effect)
+effect_on : (p : Meaning) → IsProgram p → (hs gs : List OpenCommand) (y : Tally) (plans : Plans) (e : Effect)
     → IsOnPlan p hs y plans → Fronted (not y.failed) (live_kinds hs) (live_kinds gs) e → AreFilled gs
     → IsOnPlan p gs (tallied p.features e y) plans
 effect_on p program hs gs y plans Effect.Quiet f h filled =
@@ -474,7 +474,7 @@ heard_on_plan p program b c t m plans is f =
 -- ---- states
 
 -- where it has halted nothing is open
-abbrev Rests : State → List Held → Type 0
+abbrev Rests : State → List OpenCommand → Type 0
 Rests State.Halted hs = count_open hs ≡ 0
 Rests State.Apart hs = Unit {0}
 Rests State.Running hs = Unit {0}
@@ -499,7 +499,7 @@ running_rests b = go (is_whole b)
     go true = tt
     go false = tt
 
-behind_rests : (state : State) (ends : Bool) (b : Table) (hs : List Held) → Rests state hs → count_open b.standard ≤ count_open hs
+behind_rests : (state : State) (ends : Bool) (b : Table) (hs : List OpenCommand) → Rests state hs → count_open b.standard ≤ count_open hs
     → Rests (state_behind state ends b) b.standard
 behind_rests State.Apart ends b hs h le = tt
 behind_rests State.Running ends b hs h le = go b.tally.failed
@@ -543,18 +543,19 @@ pub record Holds (p : Meaning) (c : Client) (plans : Plans) : Type 0 where
 drop_first : (xs ys : List Act) (n : ℕ) → length xs ≡ n → drop n (xs ++ ys) ≡ ys
 drop_first xs ys n e = subst (λ (k : ℕ). drop k (xs ++ ys) ≡ ys) e (drop-append_seam xs ys)
 
-told_is : (p : Meaning) (y : Tally) (hs : List Held) (plans : Plans) → (f : IsOnPlan p hs y plans) → is_told plans y ≡ told_homed f.since
+told_is : (p : Meaning) (y : Tally) (hs : List OpenCommand) (plans : Plans) → (f : IsOnPlan p hs y plans)
+    → is_told plans y ≡ told_homed f.since
 told_is p y hs plans f = ap told_homed (ap (λ (l : List Act). drop plans.before l) f.counted_are
     ∙ drop_first f.first f.since plans.before f.before)
 
-front_is : (p : Meaning) (y : Tally) (hs : List Held) (plans : Plans) → (f : IsOnPlan p hs y plans)
+front_is : (p : Meaning) (y : Tally) (hs : List OpenCommand) (plans : Plans) → (f : IsOnPlan p hs y plans)
     → front_of p plans y ≡ f.finished
 front_is p y hs plans f =
     ap (λ (b : Bool). take y.completed (followed b (plan p plans.features (start_behind plans.earlier)))) (told_is p y hs plans f)
     ∙ subst (λ (n : ℕ). take n (followed (told_homed f.since) (plan p plans.features (start_behind plans.earlier))) ≡ f.finished) f.many
     (ap (λ (l : List Planned). take (length f.finished) l) (sym f.parts) ∙ take-append_seam f.finished y.todo)
 
-counted_front : (p : Meaning) (y : Tally) (hs : List Held) (plans : Plans) → IsOnPlan p hs y plans
+counted_front : (p : Meaning) (y : Tally) (hs : List OpenCommand) (plans : Plans) → IsOnPlan p hs y plans
     → AreActs y.counted (acts_of_fronts p (begun_now plans y ∷ plans.earlier))
 counted_front p y hs plans f =
     subst (λ (l : List Planned). AreActs y.counted (acts_of_fronts p plans.earlier ++ acts_planned l))
@@ -712,7 +713,7 @@ sends_holds p plans c (q ∷ qs) None e now h = faulted_holds p plans c Cause.Ta
 sends_holds p plans c (q ∷ qs) (Some n) e now h =
     let on : c.on ≡ true = on_unless_off c (λ off. subst IsOff now.running (h.off off)) in
     let r : Reads c plans = h.live on in
-    let x : Held = held_now (tag.Std n) (kind_of q.command) in
+    let x : OpenCommand = held_now (tag.Std n) (kind_of q.command) in
     let one_more : live_kinds (c.table.standard ++ x ∷ []) ≡ live_kinds c.table.standard ++ kind_of q.command ∷ [] =
     live_more c.table.standard x refl in
     read_holds p plans (sends_next c (q ∷ qs) (Some n)).client h.program h.same on (record {
@@ -859,7 +860,7 @@ left_off State.Aborting = tt
 left_off State.Halted = tt
 left_off State.Faulted = tt
 
-left_rests : (s : State) (hs : List Held) → Rests (left_state s) hs
+left_rests : (s : State) (hs : List OpenCommand) → Rests (left_state s) hs
 left_rests State.Done hs = tt
 left_rests State.Apart hs = tt
 left_rests State.Running hs = tt
@@ -1020,7 +1021,7 @@ counted_is_next p kept window calls program ours on n m kind is =
     go c.table.standard c.table.tally (plans_begun calls p kept window) c.program r
     (heard_in (not c.table.tally.failed) c.table.standard (tag.Std n) m) refl is
   where
-    go : (hs : List Held) (y : Tally) (plans : Plans) (program : Meaning) → IsOnPlan program hs y plans
+    go : (hs : List OpenCommand) (y : Tally) (plans : Plans) (program : Meaning) → IsOnPlan program hs y plans
         → (heard : Heardings) → heard_in (not y.failed) hs (tag.Std n) m ≡ heard → kind_counted heard ≡ Some kind
         → next_kind y.todo ≡ Some kind
     go hs y plans program r (Ok (gs, Effect.Quiet)) here e = absurd (cc)

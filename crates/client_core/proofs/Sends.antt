@@ -10,7 +10,7 @@ use Rattle.dme_line.specs.declared.commands.Kind.{Kind}
 use Rattle.dme_line.specs.declared.commands.Kind.TheVariants as kind
 use Rattle.dme_line.specs.declared.commands.Command.TheVariants as command
 use Rattle.dmis_program.specs.Meaning.{Meaning}
-use Rattle.dme_tags.specs.Opened.{Opened, tagged, next_tag, with_drawn}
+use Rattle.dme_tags.specs.Opened.{OpenValue, tagged, next_tag, with_drawn}
 use Rattle.protocol_model.specs.Client.{next_number, client_sent, client_aborted, faulted}
 use Rattle.protocol_model.specs.declared.plans.Planned.{Planned}
 use Rattle.protocol_model.specs.declared.states.State.{State}
@@ -32,7 +32,7 @@ not_drawn : (sort : ℕ → Tag) (number : Option ℕ) → tagged sort number �
 not_drawn sort None is = refl
 not_drawn sort (Some n) is = absurd (none-some _ (sym is))
 
-standard_tag : (o : Opened) (k : Kind) (answer : Option Tag) → is_event_kind k ≡ false → next_tag o k ≡ answer
+standard_tag : (o : OpenValue) (k : Kind) (answer : Option Tag) → is_event_kind k ≡ false → next_tag o k ≡ answer
     → tagged Std (next_number Std o.standard o.drawn) ≡ answer
 standard_tag o k answer standard is = rw standard at is
 
@@ -45,7 +45,7 @@ abbrev pub sent_one : Progress → Progress
 sent_one y = record y { unsent = suc y.unsent }
 
 -- what is sent: the client after it, and the line
-client_at : (program : Meaning) (window : ℕ) (on : Bool) (state : State) (cause : Option Cause) (o after : Opened) (y : Progress)
+client_at : (program : Meaning) (window : ℕ) (on : Bool) (state : State) (cause : Option Cause) (o after : OpenValue) (y : Progress)
     (abort : Option Tag) (p : Planned) (tag : Tag) (n : ℕ)
     → drop y.unsent y.plan.items ≡ p ∷ drop (suc y.unsent) y.plan.items → next_number Std o.standard o.drawn ≡ Some n → Std n ≡ tag
     → after ≡ with_drawn o tag (kind_of p.command)
@@ -54,26 +54,26 @@ client_at : (program : Meaning) (window : ℕ) (on : Bool) (state : State) (caus
 client_at program window on state cause o after y abort p tag n first number_is tag_is held =
     rw (held, ← tag_is, first, number_is) refl
 
-lines_at : (program : Meaning) (window : ℕ) (on : Bool) (state : State) (cause : Option Cause) (o : Opened) (y : Progress)
+lines_at : (program : Meaning) (window : ℕ) (on : Bool) (state : State) (cause : Option Cause) (o : OpenValue) (y : Progress)
     (abort : Option Tag) (p : Planned) (tag : Tag) (n : ℕ)
     → drop y.unsent y.plan.items ≡ p ∷ drop (suc y.unsent) y.plan.items → next_number Std o.standard o.drawn ≡ Some n → Std n ≡ tag
     → (client_sent (seen program window on state cause o y abort)).lines ≡ record { tag = tag; command = p.command } ∷ []
 lines_at program window on state cause o y abort p tag n first number_is tag_is = rw (← tag_is, first, number_is) refl
 
-abort_at : (program : Meaning) (window : ℕ) (on : Bool) (state : State) (cause : Option Cause) (o after : Opened) (y : Progress)
+abort_at : (program : Meaning) (window : ℕ) (on : Bool) (state : State) (cause : Option Cause) (o after : OpenValue) (y : Progress)
     (abort : Option Tag) (tag : Tag) (n : ℕ)
     → next_number Event o.event o.event_drawn ≡ Some n → Event n ≡ tag → after ≡ with_drawn o tag kind.AbortE
     → seen program window on State.Aborting cause after y (Some tag)
     ≡ (client_aborted (seen program window on state cause o y abort)).client
 abort_at program window on state cause o after y abort tag n number_is tag_is held = rw (held, ← tag_is, number_is) refl
 
-abort_line_at : (program : Meaning) (window : ℕ) (on : Bool) (state : State) (cause : Option Cause) (o : Opened) (y : Progress)
+abort_line_at : (program : Meaning) (window : ℕ) (on : Bool) (state : State) (cause : Option Cause) (o : OpenValue) (y : Progress)
     (abort : Option Tag) (tag : Tag) (n : ℕ)
     → next_number Event o.event o.event_drawn ≡ Some n → Event n ≡ tag
     → (client_aborted (seen program window on state cause o y abort)).lines ≡ record { tag = tag; command = command.AbortE } ∷ []
 abort_line_at program window on state cause o y abort tag n number_is tag_is = rw (← tag_is, number_is) refl
 
-pub sent_client : (program : Meaning) (window : ℕ) (on : Bool) (state : State) (cause : Option Cause) (o after : Opened)
+pub sent_client : (program : Meaning) (window : ℕ) (on : Bool) (state : State) (cause : Option Cause) (o after : OpenValue)
     (y : Progress)
     (abort : Option Tag) (p : Planned) (tag : Tag)
     → y.unsent < length y.plan.items → p ≡ slice_index_or y.plan.items y.unsent p → is_event_kind (kind_of p.command) ≡ false
@@ -86,7 +86,7 @@ sent_client program window on state cause o after y abort p tag within is standa
     client_at program window on state cause o after y abort p tag d.n (first_left y.plan.items y.unsent p within is) d.number_is
     d.tag_is held
 
-pub sent_lines : (program : Meaning) (window : ℕ) (on : Bool) (state : State) (cause : Option Cause) (o : Opened) (y : Progress)
+pub sent_lines : (program : Meaning) (window : ℕ) (on : Bool) (state : State) (cause : Option Cause) (o : OpenValue) (y : Progress)
     (abort : Option Tag) (p : Planned) (tag : Tag)
     → y.unsent < length y.plan.items → p ≡ slice_index_or y.plan.items y.unsent p → is_event_kind (kind_of p.command) ≡ false
     → next_tag o (kind_of p.command) ≡ Some tag
@@ -97,7 +97,7 @@ sent_lines program window on state cause o y abort p tag within is standard next
     lines_at program window on state cause o y abort p tag d.n (first_left y.plan.items y.unsent p within is) d.number_is d.tag_is
 
 -- no tag is free
-pub sent_none : (program : Meaning) (window : ℕ) (on : Bool) (state : State) (cause : Option Cause) (o : Opened) (y : Progress)
+pub sent_none : (program : Meaning) (window : ℕ) (on : Bool) (state : State) (cause : Option Cause) (o : OpenValue) (y : Progress)
     (abort : Option Tag) (p : Planned)
     → y.unsent < length y.plan.items → p ≡ slice_index_or y.plan.items y.unsent p → is_event_kind (kind_of p.command) ≡ false
     → next_tag o (kind_of p.command) ≡ None
@@ -108,7 +108,7 @@ sent_none program window on state cause o y abort p within is standard next =
     rw (first_left y.plan.items y.unsent p within is, d) refl
 
 -- an abort is sent
-pub aborted_client : (program : Meaning) (window : ℕ) (on : Bool) (state : State) (cause : Option Cause) (o after : Opened)
+pub aborted_client : (program : Meaning) (window : ℕ) (on : Bool) (state : State) (cause : Option Cause) (o after : OpenValue)
     (y : Progress)
     (abort : Option Tag) (tag : Tag) → next_tag o kind.AbortE ≡ Some tag → after ≡ with_drawn o tag kind.AbortE
     → seen program window on State.Aborting cause after y (Some tag)
@@ -117,7 +117,7 @@ aborted_client program window on state cause o after y abort tag next held =
     let d : IsDrawn Event (next_number Event o.event o.event_drawn) tag = drawn_as _ _ _ next in
     abort_at program window on state cause o after y abort tag d.n d.number_is d.tag_is held
 
-pub aborted_lines : (program : Meaning) (window : ℕ) (on : Bool) (state : State) (cause : Option Cause) (o : Opened)
+pub aborted_lines : (program : Meaning) (window : ℕ) (on : Bool) (state : State) (cause : Option Cause) (o : OpenValue)
     (y : Progress)
     (abort : Option Tag) (tag : Tag) → next_tag o kind.AbortE ≡ Some tag
     → (client_aborted (seen program window on state cause o y abort)).lines ≡ record { tag = tag; command = command.AbortE } ∷ []
@@ -125,7 +125,7 @@ aborted_lines program window on state cause o y abort tag next =
     let d : IsDrawn Event (next_number Event o.event o.event_drawn) tag = drawn_as _ _ _ next in
     abort_line_at program window on state cause o y abort tag d.n d.number_is d.tag_is
 
-pub aborted_none : (program : Meaning) (window : ℕ) (on : Bool) (state : State) (cause : Option Cause) (o : Opened)
+pub aborted_none : (program : Meaning) (window : ℕ) (on : Bool) (state : State) (cause : Option Cause) (o : OpenValue)
     (y : Progress)
     (abort : Option Tag) → next_tag o kind.AbortE ≡ None
     → client_aborted (seen program window on state cause o y abort)

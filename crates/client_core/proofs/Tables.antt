@@ -3,7 +3,7 @@ use Rattle.std.proofs.Common.{◌≡◌, ℕ, Bool, true, false, not, List, Opti
 use Rattle.dme_line.specs.declared.tags.Tag.{Tag}
 use Rattle.dme_line.specs.declared.tags.Tag.TheVariants.{Std, Event}
 use Rattle.dmis_program.specs.declared.features.Wanted.{Wanted}
-use Rattle.dme_tags.specs.Opened.{Opened, heard, heard_standard, heard_event, failed_behind}
+use Rattle.dme_tags.specs.Opened.{OpenValue, heard, heard_standard, heard_event, failed_behind}
 use Rattle.dme_tags.specs.Answers.{IsRefused, effect_heard}
 use Rattle.dme_line.specs.Tags.{is_event_tag}
 use Rattle.dmis_program.specs.Meaning.{Meaning}
@@ -28,26 +28,26 @@ snd_of x y v w is = ap (λ r. elim r [ Ok p ↦ p.1 | Err e ↦ v ]) is
 never : {A C : Type 0} (x : A) (e : C) → Path (Result A C) (Ok x) (Err e) → ⊥
 never x e is = absurd (cc is)
 
-on_standard : (ws : List Wanted) (o after : Opened) (y : client.Tally) (effect : Effect) (h : Heard)
+on_standard : (ws : List Wanted) (o after : OpenValue) (y : client.Tally) (effect : Effect) (h : Heard)
     → heard_standard o h ≡ Ok (after, effect)
     → client.heard_standard ws (table_of o y) h ≡ Ok (table_of after (client.tallied ws effect y))
 on_standard ws o after y effect (Ok (hs, e)) is =
     let whole : record o { standard = hs; failed = failed_behind e o.failed } ≡ after = fst_of _ _ _ _ is in
     let same : e ≡ effect = snd_of _ _ _ _ is in
-    subst (λ (a : Opened). client.heard_standard ws (table_of o y) (Ok (hs, e)) ≡ Ok (table_of a (client.tallied ws effect y))) whole
+    subst (λ (a : OpenValue). client.heard_standard ws (table_of o y) (Ok (hs, e)) ≡ Ok (table_of a (client.tallied ws effect y))) whole
     (subst (λ (f : Effect). client.heard_standard ws (table_of o y) (Ok (hs, e))
     ≡ Ok (record { standard = hs; event = o.event; tally = client.tallied ws f y })) same refl)
 on_standard ws o after y effect (Err cause) is = absurd (never _ _ (sym is))
 
-on_event : (ws : List Wanted) (o after : Opened) (y : client.Tally) (effect : Effect) (h : Heard) → heard_event o h ≡ Ok (after, effect)
+on_event : (ws : List Wanted) (o after : OpenValue) (y : client.Tally) (effect : Effect) (h : Heard) → heard_event o h ≡ Ok (after, effect)
     → client.heard_event (table_of o y) h ≡ Ok (table_of after y)
 on_event ws o after y effect (Ok (hs, e)) is =
     let whole : record o { event = hs } ≡ after = fst_of _ _ _ _ is in
-    subst (λ (a : Opened). client.heard_event (table_of o y) (Ok (hs, e)) ≡ Ok (table_of a y)) whole refl
+    subst (λ (a : OpenValue). client.heard_event (table_of o y) (Ok (hs, e)) ≡ Ok (table_of a y)) whole refl
 on_event ws o after y effect (Err cause) is = absurd (never _ _ (sym is))
 
 -- a mark that has a place
-pub on_table : (ws : List Wanted) (o after : Opened) (y : client.Tally) (t : Tag) (m : Mark) (effect : Effect)
+pub on_table : (ws : List Wanted) (o after : OpenValue) (y : client.Tally) (t : Tag) (m : Mark) (effect : Effect)
     → heard o t m ≡ Ok (after, effect)
     → y.failed ≡ o.failed → client.heard_on ws (table_of o y) t m ≡ Ok (table_of after (tallied_on t ws effect y))
 on_table ws o after y (Std n) m effect is same =
@@ -55,18 +55,18 @@ on_table ws o after y (Std n) m effect is same =
     ∙ on_standard ws o after y effect (heard_in (not o.failed) o.standard (Std n) m) is
 on_table ws o after y (Event n) m effect is same = on_event ws o after y effect (heard_in true o.event (Event n) m) is
 
-off_standard : (ws : List Wanted) (o : Opened) (y : client.Tally) (cause : Cause) (h : Heard) → heard_standard o h ≡ Err cause
+off_standard : (ws : List Wanted) (o : OpenValue) (y : client.Tally) (cause : Cause) (h : Heard) → heard_standard o h ≡ Err cause
     → client.heard_standard ws (table_of o y) h ≡ Err cause
 off_standard ws o y cause (Ok (hs, e)) is = absurd (never _ _ is)
-off_standard ws o y cause (Err why) is = ap (λ (c : Result (Opened × Effect) Cause). elim c [ Ok p ↦ Err cause | Err w ↦ Err w ]) is
+off_standard ws o y cause (Err why) is = ap (λ (c : Result (OpenValue × Effect) Cause). elim c [ Ok p ↦ Err cause | Err w ↦ Err w ]) is
 
-off_event : (o : Opened) (y : client.Tally) (cause : Cause) (h : Heard) → heard_event o h ≡ Err cause
+off_event : (o : OpenValue) (y : client.Tally) (cause : Cause) (h : Heard) → heard_event o h ≡ Err cause
     → client.heard_event (table_of o y) h ≡ Err cause
 off_event o y cause (Ok (hs, e)) is = absurd (never _ _ is)
-off_event o y cause (Err why) is = ap (λ (c : Result (Opened × Effect) Cause). elim c [ Ok p ↦ Err cause | Err w ↦ Err w ]) is
+off_event o y cause (Err why) is = ap (λ (c : Result (OpenValue × Effect) Cause). elim c [ Ok p ↦ Err cause | Err w ↦ Err w ]) is
 
 -- a mark that has none
-pub off_table : (ws : List Wanted) (o : Opened) (y : client.Tally) (t : Tag) (m : Mark) (cause : Cause) → heard o t m ≡ Err cause
+pub off_table : (ws : List Wanted) (o : OpenValue) (y : client.Tally) (t : Tag) (m : Mark) (cause : Cause) → heard o t m ≡ Err cause
     → y.failed ≡ o.failed → client.heard_on ws (table_of o y) t m ≡ Err cause
 off_table ws o y (Std n) m cause is same =
     ap (λ (b : Bool). client.heard_standard ws (table_of o y) (heard_in (not b) o.standard (Std n) m)) same
@@ -76,36 +76,36 @@ off_table ws o y (Event n) m cause is same = off_event o y cause (heard_in true 
 -- ---- the whole client
 
 -- the numbers of the drawn tags stay
-pub record StaysDrawn (o after : Opened) : Type 0 where
+pub record StaysDrawn (o after : OpenValue) : Type 0 where
   pub drawn : after.drawn ≡ o.drawn
   pub event_drawn : after.event_drawn ≡ o.event_drawn
 
-drawn_standard : (o after : Opened) (effect : Effect) (h : Heard) → heard_standard o h ≡ Ok (after, effect) → StaysDrawn o after
+drawn_standard : (o after : OpenValue) (effect : Effect) (h : Heard) → heard_standard o h ≡ Ok (after, effect) → StaysDrawn o after
 drawn_standard o after effect (Ok (hs, e)) is =
     let whole : record o { standard = hs; failed = failed_behind e o.failed } ≡ after = fst_of _ _ _ _ is in
-    record { drawn = sym (ap (λ (a : Opened). a.drawn) whole); event_drawn = sym (ap (λ (a : Opened). a.event_drawn) whole) }
+    record { drawn = sym (ap (λ (a : OpenValue). a.drawn) whole); event_drawn = sym (ap (λ (a : OpenValue). a.event_drawn) whole) }
 drawn_standard o after effect (Err cause) is = absurd (never _ _ (sym is))
 
-drawn_event : (o after : Opened) (effect : Effect) (h : Heard) → heard_event o h ≡ Ok (after, effect) → StaysDrawn o after
+drawn_event : (o after : OpenValue) (effect : Effect) (h : Heard) → heard_event o h ≡ Ok (after, effect) → StaysDrawn o after
 drawn_event o after effect (Ok (hs, e)) is =
     let whole : record o { event = hs } ≡ after = fst_of _ _ _ _ is in
-    record { drawn = sym (ap (λ (a : Opened). a.drawn) whole); event_drawn = sym (ap (λ (a : Opened). a.event_drawn) whole) }
+    record { drawn = sym (ap (λ (a : OpenValue). a.drawn) whole); event_drawn = sym (ap (λ (a : OpenValue). a.event_drawn) whole) }
 drawn_event o after effect (Err cause) is = absurd (never _ _ (sym is))
 
-pub stays_drawn : (o after : Opened) (t : Tag) (m : Mark) (effect : Effect) → heard o t m ≡ Ok (after, effect) → StaysDrawn o after
+pub stays_drawn : (o after : OpenValue) (t : Tag) (m : Mark) (effect : Effect) → heard o t m ≡ Ok (after, effect) → StaysDrawn o after
 stays_drawn o after (Std n) m effect is = drawn_standard o after effect (heard_in (not o.failed) o.standard (Std n) m) is
 stays_drawn o after (Event n) m effect is = drawn_event o after effect (heard_in true o.event (Event n) m) is
 
-failed_standard : (o after : Opened) (effect : Effect) (h : Heard) → heard_standard o h ≡ Ok (after, effect)
+failed_standard : (o after : OpenValue) (effect : Effect) (h : Heard) → heard_standard o h ≡ Ok (after, effect)
     → after.failed ≡ failed_behind effect o.failed
 failed_standard o after effect (Ok (hs, e)) is =
     let whole : record o { standard = hs; failed = failed_behind e o.failed } ≡ after = fst_of _ _ _ _ is in
     let same : e ≡ effect = snd_of _ _ _ _ is in
-    sym (ap (λ (a : Opened). a.failed) whole) ∙ ap (λ (f : Effect). failed_behind f o.failed) same
+    sym (ap (λ (a : OpenValue). a.failed) whole) ∙ ap (λ (f : Effect). failed_behind f o.failed) same
 failed_standard o after effect (Err cause) is = absurd (never _ _ (sym is))
 
-failed_event : (o after : Opened) (effect : Effect) (h : Heard) → heard_event o h ≡ Ok (after, effect) → after.failed ≡ o.failed
-failed_event o after effect (Ok (hs, e)) is = sym (ap (λ (a : Opened). a.failed) (fst_of (record o { event = hs }) after e effect is))
+failed_event : (o after : OpenValue) (effect : Effect) (h : Heard) → heard_event o h ≡ Ok (after, effect) → after.failed ≡ o.failed
+failed_event o after effect (Ok (hs, e)) is = sym (ap (λ (a : OpenValue). a.failed) (fst_of (record o { event = hs }) after e effect is))
 failed_event o after effect (Err cause) is = absurd (never _ _ (sym is))
 
 -- a mark that counts no command
@@ -115,7 +115,7 @@ uncounted_tally ws p Effect.Quiet failed is = refl
 uncounted_tally ws p Effect.Failure failed is = refl
 uncounted_tally ws p (Effect.Count k given) failed is = absurd (cc is)
 
-pub uncounted : (ws : List Wanted) (o after : Opened) (p : Progress) (t : Tag) (m : Mark) (effect : Effect) → is_count effect ≡ false
+pub uncounted : (ws : List Wanted) (o after : OpenValue) (p : Progress) (t : Tag) (m : Mark) (effect : Effect) → is_count effect ≡ false
     → heard o t m ≡ Ok (after, effect) → client.heard_on ws (table_of o (tally_of o.failed p)) t m
     ≡ Ok (table_of after (tally_of after.failed p))
 uncounted ws o after p (Std n) m effect quiet is =
@@ -127,7 +127,7 @@ uncounted ws o after p (Event n) m effect quiet is =
     ∙ ap (λ (f : Bool). Ok (table_of after (tally_of f p))) (sym (failed_event o after effect (heard_in true o.event (Event n) m) is))
 
 -- a mark that counts one under a standard tag
-pub counted : (ws : List Wanted) (o after : Opened) (p q : Progress) (n : ℕ) (m : Mark) (k : Kind) (given : Option Datum)
+pub counted : (ws : List Wanted) (o after : OpenValue) (p q : Progress) (n : ℕ) (m : Mark) (k : Kind) (given : Option Datum)
     → heard o (Std n) m ≡ Ok (after, Effect.Count k given)
     → ((failed : Bool) → tally_of failed q ≡ client.counted_next ws k given (tally_of failed p).todo (tally_of failed p))
     → client.heard_on ws (table_of o (tally_of o.failed p)) (Std n) m ≡ Ok (table_of after (tally_of after.failed q))
@@ -138,7 +138,7 @@ counted ws o after p q n m k given is counts =
     is)))
 
 -- and one under an event tag
-pub counted_event : (ws : List Wanted) (o after : Opened) (p : Progress) (n : ℕ) (m : Mark) (effect : Effect)
+pub counted_event : (ws : List Wanted) (o after : OpenValue) (p : Progress) (n : ℕ) (m : Mark) (effect : Effect)
     → heard o (Event n) m ≡ Ok (after, effect) → client.heard_on ws (table_of o (tally_of o.failed p)) (Event n) m
     ≡ Ok (table_of after (tally_of after.failed p))
 counted_event ws o after p n m effect is =
@@ -146,7 +146,7 @@ counted_event ws o after p n m effect is =
     ∙ ap (λ (f : Bool). Ok (table_of after (tally_of f p))) (sym (failed_event o after effect (heard_in true o.event (Event n) m) is))
 
 -- a mark that has no place
-pub refused : (ws : List Wanted) (o : Opened) (p : Progress) (t : Tag) (m : Mark) (why : Option Cause) (cause : Cause)
+pub refused : (ws : List Wanted) (o : OpenValue) (p : Progress) (t : Tag) (m : Mark) (why : Option Cause) (cause : Cause)
     → IsRefused (heard o t m) why
     → why ≡ Some cause → client.heard_on ws (table_of o (tally_of o.failed p)) t m ≡ Err cause
 refused ws o p t m None cause is same = absurd (is)
@@ -156,7 +156,7 @@ refused ws o p t m (Some d) cause is same =
     (off_table ws o (tally_of o.failed p) t m d is refl)
 
 -- the end of a command is read that counts the next one of the plan
-pub counted_read : (program : Meaning) (window : ℕ) (on : Bool) (state : State) (cause : Option Cause) (o after : Opened)
+pub counted_read : (program : Meaning) (window : ℕ) (on : Bool) (state : State) (cause : Option Cause) (o after : OpenValue)
     (p q : Progress)
     (abort : Option Tag) (t : Tag) (effect : Effect) (k : Kind) (given : Option Datum) (ends : Bool)
     → is_event_tag t ≡ false

@@ -80,18 +80,18 @@ told_homed (a ∷ acts) = tells a || told_homed acts
 
 -- a plan that was begun behind so many completed features, how many of its commands were counted, and whether it was told that the
 -- machine is homed
-pub record Begun : Type 0 where
+pub record PlanStart : Type 0 where
   pub features : ℕ
   pub completed : ℕ
   pub homed : Bool
 
 -- the first plan of a connection begins a session, each later one goes on in it
-abbrev pub start_behind : List Begun → Start
+abbrev pub start_behind : List PlanStart → Start
 start_behind [] = NewConnection
 start_behind (b ∷ bs) = SameConnection
 
 -- the acts for which the counted fronts of plans stand, in the order of the plans; the latest plan is the first of the list
-abbrev pub acts_of_fronts : Meaning → List Begun → List Does
+abbrev pub acts_of_fronts : Meaning → List PlanStart → List Does
 acts_of_fronts p [] = []
 acts_of_fronts p (b ∷ bs) = acts_of_fronts p bs ++ acts_planned (take b.completed (followed b.homed (plan p b.features (start_behind bs))))
 
@@ -100,14 +100,14 @@ acts_of_fronts p (b ∷ bs) = acts_of_fronts p bs ++ acts_planned (take b.comple
 pub record Plans : Type 0 where
   pub features : ℕ
   pub before : ℕ
-  pub earlier : List Begun
+  pub earlier : List PlanStart
 
 -- whether it was told since then that the machine is homed
 abbrev pub is_told : Plans → Tally → Bool
 is_told plans tally = told_homed (drop plans.before tally.counted)
 
 -- the present plan, with what is counted of it
-abbrev pub begun_now : Plans → Tally → Begun
+abbrev pub begun_now : Plans → Tally → PlanStart
 begun_now plans tally = record { features = plans.features; completed = tally.completed; homed = is_told plans tally }
 
 -- the first plan of a connection, for a client that holds these features

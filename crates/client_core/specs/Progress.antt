@@ -6,7 +6,7 @@ use Rattle.contact_ledger.specs.declared.acts.Act.{Act}
 use Rattle.contact_ledger.specs.declared.features.Feature.{Feature}
 use Rattle.dme_line.specs.declared.tags.Tag.{Tag}
 use Rattle.dmis_program.specs.Meaning.{Meaning}
-use Rattle.dme_tags.specs.Opened.{Opened}
+use Rattle.dme_tags.specs.Opened.{OpenValue}
 use Rattle.protocol_model.specs.Client.{Client, Tally}
 use Rattle.protocol_model.specs.declared.states.State.{State}
 use Rattle.protocol_model.specs.declared.states.Cause.{Cause}
@@ -37,7 +37,7 @@ listed None = []
 listed (Some act) = act ∷ []
 
 -- what `protocol_model` says of a client whose code keeps these
-abbrev pub seen : Meaning → ℕ → Bool → State → Option Cause → Opened → Progress → Option Tag → Client
+abbrev pub seen : Meaning → ℕ → Bool → State → Option Cause → OpenValue → Progress → Option Tag → Client
 seen program window on state cause commands progress abort = record {
   program = program;
   window = window;

@@ -3,13 +3,13 @@ use Rattle.std.specs.Prelude.{Bool, true, false, Option, Some, None}
 use Rattle.dme_line.specs.declared.tags.Tag.{Tag}
 use Rattle.dme_line.specs.declared.tags.Tag.TheVariants.{Std, Event}
 use Rattle.dme_line.specs.declared.commands.Command.{Command}
-use Rattle.dme_tags.specs.Opened.{Opened}
+use Rattle.dme_tags.specs.Opened.{OpenValue}
 use Rattle.protocol_model.specs.Open.{Effect}
 use Rattle.protocol_model.specs.Client.{Client, Table, Tally}
 use Rattle.protocol_model.specs.declared.plans.Planned.{Planned}
 
 -- the table of open commands and a tally
-abbrev pub table_of : Opened → Tally → Table
+abbrev pub table_of : OpenValue → Tally → Table
 table_of o y = record { standard = o.standard; event = o.event; tally = y }
 
 -- the command that is planned
@@ -24,7 +24,7 @@ is_count Effect.Failure = false
 is_count (Effect.Count kind given) = true
 
 -- the open commands of a client
-abbrev pub opened_of : Client → Opened
+abbrev pub opened_of : Client → OpenValue
 opened_of c = record {
   standard = c.table.standard;
   event = c.table.event;

@@ -14,7 +14,7 @@ use Rattle.protocol_model.specs.Ends.{serving_accepted, serving_fed, serving_rea
 use Rattle.protocol_model.specs.declared.machine.Job.{Job}
 use Rattle.protocol_model.specs.declared.machine.Job.TheVariants as job
 use Rattle.protocol_model.specs.declared.machine.Outcome.{Outcome}
-use Rattle.server_core.specs.Serving.{Serving, with_end, may_accept, may_feed, may_turn, fits_running}
+use Rattle.server_core.specs.Serving.{ServerValue, with_end, may_accept, may_feed, may_turn, fits_running}
 use Rattle.server_core.specs.Serving.{IsFeedFault, IsReadFault, IsMachineFault}
 use Rattle.server_core.specs.declared.faults.ServerFault.{ServerFault}
 use Rattle.server_core.specs.declared.faults.ServerFault.TheVariants as fault
@@ -41,13 +41,13 @@ abbrev pub line_served : ℕ → Option (Result Bool ServerFault)
 line_served n = if n == 0 then Some (Ok true) else if n == 1 then Some (Ok false) else refused (server_fault n)
 
 -- the server comes to the connection of this number just where it may; else the call is not possible now, and nothing changes
-pub record Accepts (number : ℕ) (old new : Serving) (answer : Result (Unit {0}) ServerFault) : Type 0 where
+pub record Accepts (number : ℕ) (old new : ServerValue) (answer : Result (Unit {0}) ServerFault) : Type 0 where
   pub can : IsOk answer ↔ (may_accept number old.end.server ≡ true)
   pub leads : Leads answer old new (with_end old (serving_accepted number old.end))
   pub not_now : IfErr answer (λ why. why ≡ fault.NotNow)
 
 -- the server takes a piece; it is refused on no connection, after a framing fault, and out of memory only where neither is so
-pub record Feeds (piece : List ℕ) (old new : Serving) (answer : Result (Unit {0}) ServerFault) : Type 0 where
+pub record Feeds (piece : List ℕ) (old new : ServerValue) (answer : Result (Unit {0}) ServerFault) : Type 0 where
   pub can : OnOk answer (may_feed old.end ≡ true)
   pub leads : Leads answer old new (with_end old (serving_fed piece old.end))
   pub not_now : IsErrOf answer fault.NotNow ↔ (old.end.server.on ≡ false)
@@ -57,7 +57,7 @@ pub record Feeds (piece : List ℕ) (old new : Serving) (answer : Result (Unit {
 
 -- the server reads a line and answers it, or finds nothing whole; it is refused on no connection, where what is in front is no line, and
 -- out of memory only for a line
-pub record Reads (old new : Serving) (answer : Result Bool ServerFault) : Type 0 where
+pub record Reads (old new : ServerValue) (answer : Result Bool ServerFault) : Type 0 where
   pub ok : OnOk answer (new ≡ with_end old (serving_read old.end))
   pub read : IfOk answer (λ read. IsTrue read ↔ IsLineDue (next_of old.end.input.rest))
   pub nothing : (answer ≡ Ok false) ↔ ((old.end.server.on ≡ true) × (next_of old.end.input.rest ≡ Ok None))
@@ -69,13 +69,13 @@ pub record Reads (old new : Serving) (answer : Result Bool ServerFault) : Type 0
 
 -- the first waiting command is processed; it is not possible now just where something runs or nothing waits, and else it fails only if out
 -- of memory
-pub record Turns (old new : Serving) (answer : Result (Unit {0}) ServerFault) : Type 0 where
+pub record Turns (old new : ServerValue) (answer : Result (Unit {0}) ServerFault) : Type 0 where
   pub leads : Leads answer old new (with_end old (serving_turned old.end))
   pub not_now : IsErrOf answer fault.NotNow ↔ (may_turn old.end.server ≡ false)
   pub others : IfErr answer (λ why. (why ≡ fault.NotNow) ⊎ (why ≡ fault.Memory))
 
 -- what runs has ended so; each refusal comes just where it is due, and out of memory only where none is
-pub record Ends (outcome : Outcome) (old new : Serving) (answer : Result (Unit {0}) ServerFault) : Type 0 where
+pub record Ends (outcome : Outcome) (old new : ServerValue) (answer : Result (Unit {0}) ServerFault) : Type 0 where
   pub leads : Leads answer old new (with_end old (serving_machined outcome old.end))
   pub can : OnOk answer (may_end old.end.server.running outcome ≡ true)
   pub nothing_runs : IsErrOf answer fault.NothingRuns ↔ (old.end.server.running ≡ None)
@@ -86,7 +86,7 @@ pub record Ends (outcome : Outcome) (old new : Serving) (answer : Result (Unit {
   pub others : IfErr answer (λ why. IsMachineFault old.end.server outcome why)
 
 -- a front of what is to be sent went into the front of the room, as much as fits, and counts as sent
-abbrev pub Takes : List ℕ → List ℕ → ℕ → Serving → Serving → Type 0
+abbrev pub Takes : List ℕ → List ℕ → ℕ → ServerValue → ServerValue → Type 0
 Takes room_old room_new count old new =
     (count ≡ min (length old.end.out) (length room_old)) × (room_new ≡ take count old.end.out ++ drop count room_old)
     × (new ≡ with_end old (serving_taken count old.end))

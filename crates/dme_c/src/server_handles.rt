@@ -1,7 +1,7 @@
 // What a caller in C holds of a server.
 
 ghost use Rattle.std.specs.Prelude.{◌≡◌, Option, None, Some, IsSome};
-ghost use Rattle.server_core.specs.Serving.{Serving};
+ghost use Rattle.server_core.specs.Serving.{ServerValue};
 
 use server_core::Server;
 use std::alloc::Global;
@@ -11,7 +11,7 @@ use std::marker::Model;
 #[repr(C)]
 pub struct ServerHandle {
     at: *mut u8,
-    pub ghost held: { Option Serving },
+    pub ghost held: { Option ServerValue },
 }
 
 impl Model for ServerHandle {

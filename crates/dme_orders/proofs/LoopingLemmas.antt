@@ -4,17 +4,17 @@ use Rattle.fixed_um.specs.declared.lengths.Point.{Point}
 use Rattle.tool_rack.specs.Setups.{SetupValue}
 use Rattle.dmis_program.specs.Meaning.{Meaning}
 use Rattle.protocol_model.specs.Ends.{ClientEnd}
-use Rattle.server_core.specs.Serving.{Serving}
+use Rattle.server_core.specs.Serving.{ServerValue}
 use Rattle.link_world.specs.LinkRuns.{client_side, server_side}
 use Rattle.link_world.specs.Machines.{simulated}
 use Rattle.link_world.specs.Reports.{report_text}
 use Rattle.dme_orders.specs.Ends.{first_client, first_server, ends_shown}
 use Rattle.dme_orders.specs.Looping.{FourTold, LoopCame, LeavesLoop}
-use Rattle.dme_orders.specs.declared.ended.Ended.{Ended}
+use Rattle.dme_orders.specs.declared.ended.ConnectionEnd.{ConnectionEnd}
 
 -- the report of both ends, where they began as the client of a program and the server of a setup
 pub loop_leaves : (window : ℕ) (setup : SetupValue) (program : Meaning) (ports now : FourTold) (shifts : List Point)
-    (client_old client : ClientEnd) (server_old server : Serving) (ended : Ended) (text : List ℕ)
+    (client_old client : ClientEnd) (server_old server : ServerValue) (ended : ConnectionEnd) (text : List ℕ)
     → LoopCame (simulated shifts) (client_side client_old ports.client_left ports.client_taken)
     (client_side client now.client_left now.client_taken) (server_side server_old.end ports.server_left ports.server_taken)
     (server_side server.end now.server_left now.server_taken) ended.broken
@@ -36,7 +36,7 @@ loop_leaves window setup program ports now shifts client_old client server_old s
           (client_side client now.client_left now.client_taken)
           (server_side (first_server setup) ports.server_left ports.server_taken)
           (server_side server.end now.server_left now.server_taken) ended.broken) begun
-          (subst (λ (s : Serving). LoopCame (simulated shifts)
+          (subst (λ (s : ServerValue). LoopCame (simulated shifts)
           (client_side client_old ports.client_left ports.client_taken)
           (client_side client now.client_left now.client_taken)
           (server_side s.end ports.server_left ports.server_taken)

@@ -8,7 +8,7 @@ use Rattle.link_world.specs.Reports.{report_text}
 use Rattle.link_world.specs.declared.links.LoopFault.{LoopFault}
 use Rattle.link_world.specs.declared.links.LoopFault.TheVariants as link
 use Rattle.dme_orders.specs.Ends.{end_shown}
-use Rattle.dme_orders.specs.declared.driving.Driven.{Driven}
+use Rattle.dme_orders.specs.declared.driving.RunEnd.{RunEnd}
 
 -- turns of a client up to the end of its run, or up to the fault that broke them off
 abbrev pub RunCame : ClientEnd → ClientEnd → (left left_now taken taken_now : Option (List ℕ)) → Option LoopFault → Type 0
@@ -44,7 +44,7 @@ run_told left taken file = record { left = left; taken = taken; file = file }
 
 -- a client that has come to connection 1 has had its turns; this is how that has ended, this the report of what it then is, and the file
 -- keeps the features that it then holds, each of them
-pub record LeavesRun (first : ClientEnd) (old new : RunTold) (driven : Driven) (text : List ℕ) : Type 0 where
+pub record LeavesRun (first : ClientEnd) (old new : RunTold) (driven : RunEnd) (text : List ℕ) : Type 0 where
   pub last : ClientEnd
   pub came : RunCame (end_connected 1 first) last old.left new.left old.taken new.taken driven.ended.broken
   pub stands : driven.ended.state ≡ last.client.state

@@ -10,7 +10,7 @@ use Rattle.link_world.specs.Machines.{simulated}
 use Rattle.link_world.specs.Reports.{report_text}
 use Rattle.link_world.specs.declared.links.LoopFault.{LoopFault}
 use Rattle.dme_orders.specs.Ends.{first_client, first_server, ends_shown}
-use Rattle.dme_orders.specs.declared.ended.Ended.{Ended}
+use Rattle.dme_orders.specs.declared.ended.ConnectionEnd.{ConnectionEnd}
 
 -- what the four ports of a connection's two ends tell
 pub record FourTold : Type 0 where
@@ -34,7 +34,8 @@ LoopCame answer c c_now s s_now (Some fault) = LoopStopped answer c c_now s s_no
 
 -- the client of a program and the server of a setup with its simulated machine, both on connection 1, have had their turns; this is how
 -- that has ended, and this the report of what they then are
-pub record LeavesLoop (window : ℕ) (setup : SetupValue) (program : Meaning) (ports ports_now : FourTold) (ended : Ended) (text : List ℕ)
+pub record LeavesLoop (window : ℕ) (setup : SetupValue) (program : Meaning) (ports ports_now : FourTold) (ended : ConnectionEnd)
+    (text : List ℕ)
     : Type 0 where
   pub client : ClientEnd
   pub server : ServerEnd

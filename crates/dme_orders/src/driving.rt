@@ -7,7 +7,7 @@ ghost use Rattle.dme_orders.specs.Broken.{BlamesClient};
 ghost use Rattle.dme_orders.specs.Driving.{file_told, run_told, IsFeaturesText, RunCame, Keeps, LeavesRun, StopsRun};
 ghost use Rattle.dme_orders.specs.Orders.{went, Prints};
 
-use crate::ended::Ended;
+use crate::ended::ConnectionEnd;
 use crate::ends::end_report;
 use crate::reading::FilesFault;
 use crate::simulating::write_text;
@@ -20,9 +20,9 @@ use std::alloc::{AllocError, Global};
 
 /// How a run on a server has ended.
 #[derive(Clone, Copy, Debug, PartialEq, Eq)]
-pub struct Driven {
+pub struct RunEnd {
     /// How its connection has ended.
-    pub ended: Ended,
+    pub ended: ConnectionEnd,
     /// Whether the features file has the features now.
     pub is_kept: bool,
 }
@@ -76,7 +76,7 @@ fn turned<R: Source, W: Sink, N: Watcher, F: TextFile>(
     ports: &mut Ports<R, W>,
     watcher: &mut N,
     file: &mut F,
-) -> Result<(Driven, Vec<u8>), AllocError>
+) -> Result<(RunEnd, Vec<u8>), AllocError>
     requires { may_connect 1 client.old.client ≡ true }
     ensures leaves { IfOk result (λ end. LeavesRun client.old
         (run_told (R.left ports.old.source) (W.taken ports.old.sink)
@@ -102,8 +102,8 @@ fn turned<R: Source, W: Sink, N: Watcher, F: TextFile>(
     let is_kept = keep_features(alloc, client, file)?;
     let text = end_report(alloc, client)?;
     let state = client.state();
-    let ended = Ended { state, broken };
-    Ok((Driven { ended, is_kept }, text))
+    let ended = ConnectionEnd { state, broken };
+    Ok((RunEnd { ended, is_kept }, text))
 }
 
 /// Runs a program on a server: a client that may come to connection 1 comes to it and has its turns, its features are put in their file,
@@ -116,7 +116,7 @@ pub fn drive<R: Source, W: Sink, N: Watcher, F: TextFile, O: Sink>(
     watcher: &mut N,
     file: &mut F,
     out: &mut O,
-) -> Result<Driven, FilesFault>
+) -> Result<RunEnd, FilesFault>
     requires { may_connect 1 client.client ≡ true }
 
     // The report of what the client has become was written, and its file keeps what it then holds; or there was no memory for that, or the

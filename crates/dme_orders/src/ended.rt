@@ -13,7 +13,7 @@ use server_core::ServerFault;
 
 /// How an order over a connection has ended.
 #[derive(Clone, Copy, Debug, PartialEq, Eq)]
-pub struct Ended {
+pub struct ConnectionEnd {
     /// The state in which the client stands at last.
     pub state: State,
     /// Why the connection was broken off, where it was.
@@ -76,7 +76,7 @@ pub fn shown_break(fault: LoopFault, is_told: bool) -> OrderFault
     }
 }
 
-impl Ended {
+impl ConnectionEnd {
     /// The exit status of an order whose connection was not broken off, as its client's last state has it; else what is shown for that.
     pub fn verdict(self, is_told: bool) -> Result<u8, OrderFault>
         ensures can { IsOk result ↔ (self.broken ≡ None) }

@@ -38,8 +38,8 @@ mod verdicts;
 
 pub use auditing::{AuditFiles, audit_files};
 pub use check::{CheckFault, check_plan};
-pub use driving::{Driven, drive};
-pub use ended::{Ended, shown_break};
+pub use driving::{RunEnd, drive};
+pub use ended::{ConnectionEnd, shown_break};
 pub use ends::kept_client;
 pub use explaining::explain;
 pub use exporting::{ExportFiles, export_files};

@@ -9,7 +9,7 @@ ghost use Rattle.dme_orders.specs.Broken.{BlamesClient, BlamesServer};
 ghost use Rattle.dme_orders.specs.Looping.{four_told, LoopCame, LeavesLoop};
 ghost use Rattle.dme_orders.specs.Orders.{went, Prints};
 
-use crate::ended::Ended;
+use crate::ended::ConnectionEnd;
 use crate::ends::{ends_report, first_client, first_server};
 use crate::reading::FilesFault;
 use crate::simulating::write_text;
@@ -55,7 +55,7 @@ fn looped<CR: Source, CW: Sink, SR: Source, SW: Sink, N: Watcher>(
     client_ports: &mut Ports<CR, CW>,
     server_ports: &mut Ports<SR, SW>,
     watcher: &mut N,
-) -> Result<(Ended, Vec<u8>), AllocError>
+) -> Result<(ConnectionEnd, Vec<u8>), AllocError>
     requires { is_window window ≡ true }
     ensures leaves { IfOk result (λ end. LeavesLoop window setup program
         (four_told (CR.left client_ports.old.source) (CW.taken client_ports.old.sink)
@@ -89,7 +89,7 @@ fn looped<CR: Source, CW: Sink, SR: Source, SW: Sink, N: Watcher>(
         Ok(()) => None,
         Err(fault) => Some(fault),
     };
-    Ok((Ended { state, broken }, text?))
+    Ok((ConnectionEnd { state, broken }, text?))
 }
 
 /// Runs a program of both ends: a new client of the program, with this window, and the server of the setup with its simulated machine,
@@ -104,7 +104,7 @@ pub fn loop_over<CR: Source, CW: Sink, SR: Source, SW: Sink, N: Watcher, W: Sink
     server_ports: &mut Ports<SR, SW>,
     watcher: &mut N,
     sink: &mut W,
-) -> Result<Ended, FilesFault>
+) -> Result<ConnectionEnd, FilesFault>
     requires { is_window window ≡ true }
 
     // The report of what both ends have become was written; or there was no memory for it, or the sink has failed.

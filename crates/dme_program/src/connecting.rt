@@ -7,10 +7,10 @@ use crate::explaining::refused;
 use crate::faults::Fault;
 use crate::files::Sources;
 use crate::progress::Progress;
-use crate::tracing::Traced;
+use crate::tracing::TracingPort;
 use byte_ports::{Ports, Reading, Writing};
 use dme_orders::{
-    Ended, FilesFault, InputFiles, OrderFault, loop_over, setup_and_program, shown_fault,
+    ConnectionEnd, FilesFault, InputFiles, OrderFault, loop_over, setup_and_program, shown_fault,
 };
 use dme_words::Loop;
 use dmis_program::Program;
@@ -70,17 +70,17 @@ fn loop_ends<'a, R: Print + Eprint + Net<Listener = TcpListener, Stream = TcpStr
     near: &'a TcpStream,
     far: &'a TcpStream,
     task: Task,
-) -> Result<Ended, FilesFault>
+) -> Result<ConnectionEnd, FilesFault>
     requires { is_window task.window ≡ true }
 {
     let mut watcher = Progress::new(rt, task.progress, task.program.features().len());
     let mut client_ports = Ports {
         source: Reading::new(near),
-        sink: Traced::new(rt, Writing::new(near), ">", task.trace),
+        sink: TracingPort::new(rt, Writing::new(near), ">", task.trace),
     };
     let mut server_ports = Ports {
         source: Reading::new(far),
-        sink: Traced::new(rt, Writing::new(far), "<", task.trace),
+        sink: TracingPort::new(rt, Writing::new(far), "<", task.trace),
     };
     loop_over(
         rt.alloc(),

@@ -11,7 +11,7 @@ use crate::progress::Progress;
 use crate::text_files::NamedFile;
 use byte_ports::{Ports, Reading, Writing};
 use contact_ledger::FeatureLedger;
-use dme_orders::{Driven, InputFiles, OrderFault, drive, features_and_program, kept_client};
+use dme_orders::{InputFiles, OrderFault, RunEnd, drive, features_and_program, kept_client};
 use dme_words::Run;
 use dmis_program::Program;
 use std::io;
@@ -21,7 +21,7 @@ use std::rt::Files;
 /// What is shown of a run: where its file could not be written, that too, and behind it what broke its connection off.
 fn run_verdict<R: Eprint>(
     rt: &R,
-    driven: Driven,
+    driven: RunEnd,
     features: Option<String>,
     is_told: bool,
 ) -> Result<u8, OrderFault> {

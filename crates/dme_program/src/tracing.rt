@@ -87,14 +87,14 @@ impl<'a, R: Eprint> Lines<'a, R> {
 
 /// A sink of what a side writes on connection 1, which shows its lines where that is asked for.
 #[derive(Drop)]
-pub struct Traced<'a, R: Eprint, W: Sink> {
+pub struct TracingPort<'a, R: Eprint, W: Sink> {
     sink: W,
     lines: Lines<'a, R>,
 }
 
-impl<'a, R: Eprint + AllocGlobal, W: Sink> Traced<'a, R, W> {
+impl<'a, R: Eprint + AllocGlobal, W: Sink> TracingPort<'a, R, W> {
     pub fn new(rt: &'a R, sink: W, mark: &'static str, is_on: bool) -> Self {
-        Traced {
+        TracingPort {
             sink,
             lines: Lines {
                 rt,
@@ -106,7 +106,7 @@ impl<'a, R: Eprint + AllocGlobal, W: Sink> Traced<'a, R, W> {
     }
 }
 
-impl<'a, R: Eprint, W: Sink> Sink for Traced<'a, R, W> {
+impl<'a, R: Eprint, W: Sink> Sink for TracingPort<'a, R, W> {
     ghost taken = { λ s. W.taken s.sink };
 
     ghost has_failed = { λ s. W.has_failed s.sink };

@@ -1,9 +1,9 @@
 -- What only proofs speak of.
 use Rattle.std.specs.Prelude.{List, [], ◌∷◌}
-use Rattle.dme_tags.specs.Opened.{Opened}
+use Rattle.dme_tags.specs.Opened.{OpenValue}
 use Rattle.dme_tags.specs.Calls.{Call, behind_call}
 
 -- what is open behind a list of calls
-abbrev pub behind_calls : Opened → List Call → Opened
+abbrev pub behind_calls : OpenValue → List Call → OpenValue
 behind_calls o [] = o
 behind_calls o (call ∷ calls) = behind_calls (behind_call o call) calls

@@ -12,12 +12,12 @@ use Rattle.protocol_model.specs.Open.{asks_data, fits, is_failed, heard_in}
 use Rattle.protocol_model.specs.Open.{judged, judged_ack, judged_given, judged_done, judged_error, put_before, settled}
 use Rattle.protocol_model.specs.Ends.{held_kind}
 use Rattle.protocol_model.specs.declared.held.Datum.{Datum}
-use Rattle.protocol_model.specs.declared.held.Held.{Held}
+use Rattle.protocol_model.specs.declared.held.OpenCommand.{OpenCommand}
 use Rattle.protocol_model.specs.declared.held.Stage.{Stage}
 use Rattle.protocol_model.specs.declared.states.Cause.{Cause}
 use Rattle.protocol_model.specs.declared.states.Cause.TheVariants as cause
 use Rattle.dme_tags.specs.Answers.{cause_of, IsRefused}
-use Rattle.dme_tags.specs.Opened.{Opened, Answer, heard, heard_standard, heard_event, kind_under, is_next, IsNext}
+use Rattle.dme_tags.specs.Opened.{OpenValue, Answer, heard, heard_standard, heard_event, kind_under, is_next, IsNext}
 use Rattle.dme_tags.specs.Places.{ahead_of, all_failed}
 use Rattle.protocol_model.proofs.table.Speaking.{fits_asks}
 use Rattle.dme_tags.proofs.Fitting.{asked}
@@ -51,14 +51,14 @@ abbrev pub refusal_heard : Answer → Option Cause
 refusal_heard (Ok r) = None
 refusal_heard (Err why) = Some why
 
-settled_refusal : (h : Held) (hs : List Held) (v : Verdict) → refusal_in (settled h hs v) ≡ refusal_of v
+settled_refusal : (h : OpenCommand) (hs : List OpenCommand) (v : Verdict) → refusal_in (settled h hs v) ≡ refusal_of v
 settled_refusal h hs (Becomes stage) = refl
 settled_refusal h hs Breaks = refl
 settled_refusal h hs Closes = refl
 settled_refusal h hs (Counts given) = refl
 settled_refusal h hs (Refused why) = refl
 
-put_refusal : (h : Held) (r : Heard) → refusal_in (put_before h r) ≡ refusal_in r
+put_refusal : (h : OpenCommand) (r : Heard) → refusal_in (put_before h r) ≡ refusal_in r
 put_refusal h (Ok r) = refl
 put_refusal h (Err why) = refl
 
@@ -70,7 +70,7 @@ pub and_assoc : (a b c : Bool) → ((a && b) && c) ≡ (a && (b && c))
 and_assoc true b c = refl
 and_assoc false b c = refl
 
-refusal_is : (front : Bool) (hs : List Held) (t : Tag) (m : Mark)
+refusal_is : (front : Bool) (hs : List OpenCommand) (t : Tag) (m : Mark)
     → refusal_in (heard_in front hs t m) ≡ refusal_under (standing_in t hs) (front && all_failed (ahead_of t hs)) m
 refusal_is front [] t m = refl
 refusal_is front (h ∷ hs) t m = go (refusal_is (front && is_failed h.stage) hs t m) (tag_is h.tag t)
@@ -86,19 +86,19 @@ refusal_is front (h ∷ hs) t m = go (refusal_is (front && is_failed h.stage) hs
         ∙ (deeper ∙ ap (λ (b : Bool). refusal_under (standing_in t hs) b m)
         (and_assoc front (is_failed h.stage) (all_failed (ahead_of t hs))))
 
-standard_refusal : (o : Opened) (r : Heard) → refusal_heard (heard_standard o r) ≡ refusal_in r
+standard_refusal : (o : OpenValue) (r : Heard) → refusal_heard (heard_standard o r) ≡ refusal_in r
 standard_refusal o (Ok r) = refl
 standard_refusal o (Err why) = refl
 
-event_refusal : (o : Opened) (r : Heard) → refusal_heard (heard_event o r) ≡ refusal_in r
+event_refusal : (o : OpenValue) (r : Heard) → refusal_heard (heard_event o r) ≡ refusal_in r
 event_refusal o (Ok r) = refl
 event_refusal o (Err why) = refl
 
-pub refusal_due : (o : Opened) (t : Tag) (m : Mark) → refusal_heard (heard o t m) ≡ refusal_under (standing t o) (is_next t o) m
+pub refusal_due : (o : OpenValue) (t : Tag) (m : Mark) → refusal_heard (heard o t m) ≡ refusal_under (standing t o) (is_next t o) m
 refusal_due o (Std n) m = standard_refusal o (heard_in (not o.failed) o.standard (Std n) m) ∙ refusal_is (not o.failed) o.standard (Std n) m
 refusal_due o (Event n) m = event_refusal o (heard_in true o.event (Event n) m) ∙ refusal_is true o.event (Event n) m
 
-pub next_only : (t : Tag) (o : Opened) → is_next t o ≡ true → IsNext t o
+pub next_only : (t : Tag) (o : OpenValue) → is_next t o ≡ true → IsNext t o
 next_only (Std n) o e = go o.failed e
   where
     go : (f : Bool) → (not f && all_failed (ahead_of (Std n) o.standard)) ≡ true → (f ≡ false)
@@ -107,7 +107,7 @@ next_only (Std n) o e = go o.failed e
     go false h = (refl, h)
 next_only (Event n) o e = e
 
-pub next_all : (t : Tag) (o : Opened) → IsNext t o → is_next t o ≡ true
+pub next_all : (t : Tag) (o : OpenValue) → IsNext t o → is_next t o ≡ true
 next_all (Std n) o e = ap (λ (f : Bool). not f && all_failed (ahead_of (Std n) o.standard)) e.0 ∙ e.1
 next_all (Event n) o e = e
 
@@ -125,12 +125,12 @@ refused_said : (a : Answer) (c : Option Cause) → IsRefused a c → IsSaid (ref
 refused_said a None h = h
 refused_said a (Some why) h = ap refusal_heard h
 
-pub fits_err : (T : Type 0) (o : Opened) (t : Tag) (m : Mark) (f : TagFault) → IsRefused (heard o t m) (cause_of f)
+pub fits_err : (T : Type 0) (o : OpenValue) (t : Tag) (m : Mark) (f : TagFault) → IsRefused (heard o t m) (cause_of f)
     → Fits {T = T} (Err f) (refusal_under (standing t o) (is_next t o) m)
 fits_err T o t m f h = subst (λ (due : Option Cause). IsSaid due (cause_of f)) (refusal_due o t m)
     (refused_said (heard o t m) (cause_of f) h)
 
-pub fits_ok : (T : Type 0) (o n : Opened) (t : Tag) (m : Mark) (e : Effect) (x : T) → heard o t m ≡ Ok (n, e)
+pub fits_ok : (T : Type 0) (o n : OpenValue) (t : Tag) (m : Mark) (e : Effect) (x : T) → heard o t m ≡ Ok (n, e)
     → Fits {T = T} (Ok x) (refusal_under (standing t o) (is_next t o) m)
 fits_ok T o n t m e x h = sym (refusal_due o t m) ∙ ap refusal_heard h
 
@@ -218,14 +218,14 @@ named_by (Err f) due P h each = go (cause_of f) refl h
 pub compose : {A B C : Type 0} → A ↔ B → B ↔ C → A ↔ C
 compose f g = (λ a. g.0 (f.0 a), λ c. f.1 (g.1 c))
 
-pub next_iff : (t : Tag) (o : Opened) (A : Type 0) → (A × (is_next t o ≡ true)) ↔ (A × IsNext t o)
+pub next_iff : (t : Tag) (o : OpenValue) (A : Type 0) → (A × (is_next t o ≡ true)) ↔ (A × IsNext t o)
 next_iff t o A = (λ h. (h.0, next_only t o h.1), λ h. (h.0, next_all t o h.1))
 
 abbrev kind_part : Standing → Option Kind
 kind_part None = None
 kind_part (Some (k, s)) = Some k
 
-held_kind_is : (t : Tag) (hs : List Held) → held_kind t hs ≡ kind_part (standing_in t hs)
+held_kind_is : (t : Tag) (hs : List OpenCommand) → held_kind t hs ≡ kind_part (standing_in t hs)
 held_kind_is t [] = refl
 held_kind_is t (h ∷ hs) = go (held_kind_is t hs) (tag_is h.tag t)
   where
@@ -234,7 +234,7 @@ held_kind_is t (h ∷ hs) = go (held_kind_is t hs) (tag_is h.tag t)
     go deeper true = refl
     go deeper false = deeper
 
-kind_under_is : (t : Tag) (o : Opened) → kind_under t o ≡ kind_part (standing t o)
+kind_under_is : (t : Tag) (o : OpenValue) → kind_under t o ≡ kind_part (standing t o)
 kind_under_is (Std n) o = held_kind_is (Std n) o.standard
 kind_under_is (Event n) o = held_kind_is (Event n) o.event
 
@@ -307,7 +307,7 @@ unknown_due : (s : Standing) (front : Bool) (m : Mark) → (refusal_under s fron
 unknown_due None front m = (λ _. refl, λ _. refl)
 unknown_due (Some (k, s)) front m = (λ e. absurd (unknown_judged front k s m e), λ e. absurd (cc))
 
-unknown_kind : (o : Opened) (t : Tag) (m : Mark) → (refusal_under (standing t o) (is_next t o) m ≡ Some cause.UnknownTag)
+unknown_kind : (o : OpenValue) (t : Tag) (m : Mark) → (refusal_under (standing t o) (is_next t o) m ≡ Some cause.UnknownTag)
     ↔ (kind_under t o ≡ None)
 unknown_kind o t m = compose (unknown_due (standing t o) (is_next t o) m)
     (λ e. kind_under_is t o ∙ ap kind_part e, λ e. nothing_stands (standing t o) (sym (kind_under_is t o) ∙ e))
@@ -382,38 +382,41 @@ data_named (Some (k, s)) b p why e = named_two why _ _ (data_causes (b && fits k
 
 -- ---- what a call knows of its answer
 
-abbrev pub Agrees : {T : Type 0} → Opened → Tag → Mark → Result T TagFault → Type 0
+abbrev pub Agrees : {T : Type 0} → OpenValue → Tag → Mark → Result T TagFault → Type 0
 Agrees o t m r = Fits r (refusal_under (standing t o) (is_next t o) m)
 
-pub unknown_exactly : {T : Type 0} (o : Opened) (t : Tag) (m : Mark) (r : Result T TagFault) → Agrees o t m r → IsErrOf r fault.UnknownTag
+pub unknown_exactly : {T : Type 0} (o : OpenValue) (t : Tag) (m : Mark) (r : Result T TagFault) → Agrees o t m r
+    → IsErrOf r fault.UnknownTag
     ↔ (kind_under t o ≡ None)
 unknown_exactly o t m r h = compose (err_exactly r _ cause.UnknownTag fault.UnknownTag refl h) (unknown_kind o t m)
 
-may_under : (o : Opened) (t : Tag) (d : Datum) → may_be_given (kind_under t o) d ≡ true → may_be_given (kind_part (standing t o)) d ≡ true
+may_under : (o : OpenValue) (t : Tag) (d : Datum) → may_be_given (kind_under t o) d ≡ true
+    → may_be_given (kind_part (standing t o)) d ≡ true
 may_under o t d may = ap (λ (k : Option Kind). may_be_given k d) (sym (kind_under_is t o)) ∙ may
 
-pub data_exactly : {T : Type 0} (o : Opened) (t : Tag) (d : Datum) (r : Result T TagFault) → may_be_given (kind_under t o) d ≡ true
+pub data_exactly : {T : Type 0} (o : OpenValue) (t : Tag) (d : Datum) (r : Result T TagFault) → may_be_given (kind_under t o) d ≡ true
     → Agrees o t (Mark.Given d) r → IsOk r ↔ AwaitsData t o
 data_exactly o t d r may h = compose (ok_exactly r _ h) (compose (awaits_due (standing t o) (is_next t o) d (may_under o t d may))
     (next_iff t o (Asks (standing t o) Stage.Received)))
 
-pub second_exactly : {T : Type 0} (o : Opened) (t : Tag) (d : Datum) (r : Result T TagFault) → may_be_given (kind_under t o) d ≡ true
+pub second_exactly : {T : Type 0} (o : OpenValue) (t : Tag) (d : Datum) (r : Result T TagFault) → may_be_given (kind_under t o) d ≡ true
     → Agrees o t (Mark.Given d) r → IsErrOf r fault.SecondData ↔ HasData t o
 second_exactly o t d r may h = compose (err_exactly r _ cause.SecondData fault.SecondData refl h)
     (compose (second_due (standing t o) (is_next t o) d (may_under o t d may)) (next_iff t o (HasAsked (standing t o))))
 
-pub data_told : {T : Type 0} (o : Opened) (t : Tag) (p : Datum) (r : Result T TagFault) → Agrees o t (Mark.Given p) r
+pub data_told : {T : Type 0} (o : OpenValue) (t : Tag) (p : Datum) (r : Result T TagFault) → Agrees o t (Mark.Given p) r
     → IfErr r (λ f. (f ≡ fault.UnknownTag) ⊎ (f ≡ fault.OutOfOrder) ⊎ (f ≡ fault.SecondData))
 data_told o t p r h = named_by r _ (λ f. (f ≡ fault.UnknownTag) ⊎ (f ≡ fault.OutOfOrder)
     ⊎ (f ≡ fault.SecondData)) h (data_named (standing t o) (is_next t o) p)
 
-agrees : (T : Type 0) (o n : Opened) (t : Tag) (m : Mark) (e : T → Effect) (r : Result T TagFault) → IfOk r (λ x. heard o t m ≡ Ok (n, e x))
+agrees : (T : Type 0) (o n : OpenValue) (t : Tag) (m : Mark) (e : T → Effect) (r : Result T TagFault)
+    → IfOk r (λ x. heard o t m ≡ Ok (n, e x))
     → IfErr r (λ f. IsRefused (heard o t m) (cause_of f)) → Agrees o t m r
 agrees T o n t m e (Ok x) ok refused = fits_ok T o n t m (e x) x ok
 agrees T o n t m e (Err f) ok refused = fits_err T o t m f refused
 
 -- from what is known of the list of one sort of tags
-pub agrees_standard : {T : Type 0} (o : Opened) (failed : Bool) (hs gs : List Held) (t : Tag) (n : ℕ) (m : Mark) (e : T
+pub agrees_standard : {T : Type 0} (o : OpenValue) (failed : Bool) (hs gs : List OpenCommand) (t : Tag) (n : ℕ) (m : Mark) (e : T
     → Effect) (r : Result T TagFault)
     → t ≡ Std n → failed ≡ o.failed → hs ≡ o.standard
     → IfOk r (λ x. heard_in (not failed) hs t m ≡ Ok (gs, e x)) → IfErr r (λ f. IsRefused (heard_in (not failed) hs t m) (cause_of f))
@@ -422,18 +425,19 @@ agrees_standard {T} o failed hs gs t n m e (Ok x) is bad held ok refused =
     subst (λ (u : Tag). Agrees o u m (Ok x)) (sym is)
     (sym (refusal_due o (Std n) m) ∙ (standard_refusal o (heard_in (not o.failed) o.standard (Std n) m)
     ∙ (ap (λ (f : Bool). refusal_in (heard_in (not f) o.standard (Std n) m)) (sym bad)
-    ∙ (ap (λ (l : List Held). refusal_in (heard_in (not failed) l (Std n) m)) (sym held)
+    ∙ (ap (λ (l : List OpenCommand). refusal_in (heard_in (not failed) l (Std n) m)) (sym held)
     ∙ (ap (λ (u : Tag). refusal_in (heard_in (not failed) hs u m)) (sym is) ∙ ap refusal_in ok)))))
 agrees_standard {T} o failed hs gs t n m e (Err f) is bad held ok refused =
     fits_err T o t m f (refused_standard o hs t n m (cause_of f) is held
     (subst (λ (b : Bool). IsRefused (heard_in (not b) hs t m) (cause_of f)) bad refused))
 
-pub agrees_event : {T : Type 0} (o : Opened) (hs gs : List Held) (t : Tag) (n : ℕ) (m : Mark) (e : T → Effect) (r : Result T TagFault)
+pub agrees_event : {T : Type 0} (o : OpenValue) (hs gs : List OpenCommand) (t : Tag) (n : ℕ) (m : Mark) (e : T → Effect)
+    (r : Result T TagFault)
     → t ≡ Event n → hs ≡ o.event
     → IfOk r (λ x. heard_in true hs t m ≡ Ok (gs, e x)) → IfErr r (λ f. IsRefused (heard_in true hs t m) (cause_of f)) → Agrees o t m r
 agrees_event {T} o hs gs t n m e (Ok x) is held ok refused =
     subst (λ (u : Tag). Agrees o u m (Ok x)) (sym is)
     (sym (refusal_due o (Event n) m) ∙ (event_refusal o (heard_in true o.event (Event n) m)
-    ∙ (ap (λ (l : List Held). refusal_in (heard_in true l (Event n) m)) (sym held)
+    ∙ (ap (λ (l : List OpenCommand). refusal_in (heard_in true l (Event n) m)) (sym held)
     ∙ (ap (λ (u : Tag). refusal_in (heard_in true hs u m)) (sym is) ∙ ap refusal_in ok))))
 agrees_event {T} o hs gs t n m e (Err f) is held ok refused = fits_err T o t m f (refused_event o hs t n m (cause_of f) is held refused)

@@ -4,21 +4,21 @@ use Rattle.dme_line.specs.declared.tags.Tag.TheVariants.{Std, Event}
 use Rattle.protocol_model.specs.Replies.{Mark}
 use Rattle.protocol_model.specs.Open.{Effect, Heard, heard_in}
 use Rattle.dme_tags.specs.Answers.{effect_heard}
-use Rattle.dme_tags.specs.Opened.{Opened, heard, heard_standard, heard_event}
+use Rattle.dme_tags.specs.Opened.{OpenValue, heard, heard_standard, heard_event}
 
-on_standard : (o : Opened) (h : Heard) → effect_heard (heard_standard o h) ≡ effect_heard h
+on_standard : (o : OpenValue) (h : Heard) → effect_heard (heard_standard o h) ≡ effect_heard h
 on_standard o (Ok (hs, effect)) = refl
 on_standard o (Err cause) = refl
 
-on_event : (o : Opened) (h : Heard) → effect_heard (heard_event o h) ≡ effect_heard h
+on_event : (o : OpenValue) (h : Heard) → effect_heard (heard_event o h) ≡ effect_heard h
 on_event o (Ok (hs, effect)) = refl
 on_event o (Err cause) = refl
 
-pub standard_effect : (o : Opened) (n : ℕ) (m : Mark) (effect : Option Effect)
+pub standard_effect : (o : OpenValue) (n : ℕ) (m : Mark) (effect : Option Effect)
     → effect_heard (heard_in (not o.failed) o.standard (Std n) m) ≡ effect
     → effect_heard (heard o (Std n) m) ≡ effect
 standard_effect o n m effect is = on_standard o (heard_in (not o.failed) o.standard (Std n) m) ∙ is
 
-pub event_effect : (o : Opened) (n : ℕ) (m : Mark) (effect : Option Effect) → effect_heard (heard_in true o.event (Event n) m) ≡ effect
+pub event_effect : (o : OpenValue) (n : ℕ) (m : Mark) (effect : Option Effect) → effect_heard (heard_in true o.event (Event n) m) ≡ effect
     → effect_heard (heard o (Event n) m) ≡ effect
 event_effect o n m effect is = on_event o (heard_in true o.event (Event n) m) ∙ is

@@ -9,13 +9,13 @@ use Rattle.protocol_model.specs.Replies.{Mark, tag_is}
 use Rattle.protocol_model.specs.Open.{Verdict, Becomes, Breaks, Closes, Counts, Refused, Effect, Heard, asks_data, is_failed, heard_in}
 use Rattle.protocol_model.specs.Open.{judged, judged_done, put_before, settled}
 use Rattle.protocol_model.specs.declared.held.Datum.{Datum}
-use Rattle.protocol_model.specs.declared.held.Held.{Held}
+use Rattle.protocol_model.specs.declared.held.OpenCommand.{OpenCommand}
 use Rattle.protocol_model.specs.declared.held.Stage.{Stage}
 use Rattle.protocol_model.specs.declared.states.Cause.{Cause}
 use Rattle.protocol_model.specs.declared.states.Cause.TheVariants as cause
 use Rattle.dme_tags.specs.Answers.{cause_of, effect_of, effect_heard, IsRefused}
 use Rattle.dme_tags.specs.Endings.{IsEnding}
-use Rattle.dme_tags.specs.Opened.{Opened, heard, kind_under, is_next}
+use Rattle.dme_tags.specs.Opened.{OpenValue, heard, kind_under, is_next}
 use Rattle.dme_tags.specs.Places.{ahead_of, all_failed}
 use Rattle.dme_tags.specs.Standing.{standing_in, standing, IsUnread, HasFailed, AwaitsData, CountsAs}
 use Rattle.dme_tags.specs.declared.faults.TagFault.{TagFault}
@@ -41,18 +41,18 @@ abbrev effect_under : Standing → Bool → Mark → Option Effect
 effect_under None front m = None
 effect_under (Some (k, stage)) front m = effect_of_verdict k (judged front k stage m)
 
-settled_effect : (h : Held) (hs : List Held) (v : Verdict) → effect_heard (settled h hs v) ≡ effect_of_verdict h.kind v
+settled_effect : (h : OpenCommand) (hs : List OpenCommand) (v : Verdict) → effect_heard (settled h hs v) ≡ effect_of_verdict h.kind v
 settled_effect h hs (Becomes stage) = refl
 settled_effect h hs Breaks = refl
 settled_effect h hs Closes = refl
 settled_effect h hs (Counts given) = refl
 settled_effect h hs (Refused why) = refl
 
-put_effect : (h : Held) (r : Heard) → effect_heard (put_before h r) ≡ effect_heard r
+put_effect : (h : OpenCommand) (r : Heard) → effect_heard (put_before h r) ≡ effect_heard r
 put_effect h (Ok (hs, e)) = refl
 put_effect h (Err why) = refl
 
-effect_is : (front : Bool) (hs : List Held) (t : Tag) (m : Mark)
+effect_is : (front : Bool) (hs : List OpenCommand) (t : Tag) (m : Mark)
     → effect_heard (heard_in front hs t m) ≡ effect_under (standing_in t hs) (front && all_failed (ahead_of t hs)) m
 effect_is front [] t m = refl
 effect_is front (h ∷ hs) t m = go (effect_is (front && is_failed h.stage) hs t m) (tag_is h.tag t)
@@ -68,7 +68,7 @@ effect_is front (h ∷ hs) t m = go (effect_is (front && is_failed h.stage) hs t
         ∙ (deeper ∙ ap (λ (b : Bool). effect_under (standing_in t hs) b m)
         (and_assoc front (is_failed h.stage) (all_failed (ahead_of t hs))))
 
-effect_due : (o : Opened) (t : Tag) (m : Mark) → effect_heard (heard o t m) ≡ effect_under (standing t o) (is_next t o) m
+effect_due : (o : OpenValue) (t : Tag) (m : Mark) → effect_heard (heard o t m) ≡ effect_under (standing t o) (is_next t o) m
 effect_due o (Std n) m = standard_effect o n m _ (effect_is (not o.failed) o.standard (Std n) m)
 effect_due o (Event n) m = event_effect o n m _ (effect_is true o.event (Event n) m)
 
@@ -209,11 +209,11 @@ done_named (Some (k, s)) b why e = named_two why _ _ (done_causes b (asks_data k
 
 -- ---- what a call knows of its answer
 
-abbrev Ends : Opened → Tag → Result Ended TagFault → Type 0
+abbrev Ends : OpenValue → Tag → Result Ended TagFault → Type 0
 Ends o t (Ok x) = effect_under (standing t o) (is_next t o) Mark.Done ≡ Some (effect_of x)
 Ends o t (Err f) = IsSaid (refusal_under (standing t o) (is_next t o) Mark.Done) (cause_of f)
 
-ends_agrees : (o : Opened) (t : Tag) (r : Result Ended TagFault) → Ends o t r → Agrees o t Mark.Done r
+ends_agrees : (o : OpenValue) (t : Tag) (r : Result Ended TagFault) → Ends o t r → Agrees o t Mark.Done r
 ends_agrees o t (Ok x) h = effect_taken (standing t o) (is_next t o) Mark.Done (effect_of x) h
 ends_agrees o t (Err f) h = h
 
@@ -232,7 +232,7 @@ said_where_none due None h none = h
 said_where_none due (Some why) h none = none_some why due h none
 
 -- this end exactly where this effect is due
-end_exactly : (o : Opened) (t : Tag) (r : Result Ended TagFault) (x : Ended) → ((y : Ended) → effect_of y ≡ effect_of x → y ≡ x)
+end_exactly : (o : OpenValue) (t : Tag) (r : Result Ended TagFault) (x : Ended) → ((y : Ended) → effect_of y ≡ effect_of x → y ≡ x)
     → Ends o t r
     → (r ≡ Ok x) ↔ (effect_under (standing t o) (is_next t o) Mark.Done ≡ Some (effect_of x))
 end_exactly o t (Ok y) x only h = (
@@ -254,7 +254,7 @@ end_exactly o t (Err f) x only h = (
     apart : ◌≡◌ {A = Result Ended TagFault} (Err f) (Ok x) → ⊥
     apart e = cc
 
-counted_exactly : (o : Opened) (t : Tag) (r : Result Ended TagFault) → Ends o t r → (k : Kind) (given : Option Datum)
+counted_exactly : (o : OpenValue) (t : Tag) (r : Result Ended TagFault) → Ends o t r → (k : Kind) (given : Option Datum)
     → (r ≡ Ok (ended.Counted k given)) ↔ CountsAs t o k given
 counted_exactly o t r h k None = compose (end_exactly o t r (ended.Counted k None) (λ y. ended_is y k None) h) (
   λ e. let c = plain_only (standing t o) (is_next t o) k e in (c.0, c.1, next_only t o c.2),
@@ -265,20 +265,20 @@ counted_exactly o t r h k (Some p) = compose (end_exactly o t r (ended.Counted k
   λ c. given_all (standing t o) (is_next t o) k p (c.0, next_all t o c.1),
 )
 
-closed_exactly : (o : Opened) (t : Tag) (r : Result Ended TagFault) → Ends o t r → (r ≡ Ok ended.Closed) ↔ HasFailed t o
+closed_exactly : (o : OpenValue) (t : Tag) (r : Result Ended TagFault) → Ends o t r → (r ≡ Ok ended.Closed) ↔ HasFailed t o
 closed_exactly o t r h = compose (end_exactly o t r ended.Closed closed_is h)
     (λ e. closed_only (standing t o) (is_next t o) e, λ e. closed_all (standing t o) (is_next t o) e)
 
-no_data_exactly : (o : Opened) (t : Tag) (r : Result Ended TagFault) → Ends o t r → IsErrOf r fault.NoData ↔ AwaitsData t o
+no_data_exactly : (o : OpenValue) (t : Tag) (r : Result Ended TagFault) → Ends o t r → IsErrOf r fault.NoData ↔ AwaitsData t o
 no_data_exactly o t r h = compose (err_exactly r _ cause.NoData fault.NoData refl (ends_agrees o t r h))
     (compose (unanswered_due (standing t o) (is_next t o)) (next_iff t o (Asks (standing t o) Stage.Received)))
 
-end_named : (o : Opened) (t : Tag) (r : Result Ended TagFault) → Ends o t r
+end_named : (o : OpenValue) (t : Tag) (r : Result Ended TagFault) → Ends o t r
     → IfErr r (λ f. (f ≡ fault.UnknownTag) ⊎ (f ≡ fault.OutOfOrder) ⊎ (f ≡ fault.NoData))
 end_named o t r h = named_by r _ (λ f. (f ≡ fault.UnknownTag) ⊎ (f ≡ fault.OutOfOrder)
     ⊎ (f ≡ fault.NoData)) (ends_agrees o t r h) (done_named (standing t o) (is_next t o))
 
-ending : (o : Opened) (t : Tag) (r : Result Ended TagFault) → Ends o t r → IsEnding t o r
+ending : (o : OpenValue) (t : Tag) (r : Result Ended TagFault) → Ends o t r → IsEnding t o r
 ending o t r h = record {
   counted = counted_exactly o t r h;
   closed = closed_exactly o t r h;
@@ -288,7 +288,7 @@ ending o t r h = record {
 }
 
 -- from what is known of the list of one sort of tags
-ends_standard : (o : Opened) (failed : Bool) (hs : List Held) (t : Tag) (n : ℕ) (r : Result Ended TagFault) → t ≡ Std n
+ends_standard : (o : OpenValue) (failed : Bool) (hs : List OpenCommand) (t : Tag) (n : ℕ) (r : Result Ended TagFault) → t ≡ Std n
     → failed ≡ o.failed → hs ≡ o.standard
     → IfOk r (λ x. effect_heard (heard_in (not failed) hs t Mark.Done) ≡ Some (effect_of x))
     → IfErr r (λ f. IsRefused (heard_in (not failed) hs t Mark.Done) (cause_of f)) → Ends o t r
@@ -296,35 +296,36 @@ ends_standard o failed hs t n (Ok x) is bad held ok refused =
     subst (λ (u : Tag). Ends o u (Ok x)) (sym is)
     (sym (effect_is (not o.failed) o.standard (Std n) Mark.Done)
     ∙ (ap (λ (f : Bool). effect_heard (heard_in (not f) o.standard (Std n) Mark.Done)) (sym bad)
-    ∙ (ap (λ (l : List Held). effect_heard (heard_in (not failed) l (Std n) Mark.Done)) (sym held)
+    ∙ (ap (λ (l : List OpenCommand). effect_heard (heard_in (not failed) l (Std n) Mark.Done)) (sym held)
     ∙ (ap (λ (u : Tag). effect_heard (heard_in (not failed) hs u Mark.Done)) (sym is) ∙ ok))))
 ends_standard o failed hs t n (Err f) is bad held ok refused =
     fits_err Ended o t Mark.Done f (refused_standard o hs t n Mark.Done (cause_of f) is held
     (subst (λ (b : Bool). IsRefused (heard_in (not b) hs t Mark.Done) (cause_of f)) bad refused))
 
-ends_event : (o : Opened) (hs : List Held) (t : Tag) (n : ℕ) (r : Result Ended TagFault) → t ≡ Event n → hs ≡ o.event
+ends_event : (o : OpenValue) (hs : List OpenCommand) (t : Tag) (n : ℕ) (r : Result Ended TagFault) → t ≡ Event n → hs ≡ o.event
     → IfOk r (λ x. effect_heard (heard_in true hs t Mark.Done) ≡ Some (effect_of x))
     → IfErr r (λ f. IsRefused (heard_in true hs t Mark.Done) (cause_of f)) → Ends o t r
 ends_event o hs t n (Ok x) is held ok refused =
     subst (λ (u : Tag). Ends o u (Ok x)) (sym is)
     (sym (effect_is true o.event (Event n) Mark.Done)
-    ∙ (ap (λ (l : List Held). effect_heard (heard_in true l (Event n) Mark.Done)) (sym held)
+    ∙ (ap (λ (l : List OpenCommand). effect_heard (heard_in true l (Event n) Mark.Done)) (sym held)
     ∙ (ap (λ (u : Tag). effect_heard (heard_in true hs u Mark.Done)) (sym is) ∙ ok)))
 ends_event o hs t n (Err f) is held ok refused = fits_err Ended o t Mark.Done f
     (refused_event o hs t n Mark.Done (cause_of f) is held refused)
 
 -- the same of the answer to an end, from the effect alone
-pub ending_standard : {o view : Opened} {t : Tag} {n : ℕ} {r : Result Ended TagFault} {hs : List Held} → t ≡ Std n → view ≡ o
+pub ending_standard : {o view : OpenValue} {t : Tag} {n : ℕ} {r : Result Ended TagFault} {hs : List OpenCommand} → t ≡ Std n → view ≡ o
     → hs ≡ view.standard → IfOk r (λ x. effect_heard (heard_in (not view.failed) hs t Mark.Done) ≡ Some (effect_of x))
     → IfErr r (λ f. IsRefused (heard_in (not view.failed) hs t Mark.Done) (cause_of f)) → IsEnding t o r
 ending_standard {o} {view} {t} {n} {r} {hs} is seen held ok refused = ending o t r
-    (ends_standard o view.failed hs t n r is (ap (λ (x : Opened). x.failed) seen) (held ∙ ap (λ (x : Opened). x.standard) seen) ok refused)
+    (ends_standard o view.failed hs t n r is (ap (λ (x : OpenValue). x.failed) seen)
+    (held ∙ ap (λ (x : OpenValue). x.standard) seen) ok refused)
 
-pub ending_event : {o view : Opened} {t : Tag} {n : ℕ} {r : Result Ended TagFault} {hs : List Held} → t ≡ Event n → view ≡ o
+pub ending_event : {o view : OpenValue} {t : Tag} {n : ℕ} {r : Result Ended TagFault} {hs : List OpenCommand} → t ≡ Event n → view ≡ o
     → hs ≡ view.event → IfOk r (λ x. effect_heard (heard_in true hs t Mark.Done) ≡ Some (effect_of x))
     → IfErr r (λ f. IsRefused (heard_in true hs t Mark.Done) (cause_of f)) → IsEnding t o r
 ending_event {o} {view} {t} {n} {r} {hs} is seen held ok refused = ending o t r
-    (ends_event o hs t n r is (held ∙ ap (λ (x : Opened). x.event) seen) ok refused)
+    (ends_event o hs t n r is (held ∙ ap (λ (x : OpenValue). x.event) seen) ok refused)
 
 -- ---- receipts and errors
 
@@ -347,31 +348,31 @@ error_named : (s : Standing) (b : Bool) (why : Cause) → refusal_under s b Mark
 error_named None b why e = ap fault_for (sym e)
 error_named (Some (k, s)) b why e = absurd (error_causes s why e)
 
-pub unread_exactly : {T : Type 0} (o : Opened) (t : Tag) (r : Result T TagFault) → Agrees o t Mark.Ack r → IsOk r ↔ IsUnread t o
+pub unread_exactly : {T : Type 0} (o : OpenValue) (t : Tag) (r : Result T TagFault) → Agrees o t Mark.Ack r → IsOk r ↔ IsUnread t o
 unread_exactly o t r h = compose (ok_exactly r _ h) (unread_due (standing t o) (is_next t o))
 
-pub receipt_named : {T : Type 0} (o : Opened) (t : Tag) (r : Result T TagFault) → Agrees o t Mark.Ack r
+pub receipt_named : {T : Type 0} (o : OpenValue) (t : Tag) (r : Result T TagFault) → Agrees o t Mark.Ack r
     → IfErr r (λ f. (f ≡ fault.UnknownTag) ⊎ (f ≡ fault.OutOfOrder))
 receipt_named o t r h = named_by r _ (λ f. (f ≡ fault.UnknownTag) ⊎ (f ≡ fault.OutOfOrder)) h (ack_named (standing t o) (is_next t o))
 
-pub error_named_by : {T : Type 0} (o : Opened) (t : Tag) (r : Result T TagFault) → Agrees o t Mark.Error r
+pub error_named_by : {T : Type 0} (o : OpenValue) (t : Tag) (r : Result T TagFault) → Agrees o t Mark.Error r
     → IfErr r (λ f. f ≡ fault.UnknownTag)
 error_named_by o t r h = named_by r _ (λ f. f ≡ fault.UnknownTag) h (error_named (standing t o) (is_next t o))
 
-pub refused_unknown : (T : Type 0) (o : Opened) (t : Tag) (m : Mark) (f : TagFault) → IsRefused (heard o t m) (cause_of f)
+pub refused_unknown : (T : Type 0) (o : OpenValue) (t : Tag) (m : Mark) (f : TagFault) → IsRefused (heard o t m) (cause_of f)
     → IsErrOf {T = T} (Err f) fault.UnknownTag ↔ (kind_under t o ≡ None)
 refused_unknown T o t m f h = unknown_exactly {T = T} o t m (Err f) (fits_err T o t m f h)
 
-pub refused_error : (o : Opened) (t : Tag) (f : TagFault) → IsRefused (heard o t Mark.Error) (cause_of f) → f ≡ fault.UnknownTag
+pub refused_error : (o : OpenValue) (t : Tag) (f : TagFault) → IsRefused (heard o t Mark.Error) (cause_of f) → f ≡ fault.UnknownTag
 refused_error o t f h = error_named_by {T = Bool} o t (Err f) (fits_err Bool o t Mark.Error f h)
 
-pub taken_standard : (T : Type 0) (x : T) (o : Opened) (hs gs : List Held) (t : Tag) (n : ℕ) (m : Mark) (e : Effect) → t ≡ Std n
+pub taken_standard : (T : Type 0) (x : T) (o : OpenValue) (hs gs : List OpenCommand) (t : Tag) (n : ℕ) (m : Mark) (e : Effect) → t ≡ Std n
     → hs ≡ o.standard
     → heard_in (not o.failed) hs t m ≡ Ok (gs, e) → IsErrOf {T = T} (Ok x) fault.UnknownTag ↔ (kind_under t o ≡ None)
 taken_standard T x o hs gs t n m e is held ok = unknown_exactly {T = T} o t m (Ok x)
     (agrees_standard {T = T} o o.failed hs gs t n m (λ _. e) (Ok x) is refl held ok tt)
 
-pub taken_event : (T : Type 0) (x : T) (o : Opened) (hs gs : List Held) (t : Tag) (n : ℕ) (m : Mark) (e : Effect) → t ≡ Event n
+pub taken_event : (T : Type 0) (x : T) (o : OpenValue) (hs gs : List OpenCommand) (t : Tag) (n : ℕ) (m : Mark) (e : Effect) → t ≡ Event n
     → hs ≡ o.event
     → heard_in true hs t m ≡ Ok (gs, e) → IsErrOf {T = T} (Ok x) fault.UnknownTag ↔ (kind_under t o ≡ None)
 taken_event T x o hs gs t n m e is held ok = unknown_exactly {T = T} o t m (Ok x)

@@ -7,7 +7,7 @@ use Rattle.protocol_model.specs.Replies.{Mark}
 use Rattle.protocol_model.specs.Open.{Becomes, Counts, Effect, Heard, asks_data, fits, heard_in, is_failed, judged, judged_ack}
 use Rattle.protocol_model.specs.Open.{judged_given, judged_done, judged_error}
 use Rattle.protocol_model.specs.declared.held.Datum.{Datum}
-use Rattle.protocol_model.specs.declared.held.Held.{Held}
+use Rattle.protocol_model.specs.declared.held.OpenCommand.{OpenCommand}
 use Rattle.protocol_model.specs.declared.held.Stage.{Stage}
 use Rattle.protocol_model.proofs.table.Speaking.{fits_asks}
 use Rattle.protocol_model.proofs.table.Walks.{two, heard_cases}
@@ -68,7 +68,7 @@ fit_becomes front k s x (Mark.Given d) e = fit_given k d (front && fits k d) s x
 fit_becomes front k s x Mark.Error e = fit_error k s x e
 fit_becomes front k s x Mark.Done e = fit_done k front (asks_data k) s x e
 
-pub fit_heard : (front : Bool) (hs gs : List Held) (t : Tag) (m : Mark) (e : Effect) → heard_in front hs t m ≡ Ok (gs, e)
+pub fit_heard : (front : Bool) (hs gs : List OpenCommand) (t : Tag) (m : Mark) (e : Effect) → heard_in front hs t m ≡ Ok (gs, e)
     → AreFit hs → AreFit gs
 fit_heard front [] gs t m e is fit = absurd (cc)
 fit_heard front (h ∷ hs) gs t m e is fit =
@@ -116,7 +116,8 @@ counted_end (ended.Counted j other) k given e fit =
     ∙ (ap (λ (x : Option Datum). has_its_data (ended.Counted k x)) datums ∙ fit)
 counted_end ended.Closed k given e fit = refl
 
-data_at_end : (front : Bool) (hs gs : List Held) (t : Tag) (x : Ended) → heard_in front hs t Mark.Done ≡ Ok (gs, effect_of x) → AreFit hs
+data_at_end : (front : Bool) (hs gs : List OpenCommand) (t : Tag) (x : Ended) → heard_in front hs t Mark.Done ≡ Ok (gs, effect_of x)
+    → AreFit hs
     → has_its_data x ≡ true
 data_at_end front [] gs t x is fit = absurd (cc)
 data_at_end front (h ∷ hs) gs t x is fit =
@@ -127,7 +128,8 @@ data_at_end front (h ∷ hs) gs t x is fit =
     (λ given same v g f. counted_end x h.kind given f (fit_counts h.kind front (asks_data h.kind) h.stage given refl v fit.0))
     (λ rest other later g. data_at_end (front && is_failed h.stage) hs rest t x later fit.1)
 
-pub data_heard : (front : Bool) (hs : List Held) (t : Tag) (x : Ended) → effect_heard (heard_in front hs t Mark.Done) ≡ Some (effect_of x)
+pub data_heard : (front : Bool) (hs : List OpenCommand) (t : Tag) (x : Ended)
+    → effect_heard (heard_in front hs t Mark.Done) ≡ Some (effect_of x)
     → AreFit hs → has_its_data x ≡ true
 data_heard front hs t x is fit = go (heard_in front hs t Mark.Done) refl is
   where
@@ -138,6 +140,6 @@ data_heard front hs t x is fit = go (heard_in front hs t Mark.Done) refl is
     go (Err why) heard_is some = absurd (cc)
 
 -- a command more that was just sent
-pub fit_sent : (hs : List Held) (h : Held) → h.stage ≡ Stage.Sent → AreFit hs → AreFit (hs ++ h ∷ [])
+pub fit_sent : (hs : List OpenCommand) (h : OpenCommand) → h.stage ≡ Stage.Sent → AreFit hs → AreFit (hs ++ h ∷ [])
 fit_sent [] h sent fit = (ap (is_fit h.kind) sent, tt)
 fit_sent (g ∷ gs) h sent fit = (fit.0, fit_sent gs h sent fit.1)

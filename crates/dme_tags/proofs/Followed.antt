@@ -13,7 +13,7 @@ use Rattle.protocol_model.specs.Open.{is_held, judged, judged_ack, judged_given,
 use Rattle.protocol_model.specs.Client.{held_now, next_number}
 use Rattle.protocol_model.specs.Language.{Placed, marks_of, IsRepliesFront, AreAtFront, Goes, Accepts}
 use Rattle.protocol_model.specs.declared.held.Datum.{Datum}
-use Rattle.protocol_model.specs.declared.held.Held.{Held}
+use Rattle.protocol_model.specs.declared.held.OpenCommand.{OpenCommand}
 use Rattle.protocol_model.specs.declared.held.Stage.{Stage}
 use Rattle.protocol_model.proofs.table.Basics.{if_true, if_false, tag_is-refl, tag_is-true}
 use Rattle.protocol_model.proofs.table.Drawing.{drawn}
@@ -21,7 +21,8 @@ use Rattle.protocol_model.proofs.table.Speaking.{accepts_only}
 use Rattle.protocol_model.proofs.table.Walks.{heard_cases, staged, two}
 use Rattle.dme_tags.specs.Calls.{Call, Draw, Received, Data, Failed, Complete, BeginPlan, behind_answer, behind_draw, answered, placed}
 use Rattle.dme_tags.specs.Calls.{taken_under, until_end}
-use Rattle.dme_tags.specs.Opened.{Opened, Answer, heard, heard_standard, heard_event, failed_behind, is_next, next_tag, tagged, with_drawn}
+use Rattle.dme_tags.specs.Opened.{OpenValue, Answer, heard, heard_standard, heard_event}
+use Rattle.dme_tags.specs.Opened.{failed_behind, is_next, next_tag, tagged, with_drawn}
 use Rattle.dme_tags.specs.Places.{ahead_of, all_failed}
 use Rattle.dme_tags.specs.Standing.{standing_in, standing}
 use Rattle.dme_tags.proofs.Dues.{Standing, and_assoc, and_true, kinds_same, stages_same}
@@ -39,7 +40,8 @@ Stays (Refused why) k st = ⊥
 stays_by : (v w : Verdict) (k : Kind) (x y : Standing) → v ≡ w → x ≡ y → Stays w k y → Stays v k x
 stays_by v w k x y e f h = subst (λ (z : Verdict). Stays z k x) (sym e) (subst (λ (z : Standing). Stays w k z) (sym f) h)
 
-moved : (front : Bool) (hs gs : List Held) (t : Tag) (m : Mark) (e : Effect) (k : Kind) (s : Stage) → heard_in front hs t m ≡ two gs e
+moved : (front : Bool) (hs gs : List OpenCommand) (t : Tag) (m : Mark) (e : Effect) (k : Kind) (s : Stage)
+    → heard_in front hs t m ≡ two gs e
     → standing_in t hs ≡ Some (k, s)
     → Stays (judged (front && all_failed (ahead_of t hs)) k s m) k (standing_in t gs)
 moved front [] gs t m e k s is st = absurd (cc)
@@ -50,7 +52,8 @@ moved front (h ∷ hs) gs t m e k s is st =
     (λ same v g f. stays_by _ Closes k _ (standing_in t gs) (here same ∙ v) refl tt)
     (λ given same v g f. stays_by _ (Counts given) k _ (standing_in t gs) (here same ∙ v) refl tt)
     (λ rest other later g. stays_by _ _ k _ (standing_in t rest)
-    (ap (λ (l : List Held). judged (front && all_failed l) k s m) (if_false {A = List Held} (tag_is h.tag t) [] (h ∷ ahead_of t hs) other)
+    (ap (λ (l : List OpenCommand). judged (front && all_failed l) k s m)
+    (if_false {A = List OpenCommand} (tag_is h.tag t) [] (h ∷ ahead_of t hs) other)
     ∙ ap (λ (b : Bool). judged b k s m) (sym (and_assoc front (is_failed h.stage) (all_failed (ahead_of t hs)))))
     (ap (standing_in t) g ∙ if_false {A = Standing} (tag_is h.tag t) (Some (h.kind, h.stage)) (standing_in t rest) other)
     (moved (front && is_failed h.stage) hs rest t m e k s later
@@ -61,7 +64,8 @@ moved front (h ∷ hs) gs t m e k s is st =
 
     here : tag_is h.tag t ≡ true → judged (front && all_failed (ahead_of t (h ∷ hs))) k s m ≡ judged front h.kind h.stage m
     here same =
-        ap (λ (l : List Held). judged (front && all_failed l) k s m) (if_true {A = List Held} (tag_is h.tag t) [] (h ∷ ahead_of t hs) same)
+        ap (λ (l : List OpenCommand). judged (front && all_failed l) k s m)
+        (if_true {A = List OpenCommand} (tag_is h.tag t) [] (h ∷ ahead_of t hs) same)
         ∙ (ap (λ (b : Bool). judged b k s m) (and_true front)
         ∙ (ap (λ (x : Kind). judged front x s m) (sym (kinds_same _ _ _ _ (its same)))
         ∙ ap (λ (x : Stage). judged front h.kind x m) (sym (stages_same _ _ _ _ (its same)))))
@@ -71,10 +75,11 @@ moved front (h ∷ hs) gs t m e k s is st =
         ∙ ap (λ (x : Kind). Some (x, stage)) (kinds_same _ _ _ _ (its same))
 
 -- what stands under another tag stays
-apart_from : (h : Held) (u t : Tag) → tag_is u t ≡ false → tag_is h.tag u ≡ true → tag_is h.tag t ≡ false
+apart_from : (h : OpenCommand) (u t : Tag) → tag_is u t ≡ false → tag_is h.tag u ≡ true → tag_is h.tag t ≡ false
 apart_from h u t apart same = ap (λ (x : Tag). tag_is x t) (tag_is-true h.tag u same) ∙ apart
 
-left_alone : (front : Bool) (hs gs : List Held) (u t : Tag) (m : Mark) (e : Effect) → tag_is u t ≡ false → heard_in front hs u m ≡ two gs e
+left_alone : (front : Bool) (hs gs : List OpenCommand) (u t : Tag) (m : Mark) (e : Effect) → tag_is u t ≡ false
+    → heard_in front hs u m ≡ two gs e
     → standing_in t gs ≡ standing_in t hs
 left_alone front [] gs u t m e apart is = absurd (cc)
 left_alone front (h ∷ hs) gs u t m e apart is =
@@ -94,7 +99,8 @@ left_alone front (h ∷ hs) gs u t m e apart is =
     past same stage = if_false {A = Standing} (tag_is h.tag t) (Some (h.kind, stage)) (standing_in t hs) (apart_from h u t apart same)
 
 -- one command more at the end
-stays_behind : (t : Tag) (hs : List Held) (x : Held) (v : Kind × Stage) → standing_in t hs ≡ Some v → standing_in t (hs ++ x ∷ []) ≡ Some v
+stays_behind : (t : Tag) (hs : List OpenCommand) (x : OpenCommand) (v : Kind × Stage) → standing_in t hs ≡ Some v
+    → standing_in t (hs ++ x ∷ []) ≡ Some v
 stays_behind t [] x v e = absurd (cc)
 stays_behind t (h ∷ hs) x v e = go (stays_behind t hs x v) (tag_is h.tag t) e
   where
@@ -104,7 +110,8 @@ stays_behind t (h ∷ hs) x v e = go (stays_behind t hs x v) (tag_is h.tag t) e
     go deeper true e = e
     go deeper false e = deeper e
 
-stands_last : (t : Tag) (k : Kind) (hs : List Held) → is_held t hs ≡ false → standing_in t (hs ++ held_now t k ∷ []) ≡ Some (k, Stage.Sent)
+stands_last : (t : Tag) (k : Kind) (hs : List OpenCommand) → is_held t hs ≡ false
+    → standing_in t (hs ++ held_now t k ∷ []) ≡ Some (k, Stage.Sent)
 stands_last t k [] e = if_true {A = Standing} (tag_is t t) (Some (k, Stage.Sent)) None (tag_is-refl t)
 stands_last t k (h ∷ hs) e = go (stands_last t k hs) (tag_is h.tag t) e
   where
@@ -117,25 +124,25 @@ stands_last t k (h ∷ hs) e = go (stands_last t k hs) (tag_is h.tag t) e
 -- ---- on both sorts of tags
 
 -- a mark that is taken in on standard tags
-record IsStandard (o next : Opened) (n : ℕ) (m : Mark) : Type 0 where
-  hs : List Held
+record IsStandard (o next : OpenValue) (n : ℕ) (m : Mark) : Type 0 where
+  hs : List OpenCommand
   e : Effect
   is : heard_in (not o.failed) o.standard (Std n) m ≡ two hs e
   standard : next.standard ≡ hs
   event : next.event ≡ o.event
 
-record IsEvent (o next : Opened) (n : ℕ) (m : Mark) : Type 0 where
-  hs : List Held
+record IsEvent (o next : OpenValue) (n : ℕ) (m : Mark) : Type 0 where
+  hs : List OpenCommand
   e : Effect
   is : heard_in true o.event (Event n) m ≡ two hs e
   standard : next.standard ≡ o.standard
   event : next.event ≡ hs
 
-abbrev next_in : Answer → Opened → Opened
+abbrev next_in : Answer → OpenValue → OpenValue
 next_in (Ok r) d = r.0
 next_in (Err c) d = d
 
-standard_taken : (o next : Opened) (n : ℕ) (m : Mark) (effect : Effect) → heard o (Std n) m ≡ Ok (next, effect) → IsStandard o next n m
+standard_taken : (o next : OpenValue) (n : ℕ) (m : Mark) (effect : Effect) → heard o (Std n) m ≡ Ok (next, effect) → IsStandard o next n m
 standard_taken o next n m effect is = go (heard_in (not o.failed) o.standard (Std n) m) refl is
   where
     go : (r : Heard) → heard_in (not o.failed) o.standard (Std n) m ≡ r → heard_standard o r ≡ Ok (next, effect) → IsStandard o next n m
@@ -145,12 +152,12 @@ standard_taken o next n m effect is = go (heard_in (not o.failed) o.standard (St
           hs = hs;
           e = e;
           is = heard_is;
-          standard = sym (ap (λ (p : Opened). p.standard) same);
-          event = sym (ap (λ (p : Opened). p.event) same);
+          standard = sym (ap (λ (p : OpenValue). p.standard) same);
+          event = sym (ap (λ (p : OpenValue). p.event) same);
         }
     go (Err c) heard_is is = absurd (cc)
 
-event_taken : (o next : Opened) (n : ℕ) (m : Mark) (effect : Effect) → heard o (Event n) m ≡ Ok (next, effect) → IsEvent o next n m
+event_taken : (o next : OpenValue) (n : ℕ) (m : Mark) (effect : Effect) → heard o (Event n) m ≡ Ok (next, effect) → IsEvent o next n m
 event_taken o next n m effect is = go (heard_in true o.event (Event n) m) refl is
   where
     go : (r : Heard) → heard_in true o.event (Event n) m ≡ r → heard_event o r ≡ Ok (next, effect) → IsEvent o next n m
@@ -160,24 +167,24 @@ event_taken o next n m effect is = go (heard_in true o.event (Event n) m) refl i
           hs = hs;
           e = e;
           is = heard_is;
-          standard = sym (ap (λ (p : Opened). p.standard) same);
-          event = sym (ap (λ (p : Opened). p.event) same);
+          standard = sym (ap (λ (p : OpenValue). p.standard) same);
+          event = sym (ap (λ (p : OpenValue). p.event) same);
         }
     go (Err c) heard_is is = absurd (cc)
 
-moved_on : (o next : Opened) (t : Tag) (m : Mark) (effect : Effect) (k : Kind) (s : Stage) → heard o t m ≡ Ok (next, effect)
+moved_on : (o next : OpenValue) (t : Tag) (m : Mark) (effect : Effect) (k : Kind) (s : Stage) → heard o t m ≡ Ok (next, effect)
     → standing t o ≡ Some (k, s)
     → Stays (judged (is_next t o) k s m) k (standing t next)
 moved_on o next (Std n) m effect k s is st =
     let x : IsStandard o next n m = standard_taken o next n m effect is in
-    subst (λ (l : List Held). Stays (judged (is_next (Std n) o) k s m) k (standing_in (Std n) l)) (sym x.standard)
+    subst (λ (l : List OpenCommand). Stays (judged (is_next (Std n) o) k s m) k (standing_in (Std n) l)) (sym x.standard)
     (moved (not o.failed) o.standard x.hs (Std n) m x.e k s x.is st)
 moved_on o next (Event n) m effect k s is st =
     let x : IsEvent o next n m = event_taken o next n m effect is in
-    subst (λ (l : List Held). Stays (judged (is_next (Event n) o) k s m) k (standing_in (Event n) l)) (sym x.event)
+    subst (λ (l : List OpenCommand). Stays (judged (is_next (Event n) o) k s m) k (standing_in (Event n) l)) (sym x.event)
     (moved true o.event x.hs (Event n) m x.e k s x.is st)
 
-alone : (o next : Opened) (u t : Tag) (m : Mark) (effect : Effect) → tag_is u t ≡ false → heard o u m ≡ Ok (next, effect)
+alone : (o next : OpenValue) (u t : Tag) (m : Mark) (effect : Effect) → tag_is u t ≡ false → heard o u m ≡ Ok (next, effect)
     → standing t next ≡ standing t o
 alone o next (Std n) (Std j) m effect apart is =
     let x : IsStandard o next n m = standard_taken o next n m effect is in
@@ -190,7 +197,8 @@ alone o next (Event n) (Event j) m effect apart is =
     let x : IsEvent o next n m = event_taken o next n m effect is in
     ap (standing_in (Event j)) x.event ∙ left_alone true o.event x.hs (Event n) (Event j) m x.e apart x.is
 
-drawn_behind : (o : Opened) (t u : Tag) (kind : Kind) (v : Kind × Stage) → standing t o ≡ Some v → standing t (with_drawn o u kind) ≡ Some v
+drawn_behind : (o : OpenValue) (t u : Tag) (kind : Kind) (v : Kind × Stage) → standing t o ≡ Some v
+    → standing t (with_drawn o u kind) ≡ Some v
 drawn_behind o (Std j) (Std n) kind v e = stays_behind (Std j) o.standard (held_now (Std n) kind) v e
 drawn_behind o (Std j) (Event n) kind v e = e
 drawn_behind o (Event j) (Std n) kind v e = e
@@ -249,8 +257,8 @@ accepted k st s front (Mark.Given p) later ih stays = goes_further k st later (j
 accepted k st s front Mark.Error later ih stays = goes_further k st later (judged_error s) ih (further_error s) stays
 accepted k st s front Mark.Done later ih stays = goes_to_end k st (judged_done front (asks_data k) s) stays
 
-marked : (k : Kind) (s : Stage) (t u : Tag) (m : Mark) (o : Opened) (rest : Opened → List Placed)
-    → ((r : Stage) (next : Opened) → standing t next ≡ Some (k, r) → Accepts k r (rest next)) → standing t o ≡ Some (k, s)
+marked : (k : Kind) (s : Stage) (t u : Tag) (m : Mark) (o : OpenValue) (rest : OpenValue → List Placed)
+    → ((r : Stage) (next : OpenValue) → standing t next ≡ Some (k, r) → Accepts k r (rest next)) → standing t o ≡ Some (k, s)
     → Accepts k s (placed t o u m (rest (behind_answer o (heard o u m))))
 marked k s t u m o rest ih st = go (tag_is u t) refl (heard o u m) refl
   where
@@ -263,16 +271,16 @@ marked k s t u m o rest ih st = go (tag_is u t) refl (heard o u m) refl
     go false apart (Ok (next, effect)) is = ih s next (alone o next u t m effect apart is ∙ st)
     go false apart (Err c) is = ih s o st
 
-drawn_keeps : (o : Opened) (t : Tag) (kind : Kind) (v : Kind × Stage) (tag : Option Tag) → standing t o ≡ Some v
+drawn_keeps : (o : OpenValue) (t : Tag) (kind : Kind) (v : Kind × Stage) (tag : Option Tag) → standing t o ≡ Some v
     → standing t (behind_draw o kind tag) ≡ Some v
 drawn_keeps o t kind v None e = e
 drawn_keeps o t kind v (Some u) e = drawn_behind o t u kind v e
 
-plan_keeps : (o : Opened) (t : Tag) → standing t (record o { failed = false }) ≡ standing t o
+plan_keeps : (o : OpenValue) (t : Tag) → standing t (record o { failed = false }) ≡ standing t o
 plan_keeps o (Std n) = refl
 plan_keeps o (Event n) = refl
 
-follows : (k : Kind) (s : Stage) (t : Tag) (o : Opened) (calls : List Call) → standing t o ≡ Some (k, s)
+follows : (k : Kind) (s : Stage) (t : Tag) (o : OpenValue) (calls : List Call) → standing t o ≡ Some (k, s)
     → Accepts k s (taken_under t o calls)
 follows k s t o [] e = tt
 follows k s t o (Draw kind ∷ calls) e = follows k s t (behind_draw o kind (next_tag o kind)) calls
@@ -286,7 +294,7 @@ follows k s t o (BeginPlan ∷ calls) e = follows k s t (record o { failed = fal
 
 -- ---- from the draw on
 
-tag_drawn : (sort : ℕ → Tag) (hs : List Held) (d : ℕ) (t : Tag) → tagged sort (next_number sort hs d) ≡ Some t → is_held t hs ≡ false
+tag_drawn : (sort : ℕ → Tag) (hs : List OpenCommand) (d : ℕ) (t : Tag) → tagged sort (next_number sort hs d) ≡ Some t → is_held t hs ≡ false
 tag_drawn sort hs d t is = go (next_number sort hs d) refl is
   where
     go : (r : Option ℕ) → next_number sort hs d ≡ r → tagged sort r ≡ Some t → is_held t hs ≡ false
@@ -304,7 +312,7 @@ event_number : (r : Option ℕ) (t : Tag) → tagged Event r ≡ Some t → (n :
 event_number None t is = absurd (cc)
 event_number (Some n) t is = let same : Event n ≡ t = cc in (n, sym same)
 
-begun : (o : Opened) (kind : Kind) (t : Tag) → next_tag o kind ≡ Some t → standing t (with_drawn o t kind) ≡ Some (kind, Stage.Sent)
+begun : (o : OpenValue) (kind : Kind) (t : Tag) → next_tag o kind ≡ Some t → standing t (with_drawn o t kind) ≡ Some (kind, Stage.Sent)
 begun o kind t is = go (is_event_kind kind) is
   where
     go : (b : Bool) → cond b (tagged Event (next_number Event o.event o.event_drawn)) (tagged Std (next_number Std o.standard o.drawn))
@@ -321,12 +329,12 @@ begun o kind t is = go (is_event_kind kind) is
         (stands_last (Std n.0) kind o.standard (subst (λ (u : Tag). is_held u o.standard ≡ false) n.1
         (tag_drawn Std o.standard o.drawn t is)))
 
-pub in_language : (o : Opened) (kind : Kind) (t : Tag) (calls : List Call) → next_tag o kind ≡ Some t
+pub in_language : (o : OpenValue) (kind : Kind) (t : Tag) (calls : List Call) → next_tag o kind ≡ Some t
     → IsRepliesFront (asks_data kind) (fits kind) (marks_of (taken_under t (with_drawn o t kind) calls))
 in_language o kind t calls is = (accepts_only kind (taken_under t (with_drawn o t kind) calls)
     (follows kind Stage.Sent t (with_drawn o t kind) calls (begun o kind t is))).0
 
-pub at_front : (o : Opened) (kind : Kind) (t : Tag) (calls : List Call) → next_tag o kind ≡ Some t
+pub at_front : (o : OpenValue) (kind : Kind) (t : Tag) (calls : List Call) → next_tag o kind ≡ Some t
     → AreAtFront false (taken_under t (with_drawn o t kind) calls)
 at_front o kind t calls is = (accepts_only kind (taken_under t (with_drawn o t kind) calls)
     (follows kind Stage.Sent t (with_drawn o t kind) calls (begun o kind t is))).1

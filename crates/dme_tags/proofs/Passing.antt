@@ -9,14 +9,14 @@ use Rattle.dme_line.specs.declared.tags.Tag.TheVariants.{Std, Event}
 use Rattle.dme_line.specs.declared.commands.Kind.{Kind}
 use Rattle.protocol_model.specs.Open.{is_held}
 use Rattle.protocol_model.specs.Client.{first_free, next_number, or_else}
-use Rattle.protocol_model.specs.declared.held.Held.{Held}
+use Rattle.protocol_model.specs.declared.held.OpenCommand.{OpenCommand}
 use Rattle.protocol_model.proofs.table.Drawing.{IsFound, found, none_free}
 use Rattle.protocol_model.proofs.table.NextNumber.{before_first}
-use Rattle.dme_tags.specs.Opened.{Opened, tagged, next_tag, IsBetween, ArePassedOver, IsSpentFor}
+use Rattle.dme_tags.specs.Opened.{OpenValue, tagged, next_tag, IsBetween, ArePassedOver, IsSpentFor}
 use Rattle.dme_tags.specs.declared.faults.TagFault.{TagFault}
 use Rattle.dme_tags.specs.declared.faults.TagFault.TheVariants as fault
 
-next_passed_of : (sort : ℕ → Tag) (hs : List Held) (d left all m i : ℕ) → all ≤ d + left
+next_passed_of : (sort : ℕ → Tag) (hs : List OpenCommand) (d left all m i : ℕ) → all ≤ d + left
     → or_else (first_free sort hs (suc d) left) (first_free sort hs 1 all) ≡ Some m
     → ((d < i) × (i < m)) ⊎ ((m ≤ d) × (((d < i) × (i ≤ all)) ⊎ ((1 ≤ i) × (i < m)))) → is_held (sort i) hs ≡ true
 next_passed_of sort hs d left all m i enough is between = go (first_free sort hs (suc d) left) refl is between
@@ -35,23 +35,25 @@ next_passed_of sort hs d left all m i enough is between = go (first_free sort hs
 enough_left : (d : ℕ) → 9999 ≤ d + (9999 - d)
 enough_left d = omega arith
 
-next_passed : (sort : ℕ → Tag) (hs : List Held) (d m i : ℕ) → next_number sort hs d ≡ Some m → IsBetween d i m → is_held (sort i) hs ≡ true
+next_passed : (sort : ℕ → Tag) (hs : List OpenCommand) (d m i : ℕ) → next_number sort hs d ≡ Some m → IsBetween d i m
+    → is_held (sort i) hs ≡ true
 next_passed sort hs d m i is between = next_passed_of sort hs d (9999 - d) 9999 m i (enough_left d) is between
 
-standard_passed : (o : Opened) (t : Tag) (r : Option ℕ) → next_number Std o.standard o.drawn ≡ r → tagged Std r ≡ Some t → ArePassedOver t o
+standard_passed : (o : OpenValue) (t : Tag) (r : Option ℕ) → next_number Std o.standard o.drawn ≡ r → tagged Std r ≡ Some t
+    → ArePassedOver t o
 standard_passed o t None e is = absurd (cc)
 standard_passed o t (Some m) e is =
     let same : Std m ≡ t = cc in
     subst (λ (u : Tag). ArePassedOver u o) same (λ i between. next_passed Std o.standard o.drawn m i e between)
 
-event_passed : (o : Opened) (t : Tag) (r : Option ℕ) → next_number Event o.event o.event_drawn ≡ r → tagged Event r ≡ Some t
+event_passed : (o : OpenValue) (t : Tag) (r : Option ℕ) → next_number Event o.event o.event_drawn ≡ r → tagged Event r ≡ Some t
     → ArePassedOver t o
 event_passed o t None e is = absurd (cc)
 event_passed o t (Some m) e is =
     let same : Event m ≡ t = cc in
     subst (λ (u : Tag). ArePassedOver u o) same (λ i between. next_passed Event o.event o.event_drawn m i e between)
 
-pub passed_over : (o : Opened) (kind : Kind) (t : Tag) → next_tag o kind ≡ Some t → ArePassedOver t o
+pub passed_over : (o : OpenValue) (kind : Kind) (t : Tag) → next_tag o kind ≡ Some t → ArePassedOver t o
 passed_over o kind t is = go (is_event_kind kind) is
   where
     go : (b : Bool) → cond b (tagged Event (next_number Event o.event o.event_drawn)) (tagged Std (next_number Std o.standard o.drawn))
@@ -61,12 +63,12 @@ passed_over o kind t is = go (is_event_kind kind) is
 
 -- ---- a tag that is drawn is free
 
-record IsFree (sort : ℕ → Tag) (hs : List Held) (m : ℕ) : Type 0 where
+record IsFree (sort : ℕ → Tag) (hs : List OpenCommand) (m : ℕ) : Type 0 where
   free : is_held (sort m) hs ≡ false
   from : 1 ≤ m
   below : m ≤ 9999
 
-number_free : (sort : ℕ → Tag) (hs : List Held) (d left all m : ℕ) → left ≡ 9999 - d → all ≡ 9999
+number_free : (sort : ℕ → Tag) (hs : List OpenCommand) (d left all m : ℕ) → left ≡ 9999 - d → all ≡ 9999
     → or_else (first_free sort hs (suc d) left) (first_free sort hs 1 all) ≡ Some m → IsFree sort hs m
 number_free sort hs d left all m l a is = go (first_free sort hs (suc d) left) refl is
   where
@@ -76,7 +78,7 @@ number_free sort hs d left all m l a is = go (first_free sort hs (suc d) left) r
     go None e is = let f : IsFound sort hs 1 all m = found sort hs 1 all m is
         in record { free = f.free; from = f.from; below = omega (arith, f.below, a) }
 
-not_spent : (o : Opened) (kind : Kind) (t : Tag) → next_tag o kind ≡ Some t → IsSpentFor kind o → ⊥
+not_spent : (o : OpenValue) (kind : Kind) (t : Tag) → next_tag o kind ≡ Some t → IsSpentFor kind o → ⊥
 not_spent o kind t is spent = go (is_event_kind kind) refl is
   where
     event : is_event_kind kind ≡ true → (r : Option ℕ) → next_number Event o.event o.event_drawn ≡ r → tagged Event r ≡ Some t → ⊥
@@ -97,7 +99,7 @@ not_spent o kind t is spent = go (is_event_kind kind) refl is
     go true e is = event e (next_number Event o.event o.event_drawn) refl is
     go false e is = standard e (next_number Std o.standard o.drawn) refl is
 
-pub spent_exactly : (o : Opened) (kind : Kind) (r : Result Tag TagFault) → IfOk r (λ t. next_tag o kind ≡ Some t)
+pub spent_exactly : (o : OpenValue) (kind : Kind) (r : Result Tag TagFault) → IfOk r (λ t. next_tag o kind ≡ Some t)
     → OnErr r (IsSpentFor kind o)
     → IfErr r (λ f. f ≡ fault.TagsSpent) → IsErrOf r fault.TagsSpent ↔ IsSpentFor kind o
 spent_exactly o kind (Ok t) ok spent named = (λ e. absurd (apart e), λ s. absurd (not_spent o kind t ok s))

@@ -4,23 +4,25 @@ use Rattle.dme_line.specs.declared.tags.Tag.{Tag}
 use Rattle.dme_line.specs.declared.tags.Tag.TheVariants.{Std, Event}
 use Rattle.protocol_model.specs.Replies.{Mark}
 use Rattle.protocol_model.specs.Open.{heard_in}
-use Rattle.protocol_model.specs.declared.held.Held.{Held}
+use Rattle.protocol_model.specs.declared.held.OpenCommand.{OpenCommand}
 use Rattle.protocol_model.specs.declared.states.Cause.{Cause}
 use Rattle.dme_tags.specs.Answers.{IsRefused}
-use Rattle.dme_tags.specs.Opened.{Opened, heard, heard_standard, heard_event}
+use Rattle.dme_tags.specs.Opened.{OpenValue, heard, heard_standard, heard_event}
 
-pub refused_standard : (o : Opened) (hs : List Held) (t : Tag) (n : ℕ) (m : Mark) (cause : Option Cause) → t ≡ Std n → hs ≡ o.standard
+pub refused_standard : (o : OpenValue) (hs : List OpenCommand) (t : Tag) (n : ℕ) (m : Mark) (cause : Option Cause) → t ≡ Std n
+    → hs ≡ o.standard
     → IsRefused (heard_in (not o.failed) hs t m) cause → IsRefused (heard o t m) cause
 refused_standard o hs t n m None is held r = r
 refused_standard o hs t n m (Some cause) is held r =
     ap (λ (u : Tag). heard o u m) is
-    ∙ ap (heard_standard o) (ap (λ (gs : List Held). heard_in (not o.failed) gs (Std n) m) (sym held)
+    ∙ ap (heard_standard o) (ap (λ (gs : List OpenCommand). heard_in (not o.failed) gs (Std n) m) (sym held)
     ∙ ap (λ (u : Tag). heard_in (not o.failed) hs u m) (sym is) ∙ r)
 
-pub refused_event : (o : Opened) (hs : List Held) (t : Tag) (n : ℕ) (m : Mark) (cause : Option Cause) → t ≡ Event n → hs ≡ o.event
+pub refused_event : (o : OpenValue) (hs : List OpenCommand) (t : Tag) (n : ℕ) (m : Mark) (cause : Option Cause) → t ≡ Event n → hs ≡ o.event
     → IsRefused (heard_in true hs t m) cause → IsRefused (heard o t m) cause
 refused_event o hs t n m None is held r = r
 refused_event o hs t n m (Some cause) is held r =
     ap (λ (u : Tag). heard o u m) is
-    ∙ ap (heard_event o) (ap (λ (gs : List Held). heard_in true gs (Event n) m) (sym held) ∙ ap (λ (u : Tag). heard_in true hs u m) (sym is)
+    ∙ ap (heard_event o) (ap (λ (gs : List OpenCommand). heard_in true gs (Event n) m) (sym held)
+    ∙ ap (λ (u : Tag). heard_in true hs u m) (sym is)
     ∙ r)

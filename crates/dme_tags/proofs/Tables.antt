@@ -11,19 +11,19 @@ use Rattle.protocol_model.specs.Client as client
 use Rattle.protocol_model.specs.Client.{Client, Table, Tally, tallied, measured, counted_next, heard_on, next_number}
 use Rattle.protocol_model.specs.declared.held.Datum.{Datum}
 use Rattle.protocol_model.specs.declared.held.Datum.TheVariants as datum
-use Rattle.protocol_model.specs.declared.held.Held.{Held}
+use Rattle.protocol_model.specs.declared.held.OpenCommand.{OpenCommand}
 use Rattle.protocol_model.specs.declared.plans.Planned.{Planned}
 use Rattle.protocol_model.specs.declared.plans.Does.{Does}
 use Rattle.protocol_model.specs.declared.states.Cause.{Cause}
-use Rattle.dme_tags.specs.Opened.{Opened, heard, heard_standard, heard_event, failed_behind, next_tag, tagged, number_of}
+use Rattle.dme_tags.specs.Opened.{OpenValue, heard, heard_standard, heard_event, failed_behind, next_tag, tagged, number_of}
 use Rattle.dme_tags.specs.Tables.{IsTableOf, table_behind}
 
 -- ---- marks
 
 abbrev Answered : Type 0
-Answered = Result (Opened × Effect) Cause
+Answered = Result (OpenValue × Effect) Cause
 
-ok_same : (a b : Opened × Effect) → ◌≡◌ {A = Answered} (Ok a) (Ok b) → a ≡ b
+ok_same : (a b : OpenValue × Effect) → ◌≡◌ {A = Answered} (Ok a) (Ok b) → a ≡ b
 ok_same a b is = cc
 
 measured_failed : (c : Client) (does : Does) (given : Option Datum) (y : Tally)
@@ -50,42 +50,47 @@ tallied_failed c (Effect.Count k given) y = go y.todo
     go [] = refl
     go (p ∷ todo) = measured_failed c p.does given _
 
-on_standard : (b : Table) (o : Opened) (n : ℕ) (m : Mark) → IsTableOf b o
+on_standard : (b : Table) (o : OpenValue) (n : ℕ) (m : Mark) → IsTableOf b o
     → heard_in (not b.tally.failed) b.standard (Std n) m ≡ heard_in (not o.failed) o.standard (Std n) m
 on_standard b o n m at = ap (λ (f : Bool). heard_in (not f) b.standard (Std n) m) at.failed
-    ∙ ap (λ (hs : List Held). heard_in (not o.failed) hs (Std n) m) at.standard
+    ∙ ap (λ (hs : List OpenCommand). heard_in (not o.failed) hs (Std n) m) at.standard
 
-on_event : (b : Table) (o : Opened) (n : ℕ) (m : Mark) → IsTableOf b o
+on_event : (b : Table) (o : OpenValue) (n : ℕ) (m : Mark) → IsTableOf b o
     → heard_in true b.event (Event n) m ≡ heard_in true o.event (Event n) m
-on_event b o n m at = ap (λ (hs : List Held). heard_in true hs (Event n) m) at.event
+on_event b o n m at = ap (λ (hs : List OpenCommand). heard_in true hs (Event n) m) at.event
 
-taken_standard : (c : Client) (o next : Opened) (n : ℕ) (effect : Effect) (r : Heard) → IsTableOf c.table o
+taken_standard : (c : Client) (o next : OpenValue) (n : ℕ) (effect : Effect) (r : Heard) → IsTableOf c.table o
     → heard_standard o r ≡ Ok (next, effect)
     → client.heard_standard c.program.features c.table r ≡ Ok (table_behind c next (Std n) effect)
 taken_standard c o next n effect (Ok (hs, e)) at is =
     let both = ok_same _ _ is in
-    let new : record o { standard = hs; failed = failed_behind e o.failed } ≡ next = ap (λ (p : Opened × Effect). p.0) both in
-    let same : e ≡ effect = ap (λ (p : Opened × Effect). p.1) both in
-    ap (λ (gs : List Held). Ok (record { standard = gs; event = c.table.event; tally = tallied c.program.features e c.table.tally }))
-    (ap (λ (p : Opened). p.standard) new)
-    ∙ ap (λ (gs : List Held). Ok (record { standard = next.standard; event = gs; tally = tallied c.program.features e c.table.tally }))
-    (at.event ∙ ap (λ (p : Opened). p.event) new)
+    let new : record o { standard = hs; failed = failed_behind e o.failed } ≡ next = ap (λ (p : OpenValue × Effect). p.0) both in
+    let same : e ≡ effect = ap (λ (p : OpenValue × Effect). p.1) both in
+    ap (λ (gs : List OpenCommand). Ok (record { standard = gs; event = c.table.event; tally = tallied c.program.features e c.table.tally }))
+    (ap (λ (p : OpenValue). p.standard) new)
+    ∙ ap (λ (gs : List OpenCommand). Ok (record {
+      standard = next.standard;
+      event = gs;
+      tally =
+          tallied c.program.features e c.table.tally;
+    }))
+    (at.event ∙ ap (λ (p : OpenValue). p.event) new)
     ∙ ap (λ (f : Effect). Ok (record { standard = next.standard; event = next.event; tally = tallied c.program.features f c.table.tally }))
     same
 taken_standard c o next n effect (Err cause) at is = absurd (cc)
 
-taken_event : (c : Client) (o next : Opened) (n : ℕ) (effect : Effect) (r : Heard) → IsTableOf c.table o
+taken_event : (c : Client) (o next : OpenValue) (n : ℕ) (effect : Effect) (r : Heard) → IsTableOf c.table o
     → heard_event o r ≡ Ok (next, effect)
     → client.heard_event c.table r ≡ Ok (table_behind c next (Event n) effect)
 taken_event c o next n effect (Ok (hs, e)) at is =
-    let new : record o { event = hs } ≡ next = ap (λ (p : Opened × Effect). p.0) (ok_same _ _ is) in
-    ap (λ (gs : List Held). Ok (record { standard = gs; event = hs; tally = c.table.tally })) (at.standard
-    ∙ ap (λ (p : Opened). p.standard) new)
-    ∙ ap (λ (gs : List Held). Ok (record { standard = next.standard; event = gs; tally = c.table.tally }))
-    (ap (λ (p : Opened). p.event) new)
+    let new : record o { event = hs } ≡ next = ap (λ (p : OpenValue × Effect). p.0) (ok_same _ _ is) in
+    ap (λ (gs : List OpenCommand). Ok (record { standard = gs; event = hs; tally = c.table.tally })) (at.standard
+    ∙ ap (λ (p : OpenValue). p.standard) new)
+    ∙ ap (λ (gs : List OpenCommand). Ok (record { standard = next.standard; event = gs; tally = c.table.tally }))
+    (ap (λ (p : OpenValue). p.event) new)
 taken_event c o next n effect (Err cause) at is = absurd (cc)
 
-pub taken : (c : Client) (o next : Opened) (t : Tag) (m : Mark) (effect : Effect) → IsTableOf c.table o → heard o t m ≡ Ok (next, effect)
+pub taken : (c : Client) (o next : OpenValue) (t : Tag) (m : Mark) (effect : Effect) → IsTableOf c.table o → heard o t m ≡ Ok (next, effect)
     → heard_on c.program.features c.table t m ≡ Ok (table_behind c next t effect)
 taken c o next (Std n) m effect at is =
     ap (client.heard_standard c.program.features c.table) (on_standard c.table o n m at)
@@ -93,21 +98,22 @@ taken c o next (Std n) m effect at is =
 taken c o next (Event n) m effect at is =
     ap (client.heard_event c.table) (on_event c.table o n m at) ∙ taken_event c o next n effect (heard_in true o.event (Event n) m) at is
 
-failed_standard : (o next : Opened) (effect : Effect) (r : Heard) → heard_standard o r ≡ Ok (next, effect)
+failed_standard : (o next : OpenValue) (effect : Effect) (r : Heard) → heard_standard o r ≡ Ok (next, effect)
     → failed_behind effect o.failed ≡ next.failed
 failed_standard o next effect (Ok (hs, e)) is =
     let both = ok_same _ _ is in
-    let new : record o { standard = hs; failed = failed_behind e o.failed } ≡ next = ap (λ (p : Opened × Effect). p.0) both in
-    let same : e ≡ effect = ap (λ (p : Opened × Effect). p.1) both in
-    ap (λ (f : Effect). failed_behind f o.failed) (sym same) ∙ ap (λ (p : Opened). p.failed) new
+    let new : record o { standard = hs; failed = failed_behind e o.failed } ≡ next = ap (λ (p : OpenValue × Effect). p.0) both in
+    let same : e ≡ effect = ap (λ (p : OpenValue × Effect). p.1) both in
+    ap (λ (f : Effect). failed_behind f o.failed) (sym same) ∙ ap (λ (p : OpenValue). p.failed) new
 failed_standard o next effect (Err cause) is = absurd (cc)
 
-failed_event : (o next : Opened) (effect : Effect) (r : Heard) → heard_event o r ≡ Ok (next, effect) → o.failed ≡ next.failed
-failed_event o next effect (Ok (hs, e)) is = let new : record o { event = hs } ≡ next = ap (λ (p : Opened × Effect). p.0) (ok_same _ _ is)
-    in ap (λ (p : Opened). p.failed) new
+failed_event : (o next : OpenValue) (effect : Effect) (r : Heard) → heard_event o r ≡ Ok (next, effect) → o.failed ≡ next.failed
+failed_event o next effect (Ok (hs, e)) is = let new : record o { event = hs }
+    ≡ next = ap (λ (p : OpenValue × Effect). p.0) (ok_same _ _ is)
+    in ap (λ (p : OpenValue). p.failed) new
 failed_event o next effect (Err cause) is = absurd (cc)
 
-pub kept : (c : Client) (o next : Opened) (t : Tag) (m : Mark) (effect : Effect) → IsTableOf c.table o → heard o t m ≡ Ok (next, effect)
+pub kept : (c : Client) (o next : OpenValue) (t : Tag) (m : Mark) (effect : Effect) → IsTableOf c.table o → heard o t m ≡ Ok (next, effect)
     → IsTableOf (table_behind c next t effect) next
 kept c o next (Std n) m effect at is = record {
   standard = refl;
@@ -121,17 +127,17 @@ kept c o next (Event n) m effect at is = record {
   failed = at.failed ∙ failed_event o next effect (heard_in true o.event (Event n) m) is;
 }
 
-refused_standard : (c : Client) (o : Opened) (cause : Cause) (r : Heard) → heard_standard o r ≡ Err cause
+refused_standard : (c : Client) (o : OpenValue) (cause : Cause) (r : Heard) → heard_standard o r ≡ Err cause
     → client.heard_standard c.program.features c.table r ≡ Err cause
 refused_standard c o cause (Ok (hs, e)) is = absurd (cc)
 refused_standard c o cause (Err why) is = let same : why ≡ cause = cc in ap (λ (w : Cause). Err w) same
 
-refused_event : (c : Client) (o : Opened) (cause : Cause) (r : Heard) → heard_event o r ≡ Err cause
+refused_event : (c : Client) (o : OpenValue) (cause : Cause) (r : Heard) → heard_event o r ≡ Err cause
     → client.heard_event c.table r ≡ Err cause
 refused_event c o cause (Ok (hs, e)) is = absurd (cc)
 refused_event c o cause (Err why) is = let same : why ≡ cause = cc in ap (λ (w : Cause). Err w) same
 
-pub refused : (c : Client) (o : Opened) (t : Tag) (m : Mark) (cause : Cause) → IsTableOf c.table o → heard o t m ≡ Err cause
+pub refused : (c : Client) (o : OpenValue) (t : Tag) (m : Mark) (cause : Cause) → IsTableOf c.table o → heard o t m ≡ Err cause
     → heard_on c.program.features c.table t m ≡ Err cause
 refused c o (Std n) m cause at is =
     ap (client.heard_standard c.program.features c.table) (on_standard c.table o n m at)
@@ -153,23 +159,23 @@ untagged_none : (sort : ℕ → Tag) (r : Option ℕ) → tagged sort r ≡ None
 untagged_none sort None is = refl
 untagged_none sort (Some n) is = absurd (cc)
 
-its_standard : (o : Opened) (kind : Kind) (r : Option Tag) → is_event_kind kind ≡ false → next_tag o kind ≡ r
+its_standard : (o : OpenValue) (kind : Kind) (r : Option Tag) → is_event_kind kind ≡ false → next_tag o kind ≡ r
     → tagged Std (next_number Std o.standard o.drawn) ≡ r
 its_standard o kind r e is =
     ap (λ (b : Bool). cond b (tagged Event (next_number Event o.event o.event_drawn)) (tagged Std (next_number Std o.standard o.drawn)))
     (sym e) ∙ is
 
-pub standard : (o : Opened) (kind : Kind) (t : Tag) → is_event_kind kind ≡ false → next_tag o kind ≡ Some t
+pub standard : (o : OpenValue) (kind : Kind) (t : Tag) → is_event_kind kind ≡ false → next_tag o kind ≡ Some t
     → (next_number Std o.standard o.drawn ≡ Some (number_of t)) × (t ≡ Std (number_of t))
 standard o kind t e is = untagged Std (λ n. refl) (next_number Std o.standard o.drawn) t (its_standard o kind (Some t) e is)
 
-pub no_standard : (o : Opened) (kind : Kind) → is_event_kind kind ≡ false → next_tag o kind ≡ None
+pub no_standard : (o : OpenValue) (kind : Kind) → is_event_kind kind ≡ false → next_tag o kind ≡ None
     → next_number Std o.standard o.drawn ≡ None
 no_standard o kind e is = untagged_none Std (next_number Std o.standard o.drawn) (its_standard o kind None e is)
 
-pub event : (o : Opened) (t : Tag) → next_tag o kind.AbortE ≡ Some t → (next_number Event o.event o.event_drawn ≡ Some (number_of t))
+pub event : (o : OpenValue) (t : Tag) → next_tag o kind.AbortE ≡ Some t → (next_number Event o.event o.event_drawn ≡ Some (number_of t))
     × (t ≡ Event (number_of t))
 event o t is = untagged Event (λ n. refl) (next_number Event o.event o.event_drawn) t is
 
-pub no_event : (o : Opened) → next_tag o kind.AbortE ≡ None → next_number Event o.event o.event_drawn ≡ None
+pub no_event : (o : OpenValue) → next_tag o kind.AbortE ≡ None → next_number Event o.event o.event_drawn ≡ None
 no_event o is = untagged_none Event (next_number Event o.event o.event_drawn) is

@@ -5,7 +5,7 @@ use Rattle.protocol_model.specs.declared.states.Cause.{Cause}
 use Rattle.protocol_model.specs.declared.states.Cause.TheVariants as cause
 use Rattle.dme_line.specs.declared.tags.Tag.{Tag}
 use Rattle.dme_line.specs.declared.commands.Kind.{Kind}
-use Rattle.dme_tags.specs.Opened.{Opened, with_drawn}
+use Rattle.dme_tags.specs.Opened.{OpenValue, with_drawn}
 use Rattle.dme_tags.specs.declared.faults.TagFault.{TagFault}
 use Rattle.dme_tags.specs.declared.faults.TagFault.TheVariants as fault
 use Rattle.dme_tags.specs.declared.endings.Ended.{Ended}
@@ -26,7 +26,7 @@ IsRefused answer None = ⊥
 IsRefused answer (Some cause) = answer ≡ Err cause
 
 -- a call that answers an error does so for the cause of this answer, and changes nothing
-abbrev pub Refuses : {A R : Type 0} → Result R TagFault → Opened → Opened → Result A Cause → Type 0
+abbrev pub Refuses : {A R : Type 0} → Result R TagFault → OpenValue → OpenValue → Result A Cause → Type 0
 Refuses result old new answer = IfErr result (λ fault. IsRefused answer (cause_of fault)) × OnErr result (new ≡ old)
 
 -- the effect of a command's end
@@ -50,5 +50,5 @@ is_counted (ended.Counted kind given) = true
 is_counted ended.Closed = false
 
 -- a tag that is answered is drawn, and an error changes nothing
-abbrev pub Draws : {E : Type 0} → Result Tag E → Opened → Opened → Kind → Type 0
+abbrev pub Draws : {E : Type 0} → Result Tag E → OpenValue → OpenValue → Kind → Type 0
 Draws result old new kind = IfOk result (λ tag. new ≡ with_drawn old tag kind) × OnErr result (new ≡ old)

@@ -5,7 +5,7 @@ use Rattle.dme_line.specs.declared.commands.Kind.{Kind}
 use Rattle.protocol_model.specs.Replies.{Mark, tag_is}
 use Rattle.protocol_model.specs.Language.{Placed}
 use Rattle.protocol_model.specs.declared.held.Datum.{Datum}
-use Rattle.dme_tags.specs.Opened.{Opened, Answer, heard, is_next, next_tag, with_drawn}
+use Rattle.dme_tags.specs.Opened.{OpenValue, Answer, heard, is_next, next_tag, with_drawn}
 
 -- a call that did not want for memory: a tag is drawn for a command of this kind; `&`, data, `!` or `%` is read under a tag; a plan
 -- begins
@@ -18,17 +18,17 @@ pub data Call : Type 0 where
   BeginPlan : Call
 
 -- a command is held under the tag that is drawn for it; where all tags are held nothing changes
-abbrev pub behind_draw : Opened → Kind → Option Tag → Opened
+abbrev pub behind_draw : OpenValue → Kind → Option Tag → OpenValue
 behind_draw o kind None = o
 behind_draw o kind (Some tag) = with_drawn o tag kind
 
 -- a mark that has a place changes what is open, a refused one does not
-abbrev pub behind_answer : Opened → Answer → Opened
+abbrev pub behind_answer : OpenValue → Answer → OpenValue
 behind_answer o (Ok (next, effect)) = next
 behind_answer o (Err cause) = o
 
 -- what is open behind a call
-abbrev pub behind_call : Opened → Call → Opened
+abbrev pub behind_call : OpenValue → Call → OpenValue
 behind_call o (Draw kind) = behind_draw o kind (next_tag o kind)
 behind_call o (Received t) = behind_answer o (heard o t Mark.Ack)
 behind_call o (Data t datum) = behind_answer o (heard o t (Mark.Given datum))
@@ -49,11 +49,11 @@ answered front m (Ok next) later = (front, m) ∷ until_end m later
 answered front m (Err cause) later = later
 
 -- a mark under one tag among those under another: it counts where they are one
-abbrev pub placed : Tag → Opened → Tag → Mark → List Placed → List Placed
+abbrev pub placed : Tag → OpenValue → Tag → Mark → List Placed → List Placed
 placed t o u m later = if tag_is u t then answered (is_next t o) m (heard o u m) later else later
 
 -- a call among the marks under a tag
-abbrev pub placed_by : Tag → Opened → Call → List Placed → List Placed
+abbrev pub placed_by : Tag → OpenValue → Call → List Placed → List Placed
 placed_by t o (Draw kind) later = later
 placed_by t o (Received u) later = placed t o u Mark.Ack later
 placed_by t o (Data u datum) later = placed t o u (Mark.Given datum) later
@@ -62,6 +62,6 @@ placed_by t o (Complete u) later = placed t o u Mark.Done later
 placed_by t o BeginPlan later = later
 
 -- the marks that calls took in under a tag, up to its `%`, each with whether the command of the tag was next
-abbrev pub taken_under : Tag → Opened → List Call → List Placed
+abbrev pub taken_under : Tag → OpenValue → List Call → List Placed
 taken_under t o [] = []
 taken_under t o (call ∷ calls) = placed_by t o call (taken_under t (behind_call o call) calls)

@@ -3,7 +3,7 @@ use Rattle.std.specs.Prelude.{◌≡◌, Bool, true, not, ◌||◌, ⊤, Option,
 use Rattle.dme_line.specs.declared.commands.Kind.{Kind}
 use Rattle.protocol_model.specs.Open.{asks_data, fits}
 use Rattle.protocol_model.specs.declared.held.Datum.{Datum}
-use Rattle.protocol_model.specs.declared.held.Held.{Held}
+use Rattle.protocol_model.specs.declared.held.OpenCommand.{OpenCommand}
 use Rattle.protocol_model.specs.declared.held.Stage.{Stage}
 use Rattle.dme_tags.specs.declared.endings.Ended.{Ended}
 use Rattle.dme_tags.specs.declared.endings.Ended.TheVariants as ended
@@ -22,7 +22,7 @@ is_fit kind (Stage.Given datum) = fits kind datum
 is_fit kind Stage.Failed = true
 
 -- the same of each of these commands
-abbrev pub AreFit : List Held → Type 0
+abbrev pub AreFit : List OpenCommand → Type 0
 AreFit [] = ⊤
 AreFit (h ∷ hs) = (is_fit h.kind h.stage ≡ true) × AreFit hs
 

@@ -3,23 +3,23 @@ use Rattle.std.specs.Prelude.{◌≡◌, ◌≢◌, ℕ, Bool, not, ◌&&◌, �
 use Rattle.dme_line.specs.declared.tags.Tag.TheVariants.{Std}
 use Rattle.dme_line.specs.declared.commands.Kind.TheVariants as kind
 use Rattle.protocol_model.specs.Open.{asks_homed, is_failed}
-use Rattle.protocol_model.specs.declared.held.Held.{Held}
+use Rattle.protocol_model.specs.declared.held.OpenCommand.{OpenCommand}
 use Rattle.protocol_model.specs.declared.held.Stage.{Stage}
 
 -- the slots of a slab, of which each holds a command or is vacant
 abbrev pub Slots : Type 0
-Slots = List (Option Held)
+Slots = List (Option OpenCommand)
 
 -- what is at a key
-abbrev pub slot : Slots → ℕ → Option Held
+abbrev pub slot : Slots → ℕ → Option OpenCommand
 slot slots key = slice_index_or slots key None
 
 -- the command at a key; a key that is listed has one
-abbrev pub command_at : Slots → ℕ → Held
+abbrev pub command_at : Slots → ℕ → OpenCommand
 command_at slots key = unwrap_or (slot slots key) (record { tag = Std 0; kind = kind.GoTo; stage = Stage.Sent })
 
 -- the commands at these keys, in the order of the keys
-abbrev pub listed : Slots → List ℕ → List Held
+abbrev pub listed : Slots → List ℕ → List OpenCommand
 listed slots keys = map (command_at slots) keys
 
 -- a key is none of these
@@ -33,9 +33,9 @@ AreKeys slots [] = ⊤
 AreKeys slots (key ∷ keys) = IsSome (slot slots key) × IsApart key keys × AreKeys slots keys
 
 -- a command that has not failed
-abbrev pub is_open : Held → Bool
+abbrev pub is_open : OpenCommand → Bool
 is_open h = not (is_failed h.stage)
 
 -- an IsHomed that has not failed
-abbrev pub is_open_question : Held → Bool
+abbrev pub is_open_question : OpenCommand → Bool
 is_open_question h = asks_homed h.kind && not (is_failed h.stage)

@@ -6,7 +6,7 @@ ghost use Rattle.protocol_model.specs.Open.{count_open, is_asking};
 ghost use Rattle.dme_tags.specs.Kept.{is_open, is_open_question};
 
 use dme_line::{Kind, Tag};
-use protocol_model::{Held, Stage};
+use protocol_model::{OpenCommand, Stage};
 use slab::Slab;
 use std::alloc::{AllocError, Global};
 use std::marker::Model;
@@ -17,7 +17,7 @@ use std::marker::Model;
 /// how many of those ask whether the machine is homed, is kept: a client asks for it at each reply.
 #[derive(Debug, Drop)]
 pub(crate) struct Commands {
-    slab: Slab<Held>,
+    slab: Slab<OpenCommand>,
     keys: Vec<usize>,
     unfailed: usize,
     questions: usize,
@@ -25,9 +25,9 @@ pub(crate) struct Commands {
 
 impl Model for Commands {
     ghost use Rattle.std.specs.Prelude.{List};
-    ghost use Rattle.protocol_model.specs.declared.held.Held.{Held};
+    ghost use Rattle.protocol_model.specs.declared.held.OpenCommand.{OpenCommand};
 
-    ghost Value = { List Held };
+    ghost Value = { List OpenCommand };
 
     ghost use Rattle.std.specs.Prelude.{◌≡◌, length, count_by};
     ghost use Rattle.slab.specs.Slab.{slab_len};
@@ -42,7 +42,7 @@ impl Model for Commands {
 }
 
 /// One for a command that has not failed.
-fn open_one(held: &Held) -> usize
+fn open_one(held: &OpenCommand) -> usize
     ensures { result ≡ cond (is_open held.now) 1 0 }
 {
     if matches!(held.stage, Stage::Failed) {
@@ -53,7 +53,7 @@ fn open_one(held: &Held) -> usize
 }
 
 /// One for an `IsHomed` that has not failed.
-fn question_one(held: &Held) -> usize
+fn question_one(held: &OpenCommand) -> usize
     ensures { result ≡ cond (is_open_question held.now) 1 0 }
 {
     if held.kind == Kind::IsHomed {
@@ -93,7 +93,7 @@ impl Commands {
     }
 
     /// The command at a place in sending order.
-    pub(crate) fn at(&self, index: usize) -> &Held
+    pub(crate) fn at(&self, index: usize) -> &OpenCommand
         requires { index < length self.now }
         ensures { get_or self.now index result.now ≡ result.now }
     {
@@ -107,7 +107,7 @@ impl Commands {
     {
         self.slab.reserve(1)?;
         self.keys.reserve(1)?;
-        let held = Held {
+        let held = OpenCommand {
             tag,
             kind,
             stage: Stage::Sent,
@@ -122,12 +122,12 @@ impl Commands {
     /// The command at a place comes to this stage. Takes no memory.
     pub(crate) fn set_stage(&mut self, index: usize, stage: Stage)
         requires { index < length self.old }
-        ensures { (held : Held) → get_or self.old index held ≡ held
+        ensures { (held : OpenCommand) → get_or self.old index held ≡ held
             → self.new ≡ slice_set self.old index (record held { stage = stage }) }
     {
         let key = self.keys[index];
         let held = &self.slab[key];
-        let next = Held { stage, ..*held };
+        let next = OpenCommand { stage, ..*held };
         self.unfailed = self.unfailed + open_one(&next) - open_one(held);
         self.questions = self.questions + question_one(&next) - question_one(held);
         self.slab[key] = next;

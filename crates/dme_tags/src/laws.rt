@@ -8,7 +8,7 @@ ghost use Rattle.protocol_model.specs.Open.{Effect, asks_data, fits};
 ghost use Rattle.protocol_model.specs.Language.{marks_of, IsRepliesFront, AreAtFront};
 ghost use Rattle.protocol_model.specs.Client.{Client, heard_on, next_number};
 ghost use Rattle.protocol_model.specs.declared.states.Cause.{Cause};
-ghost use Rattle.dme_tags.specs.Opened.{Opened, heard, next_tag, number_of, with_drawn, ArePassedOver};
+ghost use Rattle.dme_tags.specs.Opened.{OpenValue, heard, next_tag, number_of, with_drawn, ArePassedOver};
 ghost use Rattle.dme_tags.specs.Calls.{Call, taken_under};
 ghost use Rattle.dme_tags.specs.Tables.{IsTableOf, table_behind};
 
@@ -18,14 +18,14 @@ use dme_line::{Kind, Tag};
 /// tally the effect; where they refuse it, so does the client, for the same cause.
 #[tactic(auto, using(crate::proofs::Tables::taken, crate::proofs::Tables::kept, crate::proofs::Tables::refused))]
 pub fn client_hears_the_same()
-    ensures taken { (c : Client) (o next : Opened) (tag : Tag) (m : Mark) (effect : Effect)
+    ensures taken { (c : Client) (o next : OpenValue) (tag : Tag) (m : Mark) (effect : Effect)
         → IsTableOf c.table o
         → heard o tag m ≡ Ok (next, effect) → heard_on c.program.features c.table tag m
         ≡ Ok (table_behind c next tag effect) }
-    ensures kept { (c : Client) (o next : Opened) (tag : Tag) (m : Mark) (effect : Effect)
+    ensures kept { (c : Client) (o next : OpenValue) (tag : Tag) (m : Mark) (effect : Effect)
         → IsTableOf c.table o
         → heard o tag m ≡ Ok (next, effect) → IsTableOf (table_behind c next tag effect) next }
-    ensures refused { (c : Client) (o : Opened) (tag : Tag) (m : Mark) (cause : Cause)
+    ensures refused { (c : Client) (o : OpenValue) (tag : Tag) (m : Mark) (cause : Cause)
         → IsTableOf c.table o
         → heard o tag m ≡ Err cause → heard_on c.program.features c.table tag m ≡ Err cause }
 {}
@@ -34,17 +34,17 @@ pub fn client_hears_the_same()
 /// event tag.
 #[tactic(auto, using(crate::proofs::Tables::no_event))]
 pub fn client_draws_the_same()
-    ensures standard { (o : Opened) (kind : Kind) (tag : Tag) → is_event_kind kind ≡ false
+    ensures standard { (o : OpenValue) (kind : Kind) (tag : Tag) → is_event_kind kind ≡ false
         → next_tag o kind ≡ Some tag
         → (next_number Std o.standard o.drawn ≡ Some (number_of tag))
         × (tag ≡ Std (number_of tag)) }
-    ensures no_standard { (o : Opened) (kind : Kind) → is_event_kind kind ≡ false
+    ensures no_standard { (o : OpenValue) (kind : Kind) → is_event_kind kind ≡ false
         → next_tag o kind ≡ None
         → next_number Std o.standard o.drawn ≡ None }
-    ensures event { (o : Opened) (tag : Tag) → next_tag o Kind.AbortE ≡ Some tag
+    ensures event { (o : OpenValue) (tag : Tag) → next_tag o Kind.AbortE ≡ Some tag
         → (next_number Event o.event o.event_drawn ≡ Some (number_of tag))
         × (tag ≡ Event (number_of tag)) }
-    ensures no_event { (o : Opened) → next_tag o Kind.AbortE ≡ None
+    ensures no_event { (o : OpenValue) → next_tag o Kind.AbortE ≡ None
         → next_number Event o.event o.event_drawn ≡ None }
 {}
 
@@ -53,11 +53,11 @@ pub fn client_draws_the_same()
 /// it is next.
 #[tactic(auto, using(crate::proofs::Followed::in_language, crate::proofs::Followed::at_front))]
 pub fn marks_of_a_command_are_its_replies()
-    ensures in_language { (o : Opened) (kind : Kind) (tag : Tag) (calls : List Call)
+    ensures in_language { (o : OpenValue) (kind : Kind) (tag : Tag) (calls : List Call)
         → next_tag o kind ≡ Some tag
         → IsRepliesFront (asks_data kind) (fits kind) (marks_of
         (taken_under tag (with_drawn o tag kind) calls)) }
-    ensures at_front { (o : Opened) (kind : Kind) (tag : Tag) (calls : List Call)
+    ensures at_front { (o : OpenValue) (kind : Kind) (tag : Tag) (calls : List Call)
         → next_tag o kind ≡ Some tag
         → AreAtFront false (taken_under tag (with_drawn o tag kind) calls) }
 {}
@@ -66,6 +66,6 @@ pub fn marks_of_a_command_are_its_replies()
 /// where 1 comes again behind 9999.
 #[tactic(auto, using(crate::proofs::Passing::passed_over))]
 pub fn numbers_passed_over_are_held()
-    ensures { (o : Opened) (kind : Kind) (tag : Tag) → next_tag o kind ≡ Some tag
+    ensures { (o : OpenValue) (kind : Kind) (tag : Tag) → next_tag o kind ≡ Some tag
         → ArePassedOver tag o }
 {}

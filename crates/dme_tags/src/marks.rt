@@ -13,7 +13,7 @@ use crate::commands::Commands;
 use crate::endings::Ended;
 use crate::faults::TagFault;
 use dme_line::{Kind, Tag};
-use protocol_model::{Datum, Held, Stage};
+use protocol_model::{Datum, OpenCommand, Stage};
 
 /// Whether a command asks for data: a touch asks for its point, and `IsHomed` whether the machine is homed.
 fn asks_data(kind: Kind) -> bool
@@ -42,11 +42,11 @@ fn is_failed(stage: Stage) -> bool
 // ---- the table of marks against stages
 
 /// Whether `&` may be read for a command, which is received then.
-fn acknowledge(held: &Held) -> Result<(), TagFault>
-    ensures ok { OnOk result ((front : Bool) (hs : List Held)
+fn acknowledge(held: &OpenCommand) -> Result<(), TagFault>
+    ensures ok { OnOk result ((front : Bool) (hs : List OpenCommand)
         → settled held.now hs (judged front held.now.kind held.now.stage Mark.Ack)
         ≡ Ok (record held.now { stage = Stage.Received } ∷ hs, Effect.Quiet)) }
-    ensures refused { IfErr result (λ fault. (front : Bool) (hs : List Held)
+    ensures refused { IfErr result (λ fault. (front : Bool) (hs : List OpenCommand)
         → IsRefused (settled held.now hs (judged front held.now.kind held.now.stage Mark.Ack))
         (cause_of fault)) }
 {
@@ -57,12 +57,12 @@ fn acknowledge(held: &Held) -> Result<(), TagFault>
 }
 
 /// Whether these data may be read for a command, which has them then.
-fn accept(held: &Held, front: bool, datum: &Datum) -> Result<(), TagFault>
+fn accept(held: &OpenCommand, front: bool, datum: &Datum) -> Result<(), TagFault>
     requires { may_be_given (Some held.now.kind) datum.now ≡ true }
-    ensures ok { OnOk result ((hs : List Held)
+    ensures ok { OnOk result ((hs : List OpenCommand)
         → settled held.now hs (judged front held.now.kind held.now.stage (Mark.Given datum.now))
         ≡ Ok (record held.now { stage = Stage.Given datum.now } ∷ hs, Effect.Quiet)) }
-    ensures refused { IfErr result (λ fault. (hs : List Held)
+    ensures refused { IfErr result (λ fault. (hs : List OpenCommand)
         → IsRefused (settled held.now hs
         (judged front held.now.kind held.now.stage (Mark.Given datum.now)))
         (cause_of fault)) }
@@ -78,16 +78,16 @@ fn accept(held: &Held, front: bool, datum: &Datum) -> Result<(), TagFault>
 }
 
 /// How a command ends under whose tag `%` is read.
-fn ended(held: &Held, front: bool) -> Result<Ended, TagFault>
-    ensures ok { IfOk result (λ ended. (hs : List Held)
+fn ended(held: &OpenCommand, front: bool) -> Result<Ended, TagFault>
+    ensures ok { IfOk result (λ ended. (hs : List OpenCommand)
         → settled held.now hs (judged front held.now.kind held.now.stage Mark.Done)
         ≡ Ok (hs, effect_of ended)) }
-    ensures refused { IfErr result (λ fault. (hs : List Held)
+    ensures refused { IfErr result (λ fault. (hs : List OpenCommand)
         → IsRefused (settled held.now hs (judged front held.now.kind held.now.stage Mark.Done))
         (cause_of fault)) }
     ensures counted { IfOk result (λ ended. is_counted ended ≡ true → front ≡ true) }
 {
-    let Held { kind, stage, .. } = *held;
+    let OpenCommand { kind, stage, .. } = *held;
     match stage {
         Stage::Failed => Ok(Ended::Closed),
         Stage::Received if front && !asks_data(kind) => Ok(Ended::Counted(kind, None)),

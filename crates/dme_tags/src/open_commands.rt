@@ -22,7 +22,7 @@ use std::alloc::Global;
 use std::marker::Model;
 
 /// The commands that a client has sent and whose `%` it has not read, under standard tags and under event tags, each in sending
-/// order (this profile). Contracts see them as `Opened`, with the numbers of the tags that were drawn last and whether a standard
+/// order (this profile). Contracts see them as `OpenValue`, with the numbers of the tags that were drawn last and whether a standard
 /// command has failed since the plan began.
 ///
 /// A tag is held from `draw` until the `%` of its command was read. Any number of commands may be open; how many a client keeps open
@@ -39,9 +39,9 @@ pub struct Open {
 impl Model for Open {
     ghost use Rattle.std.specs.Prelude.{◌≤◌};
     ghost use Rattle.dme_tags.specs.Limits.{last_number};
-    ghost use Rattle.dme_tags.specs.Opened.{Opened};
+    ghost use Rattle.dme_tags.specs.Opened.{OpenValue};
 
-    ghost Value = { Opened };
+    ghost Value = { OpenValue };
 
     ghost use Rattle.dme_tags.specs.Data.{AreFit};
 

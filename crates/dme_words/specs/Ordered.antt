@@ -68,7 +68,8 @@ IsExplainedOf = IsFlagOf (codes "explain")
 -- a check of the program with the named setup, or with none where none is named
 abbrev pub IsCheckOf : List Row → Check → Type 0
 IsCheckOf rows o =
-    IsMaybeOf (codes "setup") rows (option_map string_bytes o.setup) × IsExplainedOf rows o.explain × IsProgramOf rows (string_bytes o.program)
+    IsMaybeOf (codes "setup") rows (option_map string_bytes o.setup) × IsExplainedOf rows o.explain
+    × IsProgramOf rows (string_bytes o.program)
 
 -- a simulation of the program with the named setup and schedule, and the named window
 abbrev pub IsSimulateOf : List Row → Simulation → Type 0

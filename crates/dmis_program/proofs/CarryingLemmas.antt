@@ -15,7 +15,7 @@ use Rattle.dmis_program.specs.LookBack.{bound_count, touched_with as touched_sin
 use Rattle.dmis_program.specs.Judging.{judged, word_refusal, refused_by, is_too_few, settled}
 use Rattle.dmis_program.specs.Meaning.{Meaning, meaning_with, meant, meaning_of, program_of, closes, ended, steps_of, touch_with}
 use Rattle.dmis_program.specs.Meaning.{touch_steps, recall_steps, steps_from, with_front, continued}
-use Rattle.dmis_program.specs.Carrying.{Carried, no_statement, context_of, count_wanted, counted, changed, touched_with as carry_touch}
+use Rattle.dmis_program.specs.Carrying.{ReaderState, no_statement, context_of, count_wanted, counted, changed, touched_with as carry_touch}
 use Rattle.dmis_program.specs.Carrying.{recalled_at, touches_left, next}
 use Rattle.dmis_program.proofs.CarryingRuns.{ran, run}
 use Rattle.dmis_program.specs.Programs.{IsProgram}
@@ -26,8 +26,8 @@ use Rattle.dmis_program.proofs.ProgramLemmas.{done_is, program_is}
 use Rattle.fixed_um.specs.Shapes.{Direction}
 use Rattle.dmis_program.specs.declared.faults.Refusal.{Refusal}
 use Rattle.dmis_program.specs.declared.faults.Refusal.TheVariants.{TooLarge}
-use Rattle.dmis_program.specs.declared.sayings.Said.{Said}
-use Rattle.dmis_program.specs.declared.sayings.Said.TheVariants as said
+use Rattle.dmis_program.specs.declared.sayings.StatementMeaning.{StatementMeaning}
+use Rattle.dmis_program.specs.declared.sayings.StatementMeaning.TheVariants as said
 use Rattle.dmis_program.specs.declared.steps.Step.{Step}
 use Rattle.dmis_program.specs.declared.features.Touch as touch
 use Rattle.dmis_program.specs.declared.reading.Block.{Block}
@@ -44,23 +44,23 @@ same_context c d number tool frame wanted touched = λ i. record {
 }
 
 -- the parts of what is carried, as they stand above
-record Stands (frames : List (List ℕ × Point)) (above : List Statement) (c : Carried) : Type 0 where
+record Stands (frames : List (List ℕ × Point)) (above : List Statement) (c : ReaderState) : Type 0 where
   number : c.number ≡ length above
   tool : c.tool ≡ nearest tool_said above
   frame : c.frame ≡ frame_at frames (nearest frame_said above)
   wanted : count_wanted c.open_block ≡ bound_count (nearest bound_said above)
   touched : length c.touches ≡ touched above
 
-context_is : (frames : List (List ℕ × Point)) (above : List Statement) (c : Carried) → Stands frames above c
+context_is : (frames : List (List ℕ × Point)) (above : List Statement) (c : ReaderState) → Stands frames above c
     → context_of c ≡ context_at frames above
 context_is frames above c h = same_context (context_of c) (context_at frames above) h.number h.tool h.frame h.wanted h.touched
 
 -- what a statement that is not refused says, it says by itself
-unless_is : (b : Bool) (e : Refusal) (s t : Said) → cond b (Err e) (Ok s) ≡ Ok t → s ≡ t
+unless_is : (b : Bool) (e : Refusal) (s t : StatementMeaning) → cond b (Err e) (Ok s) ≡ Ok t → s ≡ t
 unless_is true e s t h = absurd cc
 unless_is false e s t h = cc
 
-settled_is : (frames : List (List ℕ × Point)) (tool : Option (List ℕ)) (wanted : Option ℕ) (count : ℕ) (s t : Said)
+settled_is : (frames : List (List ℕ × Point)) (tool : Option (List ℕ)) (wanted : Option ℕ) (count : ℕ) (s t : StatementMeaning)
     → settled frames tool wanted count s ≡ Ok t → s ≡ t
 settled_is frames tool wanted count (said.Goes target) t h = cc
 settled_is frames tool wanted count (said.Begins name n) t h = cc
@@ -71,32 +71,35 @@ settled_is frames tool wanted count (said.Recalls name) t h = unless_is (is_none
 settled_is frames tool wanted count said.Closes t h = cc
 settled_is frames tool wanted count said.Passes t h = cc
 
-settling_is : (frames : List (List ℕ × Point)) (tool : Option (List ℕ)) (wanted : Option ℕ) (count : ℕ) (r : Result Said Refusal) (t : Said)
+settling_is : (frames : List (List ℕ × Point)) (tool : Option (List ℕ)) (wanted : Option ℕ) (count : ℕ)
+    (r : Result StatementMeaning Refusal) (t : StatementMeaning)
     → (r >>= settled frames tool wanted count) ≡ Ok t → r ≡ Ok t
-settling_is frames tool wanted count (Ok s) t h = ap (λ (x : Said). Ok x) (settled_is frames tool wanted count s t h)
+settling_is frames tool wanted count (Ok s) t h = ap (λ (x : StatementMeaning). Ok x) (settled_is frames tool wanted count s t h)
 settling_is frames tool wanted count (Err e) t h = absurd cc
 
-reached : (b : Bool) (e : Refusal) (o : Option Refusal) (r : Result Said Refusal) (t : Said) → cond b (Err e) (refused_by o r) ≡ Ok t
+reached : (b : Bool) (e : Refusal) (o : Option Refusal) (r : Result StatementMeaning Refusal) (t : StatementMeaning)
+    → cond b (Err e) (refused_by o r) ≡ Ok t
     → r ≡ Ok t
 reached true e o r t h = absurd cc
 reached false e (Some x) r t h = absurd cc
 reached false e None r t h = h
 
-said_is : (frames : List (List ℕ × Point)) (c : Context) (s : Statement) (t : Said) → judged frames c s ≡ Ok t → saying s ≡ Ok t
+said_is : (frames : List (List ℕ × Point)) (c : Context) (s : Statement) (t : StatementMeaning) → judged frames c s ≡ Ok t → saying s ≡ Ok t
 unfolding judged
 said_is frames c s t h = settling_is frames c.tool c.wanted c.touched (saying s) t
     (reached (nat_le 10000 c.number) TooLarge (word_refusal c (keyword_of s.word) s.params)
     (saying s >>= settled frames c.tool c.wanted c.touched) t h)
 
 -- the same parts after a statement, by what it says
-record StandsBehind (frames : List (List ℕ × Point)) (r : Result Said Refusal) (above : List Statement) (c : Carried) : Type 0 where
+record StandsBehind (frames : List (List ℕ × Point)) (r : Result StatementMeaning Refusal) (above : List Statement)
+    (c : ReaderState) : Type 0 where
   number : c.number ≡ suc (length above)
   tool : c.tool ≡ or_else (tool_said r) (nearest tool_said above)
   frame : c.frame ≡ frame_at frames (or_else (frame_said r) (nearest frame_said above))
   wanted : count_wanted c.open_block ≡ bound_count (or_else (bound_said r) (nearest bound_said above))
   touched : length c.touches ≡ touched_since r (touched above)
 
-stands_behind : (frames : List (List ℕ × Point)) (above : List Statement) (s : Statement) (c : Carried)
+stands_behind : (frames : List (List ℕ × Point)) (above : List Statement) (s : Statement) (c : ReaderState)
     → StandsBehind frames (saying s) above c → Stands frames (s ∷ above) c
 stands_behind frames above s c h = record { number = h.number; tool = h.tool; frame = h.frame; wanted = h.wanted; touched = h.touched }
 
@@ -107,7 +110,7 @@ left_count : (block : Option Block) (b : Block) (touches : List touch.Touch) →
 left_count None b touches e = absurd cc
 left_count (Some d) b touches e = refl
 
-behind_said : (frames : List (List ℕ × Point)) (above : List Statement) (c : Carried) (t : Said) → Stands frames above c
+behind_said : (frames : List (List ℕ × Point)) (above : List Statement) (c : ReaderState) (t : StatementMeaning) → Stands frames above c
     → (c.open_block ≡ None → c.touches ≡ []) → IsAllowed frames c.tool c.open_block (length c.touches) t
     → StandsBehind frames (Ok t) above (changed frames (counted c) t)
 behind_said frames above c (said.Goes target) h idle may = record {
@@ -162,25 +165,26 @@ behind_said frames above c said.Passes h idle may = record {
   touched = h.touched;
 }
 
-stands_said : (frames : List (List ℕ × Point)) (above : List Statement) (c : Carried) (s : Statement) (t : Said) → Stands frames above c
+stands_said : (frames : List (List ℕ × Point)) (above : List Statement) (c : ReaderState) (s : Statement) (t : StatementMeaning)
+    → Stands frames above c
     → IsSound c → saying s ≡ Ok t → IsAllowed frames c.tool c.open_block (length c.touches) t
     → Stands frames (s ∷ above) (changed frames (counted c) t)
 stands_said frames above c s t h sound e may =
     stands_behind frames above s (changed frames (counted c) t)
-    (subst (λ (r : Result Said Refusal). StandsBehind frames r above (changed frames (counted c) t)) (sym e)
+    (subst (λ (r : Result StatementMeaning Refusal). StandsBehind frames r above (changed frames (counted c) t)) (sym e)
     (behind_said frames above c t h sound.idle may))
 
 -- the steps after a statement
-touch_steps_are : (c : Carried) (o : Option (List ℕ)) (target : Point) (direction : Option Direction)
+touch_steps_are : (c : ReaderState) (o : Option (List ℕ)) (target : Point) (direction : Option Direction)
     → (carry_touch (counted c) o target direction).steps ≡ c.steps ++ touch_steps o c.frame target direction
 touch_steps_are c None target direction = sym (append-nil c.steps)
 touch_steps_are c (Some tool) target direction = refl
 
-recall_steps_are : (c : Carried) (o : Option Point) → (recalled_at (counted c) o).steps ≡ c.steps ++ recall_steps o
+recall_steps_are : (c : ReaderState) (o : Option Point) → (recalled_at (counted c) o).steps ≡ c.steps ++ recall_steps o
 recall_steps_are c None = sym (append-nil c.steps)
 recall_steps_are c (Some offset) = refl
 
-steps_are : (frames : List (List ℕ × Point)) (c : Carried) (t : Said)
+steps_are : (frames : List (List ℕ × Point)) (c : ReaderState) (t : StatementMeaning)
     → (changed frames (counted c) t).steps ≡ c.steps ++ steps_of frames (context_of c) t
 steps_are frames c (said.Goes target) = refl
 steps_are frames c (said.Begins name n) = refl
@@ -205,17 +209,17 @@ whole_front front steps (Ok more) = ap (λ (all : List Step). Ok (meaning_with a
 whole_front front steps (Err e) = refl
 
 -- where a program closes, all that was carried is its meaning
-closed_is : (c : Carried) → IsSound c → c.open_block ≡ None
+closed_is : (c : ReaderState) → IsSound c → c.open_block ≡ None
     → ◌≡◌ {A = Result Meaning (Refusal × ℕ)} (Ok (record { features = c.done; steps = c.steps })) (Ok (meaning_with (c.steps ++ [])))
 closed_is c h out = rw (append-nil c.steps, done_is c h out) refl
 
 -- a statement's part of a run, and of the meaning
-abbrev RunsAs : List (List ℕ × Point) → Option TextFault → ℕ → List Statement → List Statement → Carried → Type 0
+abbrev RunsAs : List (List ℕ × Point) → Option TextFault → ℕ → List Statement → List Statement → ReaderState → Type 0
 RunsAs frames fault lines statements above c = run frames fault lines statements c
     ≡ whole c.steps (steps_from frames fault lines above statements)
 
-goes_on : (frames : List (List ℕ × Point)) (fault : Option TextFault) (lines : ℕ) (statements above : List Statement) (c : Carried)
-    (s : Statement) (t : Said) → IsSound c → context_of c ≡ context_at frames above → closes t ≡ false
+goes_on : (frames : List (List ℕ × Point)) (fault : Option TextFault) (lines : ℕ) (statements above : List Statement) (c : ReaderState)
+    (s : Statement) (t : StatementMeaning) → IsSound c → context_of c ≡ context_at frames above → closes t ≡ false
     → RunsAs frames fault lines statements (s ∷ above) (changed frames (counted c) t)
     → ran s.line (Ok (closes t, changed frames (counted c) t)) (run frames fault lines statements)
     ≡ whole c.steps (continued s.line (Ok t) (steps_of frames (context_at frames above))
@@ -224,9 +228,9 @@ goes_on frames fault lines statements above c s t sound same open_end behind =
     rw (open_end, behind, steps_are frames c t, ← same) (whole_front c.steps (steps_of frames (context_of c) t)
     (steps_from frames fault lines (s ∷ above) statements))
 
-by_judgement : (frames : List (List ℕ × Point)) (fault : Option TextFault) (lines : ℕ) (statements above : List Statement) (c : Carried)
-    (s : Statement) (r : Result Said Refusal) → IsSound c → context_of c ≡ context_at frames above → IfOk r (MayFollow frames c)
-    → ((t : Said) → r ≡ Ok t → RunsAs frames fault lines statements (s ∷ above) (changed frames (counted c) t))
+by_judgement : (frames : List (List ℕ × Point)) (fault : Option TextFault) (lines : ℕ) (statements above : List Statement) (c : ReaderState)
+    (s : Statement) (r : Result StatementMeaning Refusal) → IsSound c → context_of c ≡ context_at frames above → IfOk r (MayFollow frames c)
+    → ((t : StatementMeaning) → r ≡ Ok t → RunsAs frames fault lines statements (s ∷ above) (changed frames (counted c) t))
     → ran s.line (r >>= λ t. Ok (closes t, changed frames (counted c) t)) (run frames fault lines statements)
     ≡ whole c.steps (continued s.line r (steps_of frames (context_at frames above)) (steps_from frames fault lines (s ∷ above) statements))
 by_judgement frames fault lines statements above c s (Err e) sound same may behind = refl
@@ -247,11 +251,12 @@ by_judgement frames fault lines statements above c s (Ok said.Closes) sound same
 by_judgement frames fault lines statements above c s (Ok said.Passes) sound same may behind =
     goes_on frames fault lines statements above c s said.Passes sound same refl (behind said.Passes refl)
 
-may_follow : (frames : List (List ℕ × Point)) (c : Carried) (s : Statement) (t : Said) → judged frames (context_of c) s ≡ Ok t
+may_follow : (frames : List (List ℕ × Point)) (c : ReaderState) (s : Statement) (t : StatementMeaning)
+    → judged frames (context_of c) s ≡ Ok t
     → MayFollow frames c t
 may_follow frames c s t e = rw e at (judged_if frames c s)
 
-run_is : (frames : List (List ℕ × Point)) (fault : Option TextFault) (lines : ℕ) (statements above : List Statement) (c : Carried)
+run_is : (frames : List (List ℕ × Point)) (fault : Option TextFault) (lines : ℕ) (statements above : List Statement) (c : ReaderState)
     → AreInVolume frames → IsSound c → Stands frames above c → RunsAs frames fault lines statements above c
 run_is frames fault lines [] above c volume sound stands = rw stands.number refl
 run_is frames fault lines (s ∷ statements) above c volume sound stands =
@@ -278,11 +283,12 @@ run_from_start frames fault lines statements volume =
     ∙ whole_none (steps_from frames fault lines [] statements)
 
 -- each statement keeps what holds, and the closing one leaves a program
-pub record KeepsSound (closed : Bool) (c : Carried) : Type 0 where
+pub record KeepsSound (closed : Bool) (c : ReaderState) : Type 0 where
   pub sound : IsSound c
   pub program : closed ≡ true → IsProgram (record { features = c.done; steps = c.steps })
 
-closes_out : (frames : List (List ℕ × Point)) (c : Carried) (t : Said) → closes t ≡ true → MayFollow frames c t → c.open_block ≡ None
+closes_out : (frames : List (List ℕ × Point)) (c : ReaderState) (t : StatementMeaning) → closes t ≡ true → MayFollow frames c t
+    → c.open_block ≡ None
 closes_out frames c (said.Goes target) e may = absurd cc
 closes_out frames c (said.Begins name n) e may = absurd cc
 closes_out frames c (said.Touches target direction) e may = absurd cc
@@ -292,7 +298,8 @@ closes_out frames c (said.Recalls name) e may = absurd cc
 closes_out frames c said.Closes e may = may.1
 closes_out frames c said.Passes e may = absurd cc
 
-closes_same : (frames : List (List ℕ × Point)) (c : Carried) (t : Said) → closes t ≡ true → changed frames (counted c) t ≡ counted c
+closes_same : (frames : List (List ℕ × Point)) (c : ReaderState) (t : StatementMeaning) → closes t ≡ true
+    → changed frames (counted c) t ≡ counted c
 closes_same frames c (said.Goes target) e = absurd cc
 closes_same frames c (said.Begins name n) e = absurd cc
 closes_same frames c (said.Touches target direction) e = absurd cc
@@ -302,28 +309,29 @@ closes_same frames c (said.Recalls name) e = absurd cc
 closes_same frames c said.Closes e = refl
 closes_same frames c said.Passes e = absurd cc
 
-keeps_said : (frames : List (List ℕ × Point)) (c : Carried) (r : Result Said Refusal) (closed : Bool) (d : Carried) → AreInVolume frames
-    → IsSound c → IfOk r (MayFollow frames c) → ◌>>=◌ {B = Bool × Carried} r (λ t. Ok (closes t, changed frames (counted c) t))
+keeps_said : (frames : List (List ℕ × Point)) (c : ReaderState) (r : Result StatementMeaning Refusal) (closed : Bool) (d : ReaderState)
+    → AreInVolume frames
+    → IsSound c → IfOk r (MayFollow frames c) → ◌>>=◌ {B = Bool × ReaderState} r (λ t. Ok (closes t, changed frames (counted c) t))
     ≡ Ok (closed, d) → KeepsSound closed d
 keeps_said frames c (Err e) closed d volume sound may h = absurd cc
 keeps_said frames c (Ok t) closed d volume sound may h =
     let after = sound_after frames c t volume sound may in
-    let both : ◌≡◌ {A = Bool × Carried} (closes t, changed frames (counted c) t) (closed, d) = cc in
-    let same : changed frames (counted c) t ≡ d = ap (λ (p : Bool × Carried). p.1) both in
-    let ends : closes t ≡ closed = ap (λ (p : Bool × Carried). p.0) both in
+    let both : ◌≡◌ {A = Bool × ReaderState} (closes t, changed frames (counted c) t) (closed, d) = cc in
+    let same : changed frames (counted c) t ≡ d = ap (λ (p : Bool × ReaderState). p.1) both in
+    let ends : closes t ≡ closed = ap (λ (p : Bool × ReaderState). p.0) both in
     record {
       sound = subst IsSound same after;
-      program = λ e. subst (λ (k : Carried). IsProgram (record { features = k.done; steps = k.steps })) same
+      program = λ e. subst (λ (k : ReaderState). IsProgram (record { features = k.done; steps = k.steps })) same
           (program_is (changed frames (counted c) t) after (rw (closes_same frames c t (ends ∙ e)) (closes_out frames c t (ends ∙ e) may)));
     }
 
-pub keeps_sound : (frames : List (List ℕ × Point)) (c : Carried) (s : Statement) (closed : Bool) (d : Carried) → AreInVolume frames
+pub keeps_sound : (frames : List (List ℕ × Point)) (c : ReaderState) (s : Statement) (closed : Bool) (d : ReaderState) → AreInVolume frames
     → IsSound c → next frames c s ≡ Ok (closed, d) → KeepsSound closed d
 keeps_sound frames c s closed d volume sound h = keeps_said frames c (judged frames (context_of c) s) closed d volume sound
     (judged_if frames c s) h
 
 -- a text from its first statement on
-pub starts : (frames : List (List ℕ × Point)) (text : List ℕ) (left : List Statement) (fault : Option TextFault) (n : ℕ) (c : Carried)
+pub starts : (frames : List (List ℕ × Point)) (text : List ℕ) (left : List Statement) (fault : Option TextFault) (n : ℕ) (c : ReaderState)
     → AreInVolume frames → c ≡ no_statement → left ≡ (text_reading text).statements → fault ≡ (text_reading text).fault
     → n ≡ length (lines text) → run frames fault n left c ≡ program_of frames text
 unfolding meaning_of
@@ -332,18 +340,19 @@ starts frames text left fault n c volume e f g h = rw (e, f, g, h)
 
 -- one statement more, by what the code gives at it
 pub goes_past : (frames : List (List ℕ × Point)) (fault : Option TextFault) (n : ℕ) (s : Statement) (all left : List Statement)
-    (c d : Carried) → all ≡ s ∷ left → next frames c s ≡ Ok (false, d) → run frames fault n left d ≡ run frames fault n all c
+    (c d : ReaderState) → all ≡ s ∷ left → next frames c s ≡ Ok (false, d) → run frames fault n left d ≡ run frames fault n all c
 goes_past frames fault n s all left c d split e = rw (split, e) refl
 
 pub closes_at : (frames : List (List ℕ × Point)) (fault : Option TextFault) (n : ℕ) (s : Statement) (all left : List Statement)
-    (c d : Carried) → all ≡ s ∷ left → next frames c s ≡ Ok (true, d)
+    (c d : ReaderState) → all ≡ s ∷ left → next frames c s ≡ Ok (true, d)
     → run frames fault n all c ≡ Ok (record { features = d.done; steps = d.steps })
 closes_at frames fault n s all left c d split e = rw (split, e) refl
 
 pub refused_at_statement : (frames : List (List ℕ × Point)) (fault : Option TextFault) (n : ℕ) (s : Statement) (all left : List Statement)
-    (c : Carried) (refusal : Refusal) → all ≡ s ∷ left → next frames c s ≡ Err refusal → run frames fault n all c ≡ Err (refusal, s.line)
+    (c : ReaderState) (refusal : Refusal) → all ≡ s ∷ left → next frames c s ≡ Err refusal
+    → run frames fault n all c ≡ Err (refusal, s.line)
 refused_at_statement frames fault n s all left c refusal split e = rw (split, e) refl
 
-pub ends_at : (frames : List (List ℕ × Point)) (fault : Option TextFault) (n : ℕ) (all : List Statement) (c : Carried) → all ≡ []
+pub ends_at : (frames : List (List ℕ × Point)) (fault : Option TextFault) (n : ℕ) (all : List Statement) (c : ReaderState) → all ≡ []
     → run frames fault n all c ≡ Err (ended fault c.number n)
 ends_at frames fault n all c e = rw e refl

@@ -10,15 +10,15 @@ use Rattle.dmis_program.specs.Keywords.{keyword_of}
 use Rattle.dmis_program.specs.Offsets.{offset_of}
 use Rattle.dmis_program.specs.LookBack.{saying}
 use Rattle.dmis_program.specs.Judging.{is_start, is_unsupported, misplaced, word_refusal, refused_by, is_too_few, settled, judged}
-use Rattle.dmis_program.specs.Carrying.{Carried, context_of, count_wanted}
+use Rattle.dmis_program.specs.Carrying.{ReaderState, context_of, count_wanted}
 use Rattle.dmis_program.proofs.Sound.{SaidBy, IsAllowed, MayFollow}
 use Rattle.dmis_program.proofs.SayingLemmas.{bind_if, unless_if, said_of_if}
 use Rattle.dmis_program.specs.declared.faults.Refusal.{Refusal}
 use Rattle.dmis_program.specs.declared.faults.Refusal.TheVariants.{NotDmis, Unsupported}
 use Rattle.dmis_program.specs.declared.keywords.Keyword.{Keyword}
 use Rattle.dmis_program.specs.declared.keywords.Keyword.TheVariants as word
-use Rattle.dmis_program.specs.declared.sayings.Said.{Said}
-use Rattle.dmis_program.specs.declared.sayings.Said.TheVariants.{Goes, Begins, Touches, Ends, Selects, Recalls, Closes, Passes}
+use Rattle.dmis_program.specs.declared.sayings.StatementMeaning.{StatementMeaning}
+use Rattle.dmis_program.specs.declared.sayings.StatementMeaning.TheVariants.{Goes, Begins, Touches, Ends, Selects, Recalls, Closes, Passes}
 use Rattle.dmis_program.specs.declared.reading.Block.{Block}
 
 -- no refusal by the word and the place, and then what follows
@@ -61,7 +61,8 @@ enough : (block : Option Block) (b : Block) (count : ℕ) → block ≡ Some b �
 enough None b count e h = absurd cc
 enough (Some d) b count e h = let same : d.wanted ≡ b.wanted = cc in omega (arith, same, ltb-false count d.wanted h)
 
-settled_if : (frames : List (List ℕ × Point)) (tool : Option (List ℕ)) (block : Option Block) (count : ℕ) (keyword : Keyword) (said : Said)
+settled_if : (frames : List (List ℕ × Point)) (tool : Option (List ℕ)) (block : Option Block) (count : ℕ) (keyword : Keyword)
+    (said : StatementMeaning)
     → misplaced keyword (count_wanted block) ≡ None → SaidBy keyword said
     → IfOk (settled frames tool (count_wanted block) count said) (IsAllowed frames tool block count)
 settled_if frames tool block count keyword (Goes target) h g = g
@@ -81,14 +82,15 @@ settled_if frames tool block count keyword (Recalls name) h g =
 settled_if frames tool block count keyword Closes h g = at_end block (subst (λ (k : Keyword). misplaced k (count_wanted block) ≡ None) g h)
 settled_if frames tool block count keyword Passes h g = tt
 
-both_if : (P : Type 0) (Q : Said → Type 0) (r : Result Said Refusal) → P → IfOk r Q → IfOk r (λ said. P × Q said)
+both_if : (P : Type 0) (Q : StatementMeaning → Type 0) (r : Result StatementMeaning Refusal) → P → IfOk r Q → IfOk r (λ said. P × Q said)
 both_if P Q (Ok said) p h = (p, h)
 both_if P Q (Err e) p h = tt
 
 below_most : (n : ℕ) → nat_le 10000 n ≡ false → n < 10000
 below_most n h = grind (arith, nat_tests)
 
-pub judged_if : (frames : List (List ℕ × Point)) (c : Carried) (s : Statement) → IfOk (judged frames (context_of c) s) (MayFollow frames c)
+pub judged_if : (frames : List (List ℕ × Point)) (c : ReaderState) (s : Statement)
+    → IfOk (judged frames (context_of c) s) (MayFollow frames c)
 unfolding judged
 judged_if frames c s =
     let keyword = keyword_of s.word in

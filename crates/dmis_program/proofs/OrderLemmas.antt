@@ -8,7 +8,7 @@ use Rattle.dmis_program.specs.Judging.{judged}
 use Rattle.dmis_program.specs.Meaning.{closes, ended, steps_from}
 use Rattle.dmis_program.specs.Order.{AreRead, above_behind, steps_along}
 use Rattle.dmis_program.specs.declared.faults.Refusal.{Refusal}
-use Rattle.dmis_program.specs.declared.sayings.Said.{Said}
+use Rattle.dmis_program.specs.declared.sayings.StatementMeaning.{StatementMeaning}
 
 pub refused_behind : (frames : List (List ℕ × Point)) (fault : Option TextFault) (lines : ℕ) (above front : List Statement) (s : Statement)
     (behind : List Statement) (refusal : Refusal) → AreRead frames above front
@@ -26,7 +26,7 @@ endless_behind frames fault lines above (f ∷ statements) h =
     rw (h.0.1, h.0.2, endless_behind frames fault lines (f ∷ above) statements h.1) refl
 
 pub accepted_behind : (frames : List (List ℕ × Point)) (fault : Option TextFault) (lines : ℕ) (above front : List Statement) (s : Statement)
-    (behind : List Statement) (said : Said) → AreRead frames above front
+    (behind : List Statement) (said : StatementMeaning) → AreRead frames above front
     → judged frames (context_at frames (above_behind above front)) s ≡ Ok said → closes said ≡ true
     → steps_from frames fault lines above (front ++ s ∷ behind) ≡ Ok (steps_along frames above front)
 accepted_behind frames fault lines above [] s behind said h e end = rw (e, end) refl

@@ -5,7 +5,7 @@ use Rattle.std.specs.List.{AllByRecursion}
 use Rattle.fixed_um.specs.declared.frames.Frame.TheVariants.{Machine}
 use Rattle.dmis_program.specs.Meaning.{features_of, block_touches}
 use Rattle.dmis_program.specs.Programs.{IsTouch, IsStep, IsFeature, IsProgram, AreBlocks, FollowSelections, touches_of, feature_touches}
-use Rattle.dmis_program.specs.Carrying.{Carried}
+use Rattle.dmis_program.specs.Carrying.{ReaderState}
 use Rattle.dmis_program.proofs.Sound.{IsSound}
 use Rattle.dmis_program.specs.declared.steps.Step.{Step}
 use Rattle.dmis_program.specs.declared.steps.Step.TheVariants.{Goto, Begin, Touch, Tool, Recall, End}
@@ -87,10 +87,10 @@ features_are (Some n) (Recall offset ∷ steps) h all few = features_are (Some n
 features_are (Some n) (End ∷ steps) h all few = features_are None steps h.1 all.1 (omega arith)
 
 -- where no block is open, the features are those of the steps
-pub done_is : (c : Carried) → IsSound c → c.open_block ≡ None → c.done ≡ features_of c.steps
+pub done_is : (c : ReaderState) → IsSound c → c.open_block ≡ None → c.done ≡ features_of c.steps
 done_is c h out = sym (append-nil c.done) ∙ sym (rw (append-nil c.steps, out) at (h.features []))
 
-pub program_is : (c : Carried) → IsSound c → c.open_block ≡ None → IsProgram (record { features = c.done; steps = c.steps })
+pub program_is : (c : ReaderState) → IsSound c → c.open_block ≡ None → IsProgram (record { features = c.done; steps = c.steps })
 program_is c h out =
     let built = done_is c h out in
     let blocks = subst (AreBlocks None) (append-nil c.steps) (h.blocks [] (rw out tt)) in

@@ -28,7 +28,7 @@ use Rattle.dmis_program.specs.declared.faults.Refusal.{Refusal}
 use Rattle.dmis_program.specs.declared.faults.Refusal.TheVariants.{BadArguments}
 use Rattle.dmis_program.specs.declared.keywords.Keyword.{Keyword}
 use Rattle.dmis_program.specs.declared.keywords.Keyword.TheVariants as word
-use Rattle.dmis_program.specs.declared.sayings.Said.TheVariants.{Ends, Closes, Passes}
+use Rattle.dmis_program.specs.declared.sayings.StatementMeaning.TheVariants.{Ends, Closes, Passes}
 
 -- one step and then the next
 pub bind_if : {A B : Type 0} (P : A → Type 0) (Q : B → Type 0) (r : Result A Refusal) (f : A → Result B Refusal) → IfOk r P

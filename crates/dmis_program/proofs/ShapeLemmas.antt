@@ -16,25 +16,26 @@ use Rattle.dmis_program.specs.Judging.{judged}
 use Rattle.dmis_program.specs.Meaning.{Meaning, meant, meaning_of, program_of, closes, steps_of, touch_steps, recall_steps, with_front}
 use Rattle.dmis_program.specs.Meaning.{continued, steps_from}
 use Rattle.dmis_program.specs.Programs.{IsProgram, FrameIsStored, StepIsStored}
-use Rattle.dmis_program.specs.Carrying.{Carried, no_statement, next}
+use Rattle.dmis_program.specs.Carrying.{ReaderState, no_statement, next}
 use Rattle.dmis_program.proofs.CarryingRuns.{ran, run}
 use Rattle.dmis_program.proofs.Sound.{IsSound}
 use Rattle.dmis_program.proofs.SoundLemmas.{sound_at_start}
 use Rattle.dmis_program.proofs.CarryingLemmas.{keeps_sound, starts}
 use Rattle.dmis_program.specs.declared.faults.Refusal.{Refusal}
-use Rattle.dmis_program.specs.declared.sayings.Said.{Said}
-use Rattle.dmis_program.specs.declared.sayings.Said.TheVariants as said
+use Rattle.dmis_program.specs.declared.sayings.StatementMeaning.{StatementMeaning}
+use Rattle.dmis_program.specs.declared.sayings.StatementMeaning.TheVariants as said
 use Rattle.dmis_program.specs.declared.steps.Step.{Step}
 
 -- what a run gives is a program
-ran_program : (frames : List (List ℕ × Point)) (c : Carried) (s : Statement) (r : Result (Bool × Carried) Refusal) (behind : Carried
+ran_program : (frames : List (List ℕ × Point)) (c : ReaderState) (s : Statement) (r : Result (Bool × ReaderState) Refusal)
+    (behind : ReaderState
     → Result Meaning (Refusal × ℕ)) → AreInVolume frames → next frames c s ≡ r → IsSound c
-    → ((d : Carried) → IsSound d → IfOk (behind d) IsProgram) → IfOk (ran s.line r behind) IsProgram
+    → ((d : ReaderState) → IsSound d → IfOk (behind d) IsProgram) → IfOk (ran s.line r behind) IsProgram
 ran_program frames c s (Err refusal) behind volume e sound h = tt
 ran_program frames c s (Ok (true, d)) behind volume e sound h = (keeps_sound frames c s true d volume sound e).program refl
 ran_program frames c s (Ok (false, d)) behind volume e sound h = h d (keeps_sound frames c s false d volume sound e).sound
 
-run_program : (frames : List (List ℕ × Point)) (fault : Option TextFault) (n : ℕ) (statements : List Statement) (c : Carried)
+run_program : (frames : List (List ℕ × Point)) (fault : Option TextFault) (n : ℕ) (statements : List Statement) (c : ReaderState)
     → AreInVolume frames → IsSound c → IfOk (run frames fault n statements c) IsProgram
 run_program frames fault n [] c volume sound = tt
 run_program frames fault n (s ∷ statements) c volume sound =
@@ -70,7 +71,7 @@ recall_stored : (frames : List (List ℕ × Point)) (name : List ℕ) (o : Optio
 recall_stored frames name None e = tt
 recall_stored frames name (Some offset) e = ((name, e), tt)
 
-steps_stored : (frames : List (List ℕ × Point)) (above : List Statement) (s : Said)
+steps_stored : (frames : List (List ℕ × Point)) (above : List Statement) (s : StatementMeaning)
     → AllByRecursion (StepIsStored frames) (steps_of frames (context_at frames above) s)
 steps_stored frames above (said.Goes target) = (tt, tt)
 steps_stored frames above (said.Begins name count) = (tt, tt)
@@ -99,7 +100,7 @@ unless_closed : (frames : List (List ℕ × Point)) (b : Bool) (r : Result (List
 unless_closed frames true r h = tt
 unless_closed frames false r h = h
 
-continued_stored : (frames : List (List ℕ × Point)) (above : List Statement) (line : ℕ) (r : Result Said Refusal)
+continued_stored : (frames : List (List ℕ × Point)) (above : List Statement) (line : ℕ) (r : Result StatementMeaning Refusal)
     (behind : Result (List Step) (Refusal × ℕ)) → IfOk behind (AllByRecursion (StepIsStored frames))
     → IfOk (continued line r (steps_of frames (context_at frames above)) behind) (AllByRecursion (StepIsStored frames))
 continued_stored frames above line (Err refusal) behind h = tt

@@ -9,18 +9,18 @@ use Rattle.fixed_um.specs.declared.lengths.Point.{Point}
 use Rattle.dmis_program.specs.Offsets.{offset_of}
 use Rattle.dmis_program.specs.Meaning.{features_of, block_touches}
 use Rattle.dmis_program.specs.Programs.{IsFrame, IsStep, AreBlocks, FollowSelections}
-use Rattle.dmis_program.specs.Carrying.{Carried}
+use Rattle.dmis_program.specs.Carrying.{ReaderState}
 use Rattle.dmis_program.specs.declared.keywords.Keyword.{Keyword}
 use Rattle.dmis_program.specs.declared.keywords.Keyword.TheVariants as word
-use Rattle.dmis_program.specs.declared.sayings.Said.{Said}
-use Rattle.dmis_program.specs.declared.sayings.Said.TheVariants.{Goes, Begins, Touches, Ends, Selects, Recalls, Closes, Passes}
+use Rattle.dmis_program.specs.declared.sayings.StatementMeaning.{StatementMeaning}
+use Rattle.dmis_program.specs.declared.sayings.StatementMeaning.TheVariants.{Goes, Begins, Touches, Ends, Selects, Recalls, Closes, Passes}
 use Rattle.dmis_program.specs.declared.steps.Step.{Step}
 use Rattle.dmis_program.specs.declared.features.Touch as touch
 use Rattle.dmis_program.specs.declared.features.Wanted.{Wanted}
 use Rattle.dmis_program.specs.declared.reading.Block.{Block}
 
 -- what a statement says by itself tells its keyword, and is within the limits
-abbrev pub SaidBy : Keyword → Said → Type 0
+abbrev pub SaidBy : Keyword → StatementMeaning → Type 0
 SaidBy keyword (Goes target) = IsInVolume target
 SaidBy keyword (Begins name count) = (keyword ≡ word.Meas) × IsName name × (1 ≤ count)
 SaidBy keyword (Touches target direction) = (keyword ≡ word.Ptmeas) × IsInVolume target × IfSome direction IsDirection
@@ -31,7 +31,7 @@ SaidBy keyword Closes = keyword ≡ word.Endfil
 SaidBy keyword Passes = Unit {0}
 
 -- what is said where it may be said: by the selected tool, the open block and the count of its touches
-abbrev pub IsAllowed : List (List ℕ × Point) → Option (List ℕ) → Option Block → ℕ → Said → Type 0
+abbrev pub IsAllowed : List (List ℕ × Point) → Option (List ℕ) → Option Block → ℕ → StatementMeaning → Type 0
 IsAllowed frames tool block count (Goes target) = IsInVolume target
 IsAllowed frames tool block count (Begins name wanted) = (block ≡ None) × IsName name × (1 ≤ wanted)
 IsAllowed frames tool block count (Touches target direction) = IsInVolume target × IfSome direction IsDirection
@@ -42,7 +42,7 @@ IsAllowed frames tool block count (Recalls name) = (offset : Point) × (offset_o
 IsAllowed frames tool block count Closes = block ≡ None
 IsAllowed frames tool block count Passes = Unit {0}
 
-abbrev pub MayFollow : List (List ℕ × Point) → Carried → Said → Type 0
+abbrev pub MayFollow : List (List ℕ × Point) → ReaderState → StatementMeaning → Type 0
 MayFollow frames c said = (c.number < 10000) × IsAllowed frames c.tool c.open_block (length c.touches) said
 
 -- the features of the steps to come, with that of the open block before them
@@ -56,7 +56,7 @@ open_count None touches = None
 open_count (Some block) touches = Some (length touches)
 
 -- the steps so far, and what has been made of them
-pub record IsSound (c : Carried) : Type 0 where
+pub record IsSound (c : ReaderState) : Type 0 where
   pub features : (more : List Step) → features_of (c.steps ++ more) ≡ c.done ++ under_way c.open_block c.touches more
   pub blocks : (more : List Step) → AreBlocks (open_count c.open_block c.touches) more → AreBlocks None (c.steps ++ more)
   pub selections : (more : List Step) → FollowSelections c.tool c.frame more → FollowSelections None Machine (c.steps ++ more)

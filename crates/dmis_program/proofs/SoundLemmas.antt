@@ -13,11 +13,11 @@ use Rattle.fixed_um.specs.Points.{IsInVolume}
 use Rattle.dmis_program.proofs.OffsetLemmas.{offset_within}
 use Rattle.dmis_program.specs.Meaning.{features_of, block_touches, touch_with}
 use Rattle.dmis_program.specs.Programs.{IsFrame, IsStep, AreBlocks, FollowSelections}
-use Rattle.dmis_program.specs.Carrying.{Carried, no_statement, with_step, touched_with, recalled_at, counted, changed, touches_left}
+use Rattle.dmis_program.specs.Carrying.{ReaderState, no_statement, with_step, touched_with, recalled_at, counted, changed, touches_left}
 use Rattle.dmis_program.specs.Carrying.{closed_block}
 use Rattle.dmis_program.proofs.Sound.{MayFollow, under_way, open_count, IsSound}
-use Rattle.dmis_program.specs.declared.sayings.Said.{Said}
-use Rattle.dmis_program.specs.declared.sayings.Said.TheVariants as said
+use Rattle.dmis_program.specs.declared.sayings.StatementMeaning.{StatementMeaning}
+use Rattle.dmis_program.specs.declared.sayings.StatementMeaning.TheVariants as said
 use Rattle.dmis_program.specs.declared.steps.Step.{Step}
 use Rattle.dmis_program.specs.declared.steps.Step.TheVariants.{Goto, Begin, Touch, Tool, Recall, End}
 use Rattle.dmis_program.specs.declared.features.Touch as touch
@@ -34,7 +34,7 @@ all_more [] step h g = (g, tt)
 all_more (s ∷ front) step h g = (h.0, all_more front step h.1 g)
 
 -- one step: what it makes of what is to come, and what else it leaves
-record Advances (c d : Carried) (step : Step) : Type 0 where
+record Advances (c d : ReaderState) (step : Step) : Type 0 where
   steps : d.steps ≡ c.steps ++ step ∷ []
   number : d.number ≡ c.number + 1
   features : (more : List Step) → c.done ++ under_way c.open_block c.touches (step ∷ more) ≡ d.done ++ under_way d.open_block d.touches more
@@ -47,7 +47,7 @@ record Advances (c d : Carried) (step : Step) : Type 0 where
   wanted : IfSome d.open_block (λ b. 1 ≤ b.wanted)
   idle : d.open_block ≡ None → d.touches ≡ []
 
-advance : (c d : Carried) (step : Step) → c.number < 10000 → IsSound c → Advances c d step → IsSound d
+advance : (c d : ReaderState) (step : Step) → c.number < 10000 → IsSound c → Advances c d step → IsSound d
 advance c d step few h g =
     record {
       features = λ more. ap (λ (steps : List Step). features_of (steps ++ more)) g.steps ∙ ap features_of (one_more c.steps step more)
@@ -85,7 +85,7 @@ recall_blocks : (o : Option ℕ) (offset : Point) (more : List Step) → AreBloc
 recall_blocks None offset more h = h
 recall_blocks (Some n) offset more h = h
 
-sound_goto : (c : Carried) (target : Point) → c.number < 10000 → IsSound c → IsInVolume target
+sound_goto : (c : ReaderState) (target : Point) → c.number < 10000 → IsSound c → IsInVolume target
     → IsSound (with_step (counted c) (Goto target))
 sound_goto c target few h g =
     advance c (with_step (counted c) (Goto target)) (Goto target) few h record {
@@ -101,7 +101,7 @@ sound_goto c target few h g =
       idle = h.idle;
     }
 
-sound_select : (c : Carried) (name : List ℕ) → c.number < 10000 → IsSound c → IsName name
+sound_select : (c : ReaderState) (name : List ℕ) → c.number < 10000 → IsSound c → IsName name
     → IsSound (record (with_step (counted c) (Tool name)) { tool = Some name })
 sound_select c name few h g =
     advance c (record (with_step (counted c) (Tool name)) { tool = Some name }) (Tool name) few h record {
@@ -117,7 +117,7 @@ sound_select c name few h g =
       idle = h.idle;
     }
 
-sound_recall : (c : Carried) (offset : Point) → c.number < 10000 → IsSound c → IsInVolume offset
+sound_recall : (c : ReaderState) (offset : Point) → c.number < 10000 → IsSound c → IsInVolume offset
     → IsSound (recalled_at (counted c) (Some offset))
 sound_recall c offset few h g =
     advance c (recalled_at (counted c) (Some offset)) (Recall offset) few h record {
@@ -144,7 +144,7 @@ begin_blocks : (block : Option Block) (touches : List touch.Touch) (name : List 
 begin_blocks None touches name more e idle h = rw idle at h
 begin_blocks (Some b) touches name more e idle h = absurd cc
 
-sound_begin : (c : Carried) (name : List ℕ) (wanted : ℕ) → c.number < 10000 → IsSound c → c.open_block ≡ None → IsName name → 1 ≤ wanted
+sound_begin : (c : ReaderState) (name : List ℕ) (wanted : ℕ) → c.number < 10000 → IsSound c → c.open_block ≡ None → IsName name → 1 ≤ wanted
     → IsSound (record (with_step (counted c) (Begin name)) { open_block = Some (record { label = name; wanted = wanted }) })
 sound_begin c name wanted few h out g some =
     advance c (record (with_step (counted c) (Begin name)) { open_block = Some (record { label = name; wanted = wanted }) }) (Begin name)
@@ -172,7 +172,7 @@ touch_blocks : (block : Option Block) (b : Block) (touches : List touch.Touch) (
 touch_blocks None b touches t more e h = absurd cc
 touch_blocks (Some d) b touches t more e h = rw (length-append touches (t ∷ [])) at h
 
-sound_touch : (c : Carried) (tool : List ℕ) (b : Block) (target : Point) (direction : Option Direction) → c.number < 10000 → IsSound c
+sound_touch : (c : ReaderState) (tool : List ℕ) (b : Block) (target : Point) (direction : Option Direction) → c.number < 10000 → IsSound c
     → c.tool ≡ Some tool → c.open_block ≡ Some b → IsInVolume target → IfSome direction IsDirection
     → IsSound (touched_with (counted c) (Some tool) target direction)
 sound_touch c tool b target direction few h selected block within directed =
@@ -209,7 +209,7 @@ left_none : (block : Option Block) (b : Block) (touches : List touch.Touch) → 
 left_none None b touches e = absurd cc
 left_none (Some d) b touches e = refl
 
-sound_end : (frames : List (List ℕ × Point)) (c : Carried) (b : Block) → c.number < 10000 → IsSound c → c.open_block ≡ Some b
+sound_end : (frames : List (List ℕ × Point)) (c : ReaderState) (b : Block) → c.number < 10000 → IsSound c → c.open_block ≡ Some b
     → b.wanted ≤ length c.touches → IsSound (changed frames (counted c) said.Ends)
 sound_end frames c b few h block enough =
     advance c (changed frames (counted c) said.Ends) End few h record {
@@ -226,7 +226,7 @@ sound_end frames c b few h block enough =
     }
 
 -- a statement without a step
-sound_counted : (c : Carried) → c.number < 10000 → IsSound c → IsSound (counted c)
+sound_counted : (c : ReaderState) → c.number < 10000 → IsSound c → IsSound (counted c)
 sound_counted c few h =
     record {
       features = h.features;
@@ -241,7 +241,8 @@ sound_counted c few h =
       few = omega arith;
     }
 
-pub sound_after : (frames : List (List ℕ × Point)) (c : Carried) (s : Said) → AreInVolume frames → IsSound c → MayFollow frames c s
+pub sound_after : (frames : List (List ℕ × Point)) (c : ReaderState) (s : StatementMeaning) → AreInVolume frames → IsSound c
+    → MayFollow frames c s
     → IsSound (changed frames (counted c) s)
 sound_after frames c (said.Goes target) volume h g = sound_goto c target g.0 h g.1
 sound_after frames c (said.Begins name wanted) volume h g = sound_begin c name wanted g.0 h g.1.0 g.1.1 g.1.2

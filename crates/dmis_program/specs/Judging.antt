@@ -15,8 +15,8 @@ use Rattle.dmis_program.specs.declared.faults.Refusal.TheVariants.{NotDmis, Unsu
 use Rattle.dmis_program.specs.declared.faults.Refusal.TheVariants.{UnknownFrame, NoTool, TooLarge}
 use Rattle.dmis_program.specs.declared.keywords.Keyword.{Keyword}
 use Rattle.dmis_program.specs.declared.keywords.Keyword.TheVariants.{Dmismn, Goto, Meas, Ptmeas, Endmes, Recall, Endfil, Unknown}
-use Rattle.dmis_program.specs.declared.sayings.Said.{Said}
-use Rattle.dmis_program.specs.declared.sayings.Said.TheVariants.{Touches, Ends, Recalls}
+use Rattle.dmis_program.specs.declared.sayings.StatementMeaning.{StatementMeaning}
+use Rattle.dmis_program.specs.declared.sayings.StatementMeaning.TheVariants.{Touches, Ends, Recalls}
 
 -- the first statement is a `DMISMN`
 abbrev pub is_start : Keyword → Bool
@@ -57,14 +57,14 @@ is_too_few None n = false
 is_too_few (Some count) n = nat_lt n count
 
 -- what the selections and the count of touches above refuse
-abbrev pub settled : List (List ℕ × Point) → Option (List ℕ) → Option ℕ → ℕ → Said → Result Said Refusal
+abbrev pub settled : List (List ℕ × Point) → Option (List ℕ) → Option ℕ → ℕ → StatementMeaning → Result StatementMeaning Refusal
 settled frames tool wanted count (Touches target direction) = if is_none tool then Err NoTool else Ok (Touches target direction)
 settled frames tool wanted count Ends = if is_too_few wanted count then Err TooFewPoints else Ok Ends
 settled frames tool wanted count (Recalls name) = if is_none (offset_of frames name) then Err UnknownFrame else Ok (Recalls name)
 settled frames tool wanted count said = Ok said
 
 -- what a statement says there, or the refusal that is due
-unfoldable pub judged : List (List ℕ × Point) → Context → Statement → Result Said Refusal
+unfoldable pub judged : List (List ℕ × Point) → Context → Statement → Result StatementMeaning Refusal
 judged frames c s =
     if nat_le 10000 c.number then Err TooLarge else
     refused_by (word_refusal c (keyword_of s.word) s.params) (saying s >>= settled frames c.tool c.wanted c.touched)

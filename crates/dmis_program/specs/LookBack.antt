@@ -8,11 +8,11 @@ use Rattle.dmis_program.specs.Keywords.{keyword_of}
 use Rattle.dmis_program.specs.Sayings.{said_of}
 use Rattle.dmis_program.specs.Offsets.{offset_of}
 use Rattle.dmis_program.specs.declared.faults.Refusal.{Refusal}
-use Rattle.dmis_program.specs.declared.sayings.Said.{Said}
-use Rattle.dmis_program.specs.declared.sayings.Said.TheVariants.{Begins, Touches, Ends, Selects, Recalls}
+use Rattle.dmis_program.specs.declared.sayings.StatementMeaning.{StatementMeaning}
+use Rattle.dmis_program.specs.declared.sayings.StatementMeaning.TheVariants.{Begins, Touches, Ends, Selects, Recalls}
 
 -- what a statement says, or why it is refused for itself
-abbrev pub saying : Statement → Result Said Refusal
+abbrev pub saying : Statement → Result StatementMeaning Refusal
 saying s = said_of (keyword_of s.word) s
 
 abbrev pub or_else : {A : Type 0} → Option A → Option A → Option A
@@ -20,21 +20,21 @@ or_else None other = other
 or_else (Some x) other = Some x
 
 -- what the nearest statement gives that gives something
-abbrev pub nearest : {A : Type 0} → (Result Said Refusal → Option A) → List Statement → Option A
+abbrev pub nearest : {A : Type 0} → (Result StatementMeaning Refusal → Option A) → List Statement → Option A
 nearest f [] = None
 nearest f (s ∷ above) = or_else (f (saying s)) (nearest f above)
 
 -- the tool that a statement selects, and the frame
-abbrev pub tool_said : Result Said Refusal → Option (List ℕ)
+abbrev pub tool_said : Result StatementMeaning Refusal → Option (List ℕ)
 tool_said (Ok (Selects name)) = Some name
 tool_said _ = None
 
-abbrev pub frame_said : Result Said Refusal → Option (List ℕ)
+abbrev pub frame_said : Result StatementMeaning Refusal → Option (List ℕ)
 frame_said (Ok (Recalls name)) = Some name
 frame_said _ = None
 
 -- where a block begins, the count of touches that it asks for; where it ends, none
-abbrev pub bound_said : Result Said Refusal → Option (Option ℕ)
+abbrev pub bound_said : Result StatementMeaning Refusal → Option (Option ℕ)
 bound_said (Ok (Begins name count)) = Some (Some count)
 bound_said (Ok Ends) = Some None
 bound_said _ = None
@@ -64,7 +64,7 @@ abbrev pub open_block : List Statement → Option ℕ
 open_block above = bound_count (nearest bound_said above)
 
 -- how many `PTMEAS` stand behind the nearest `MEAS` or `ENDMES`
-abbrev pub touched_with : Result Said Refusal → ℕ → ℕ
+abbrev pub touched_with : Result StatementMeaning Refusal → ℕ → ℕ
 touched_with (Ok (Begins name count)) older = 0
 touched_with (Ok Ends) older = 0
 touched_with (Ok (Touches target direction)) older = older + 1

@@ -13,8 +13,8 @@ use Rattle.dmis_program.specs.LookBack.{Context, context_at}
 use Rattle.dmis_program.specs.Judging.{judged}
 use Rattle.dmis_program.specs.declared.faults.Refusal.{Refusal}
 use Rattle.dmis_program.specs.declared.faults.Refusal.TheVariants.{NotDmis, Truncated, LineTooLong, BadByte}
-use Rattle.dmis_program.specs.declared.sayings.Said.{Said}
-use Rattle.dmis_program.specs.declared.sayings.Said.TheVariants as said
+use Rattle.dmis_program.specs.declared.sayings.StatementMeaning.{StatementMeaning}
+use Rattle.dmis_program.specs.declared.sayings.StatementMeaning.TheVariants as said
 use Rattle.dmis_program.specs.declared.steps.Step.{Step}
 use Rattle.dmis_program.specs.declared.steps.Step.TheVariants.{Goto, Begin, Touch, Tool, Recall, End}
 use Rattle.dmis_program.specs.declared.features.Touch as touch
@@ -33,7 +33,7 @@ recall_steps None = []
 recall_steps (Some offset) = Recall offset ∷ []
 
 -- the step that a statement commands, or none, by what is selected above it
-abbrev pub steps_of : List (List ℕ × Point) → Context → Said → List Step
+abbrev pub steps_of : List (List ℕ × Point) → Context → StatementMeaning → List Step
 steps_of frames c (said.Goes target) = Goto target ∷ []
 steps_of frames c (said.Begins name count) = Begin name ∷ []
 steps_of frames c (said.Touches target direction) = touch_steps c.tool c.frame target direction
@@ -44,7 +44,7 @@ steps_of frames c said.Closes = []
 steps_of frames c said.Passes = []
 
 -- `ENDFIL`
-abbrev pub closes : Said → Bool
+abbrev pub closes : StatementMeaning → Bool
 closes said.Closes = true
 closes _ = false
 
@@ -63,7 +63,8 @@ with_front front (Ok steps) = Ok (front ++ steps)
 with_front front (Err e) = Err e
 
 -- a statement's part, and what the statements behind it give: nothing is read behind `ENDFIL`
-abbrev pub continued : ℕ → Result Said Refusal → (Said → List Step) → Result (List Step) (Refusal × ℕ) → Result (List Step) (Refusal × ℕ)
+abbrev pub continued : ℕ → Result StatementMeaning Refusal → (StatementMeaning → List Step) → Result (List Step) (Refusal × ℕ)
+    → Result (List Step) (Refusal × ℕ)
 continued line (Err refusal) steps behind = Err (refusal, line)
 continued line (Ok said) steps behind = if closes said then Ok [] else with_front (steps said) behind
 

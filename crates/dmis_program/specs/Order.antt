@@ -6,13 +6,14 @@ use Rattle.dmis_program.specs.LookBack.{context_at}
 use Rattle.dmis_program.specs.Judging.{judged}
 use Rattle.dmis_program.specs.Meaning.{steps_of, closes}
 use Rattle.dmis_program.specs.declared.faults.Refusal.{Refusal}
-use Rattle.dmis_program.specs.declared.sayings.Said.{Said}
+use Rattle.dmis_program.specs.declared.sayings.StatementMeaning.{StatementMeaning}
 use Rattle.dmis_program.specs.declared.steps.Step.{Step}
 
 -- no refusal is due at any of the statements, and none is the end of the program; those above the first are given nearest first
 abbrev pub AreRead : List (List ℕ × Point) → List Statement → List Statement → Type 0
 AreRead frames above [] = Unit {0}
-AreRead frames above (s ∷ statements) = ((said : Said) × (judged frames (context_at frames above) s ≡ Ok said) × (closes said ≡ false))
+AreRead frames above (s ∷ statements) = ((said : StatementMeaning) × (judged frames (context_at frames above) s ≡ Ok said)
+    × (closes said ≡ false))
     × AreRead frames (s ∷ above) statements
 
 -- what stands above the statement behind them, nearest first
@@ -21,7 +22,7 @@ above_behind above [] = above
 above_behind above (s ∷ statements) = above_behind (s ∷ above) statements
 
 -- the steps of a statement that is read
-abbrev pub steps_said : (Said → List Step) → Result Said Refusal → List Step
+abbrev pub steps_said : (StatementMeaning → List Step) → Result StatementMeaning Refusal → List Step
 steps_said steps (Ok said) = steps said
 steps_said steps (Err refusal) = []
 

@@ -14,7 +14,7 @@ ghost use Rattle.dmis_program.specs.Meaning.{Meaning, closes, ended, steps_from,
 ghost use Rattle.dmis_program.specs.Order.{AreRead, above_behind, steps_along};
 ghost use Rattle.dmis_program.specs.Programs.{IsProgram, AreBlocks, SelectNoTool, SelectNoFrame, StayInside, StepIsStored, touches_of};
 ghost use Rattle.dmis_program.specs.declared.faults.Refusal.{Refusal};
-ghost use Rattle.dmis_program.specs.declared.sayings.Said.{Said};
+ghost use Rattle.dmis_program.specs.declared.sayings.StatementMeaning.{StatementMeaning};
 ghost use Rattle.dmis_program.specs.declared.steps.Step.{Step};
 ghost use Rattle.dmis_program.specs.declared.steps.Step.TheVariants as step;
 ghost use Rattle.dmis_program.specs.declared.features.Touch.{Touch};
@@ -33,7 +33,7 @@ pub fn first_refusal_decides()
         → steps_from frames fault lines above statements
         ≡ Err (ended fault (length (above_behind above statements)) lines) }
     ensures accepted { (frames : List (List ℕ × Point)) (fault : Option TextFault) (lines : ℕ)
-        (above front : List Statement) (s : Statement) (behind : List Statement) (said : Said)
+        (above front : List Statement) (s : Statement) (behind : List Statement) (said : StatementMeaning)
         → AreRead frames above front → judged frames (context_at frames (above_behind above front))
         s ≡ Ok said → closes said ≡ true
         → steps_from frames fault lines above (front ++ s ∷ behind)

@@ -9,7 +9,7 @@ use crate::keywords::{Keyword, keyword_of_word};
 use crate::offsets::Frames;
 use crate::parameters::{is_other_coordinates, is_other_recall};
 use crate::programs::Program;
-use crate::sayings::{Said, said_of};
+use crate::sayings::{StatementMeaning, said_of};
 use crate::steps::Step;
 use dmis_text::{Statement, Text};
 use fixed_um::{Dir, Frame, Name, Point};
@@ -40,9 +40,9 @@ pub(crate) struct Reader {
 }
 
 impl Model for Reader {
-    ghost use Rattle.dmis_program.specs.Carrying.{Carried};
+    ghost use Rattle.dmis_program.specs.Carrying.{ReaderState};
 
-    ghost Value = { Carried };
+    ghost Value = { ReaderState };
 
     ghost view = { λ r. record { number = r.count; tool = r.tool; frame = r.frame; open_block = r.block; touches = r.touches.items; done = r.features.items; steps = r.steps.items } };
 }
@@ -142,7 +142,7 @@ impl Reader {
     fn begin(&mut self, label: Name, wanted: u64) -> Result<bool, StatementFault>
         ensures { GivesNext result self.new (Ok (
           false,
-          changed [] self.old (Said.Begins label wanted),
+          changed [] self.old (StatementMeaning.Begins label wanted),
         )) }
     {
         self.step(Step::Begin(label.copy(self.alloc)?))?;
@@ -152,7 +152,7 @@ impl Reader {
 
     /// `PTMEAS`: a touch with the selected tool and frame. It stands in the steps and in the block.
     fn touch(&mut self, target: Point, dir: Option<Dir>) -> Result<bool, StatementFault>
-        ensures { GivesNext result self.new (follows [] self.old (Said.Touches target dir)) }
+        ensures { GivesNext result self.new (follows [] self.old (StatementMeaning.Touches target dir)) }
     {
         let Some(tool) = &self.tool else {
             return Err(StatementFault::Refused(Refusal::NoTool));
@@ -172,7 +172,7 @@ impl Reader {
 
     /// `ENDMES`: the block is a feature.
     fn end(&mut self) -> Result<bool, StatementFault>
-        ensures { GivesNext result self.new (follows [] self.old Said.Ends) }
+        ensures { GivesNext result self.new (follows [] self.old StatementMeaning.Ends) }
     {
         if let Some(Block { label, wanted }) = self.block.take() {
             if (self.touches.len() as u64) < wanted {
@@ -187,7 +187,7 @@ impl Reader {
 
     /// `SNSLCT`: a tool is selected.
     fn select(&mut self, tool: Name) -> Result<bool, StatementFault>
-        ensures { GivesNext result self.new (Ok (false, changed [] self.old (Said.Selects tool))) }
+        ensures { GivesNext result self.new (Ok (false, changed [] self.old (StatementMeaning.Selects tool))) }
     {
         self.step(Step::Tool(tool.copy(self.alloc)?))?;
         self.tool = Some(tool);
@@ -196,7 +196,7 @@ impl Reader {
 
     /// `RECALL/D`: a stored frame is selected.
     fn recall(&mut self, frames: &Frames, name: Name) -> Result<bool, StatementFault>
-        ensures { GivesNext result self.new (follows frames.now self.old (Said.Recalls name)) }
+        ensures { GivesNext result self.new (follows frames.now self.old (StatementMeaning.Recalls name)) }
     {
         let Some(offset) = frames.get(&name) else {
             return Err(StatementFault::Refused(Refusal::UnknownFrame));
@@ -208,21 +208,21 @@ impl Reader {
     }
 
     /// Goes on by what a statement says. True at the end of the program.
-    fn follow(&mut self, frames: &Frames, said: Said) -> Result<bool, StatementFault>
+    fn follow(&mut self, frames: &Frames, said: StatementMeaning) -> Result<bool, StatementFault>
         ensures { GivesNext result self.new (follows frames.now self.old said) }
     {
         match said {
-            Said::Goes(target) => {
+            StatementMeaning::Goes(target) => {
                 self.step(Step::Goto(target))?;
                 Ok(false)
             }
-            Said::Begins(label, wanted) => self.begin(label, wanted),
-            Said::Touches(target, dir) => self.touch(target, dir),
-            Said::Ends => self.end(),
-            Said::Selects(tool) => self.select(tool),
-            Said::Recalls(name) => self.recall(frames, name),
-            Said::Closes => Ok(true),
-            Said::Passes => Ok(false),
+            StatementMeaning::Begins(label, wanted) => self.begin(label, wanted),
+            StatementMeaning::Touches(target, dir) => self.touch(target, dir),
+            StatementMeaning::Ends => self.end(),
+            StatementMeaning::Selects(tool) => self.select(tool),
+            StatementMeaning::Recalls(name) => self.recall(frames, name),
+            StatementMeaning::Closes => Ok(true),
+            StatementMeaning::Passes => Ok(false),
         }
     }
 

@@ -12,7 +12,7 @@ use std::alloc::Global;
 
 /// What one statement says by itself.
 #[derive(Drop)]
-pub(crate) enum Said {
+pub(crate) enum StatementMeaning {
     /// A move.
     Goes(Point),
     /// A block begins for a feature, which asks for so many touches.
@@ -32,17 +32,17 @@ pub(crate) enum Said {
 }
 
 /// `GOTO/x,y,z`, where a first `CART` is taken away.
-fn goes(params: &[Text]) -> Result<Said, Refusal>
+fn goes(params: &[Text]) -> Result<StatementMeaning, Refusal>
     ensures { result ≡ goes params.now }
 {
     match params {
-        [x, y, z] => Ok(Said::Goes(position(x, y, z)?)),
+        [x, y, z] => Ok(StatementMeaning::Goes(position(x, y, z)?)),
         _ => Err(Refusal::BadArguments),
     }
 }
 
 /// `MEAS/kind,F(name),n`.
-fn begins_block(alloc: Global, params: &[Text]) -> Result<Said, StatementFault>
+fn begins_block(alloc: Global, params: &[Text]) -> Result<StatementMeaning, StatementFault>
     ensures { Gives result (begins_block params.now) }
 {
     let [kind, feature, count] = params else {
@@ -50,31 +50,31 @@ fn begins_block(alloc: Global, params: &[Text]) -> Result<Said, StatementFault>
     };
     let name = name_within(alloc, b"F(", feature)?;
     match (name, count_of(count)) {
-        (Some(name), Some(count)) if is_letters(kind) => Ok(Said::Begins(name, count)),
+        (Some(name), Some(count)) if is_letters(kind) => Ok(StatementMeaning::Begins(name, count)),
         _ => Err(StatementFault::Refused(Refusal::BadArguments)),
     }
 }
 
 /// `PTMEAS/CART` behind its first parameter.
-fn touches_at(params: &[Text]) -> Result<Said, Refusal>
+fn touches_at(params: &[Text]) -> Result<StatementMeaning, Refusal>
     ensures { result ≡ touches_at params.now }
 {
     match params {
         [x, y, z] => {
             let target = position(x, y, z)?;
-            Ok(Said::Touches(target, None))
+            Ok(StatementMeaning::Touches(target, None))
         }
         [x, y, z, i, j, k] => {
             let target = position(x, y, z)?;
             let direction = direction(i, j, k)?;
-            Ok(Said::Touches(target, Some(direction)))
+            Ok(StatementMeaning::Touches(target, Some(direction)))
         }
         _ => Err(Refusal::BadArguments),
     }
 }
 
 /// `PTMEAS/CART,x,y,z` with or without a direction.
-fn touches(params: &[Text]) -> Result<Said, Refusal>
+fn touches(params: &[Text]) -> Result<StatementMeaning, Refusal>
     ensures { result ≡ touches params.now }
 {
     match params.split_first() {
@@ -84,7 +84,7 @@ fn touches(params: &[Text]) -> Result<Said, Refusal>
 }
 
 /// `ENDMES` and `ENDFIL`.
-fn without_parameters(said: Said, params: &[Text]) -> Result<Said, Refusal>
+fn without_parameters(said: StatementMeaning, params: &[Text]) -> Result<StatementMeaning, Refusal>
     ensures { result ≡ without_parameters said params.now }
 {
     if params.is_empty() {
@@ -95,65 +95,65 @@ fn without_parameters(said: Said, params: &[Text]) -> Result<Said, Refusal>
 }
 
 /// `SNSLCT/S(name)` and `SNSLCT/SA(name)`.
-fn selects(alloc: Global, params: &[Text]) -> Result<Said, StatementFault>
+fn selects(alloc: Global, params: &[Text]) -> Result<StatementMeaning, StatementFault>
     ensures { Gives result (selects params.now) }
 {
     let [first] = params else {
         return Err(StatementFault::Refused(Refusal::BadArguments));
     };
     if let Some(name) = name_within(alloc, b"S(", first)? {
-        return Ok(Said::Selects(name));
+        return Ok(StatementMeaning::Selects(name));
     }
     match name_within(alloc, b"SA(", first)? {
-        Some(name) => Ok(Said::Selects(name)),
+        Some(name) => Ok(StatementMeaning::Selects(name)),
         None => Err(StatementFault::Refused(Refusal::BadArguments)),
     }
 }
 
 /// `RECALL/D(name)`.
-fn recalls_frame(alloc: Global, params: &[Text]) -> Result<Said, StatementFault>
+fn recalls_frame(alloc: Global, params: &[Text]) -> Result<StatementMeaning, StatementFault>
     ensures { Gives result (recalls_frame params.now) }
 {
     let [first] = params else {
         return Err(StatementFault::Refused(Refusal::BadArguments));
     };
     match name_within(alloc, b"D(", first)? {
-        Some(name) => Ok(Said::Recalls(name)),
+        Some(name) => Ok(StatementMeaning::Recalls(name)),
         None => Err(StatementFault::Refused(Refusal::BadArguments)),
     }
 }
 
 /// `RECALL`, which selects a frame or commands nothing.
-fn recalls(alloc: Global, params: &[Text]) -> Result<Said, StatementFault>
+fn recalls(alloc: Global, params: &[Text]) -> Result<StatementMeaning, StatementFault>
     ensures { Gives result (recalls params.now) }
 {
     match params.split_first() {
         Some((first, _)) if begins(first, b"D(") => recalls_frame(alloc, params),
-        Some(_) => Ok(Said::Passes),
+        Some(_) => Ok(StatementMeaning::Passes),
         None => Err(StatementFault::Refused(Refusal::BadArguments)),
     }
 }
 
 /// `UNITS/MM,..`.
-fn units(params: &[Text]) -> Result<Said, Refusal>
+fn units(params: &[Text]) -> Result<StatementMeaning, Refusal>
     ensures { result ≡ units params.now }
 {
     match params.split_first() {
-        Some((first, _)) if is_text(first, "MM") => Ok(Said::Passes),
+        Some((first, _)) if is_text(first, "MM") => Ok(StatementMeaning::Passes),
         Some(_) => Err(Refusal::NotMillimetres),
         None => Err(Refusal::BadArguments),
     }
 }
 
 /// `MODE/..` with `PROG` among the words.
-fn mode(params: &[Text]) -> Result<Said, Refusal>
+fn mode(params: &[Text]) -> Result<StatementMeaning, Refusal>
     ensures { result ≡ mode params.now }
 {
     if params.is_empty() {
         return Err(Refusal::BadArguments);
     }
     if has_word(params, "PROG") {
-        Ok(Said::Passes)
+        Ok(StatementMeaning::Passes)
     } else {
         Err(Refusal::NoProgMode)
     }
@@ -161,7 +161,11 @@ fn mode(params: &[Text]) -> Result<Said, Refusal>
 
 /// By keyword. The caller owes a word that this profile reads.
 #[tactic(auto, unfolding(crate::specs::Sayings::said_by))]
-fn said_by(alloc: Global, keyword: Keyword, params: &[Text]) -> Result<Said, StatementFault>
+fn said_by(
+    alloc: Global,
+    keyword: Keyword,
+    params: &[Text],
+) -> Result<StatementMeaning, StatementFault>
     requires { keyword ≢ Keyword.Unknown }
     ensures { Gives result (said_by keyword params.now) }
 {
@@ -169,13 +173,13 @@ fn said_by(alloc: Global, keyword: Keyword, params: &[Text]) -> Result<Said, Sta
         Keyword::Goto => Ok(goes(without_cart(params))?),
         Keyword::Meas => begins_block(alloc, params),
         Keyword::Ptmeas => Ok(touches(params)?),
-        Keyword::Endmes => Ok(without_parameters(Said::Ends, params)?),
+        Keyword::Endmes => Ok(without_parameters(StatementMeaning::Ends, params)?),
         Keyword::Snslct => selects(alloc, params),
         Keyword::Recall => recalls(alloc, params),
-        Keyword::Endfil => Ok(without_parameters(Said::Closes, params)?),
+        Keyword::Endfil => Ok(without_parameters(StatementMeaning::Closes, params)?),
         Keyword::Units => Ok(units(params)?),
         Keyword::Mode => Ok(mode(params)?),
-        Keyword::Dmismn | Keyword::Definition | Keyword::Passed => Ok(Said::Passes),
+        Keyword::Dmismn | Keyword::Definition | Keyword::Passed => Ok(StatementMeaning::Passes),
         Keyword::Unknown => unreachable!(),
     }
 }
@@ -193,7 +197,7 @@ pub(crate) fn said_of(
     alloc: Global,
     keyword: Keyword,
     statement: &Statement,
-) -> Result<Said, StatementFault>
+) -> Result<StatementMeaning, StatementFault>
     requires { keyword ≢ Keyword.Unknown }
     ensures { Gives result (said_of keyword statement.now) }
 {

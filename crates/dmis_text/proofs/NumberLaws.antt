@@ -3,7 +3,7 @@ use Rattle.std.proofs.Common.{◌≡◌, ℕ, ◌+◌, ◌<◌, ◌≤◌, Bool,
 use Rattle.std.specs.Prelude.{IfSome}
 use Rattle.dmis_text.specs.Texts.{all_blank}
 use Rattle.dmis_text.specs.Elements.{cut_at}
-use Rattle.dmis_text.specs.Begun.{Begun, is_open, grown}
+use Rattle.dmis_text.specs.Begun.{OpenStatement, is_open, grown}
 use Rattle.dmis_text.specs.Reading.{Role, line_role, Reading, read_line, reading_with, reading_of, ended, finished}
 use Rattle.dmis_text.specs.Reading.Role.{TooLong, Damaged, Dropped, Continued, Last}
 use Rattle.dmis_text.specs.Statements.{statement_of, headed, parted}
@@ -25,12 +25,12 @@ pub line-statement_of : (line : ℕ) (text : List ℕ) → (statement_of line te
 line-statement_of line text = line-parted line text (cut_at 47 false text)
 
 -- where the next statement begins at the earliest
-abbrev start_of : Option Begun → ℕ → ℕ
+abbrev start_of : Option OpenStatement → ℕ → ℕ
 start_of None n = n
 start_of (Some begun) n = begun.line
 
 -- it has begun before line n
-abbrev HasBegunBefore : Option Begun → ℕ → Type 0
+abbrev HasBegunBefore : Option OpenStatement → ℕ → Type 0
 HasBegunBefore None n = Unit {0}
 HasBegunBefore (Some begun) n = begun.line < n
 
@@ -38,11 +38,11 @@ HasBegunBefore (Some begun) n = begun.line < n
 abbrev pub IsNumbered : ℕ → ℕ → Reading → Type 0
 IsNumbered from to reading = AreNumbered from to reading.statements × IfSome reading.fault (IsFaultWithin from to)
 
-line-grown : (begun : Option Begun) (n : ℕ) (part : List ℕ) → (grown begun n part).line ≡ start_of begun n
+line-grown : (begun : Option OpenStatement) (n : ℕ) (part : List ℕ) → (grown begun n part).line ≡ start_of begun n
 line-grown None n part = refl
 line-grown (Some begun) n part = refl
 
-start_before : (begun : Option Begun) (n : ℕ) → HasBegunBefore begun n → start_of begun n ≤ n
+start_before : (begun : Option OpenStatement) (n : ℕ) → HasBegunBefore begun n → start_of begun n ≤ n
 start_before None n h = omega arith
 start_before (Some begun) n h = omega arith
 
@@ -59,9 +59,10 @@ fault_earlier from later to (Some (LineTooLong n)) le h = (omega (arith, h.0), h
 fault_earlier from later to (Some (BadByte n)) le h = (omega (arith, h.0), h.1)
 fault_earlier from later to (Some Memory) le h = h
 
-by_role : (from to n : ℕ) (begun : Option Begun) (role : Role) (rest : Option Begun → Reading) → HasBegunBefore begun n
+by_role : (from to n : ℕ) (begun : Option OpenStatement) (role : Role) (rest : Option OpenStatement → Reading) → HasBegunBefore begun n
     → from ≤ start_of begun n → n < to
-    → ((later : ℕ) (next : Option Begun) → HasBegunBefore next (n + 1) → later ≤ start_of next (n + 1) → IsNumbered later to (rest next))
+    → ((later : ℕ) (next : Option OpenStatement) → HasBegunBefore next (n + 1) → later ≤ start_of next (n + 1)
+    → IsNumbered later to (rest next))
     → IsNumbered from to (read_line role begun n rest)
 by_role from to n begun TooLong rest h low within ih = let start = start_before begun n h in (tt, (omega (arith, start), within))
 by_role from to n begun Damaged rest h low within ih = let start = start_before begun n h in (tt, (omega (arith, start), within))
@@ -80,7 +81,7 @@ by_role from to n begun (Last part) rest h low within ih =
       fault_earlier from (n + 1) to (rest None).fault (omega (arith, start)) behind.1,
     )
 
-at_end : (from to n : ℕ) (begun : Option Begun) → HasBegunBefore begun n → from ≤ start_of begun n → n ≤ to
+at_end : (from to n : ℕ) (begun : Option OpenStatement) → HasBegunBefore begun n → from ≤ start_of begun n → n ≤ to
     → IsNumbered from to (ended begun)
 at_end from to n None h low within = (tt, tt)
 at_end from to n (Some begun) h low within = (go (all_blank begun.text), tt)
@@ -89,7 +90,7 @@ at_end from to n (Some begun) h low within = (go (all_blank begun.text), tt)
     go true = tt
     go false = let line = line-statement_of begun.line begun.text in (omega (arith, line), omega (arith, line), tt)
 
-numbered : (from to n : ℕ) (begun : Option Begun) (lines : List (List ℕ)) → HasBegunBefore begun n → from ≤ start_of begun n
+numbered : (from to n : ℕ) (begun : Option OpenStatement) (lines : List (List ℕ)) → HasBegunBefore begun n → from ≤ start_of begun n
     → n + length lines ≤ to → IsNumbered from to (reading_with begun n lines)
 numbered from to n begun [] h low within = at_end from to n begun h low (omega arith)
 numbered from to n begun (line ∷ lines) h low within =

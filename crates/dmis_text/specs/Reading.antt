@@ -2,7 +2,7 @@
 use Rattle.std.specs.Prelude.{◌≡◌, ℕ, ◌+◌, ◌-◌, Bool, List, [], ◌∷◌, length, Option, Some, None, nat_lt, if◌then◌else◌}
 use Rattle.std.specs.Str.Lines.{lines}
 use Rattle.dmis_text.specs.Texts.{all_blank, before_comment, is_clean, is_continued, without_mark}
-use Rattle.dmis_text.specs.Begun.{Begun, is_open, grown}
+use Rattle.dmis_text.specs.Begun.{OpenStatement, is_open, grown}
 use Rattle.dmis_text.specs.Statements.{statement_of}
 use Rattle.dmis_text.specs.declared.elements.Statement.{Statement}
 use Rattle.dmis_text.specs.declared.reading.TextFault.{TextFault}
@@ -40,16 +40,16 @@ abbrev pub with_first : Statement → Reading → Reading
 with_first statement rest = record { statements = statement ∷ rest.statements; fault = rest.fault }
 
 -- the statement of all its parts
-abbrev pub finished : Begun → Statement
+abbrev pub finished : OpenStatement → Statement
 finished begun = statement_of begun.line begun.text
 
 -- at the end of the text a statement that has begun counts as far as it goes, and one of blanks alone is none
-abbrev pub ended : Option Begun → Reading
+abbrev pub ended : Option OpenStatement → Reading
 ended None = record { statements = []; fault = None }
 ended (Some begun) = record { statements = (if all_blank begun.text then [] else finished begun ∷ []); fault = None }
 
 -- line n in its role: `rest` reads the lines behind it, with the statement that has begun by then
-abbrev pub read_line : Role → Option Begun → ℕ → (Option Begun → Reading) → Reading
+abbrev pub read_line : Role → Option OpenStatement → ℕ → (Option OpenStatement → Reading) → Reading
 read_line TooLong begun n rest = refused (LineTooLong n)
 read_line Damaged begun n rest = refused (BadByte n)
 read_line Dropped begun n rest = rest begun
@@ -57,7 +57,7 @@ read_line (Continued part) begun n rest = rest (Some (grown begun n part))
 read_line (Last part) begun n rest = with_first (finished (grown begun n part)) (rest None)
 
 -- the lines from number n on, where a statement has begun before them or none has
-abbrev pub reading_with : Option Begun → ℕ → List (List ℕ) → Reading
+abbrev pub reading_with : Option OpenStatement → ℕ → List (List ℕ) → Reading
 reading_with begun n [] = ended begun
 reading_with begun n (line ∷ lines) = read_line (line_role (is_open begun) line) begun n (λ next. reading_with next (n + 1) lines)
 

@@ -49,9 +49,9 @@ pub(crate) struct Joined<'a> {
 
 impl<'a> Model for Joined<'a> {
     ghost use Rattle.std.specs.Prelude.{◌≡◌, Option, List, [], ◌++◌, IfNone};
-    ghost use Rattle.dmis_text.specs.Begun.{Begun, begun_of, is_open};
+    ghost use Rattle.dmis_text.specs.Begun.{OpenStatement, begun_of, is_open};
 
-    ghost Value = { Option Begun };
+    ghost Value = { Option OpenStatement };
 
     ghost view = { λ j. begun_of j.first (j.text.items ++ j.last.now) };
 

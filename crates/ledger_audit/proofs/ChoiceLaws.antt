@@ -3,7 +3,7 @@ use Rattle.std.proofs.Common.{◌≡◌, ℕ, zero, suc, ◌+◌, ◌<◌, ◌�
 use Rattle.contact_ledger.specs.declared.acts.Act.{Act}
 use Rattle.contact_ledger.specs.declared.features.Feature.{Feature}
 use Rattle.dmis_program.specs.declared.features.Wanted.{Wanted}
-use Rattle.protocol_model.specs.Claims.{Made, contacts, IsRun, AreRuns, Sound}
+use Rattle.protocol_model.specs.Claims.{MadeContact, contacts, IsRun, AreRuns, Sound}
 use Rattle.ledger_audit.specs.Verdicts.{AreAtMost}
 
 -- where the last of runs with these starts ends, or what is asked of the first, where there are none
@@ -13,7 +13,7 @@ last_end least (f ∷ fs) [] = least
 last_end least (f ∷ fs) (start ∷ starts) = last_end (start + length f.points) fs starts
 
 -- the first features have the first starts
-pub runs_take : (k : ℕ) (ws : List Wanted) (fs : List Feature) (starts : List ℕ) (least : ℕ) (made : List Made)
+pub runs_take : (k : ℕ) (ws : List Wanted) (fs : List Feature) (starts : List ℕ) (least : ℕ) (made : List MadeContact)
     → AreRuns ws fs starts least made → AreRuns ws (take k fs) (take k starts) least made
 runs_take zero ws fs starts least made h = tt
 runs_take (suc k) ws [] [] least made h = tt
@@ -27,7 +27,8 @@ pub sound_take : (k : ℕ) (ws : List Wanted) (fs : List Feature) (l : List (ℕ
 sound_take k ws fs l h = record { starts = take k h.starts; runs = runs_take k ws fs h.starts 0 (contacts l) h.runs }
 
 -- one feature more, with a run behind the last
-pub runs_push : (ws : List Wanted) (fs : List Feature) (starts : List ℕ) (least : ℕ) (made : List Made) (w : Wanted) (f : Feature) (s : ℕ)
+pub runs_push : (ws : List Wanted) (fs : List Feature) (starts : List ℕ) (least : ℕ) (made : List MadeContact) (w : Wanted) (f : Feature)
+    (s : ℕ)
     → AreRuns ws fs starts least made → length fs < length ws → w ≡ get_or ws (length fs) w → last_end least fs starts ≤ s
     → IsRun w f s made → AreRuns ws (fs ++ f ∷ []) (starts ++ s ∷ []) least made
 runs_push [] fs starts least made w f s h lt e from run = absurd (omega arith)
@@ -38,7 +39,7 @@ runs_push (v ∷ ws) (g ∷ fs) (t ∷ starts) least made w f s h lt e from run 
     (h.0, h.1, runs_push ws fs starts (t + length g.points) made w f s h.2 (omega arith) e from run)
 
 -- the end of the last run is that of the one that was added
-pub end_push : (ws : List Wanted) (fs : List Feature) (starts : List ℕ) (least : ℕ) (made : List Made) (f : Feature) (s : ℕ)
+pub end_push : (ws : List Wanted) (fs : List Feature) (starts : List ℕ) (least : ℕ) (made : List MadeContact) (f : Feature) (s : ℕ)
     → AreRuns ws fs starts least made → last_end least (fs ++ f ∷ []) (starts ++ s ∷ []) ≡ s + length f.points
 end_push ws [] [] least made f s h = refl
 end_push ws [] (t ∷ starts) least made f s h = absurd h
@@ -47,7 +48,8 @@ end_push (v ∷ ws) (g ∷ fs) [] least made f s h = absurd h
 end_push (v ∷ ws) (g ∷ fs) (t ∷ starts) least made f s h = end_push ws fs starts (t + length g.points) made f s h.2
 
 -- starts of features, cut before the last
-pub record AreWithLast (ws : List Wanted) (fs : List Feature) (f : Feature) (starts : List ℕ) (least : ℕ) (made : List Made) : Type 0 where
+pub record AreWithLast (ws : List Wanted) (fs : List Feature) (f : Feature) (starts : List ℕ) (least : ℕ)
+    (made : List MadeContact) : Type 0 where
   pub front : List ℕ
   pub last : ℕ
   pub wanted : Wanted
@@ -59,7 +61,7 @@ pub record AreWithLast (ws : List Wanted) (fs : List Feature) (f : Feature) (sta
   pub run : IsRun wanted f last made
 
 -- starts of one feature more are those of the features before it, and one behind their runs
-pub runs_split : (ws : List Wanted) (fs : List Feature) (f : Feature) (starts : List ℕ) (least : ℕ) (made : List Made)
+pub runs_split : (ws : List Wanted) (fs : List Feature) (f : Feature) (starts : List ℕ) (least : ℕ) (made : List MadeContact)
     → AreRuns ws (fs ++ f ∷ []) starts least made → AreWithLast ws fs f starts least made
 runs_split [] [] f starts least made h = absurd h
 runs_split (v ∷ ws) [] f [] least made h = absurd h

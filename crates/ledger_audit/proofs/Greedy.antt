@@ -5,18 +5,18 @@ use Rattle.std.proofs.lemmas.List.{take-take, take_more, length-take-le}
 use Rattle.contact_ledger.specs.declared.acts.Act.{Act}
 use Rattle.contact_ledger.specs.declared.features.Feature.{Feature}
 use Rattle.dmis_program.specs.declared.features.Wanted.{Wanted}
-use Rattle.protocol_model.specs.Claims.{Made, contacts, IsRun, AreRuns, Sound}
+use Rattle.protocol_model.specs.Claims.{MadeContact, contacts, IsRun, AreRuns, Sound}
 use Rattle.ledger_audit.specs.Verdicts.{AreAtMost, IsFirstRun, HasNoRun, AreFewestUnsound}
 use Rattle.ledger_audit.proofs.ChoiceLaws.{last_end, sound_take, runs_push, end_push, AreWithLast, runs_split, at_most_push}
 
 -- starts that are a choice, none of which is above that of any other choice; nor do their runs end behind those of another
-pub record AreEarliest (ws : List Wanted) (fs : List Feature) (made : List Made) (starts : List ℕ) (over : ℕ) : Type 0 where
+pub record AreEarliest (ws : List Wanted) (fs : List Feature) (made : List MadeContact) (starts : List ℕ) (over : ℕ) : Type 0 where
   pub runs : AreRuns ws fs starts 0 made
   pub over_is : over ≡ last_end 0 fs starts
   pub least : (others : List ℕ) → AreRuns ws fs others 0 made → AreAtMost starts others × (over ≤ last_end 0 fs others)
 
 -- no features have no starts
-pub earliest_none : (ws : List Wanted) (made : List Made) → AreEarliest ws [] made [] 0
+pub earliest_none : (ws : List Wanted) (made : List MadeContact) → AreEarliest ws [] made [] 0
 earliest_none ws made = record { runs = tt; over_is = refl; least = λ others h. none others h }
   where
     none : (others : List ℕ) → AreRuns ws [] others 0 made → AreAtMost [] others × (0 ≤ last_end 0 [] others)
@@ -29,13 +29,13 @@ get_same (x ∷ ws) zero v w lt e d = e ∙ sym d
 get_same (x ∷ ws) (suc k) v w lt e d = get_same ws k v w (omega arith) e d
 
 -- the last run of a choice is one of the next wanted feature
-split_run : (ws : List Wanted) (fs : List Feature) (f : Feature) (starts : List ℕ) (made : List Made) (w : Wanted)
+split_run : (ws : List Wanted) (fs : List Feature) (f : Feature) (starts : List ℕ) (made : List MadeContact) (w : Wanted)
     → (h : AreWithLast ws fs f starts 0 made) → w ≡ get_or ws (length fs) w → IsRun w f h.last made
 split_run ws fs f starts made w h e =
     subst (λ (x : Wanted). IsRun x f h.last made) (get_same ws (length fs) h.wanted w h.held h.wanted_is e) h.run
 
 -- the first run behind the earliest ones is the earliest of one feature more
-pub earliest_push : (ws : List Wanted) (fs : List Feature) (made : List Made) (starts : List ℕ) (over : ℕ) (w : Wanted) (f : Feature)
+pub earliest_push : (ws : List Wanted) (fs : List Feature) (made : List MadeContact) (starts : List ℕ) (over : ℕ) (w : Wanted) (f : Feature)
     (s : ℕ) → AreEarliest ws fs made starts over → length fs < length ws → w ≡ get_or ws (length fs) w → IsFirstRun w f over made s
     → AreEarliest ws (fs ++ f ∷ []) made (starts ++ s ∷ []) (s + length f.points)
 earliest_push ws fs made starts over w f s h lt e first = record {
@@ -59,7 +59,8 @@ earliest_push ws fs made starts over w f s h lt e first = record {
         subst (λ (l : List ℕ). AreAtMost (starts ++ s ∷ []) l × (s + length f.points ≤ last_end 0 (fs ++ f ∷ []) l)) (sym g.whole) one
 
 -- where the next feature has no run behind the earliest ones, there is no choice
-pub earliest_stuck : (ws : List Wanted) (fs : List Feature) (made : List Made) (starts : List ℕ) (over : ℕ) (w : Wanted) (f : Feature)
+pub earliest_stuck : (ws : List Wanted) (fs : List Feature) (made : List MadeContact) (starts : List ℕ) (over : ℕ) (w : Wanted)
+    (f : Feature)
     → AreEarliest ws fs made starts over → w ≡ get_or ws (length fs) w → HasNoRun w f over made
     → (others : List ℕ) → AreRuns ws (fs ++ f ∷ []) others 0 made → ⊥
 earliest_stuck ws fs made starts over w f h e none others g = at (runs_split ws fs f others 0 made g)
@@ -68,7 +69,7 @@ earliest_stuck ws fs made starts over w f h e none others g = at (runs_split ws 
     at k = let before = h.least k.front k.runs in none k.last (omega (arith, before.1, k.from)) (split_run ws fs f others made w k e)
 
 -- where no further feature is wanted, there is no choice
-pub wanted_spent : (ws : List Wanted) (fs : List Feature) (made : List Made) (f : Feature) → length ws ≤ length fs
+pub wanted_spent : (ws : List Wanted) (fs : List Feature) (made : List MadeContact) (f : Feature) → length ws ≤ length fs
     → (others : List ℕ) → AreRuns ws (fs ++ f ∷ []) others 0 made → ⊥
 wanted_spent ws fs made f le others g = let k = runs_split ws fs f others 0 made g in
     let held : length fs < length ws = k.held in absurd (omega arith)
@@ -98,7 +99,7 @@ one_more : (fs : List Feature) (k : ℕ) (f : Feature) → k < length fs → f �
 one_more fs k f lt e = take_more fs k f lt ∙ ap (λ (g : Feature). take k fs ++ g ∷ []) (sym e)
 
 -- the earliest starts of the features passed, and the first run behind them
-pub passed_push : (ws : List Wanted) (fs : List Feature) (made : List Made) (starts : List ℕ) (over k : ℕ) (w : Wanted) (f : Feature)
+pub passed_push : (ws : List Wanted) (fs : List Feature) (made : List MadeContact) (starts : List ℕ) (over k : ℕ) (w : Wanted) (f : Feature)
     (s : ℕ) → AreEarliest ws (take k fs) made starts over → IsFirstRun w f over made s → k < length fs → f ≡ get_or fs k f
     → k < length ws → w ≡ get_or ws k w
     → AreEarliest ws (take (k + 1) fs) made (starts ++ s ∷ []) (s + length f.points)
@@ -108,22 +109,22 @@ passed_push ws fs made starts over k w f s h first lt e held d =
     (earliest_push ws (take k fs) made starts over w f s h (omega arith) (subst (λ (i : ℕ). w ≡ get_or ws i w) (sym long) d) first)
 
 -- where the next feature has no run behind them
-pub passed_stuck : (ws : List Wanted) (fs : List Feature) (l : List (ℕ × Act)) (made : List Made) (starts : List ℕ) (over k : ℕ)
+pub passed_stuck : (ws : List Wanted) (fs : List Feature) (l : List (ℕ × Act)) (made : List MadeContact) (starts : List ℕ) (over k : ℕ)
     (w : Wanted) (f : Feature) → AreEarliest ws (take k fs) made starts over → HasNoRun w f over made → made ≡ contacts l → k < length fs
     → f ≡ get_or fs k f → w ≡ get_or ws k w → AreFewestUnsound ws fs l (k + 1)
 passed_stuck ws fs l made starts over k w f h none is lt e d =
     let long : length (take k fs) ≡ k = length-take-le k fs (omega arith) in
     let stuck = earliest_stuck ws (take k fs) made starts over w f h (subst (λ (i : ℕ). w ≡ get_or ws i w) (sym long) d) none in
-    fewest_by ws fs l k starts (subst (λ (ms : List Made). AreRuns ws (take k fs) starts 0 ms) is h.runs) lt
-    (λ others g. stuck others (subst (λ (ms : List Made). AreRuns ws (take k fs ++ f ∷ []) others 0 ms) (sym is)
+    fewest_by ws fs l k starts (subst (λ (ms : List MadeContact). AreRuns ws (take k fs) starts 0 ms) is h.runs) lt
+    (λ others g. stuck others (subst (λ (ms : List MadeContact). AreRuns ws (take k fs ++ f ∷ []) others 0 ms) (sym is)
     (subst (λ (gs : List Feature). AreRuns ws gs others 0 (contacts l)) (one_more fs k f lt e) g)))
 
 -- where all wanted features are passed
-pub passed_spent : (ws : List Wanted) (fs : List Feature) (l : List (ℕ × Act)) (made : List Made) (starts : List ℕ) (over k : ℕ)
+pub passed_spent : (ws : List Wanted) (fs : List Feature) (l : List (ℕ × Act)) (made : List MadeContact) (starts : List ℕ) (over k : ℕ)
     (f : Feature) → AreEarliest ws (take k fs) made starts over → made ≡ contacts l → k < length fs → f ≡ get_or fs k f → length ws ≤ k
     → AreFewestUnsound ws fs l (k + 1)
 passed_spent ws fs l made starts over k f h is lt e spent =
     let long : length (take k fs) ≡ k = length-take-le k fs (omega arith) in
-    fewest_by ws fs l k starts (subst (λ (ms : List Made). AreRuns ws (take k fs) starts 0 ms) is h.runs) lt
+    fewest_by ws fs l k starts (subst (λ (ms : List MadeContact). AreRuns ws (take k fs) starts 0 ms) is h.runs) lt
     (λ others g. wanted_spent ws (take k fs) (contacts l) f (omega arith) others
     (subst (λ (gs : List Feature). AreRuns ws gs others 0 (contacts l)) (one_more fs k f lt e) g))

@@ -7,11 +7,11 @@ use Rattle.fixed_um.specs.declared.lengths.Point.{Point}
 use Rattle.contact_ledger.specs.declared.features.Feature.{Feature}
 use Rattle.dmis_program.specs.declared.features.Touch.{Touch}
 use Rattle.dmis_program.specs.declared.features.Wanted.{Wanted}
-use Rattle.protocol_model.specs.Claims.{Made, IsServed, Serves, IsRun}
+use Rattle.protocol_model.specs.Claims.{MadeContact, IsServed, Serves, IsRun}
 use Rattle.ledger_audit.specs.Verdicts.{IsFirstRun}
 
 -- contacts that serve are as many as the points
-serves_long : (n : ℕ) (ts : List Touch) (ps : List Point) (ms : List Made) → Serves n ts ps ms → length ms ≡ length ps
+serves_long : (n : ℕ) (ts : List Touch) (ps : List Point) (ms : List MadeContact) → Serves n ts ps ms → length ms ≡ length ps
 serves_long n [] [] [] h = refl
 serves_long n [] [] (m ∷ ms) h = absurd h
 serves_long n [] (p ∷ ps) ms h = absurd h
@@ -20,14 +20,14 @@ serves_long n (t ∷ ts) (p ∷ ps) [] h = absurd h
 serves_long n (t ∷ ts) (p ∷ ps) (m ∷ ms) h = ap suc (serves_long n ts ps ms h.1)
 
 -- a run ends within the contacts, where it begins there
-pub run_within : (w : Wanted) (f : Feature) (s : ℕ) (made : List Made) → IsRun w f s made → s ≤ length made
+pub run_within : (w : Wanted) (f : Feature) (s : ℕ) (made : List MadeContact) → IsRun w f s made → s ≤ length made
     → s + length f.points ≤ length made
 run_within w f s made h le =
     let long : length (take (length f.points) (drop s made)) ≡ length f.points = serves_long h.connection w.touches f.points _ h.serves in
     omega (arith, length-take (length f.points) (drop s made), length-drop s made)
 
 -- contacts that serve on one connection serve on that of the first
-pub serves_first : (m : Made) (n : ℕ) (ts : List Touch) (ps : List Point) (ms : List Made) → Serves n ts ps ms → 1 ≤ length ms
+pub serves_first : (m : MadeContact) (n : ℕ) (ts : List Touch) (ps : List Point) (ms : List MadeContact) → Serves n ts ps ms → 1 ≤ length ms
     → m ≡ get_or ms 0 m → Serves m.connection ts ps ms
 serves_first m n ts ps [] h some e = absurd (omega arith)
 serves_first m n [] [] (x ∷ ms) h some e = absurd h
@@ -35,11 +35,12 @@ serves_first m n [] (p ∷ ps) (x ∷ ms) h some e = absurd h
 serves_first m n (t ∷ ts) [] (x ∷ ms) h some e = absurd h
 serves_first m n (t ∷ ts) (p ∷ ps) (x ∷ ms) h some e =
     let served : IsServed n t p x = h.0 in
-    let on : n ≡ m.connection = sym (ap (λ (y : Made). y.connection) e ∙ served.on) in
+    let on : n ≡ m.connection = sym (ap (λ (y : MadeContact). y.connection) e ∙ served.on) in
     subst (λ (k : ℕ). Serves k (t ∷ ts) (p ∷ ps) (x ∷ ms)) on h
 
 -- where there are no contacts, they serve on any
-pub serves_none : (n k : ℕ) (ts : List Touch) (ps : List Point) (ms : List Made) → Serves n ts ps ms → length ms < 1 → Serves k ts ps ms
+pub serves_none : (n k : ℕ) (ts : List Touch) (ps : List Point) (ms : List MadeContact) → Serves n ts ps ms → length ms < 1
+    → Serves k ts ps ms
 serves_none n k ts ps (m ∷ ms) h none = absurd (omega arith)
 serves_none n k [] [] [] h none = tt
 serves_none n k [] (p ∷ ps) [] h none = absurd h
@@ -47,7 +48,7 @@ serves_none n k (t ∷ ts) [] [] h none = absurd h
 serves_none n k (t ∷ ts) (p ∷ ps) [] h none = absurd h
 
 -- a run is the first one, where none begins below it
-pub first_by : (w : Wanted) (f : Feature) (least : ℕ) (made : List Made) (s : ℕ)
+pub first_by : (w : Wanted) (f : Feature) (least : ℕ) (made : List MadeContact) (s : ℕ)
     → ((other : ℕ) → least ≤ other → other < s → IsRun w f other made → ⊥) → least ≤ s → IsRun w f s made → IsFirstRun w f least made s
 first_by w f least made s below from run = record {
   from = from;

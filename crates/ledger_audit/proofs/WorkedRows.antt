@@ -4,7 +4,7 @@ use Rattle.fixed_um.specs.declared.lengths.Point.{Point}
 use Rattle.contact_ledger.specs.declared.features.Feature.{Feature}
 use Rattle.dmis_program.specs.declared.features.Touch.{Touch}
 use Rattle.dmis_program.specs.declared.features.Wanted.{Wanted}
-use Rattle.protocol_model.specs.Claims.{Made, contacts, IsServed, AreRuns, Sound}
+use Rattle.protocol_model.specs.Claims.{MadeContact, contacts, IsServed, AreRuns, Sound}
 use Rattle.protocol_model.specs.LedgerRows.{first_touch, second_touch, one_wanted, first_point, second_point, measured_as}
 use Rattle.protocol_model.proofs.worked_rows.LedgerRefused.{no_contact_is_none}
 use Rattle.ledger_audit.specs.Verdicts.{AreAtMost, AreLeast, AreFewestUnsound}
@@ -30,7 +30,7 @@ second_is = (
 )
 
 -- no start is less than 0
-zero_least : (ws : List Wanted) (f : Feature) (others : List ℕ) (made : List Made) → AreRuns ws (f ∷ []) others 0 made
+zero_least : (ws : List Wanted) (f : Feature) (others : List ℕ) (made : List MadeContact) → AreRuns ws (f ∷ []) others 0 made
     → AreAtMost (0 ∷ []) others
 zero_least [] f others made h = absurd h
 zero_least (w ∷ ws) f [] made h = absurd h

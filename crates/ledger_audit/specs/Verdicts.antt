@@ -3,7 +3,7 @@ use Rattle.std.specs.Prelude.{ℕ, ◌<◌, ◌≤◌, List, [], ◌∷◌, leng
 use Rattle.contact_ledger.specs.declared.acts.Act.{Act}
 use Rattle.contact_ledger.specs.declared.features.Feature.{Feature}
 use Rattle.dmis_program.specs.declared.features.Wanted.{Wanted}
-use Rattle.protocol_model.specs.Claims.{Made, IsRun, AreRuns, Sound}
+use Rattle.protocol_model.specs.Claims.{MadeContact, IsRun, AreRuns, Sound}
 use Rattle.ledger_audit.specs.declared.verdicts.Verdict.{Verdict}
 use Rattle.ledger_audit.specs.declared.verdicts.Verdict.TheVariants as verdict
 
@@ -14,7 +14,7 @@ AreAtMost (s ∷ starts) (t ∷ others) = (s ≤ t) × AreAtMost starts others
 AreAtMost _ _ = ⊥
 
 -- no choice of starts has one below these
-abbrev pub AreLeast : List Wanted → List Feature → List Made → List ℕ → Type 0
+abbrev pub AreLeast : List Wanted → List Feature → List MadeContact → List ℕ → Type 0
 AreLeast wanted features made starts = (others : List ℕ) → AreRuns wanted features others 0 made → AreAtMost starts others
 
 -- so many of the features are the fewest that have no runs together
@@ -45,11 +45,11 @@ TellsNoRun (verdict.Starts starts) = ⊥
 TellsNoRun (verdict.NoRun count) = Unit {0}
 
 -- a feature has no run among the contacts from a number on
-abbrev pub HasNoRun : Wanted → Feature → ℕ → List Made → Type 0
+abbrev pub HasNoRun : Wanted → Feature → ℕ → List MadeContact → Type 0
 HasNoRun wanted feature least made = (start : ℕ) → least ≤ start → IsRun wanted feature start made → ⊥
 
 -- a run of a feature begins here, and none before it, among the contacts from a number on
-pub record IsFirstRun (wanted : Wanted) (feature : Feature) (least : ℕ) (made : List Made) (start : ℕ) : Type 0 where
+pub record IsFirstRun (wanted : Wanted) (feature : Feature) (least : ℕ) (made : List MadeContact) (start : ℕ) : Type 0 where
   pub from : least ≤ start
   pub run : IsRun wanted feature start made
   pub first : (other : ℕ) → least ≤ other → IsRun wanted feature other made → start ≤ other

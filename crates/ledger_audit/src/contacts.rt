@@ -21,9 +21,9 @@ pub(crate) struct Contact<'l> {
 }
 
 impl<'l> Model for Contact<'l> {
-    ghost use Rattle.protocol_model.specs.Claims.{Made};
+    ghost use Rattle.protocol_model.specs.Claims.{MadeContact};
 
-    ghost Value = { Made };
+    ghost Value = { MadeContact };
 
     ghost view = { λ c. record {
       connection = c.connection;

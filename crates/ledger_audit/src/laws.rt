@@ -3,12 +3,12 @@ ghost use Rattle.std.specs.Prelude.{◌≡◌, ℕ, List};
 ghost use Rattle.contact_ledger.specs.declared.acts.Act.{Act};
 ghost use Rattle.contact_ledger.specs.declared.features.Feature.{Feature};
 ghost use Rattle.dmis_program.specs.declared.features.Wanted.{Wanted};
-ghost use Rattle.protocol_model.specs.Claims.{Made, AreRuns};
+ghost use Rattle.protocol_model.specs.Claims.{MadeContact, AreRuns};
 ghost use Rattle.ledger_audit.specs.Verdicts.{AreLeast, AreFewestUnsound};
 
 /// There is one verdict: starts none of which can be less are the only ones, and so is the count of the fewest features that have none.
 pub fn there_is_one_verdict()
-    ensures starts { (wanted : List Wanted) (features : List Feature) (made : List Made)
+    ensures starts { (wanted : List Wanted) (features : List Feature) (made : List MadeContact)
         (some others : List ℕ) → AreRuns wanted features some 0 made
         → AreLeast wanted features made some → AreRuns wanted features others 0 made
         → AreLeast wanted features made others → some ≡ others }

@@ -2,6 +2,6 @@
 use Rattle.std.specs.Prelude.{ℕ, List}
 
 -- the bytes that were appended and not taken, and room for more
-pub record Queued : Type 0 where
+pub record QueueValue : Type 0 where
   pub waiting : List ℕ
   pub room : ℕ

@@ -18,9 +18,9 @@ pub struct ByteQueue {
 
 impl Model for ByteQueue {
     ghost use Rattle.std.specs.Prelude.{◌-◌, ◌≤◌, length, drop, vec_len, vec_capacity};
-    ghost use Rattle.line_framing.specs.Queue.{Queued};
+    ghost use Rattle.line_framing.specs.Queue.{QueueValue};
 
-    ghost Value = { Queued };
+    ghost Value = { QueueValue };
 
     ghost view = { λ q. record { waiting = drop q.start q.bytes.items; room = vec_capacity q.bytes - vec_len q.bytes } };
 

@@ -7,9 +7,9 @@ use Rattle.protocol_model.specs.World.{World, can, after, server_link, client_li
 use Rattle.protocol_model.specs.declared.events.Event.{Event}
 use Rattle.protocol_model.specs.declared.events.Event.TheVariants as event
 use Rattle.protocol_model.specs.Ends.{ClientEnd}
-use Rattle.server_core.specs.Serving.{Serving}
+use Rattle.server_core.specs.Serving.{ServerValue}
 use Rattle.link_world.specs.declared.connection.Connection.{Connection}
-use Rattle.link_world.specs.Links.{Linked, with_world, seen, links_of, IsReached}
+use Rattle.link_world.specs.Links.{WorldValue, with_world, seen, links_of, IsReached}
 use Rattle.protocol_model.specs.Rounds.{IsOne, possible, all_up, all_down}
 use Rattle.link_world.specs.Parts.{Makes, Tells}
 use Rattle.link_world.proofs.EventLists.{not_done}
@@ -31,12 +31,12 @@ pub one_cut : (o : Option Event) → IsOne o true []
 one_cut None = refl
 one_cut (Some e) = inr (refl, refl)
 
-abbrev pub Attempted : {E : Type 0} → Result Bool E → Event → Linked → Linked → Type 0
+abbrev pub Attempted : {E : Type 0} → Result Bool E → Event → WorldValue → WorldValue → Type 0
 Attempted r e l m =
     IfOk r (λ happened. happened ≡ can e l.world)
     × OnOk r (m ≡ with_world l (after e l.world)) × OnErr r (m ≡ l)
 
-attempted_if : (e : Event) (some : World → Option Event) (l m : Linked) (b : Bool) → (can e l.world ≡ true → some l.world ≡ Some e)
+attempted_if : (e : Event) (some : World → Option Event) (l m : WorldValue) (b : Bool) → (can e l.world ≡ true → some l.world ≡ Some e)
     → (can e l.world ≡ false → some l.world ≡ None) → b ≡ can e l.world
     → (m ≡ with_world l (after e l.world))
     → Makes (λ cut w. IsOne (some w) cut) false (Some b) l m
@@ -53,7 +53,7 @@ attempted_if e some l m false known never is leads = record {
   told_is = refl;
 }
 
-pub attempted : {E : Type 0} (e : Event) (some : World → Option Event) (l m : Linked) (r : Result Bool E)
+pub attempted : {E : Type 0} (e : Event) (some : World → Option Event) (l m : WorldValue) (r : Result Bool E)
     → (can e l.world ≡ true → some l.world ≡ Some e) → (can e l.world ≡ false → some l.world ≡ None) → Attempted r e l m
     → Tells r (λ cut w. IsOne (some w) cut) l m
 attempted e some l m (Ok b) known never h = attempted_if e some l m b known never h.0 h.1
@@ -80,13 +80,13 @@ up_no count w false off is never =
     possible_by (event.Up (length (server_link w).up)) (can (event.Up (length (server_link w).up)) w) false
     (ap (λ (b : Bool). b && (is_none w.server.input.fault && has_some (length (server_link w).up) (server_link w).up)) off)
 
-pub up_done : {E : Type 0} (count : ℕ) (l m : Linked) (r : Result Bool E)
+pub up_done : {E : Type 0} (count : ℕ) (l m : WorldValue) (r : Result Bool E)
     → (l.world.server.server.on ≡ true → count ≡ length (server_link l.world).up) → Attempted r (event.Up count) l m
     → Tells r (λ cut w. IsOne (all_up w) cut) l m
 up_done count l m r is h = attempted (event.Up count) all_up l m r (up_yes count l.world is)
     (up_no count l.world l.world.server.server.on refl is) h
 
-pub down_done : {E : Type 0} (count : ℕ) (l m : Linked) (r : Result Bool E)
+pub down_done : {E : Type 0} (count : ℕ) (l m : WorldValue) (r : Result Bool E)
     → count ≡ length (client_link l.world).down → Attempted r (event.Down count) l m
     → Tells r (λ cut w. IsOne (all_down w) cut) l m
 down_done count l m r is h = attempted (event.Down count) all_down l m r
@@ -95,19 +95,21 @@ down_done count l m r is h = attempted (event.Down count) all_down l m r
 
 -- ---- how many wait
 
-pub up_waits : (l : Linked) (client : ClientEnd) (server : Serving) (cs : List Connection) (written : List ℕ) (at : ℕ) (c : Connection)
+pub up_waits : (l : WorldValue) (client : ClientEnd) (server : ServerValue) (cs : List Connection) (written : List ℕ) (at : ℕ)
+    (c : Connection)
     → seen client server cs written ≡ l → at ≡ server.end.server.last - 1 → at < length cs → c ≡ slice_index_or cs at c
     → length c.up.waiting ≡ length (server_link l.world).up
 up_waits l client server cs written at c view place short is =
-    subst (λ (k : Linked). length c.up.waiting ≡ length (server_link k.world).up) view
+    subst (λ (k : WorldValue). length c.up.waiting ≡ length (server_link k.world).up) view
     (sym (ap (λ (x : Link). length x.up) (ap (λ (n : ℕ). slice_index_or (links_of cs) n no_link) (sym place) ∙ links_get cs at c short is)))
 
-pub down_waits : (l : Linked) (client : ClientEnd) (server : Serving) (cs : List Connection) (written : List ℕ) (at : ℕ) (c : Connection)
+pub down_waits : (l : WorldValue) (client : ClientEnd) (server : ServerValue) (cs : List Connection) (written : List ℕ) (at : ℕ)
+    (c : Connection)
     → seen client server cs written ≡ l → IsReached (seen client server cs written) → at ≡ length cs - 1 → 0 < length cs
     → c ≡ slice_index_or cs at c → length c.down.waiting ≡ length (client_link l.world).down
 down_waits l client server cs written at c view h place some is =
     let same : length cs ≡ client.client.last = made client server cs written h in
     let number : at ≡ client.client.last - 1 = place ∙ ap (λ (n : ℕ). n - 1) same in
-    subst (λ (k : Linked). length c.down.waiting ≡ length (client_link k.world).down) view
+    subst (λ (k : WorldValue). length c.down.waiting ≡ length (client_link k.world).down) view
     (sym (ap (λ (x : Link). length x.down) (ap (λ (n : ℕ). slice_index_or (links_of cs) n no_link) (sym number)
     ∙ links_get cs at c (omega (arith, place, some)) is)))

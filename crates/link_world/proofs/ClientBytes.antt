@@ -7,25 +7,26 @@ use Rattle.protocol_model.specs.World.{World, Link, no_link, link_of, with_link,
 use Rattle.protocol_model.specs.World as world
 use Rattle.protocol_model.specs.declared.events.Event.TheVariants as event
 use Rattle.client_core.specs.Clients.{may_read}
-use Rattle.server_core.specs.Serving.{Serving}
+use Rattle.server_core.specs.Serving.{ServerValue}
 use Rattle.link_world.specs.declared.connection.Connection.{Connection}
-use Rattle.link_world.specs.Links.{Linked, link_of_connection, links_of, fewer_down, seen, with_world, IsReached}
+use Rattle.link_world.specs.Links.{WorldValue, link_of_connection, links_of, fewer_down, seen, with_world, IsReached}
 use Rattle.link_world.proofs.Linking.{links_get, link_put}
 use Rattle.link_world.proofs.Reached.{made}
 use Rattle.link_world.proofs.ClientWriting.{awake}
 use Rattle.link_world.proofs.ClientReading.{faulted_same}
 
 -- where it is on a connection it reads
-pub reads_on : (client : ClientEnd) (server : Serving) (cs : List Connection) (written : List ℕ) → IsReached (seen client server cs written)
+pub reads_on : (client : ClientEnd) (server : ServerValue) (cs : List Connection) (written : List ℕ)
+    → IsReached (seen client server cs written)
     → client.client.on ≡ true → may_read client.client ≡ true
 reads_on client server cs written h on = and_from _ _ on (ap not (awake client server cs written h))
 
-pub off_no_bytes : (l : Linked) (count : ℕ) → l.world.client.client.on ≡ false → can (event.Down count) l.world ≡ false
+pub off_no_bytes : (l : WorldValue) (count : ℕ) → l.world.client.client.on ≡ false → can (event.Down count) l.world ≡ false
 off_no_bytes l count off = ap (λ (b : Bool). b && (not (world.is_faulted l.world.client.client.state)
     && has_some count (client_link l.world).down)) off
 
 -- the bytes of its connection
-here : (client : ClientEnd) (server : Serving) (cs : List Connection) (written : List ℕ) (at : ℕ) (c : Connection)
+here : (client : ClientEnd) (server : ServerValue) (cs : List Connection) (written : List ℕ) (at : ℕ) (c : Connection)
     → IsReached (seen client server cs written) → at ≡ length cs - 1 → 0 < length cs → c ≡ slice_index_or cs at c
     → link_of (links_of cs) client.client.last ≡ link_of_connection c
 here client server cs written at c h place some is =
@@ -33,7 +34,7 @@ here client server cs written at c h place some is =
     let number : at ≡ client.client.last - 1 = place ∙ ap (λ (n : ℕ). n - 1) same in
     ap (λ (n : ℕ). slice_index_or (links_of cs) n no_link) (sym number) ∙ links_get cs at c (omega (arith, place, some)) is
 
-pub down_may : (count : ℕ) (client : ClientEnd) (server : Serving) (cs : List Connection) (written : List ℕ) (at : ℕ) (c : Connection)
+pub down_may : (count : ℕ) (client : ClientEnd) (server : ServerValue) (cs : List Connection) (written : List ℕ) (at : ℕ) (c : Connection)
     → IsReached (seen client server cs written) → client.client.on ≡ true
     → at ≡ length cs - 1 → 0 < length cs → c ≡ slice_index_or cs at c
     → can (event.Down count) (seen client server cs written).world ≡ has_some count c.down.waiting
@@ -46,7 +47,7 @@ down_may count client server cs written at c h on place some is =
     ∙ (ap (λ (x : Bool). x && has_some count (link_of (links_of cs) client.client.last).down) stays
     ∙ ap (λ (l : Link). has_some count l.down) link)
 
-pub down_seen : (count : ℕ) (client after : ClientEnd) (server : Serving) (cs : List Connection) (written : List ℕ) (at : ℕ)
+pub down_seen : (count : ℕ) (client after : ClientEnd) (server : ServerValue) (cs : List Connection) (written : List ℕ) (at : ℕ)
     (c d : Connection)
     → IsReached (seen client server cs written) → at ≡ length cs - 1 → 0 < length cs → c ≡ slice_index_or cs at c
     → after ≡ end_fed (take count c.down.waiting) client → link_of_connection d ≡ fewer_down count c

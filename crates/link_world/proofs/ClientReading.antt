@@ -15,7 +15,7 @@ use Rattle.client_core.specs.Clients.{is_faulted, may_read}
 use Rattle.client_core.specs.Refusals.{IsReadRefused}
 use Rattle.client_core.specs.declared.faults.ClientFault.{ClientFault}
 use Rattle.client_core.specs.declared.faults.ClientFault.TheVariants as client_fault
-use Rattle.server_core.specs.Serving.{Serving}
+use Rattle.server_core.specs.Serving.{ServerValue}
 use Rattle.link_world.specs.declared.connection.Connection.{Connection}
 use Rattle.link_world.specs.declared.faults.WorldFault.TheVariants as world_fault
 use Rattle.link_world.specs.Claims.{refused_by}
@@ -49,7 +49,7 @@ pub reads_can : (e : ClientEnd) → may_read e.client ≡ true → IsLineDue (ne
 reads_can e may due = let parts = may_is e may in and_from _ _ parts.0 (and_from _ _ parts.1 (any_line (next_of e.input.rest) due))
 
 -- it never meets what is no line
-no_fault_read : (client : ClientEnd) (server : Serving) (cs : List Connection) (written : List ℕ)
+no_fault_read : (client : ClientEnd) (server : ServerValue) (cs : List Connection) (written : List ℕ)
     → IsReached (seen client server cs written)
     → client.client.on ≡ true → (why : FramingFault) → next_of client.input.rest ≡ Err why → ⊥
 no_fault_read client server cs written h on why is =
@@ -57,7 +57,7 @@ no_fault_read client server cs written h on why is =
     no_reply_fault c.down client.input.rest (client_link (seen client server cs written).world).down why c.wired.replies
     (c.wired.down_is on) is
 
-pub read_reached : (client after : ClientEnd) (server : Serving) (cs : List Connection) (written : List ℕ)
+pub read_reached : (client after : ClientEnd) (server : ServerValue) (cs : List Connection) (written : List ℕ)
     → IsReached (seen client server cs written)
     → reads_any client ≡ true → (after ≡ end_read client)
     → IsReached (seen after server cs written)
@@ -85,7 +85,7 @@ not_any e f is none = go (reads_any e) refl
     go false x = refl
     go true x = absurd (false≢true (sym none ∙ (ap is_any (sym is) ∙ (and_parts _ _ (and_parts _ _ x).1).1)))
 
-pub nothing_read : (client after : ClientEnd) (server : Serving) (cs : List Connection) (written : List ℕ)
+pub nothing_read : (client after : ClientEnd) (server : ServerValue) (cs : List Connection) (written : List ℕ)
     → IsReached (seen client server cs written)
     → may_read client.client ≡ true → (IsLineDue (next_of client.input.rest) → ⊥)
     → (after ≡ end_read client) → NothingRead client after
@@ -107,7 +107,7 @@ pub record NotRead (client after : ClientEnd) (fault : ClientFault) : Type 0 whe
 pub off_reads : (e : ClientEnd) → e.client.on ≡ false → reads_any e ≡ false
 off_reads e off = ap (λ (b : Bool). b && (not (world.is_faulted e.client.state) && is_any (next_of e.input.rest))) off
 
-never_met : (client after : ClientEnd) (server : Serving) (cs : List Connection) (written : List ℕ)
+never_met : (client after : ClientEnd) (server : ServerValue) (cs : List Connection) (written : List ℕ)
     → IsReached (seen client server cs written) → is_faulted after.client.state ≡ true
     → (may_read client.client ≡ true → after ≡ end_read client)
     → (may_read client.client ≡ false → after ≡ client) → ⊥
@@ -129,7 +129,7 @@ never_met client after server cs written h met is before = go (may_read client.c
     go false never = never_faulted_now client server cs written h
         (subst (λ (x : ClientEnd). is_faulted x.client.state ≡ true) (before never) met)
 
-pub not_read : (client after : ClientEnd) (server : Serving) (cs : List Connection) (written : List ℕ) (fault : ClientFault)
+pub not_read : (client after : ClientEnd) (server : ServerValue) (cs : List Connection) (written : List ℕ) (fault : ClientFault)
     → IsReached (seen client server cs written)
     → IsReadRefused client after fault → (fault ≢ client_fault.Memory → may_read client.client ≡ true → after ≡ end_read client)
     → (may_read client.client ≡ false → after ≡ client) → NotRead client after fault
@@ -138,7 +138,8 @@ not_read client after server cs written (client_fault.Faulted cause) h r is befo
     absurd (never_met client after server cs written h r.0 (is (λ (e : client_fault.Faulted cause ≡ client_fault.Memory). cc)) before)
 not_read client after server cs written client_fault.Memory h r is before = record { same = r; none = λ e. absurd (cc) }
 
-pub no_line : (client : ClientEnd) (server : Serving) (cs : List Connection) (written : List ℕ) → IsReached (seen client server cs written)
+pub no_line : (client : ClientEnd) (server : ServerValue) (cs : List Connection) (written : List ℕ)
+    → IsReached (seen client server cs written)
     → client.client.on ≡ true → (IsLineDue (next_of client.input.rest) → ⊥) → reads_any client ≡ false
 no_line client server cs written h on none = go (next_of client.input.rest) refl
   where
@@ -147,7 +148,8 @@ no_line client server cs written h on none = go (next_of client.input.rest) refl
     go (Ok (Some found)) e = absurd (none (subst IsLineDue (sym e) refl))
     go (Err why) e = absurd (no_fault_read client server cs written h on why e)
 
-pub line_can : (client : ClientEnd) (server : Serving) (cs : List Connection) (written : List ℕ) → IsReached (seen client server cs written)
+pub line_can : (client : ClientEnd) (server : ServerValue) (cs : List Connection) (written : List ℕ)
+    → IsReached (seen client server cs written)
     → client.client.on ≡ true → IsLineDue (next_of client.input.rest) → reads_any client ≡ true
 line_can client server cs written h on due =
     and_from _ _ on (and_from _ _ (subst (λ (b : Bool). not b ≡ true) (faulted_same client.client.state)

@@ -13,11 +13,11 @@ use Rattle.client_core.specs.Clients.{is_faulted, may_connect}
 use Rattle.client_core.specs.Refusals.{IsRefused}
 use Rattle.client_core.specs.declared.faults.ClientFault.{ClientFault}
 use Rattle.client_core.specs.declared.faults.ClientFault.TheVariants as client_fault
-use Rattle.server_core.specs.Serving.{Serving}
+use Rattle.server_core.specs.Serving.{ServerValue}
 use Rattle.link_world.specs.declared.connection.Connection.{Connection}
 use Rattle.link_world.specs.declared.faults.WorldFault.TheVariants as world_fault
 use Rattle.link_world.specs.Claims.{refused_by}
-use Rattle.link_world.specs.Links.{Linked, link_of_connection, links_of, seen, with_world, IsReached}
+use Rattle.link_world.specs.Links.{WorldValue, link_of_connection, links_of, seen, with_world, IsReached}
 use Rattle.link_world.proofs.Linking.{links_more}
 use Rattle.link_world.proofs.Reached.{reached_more, made, headline}
 
@@ -31,12 +31,13 @@ faulted_state State.Aborting e = absurd (false≢true e)
 faulted_state State.Halted e = absurd (false≢true e)
 faulted_state State.Done e = absurd (false≢true e)
 
-pub never_faulted_now : (client : ClientEnd) (server : Serving) (cs : List Connection) (written : List ℕ)
+pub never_faulted_now : (client : ClientEnd) (server : ServerValue) (cs : List Connection) (written : List ℕ)
     → IsReached (seen client server cs written) → is_faulted client.client.state ≡ true → ⊥
 never_faulted_now client server cs written h e = (headline (seen client server cs written) h).client (faulted_state client.client.state e)
 
 -- a call that is refused was not possible
-pub refused_now : (client : ClientEnd) (server : Serving) (cs : List Connection) (written : List ℕ) (can_call : Bool) (fault : ClientFault)
+pub refused_now : (client : ClientEnd) (server : ServerValue) (cs : List Connection) (written : List ℕ) (can_call : Bool)
+    (fault : ClientFault)
     → IsReached (seen client server cs written)
     → IsRefused can_call client fault → refused_by fault ≡ world_fault.NotNow → can_call ≡ false
 refused_now client server cs written can_call client_fault.NotNow h r e = r.1
@@ -49,7 +50,8 @@ no_bytes : (c : Connection) → c.up.waiting ≡ [] → c.down.waiting ≡ [] �
 no_bytes c up down = ap (λ (l : List ℕ). record { up = l; down = c.down.waiting }) up
     ∙ ap (λ (l : List ℕ). record { up = []; down = l }) down
 
-connect_seen : (client after : ClientEnd) (server : Serving) (cs ds : List Connection) (written now : List ℕ) (c : Connection) (number : ℕ)
+connect_seen : (client after : ClientEnd) (server : ServerValue) (cs ds : List Connection) (written now : List ℕ) (c : Connection)
+    (number : ℕ)
     → IsReached (seen client server cs written) → after ≡ end_connected number client → number ≡ length cs + 1 → ds ≡ cs ++ c ∷ []
     → c.up.waiting ≡ [] → c.down.waiting ≡ [] → now ≡ []
     → seen after server ds now ≡ with_world (seen client server cs written) (connected (seen client server cs written).world)
@@ -78,7 +80,7 @@ connect_seen client after server cs ds written now c number h is n d up down non
       };
     }) none)
 
-pub connect_reached : (client after : ClientEnd) (server : Serving) (cs ds : List Connection) (written now : List ℕ) (c : Connection)
+pub connect_reached : (client after : ClientEnd) (server : ServerValue) (cs ds : List Connection) (written now : List ℕ) (c : Connection)
     (number : ℕ)
     → IsReached (seen client server cs written) → can event.Connect (seen client server cs written).world ≡ true
     → after ≡ end_connected number client → number ≡ length cs + 1 → ds ≡ cs ++ c ∷ [] → c.up.waiting ≡ [] → c.down.waiting ≡ [] → now ≡ []
@@ -87,37 +89,39 @@ connect_reached client after server cs ds written now c number h may is n d up d
     reached_more (seen client server cs written) (seen after server ds now) event.Connect h may
     (connect_seen client after server cs ds written now c number h is n d up down none)
 
-pub connect_is : (l : Linked) (client after : ClientEnd) (server : Serving) (cs ds : List Connection) (written now : List ℕ)
+pub connect_is : (l : WorldValue) (client after : ClientEnd) (server : ServerValue) (cs ds : List Connection) (written now : List ℕ)
     (c : Connection) (number : ℕ)
     → l ≡ seen client server cs written → IsReached (seen client server cs written) → after ≡ end_connected number client
     → number ≡ length cs + 1 → ds ≡ cs ++ c ∷ [] → c.up.waiting ≡ [] → c.down.waiting ≡ [] → now ≡ []
     → seen after server ds now ≡ with_world l (connected l.world)
 connect_is l client after server cs ds written now c number view h is n d up down none =
     connect_seen client after server cs ds written now c number h is n d up down none
-    ∙ ap (λ (k : Linked). with_world k (connected k.world)) (sym view)
+    ∙ ap (λ (k : WorldValue). with_world k (connected k.world)) (sym view)
 
 -- whether the number of the next connection is one that a client may take
 next_number_fits : (last most : ℕ) → nat_le (suc last) most ≡ nat_lt last most
 next_number_fits last most = refl
 
-pub connect_may : (l : Linked) (client : ClientEnd) (server : Serving) (cs : List Connection) (written : List ℕ) (number : ℕ) (b : Bool)
+pub connect_may : (l : WorldValue) (client : ClientEnd) (server : ServerValue) (cs : List Connection) (written : List ℕ) (number : ℕ)
+    (b : Bool)
     → l ≡ seen client server cs written → IsReached (seen client server cs written) → number ≡ length cs + 1
     → (is_apart client.client.state && nat_le number connection_most) ≡ b
     → (is_apart l.world.client.client.state && nat_lt l.world.client.client.last connection_most) ≡ b
 connect_may l client server cs written number b view h n is =
     let same : length cs ≡ client.client.last = made client server cs written h in
     let next : number ≡ suc client.client.last = n ∙ omega (arith, same) in
-    subst (λ (k : Linked). (is_apart k.world.client.client.state && nat_lt k.world.client.client.last connection_most) ≡ b) (sym view)
+    subst (λ (k : WorldValue). (is_apart k.world.client.client.state && nat_lt k.world.client.client.last connection_most) ≡ b) (sym view)
     (ap (λ (x : Bool). is_apart client.client.state && x) (sym (next_number_fits client.client.last connection_most))
     ∙ (ap (λ (k : ℕ). is_apart client.client.state && nat_le k connection_most) (sym next) ∙ is))
 
 -- it is refused where the client is not apart, or each number is taken
-pub connect_refused : (l : Linked) (client : ClientEnd) (server : Serving) (cs : List Connection) (written : List ℕ) (number : ℕ)
+pub connect_refused : (l : WorldValue) (client : ClientEnd) (server : ServerValue) (cs : List Connection) (written : List ℕ) (number : ℕ)
     → l ≡ seen client server cs written → IsReached (seen client server cs written) → number ≡ length cs + 1
     → may_connect number client.client ≡ false
     → (is_apart l.world.client.client.state && nat_lt l.world.client.client.last connection_most) ≡ false
 connect_refused l client server cs written number view h n never =
-    subst (λ (k : Linked). (is_apart k.world.client.client.state && nat_lt k.world.client.client.last connection_most) ≡ false) (sym view)
+    subst (λ (k : WorldValue). (is_apart k.world.client.client.state && nat_lt k.world.client.client.last connection_most) ≡ false)
+    (sym view)
     (go (is_apart client.client.state && nat_lt client.client.last connection_most) refl)
   where
     same : length cs ≡ client.client.last
@@ -134,7 +138,7 @@ connect_refused l client server cs written number view h n never =
 
 -- ---- events of the client alone
 
-alone : (client after : ClientEnd) (server : Serving) (cs : List Connection) (written : List ℕ) (e : Event)
+alone : (client after : ClientEnd) (server : ServerValue) (cs : List Connection) (written : List ℕ) (e : Event)
     → IsReached (seen client server cs written) → can e (seen client server cs written).world ≡ true
     → (record (seen client server cs written).world { client = after }
     ≡ happens e (seen client server cs written).world) → IsReached (seen after server cs written)
@@ -142,14 +146,14 @@ alone client after server cs written e h may is =
     reached_more (seen client server cs written) (seen after server cs written) e h may
     (ap (λ (w : World). with_world (seen client server cs written) w) (is))
 
-pub resume_reached : (client after : ClientEnd) (server : Serving) (cs : List Connection) (written : List ℕ)
+pub resume_reached : (client after : ClientEnd) (server : ServerValue) (cs : List Connection) (written : List ℕ)
     → IsReached (seen client server cs written) → may_resume client.client client.client.state ≡ true
     → after ≡ end_resumed client → IsReached (seen after server cs written)
 resume_reached client after server cs written h may is =
     alone client after server cs written event.Resume h may (ap
     (λ (e : ClientEnd). record (seen client server cs written).world { client = e }) is)
 
-pub left_reached : (client after : ClientEnd) (server : Serving) (cs : List Connection) (written : List ℕ)
+pub left_reached : (client after : ClientEnd) (server : ServerValue) (cs : List Connection) (written : List ℕ)
     → IsReached (seen client server cs written) → client.client.on ≡ true
     → after ≡ end_left client → IsReached (seen after server cs written)
 left_reached client after server cs written h may is =
@@ -168,7 +172,7 @@ restart_refused count client never = go (nat_le count (length client.client.tabl
     go false e = refl
     go true e = absurd (never (leb-true count (length client.client.table.tally.features) e))
 
-pub restart_reached : (count : ℕ) (client after : ClientEnd) (server : Serving) (cs : List Connection) (written : List ℕ)
+pub restart_reached : (count : ℕ) (client after : ClientEnd) (server : ServerValue) (cs : List Connection) (written : List ℕ)
     → IsReached (seen client server cs written)
     → count ≤ length client.client.table.tally.features → after ≡ end_restarted count client → IsReached (seen after server cs written)
 restart_reached count client after server cs written h le is =

@@ -9,15 +9,15 @@ use Rattle.protocol_model.specs.declared.states.State.{State}
 use Rattle.protocol_model.proofs.whole_run.Carrying.{lined, IsCarried}
 use Rattle.protocol_model.proofs.whole_run.CarryingClient.{due_on, abort_on}
 use Rattle.client_core.specs.Clients.{is_faulted}
-use Rattle.server_core.specs.Serving.{Serving}
+use Rattle.server_core.specs.Serving.{ServerValue}
 use Rattle.link_world.specs.declared.connection.Connection.{Connection}
-use Rattle.link_world.specs.Links.{Linked, link_of_connection, links_of, quiet_client, with_up, seen, with_world, IsReached}
+use Rattle.link_world.specs.Links.{WorldValue, link_of_connection, links_of, quiet_client, with_up, seen, with_world, IsReached}
 use Rattle.link_world.proofs.Linking.{links_same, link_put}
 use Rattle.link_world.proofs.Reached.{carried, made, headline, never_faulted_behind}
 
 -- ---- where it may write it is on a connection
 
-pub some_made : (client : ClientEnd) (server : Serving) (cs : List Connection) (written : List ℕ)
+pub some_made : (client : ClientEnd) (server : ServerValue) (cs : List Connection) (written : List ℕ)
     → IsReached (seen client server cs written) → client.client.on ≡ true → 0 < length cs
 some_made client server cs written h on =
     let first : 1 ≤ client.client.last = (carried (seen client server cs written) h).wired.first on in
@@ -27,14 +27,15 @@ false_by : (b : Bool) → (b ≡ true → ⊥) → b ≡ false
 false_by true never = absurd (never refl)
 false_by false never = refl
 
-pub none_due : (client : ClientEnd) (server : Serving) (cs : List Connection) (written : List ℕ) → IsReached (seen client server cs written)
+pub none_due : (client : ClientEnd) (server : ServerValue) (cs : List Connection) (written : List ℕ)
+    → IsReached (seen client server cs written)
     → (0 < length cs → ⊥) → is_some (due client.client) ≡ false
 none_due client server cs written h none =
     let c : IsCarried (seen client server cs written).world = carried (seen client server cs written) h in
     false_by (is_some (due client.client)) (λ e. none (some_made client server cs written h
     (due_on (lined (seen client server cs written).world c.up c.down) c.inv e)))
 
-pub none_aborts : (client : ClientEnd) (server : Serving) (cs : List Connection) (written : List ℕ)
+pub none_aborts : (client : ClientEnd) (server : ServerValue) (cs : List Connection) (written : List ℕ)
     → IsReached (seen client server cs written) → (0 < length cs → ⊥) → may_abort client.client.state ≡ false
 none_aborts client server cs written h none =
     let c : IsCarried (seen client server cs written).world = carried (seen client server cs written) h in
@@ -52,16 +53,17 @@ awake_state State.Halted n = refl
 awake_state State.Done n = refl
 awake_state State.Faulted n = absurd (n refl)
 
-pub awake : (client : ClientEnd) (server : Serving) (cs : List Connection) (written : List ℕ) → IsReached (seen client server cs written)
+pub awake : (client : ClientEnd) (server : ServerValue) (cs : List Connection) (written : List ℕ)
+    → IsReached (seen client server cs written)
     → is_faulted client.client.state ≡ false
 awake client server cs written h = awake_state client.client.state (headline (seen client server cs written) h).client
 
-pub send_fine : (client : ClientEnd) (server : Serving) (cs : List Connection) (written : List ℕ)
+pub send_fine : (client : ClientEnd) (server : ServerValue) (cs : List Connection) (written : List ℕ)
     → IsReached (seen client server cs written) → is_some (due client.client) ≡ true → is_faulted (end_sent client).client.state ≡ false
 send_fine client server cs written h may = awake_state (end_sent client).client.state
     (never_faulted_behind (seen client server cs written) event.ClientSends h may)
 
-pub abort_fine : (client : ClientEnd) (server : Serving) (cs : List Connection) (written : List ℕ)
+pub abort_fine : (client : ClientEnd) (server : ServerValue) (cs : List Connection) (written : List ℕ)
     → IsReached (seen client server cs written) → may_abort client.client.state ≡ true
     → is_faulted (end_aborted client).client.state ≡ false
 abort_fine client server cs written h may = awake_state (end_aborted client).client.state
@@ -69,7 +71,8 @@ abort_fine client server cs written h may = awake_state (end_aborted client).cli
 
 -- ---- what is written
 
-pub writes_seen : (client after : ClientEnd) (server : Serving) (cs : List Connection) (written now : List ℕ) (at : ℕ) (c d : Connection)
+pub writes_seen : (client after : ClientEnd) (server : ServerValue) (cs : List Connection) (written now : List ℕ) (at : ℕ)
+    (c d : Connection)
     (e : ClientEnd)
     → IsReached (seen client server cs written) → at ≡ length cs - 1 → 0 < length cs → c ≡ slice_index_or cs at c
     → after ≡ quiet_client e → link_of_connection d ≡ with_up c e.out → now ≡ written ++ e.out
@@ -103,7 +106,7 @@ writes_seen client after server cs written now at c d e h place some is quiet up
     }) text)
 
 -- nothing is written
-pub same_seen : (l : Linked) (client after : ClientEnd) (server : Serving) (cs : List Connection) (written now : List ℕ) (at : ℕ)
+pub same_seen : (l : WorldValue) (client after : ClientEnd) (server : ServerValue) (cs : List Connection) (written now : List ℕ) (at : ℕ)
     (c d : Connection)
     → l ≡ seen client server cs written → at ≡ length cs - 1 → 0 < length cs → c ≡ slice_index_or cs at c
     → after ≡ client → link_of_connection d ≡ link_of_connection c → now ≡ written → seen after server (slice_set cs at d) now ≡ l

@@ -13,51 +13,51 @@ use Rattle.client_core.specs.Always.{FitsState}
 use Rattle.link_world.specs.Finishing.{commands_most, IsSameKind, AreFirstOfJoining, AreTurns, Finishes, Stops, IsFinish}
 use Rattle.link_world.specs.declared.faults.WorldFault.{WorldFault}
 use Rattle.link_world.specs.declared.faults.WorldFault.TheVariants as fault
-use Rattle.link_world.specs.Links.{Linked, with_world, IsReached}
+use Rattle.link_world.specs.Links.{WorldValue, with_world, IsReached}
 use Rattle.link_world.specs.Parts.{Makes}
 use Rattle.link_world.proofs.EventLists.{run_append}
 use Rattle.link_world.proofs.Rejoining.{IsJoined, joined_at, joined_due, left_few}
 use Rattle.link_world.proofs.SameKind.{same_run, same_then}
 
 -- a call came to the next connection
-abbrev pub Joined : Linked → Linked → Type 0
+abbrev pub Joined : WorldValue → WorldValue → Type 0
 Joined l k = k ≡ with_world l (rejoined l.world)
 
-joined_world : (l k : Linked) → k ≡ with_world l (rejoined l.world) → k.world ≡ rejoined l.world
-joined_world l k is = ap (λ (x : Linked). x.world) is
+joined_world : (l k : WorldValue) → k ≡ with_world l (rejoined l.world) → k.world ≡ rejoined l.world
+joined_world l k is = ap (λ (x : WorldValue). x.world) is
 
-behind_joining : (l k : Linked) → Joined l k → CanFinish l.world → FitsState l.world.client.client.state l.world.client.client.on
+behind_joining : (l k : WorldValue) → Joined l k → CanFinish l.world → FitsState l.world.client.client.state l.world.client.client.on
     → IsJoined l.world k.world
 behind_joining l k joined may fits =
     subst (IsJoined l.world) (sym (joined_world l k (joined))) (joined_at l.world may fits)
 
-pub due_behind : (l k : Linked) → Joined l k → CanFinish l.world → FitsState l.world.client.client.state l.world.client.client.on
+pub due_behind : (l k : WorldValue) → Joined l k → CanFinish l.world → FitsState l.world.client.client.state l.world.client.client.on
     → 1 ≤ l.world.client.client.window → is_some (due k.world.client.client) ≡ true
 due_behind l k joined may fits some = joined_due l.world k.world (behind_joining l k joined may fits) some
 
-pub short_behind : (l k : Linked) → Joined l k → CanFinish l.world → FitsState l.world.client.client.state l.world.client.client.on
+pub short_behind : (l k : WorldValue) → Joined l k → CanFinish l.world → FitsState l.world.client.client.state l.world.client.client.on
     → IsReached l → length k.world.client.client.table.tally.unsent ≤ commands_most
 short_behind l k joined may fits h =
     subst (λ (n : ℕ). n ≤ commands_most) (sym (ap length (behind_joining l k joined may fits).unsent)) (left_few l h)
 
-pub few_behind : (l k : Linked) (turns : ℕ) → Joined l k → CanFinish l.world
+pub few_behind : (l k : WorldValue) (turns : ℕ) → Joined l k → CanFinish l.world
     → FitsState l.world.client.client.state l.world.client.client.on → turns ≤ length k.world.client.client.table.tally.unsent
     → turns ≤ length (plan_left l.world)
 few_behind l k turns joined may fits few =
     subst (λ (n : ℕ). turns ≤ n) (ap length (behind_joining l k joined may fits).unsent) few
 
-pub finished : (answer : Job → ℕ → Outcome) (turns : ℕ) (l k m : Linked) → Joined l k
+pub finished : (answer : Job → ℕ → Outcome) (turns : ℕ) (l k m : WorldValue) → Joined l k
     → Makes (AreTurns answer turns) false None k m → Finishes answer turns l.world m.world
 finished answer turns l k m joined h =
     let there : k.world ≡ rejoined l.world = joined_world l k (joined) in record {
       events = h.events;
       made = subst (λ (w : World). AreTurns answer turns false w h.events) there h.made;
       leads =
-          ap (λ (x : Linked). x.world) h.leads
+          ap (λ (x : WorldValue). x.world) h.leads
           ∙ (ap (λ (w : World). run_of h.events w) there ∙ sym (run_append (rejoining l.world) h.events l.world));
     }
 
-pub stopped_turning : (answer : Job → ℕ → Outcome) (l k m : Linked) → Joined l k
+pub stopped_turning : (answer : Job → ℕ → Outcome) (l k m : WorldValue) → Joined l k
     → Makes (AreTurns answer 0) true None k m → Stops answer l.world m.world
 stopped_turning answer l k m joined h =
     let there : k.world ≡ rejoined l.world = joined_world l k (joined) in record {
@@ -65,33 +65,33 @@ stopped_turning answer l k m joined h =
       events = h.events;
       made = inr (refl, subst (λ (w : World). AreTurns answer 0 true w h.events) there h.made);
       leads =
-          ap (λ (x : Linked). x.world) h.leads
+          ap (λ (x : WorldValue). x.world) h.leads
           ∙ (ap (λ (w : World). run_of h.events w) there ∙ sym (run_append (rejoining l.world) h.events l.world));
     }
 
-pub stopped_joining : (answer : Job → ℕ → Outcome) (l m : Linked) → Makes AreFirstOfJoining true None l m
+pub stopped_joining : (answer : Job → ℕ → Outcome) (l m : WorldValue) → Makes AreFirstOfJoining true None l m
     → Stops answer l.world m.world
 stopped_joining answer l m h = record {
   joins = h.events;
   events = [];
   made = inl (h.made, refl);
-  leads = ap (λ (x : Linked). x.world) h.leads ∙ sym (run_append h.events [] l.world);
+  leads = ap (λ (x : WorldValue). x.world) h.leads ∙ sym (run_append h.events [] l.world);
 }
 
-pub same_made : (are : Bool → World → List Event → Type 0) (cut : Bool) (told : Option Bool) (l m : Linked)
+pub same_made : (are : Bool → World → List Event → Type 0) (cut : Bool) (told : Option Bool) (l m : WorldValue)
     → Makes are cut told l m → IsSameKind l m
 same_made are cut told l m h =
     let one = h in same_run one.events l m one.leads
 
-pub same_joined : (l k : Linked) → Joined l k → IsSameKind l k
+pub same_joined : (l k : WorldValue) → Joined l k → IsSameKind l k
 same_joined l k joined = same_run (rejoining l.world) l k (joined)
 
-pub same_turned : (are : Bool → World → List Event → Type 0) (cut : Bool) (told : Option Bool) (l k m : Linked) → Joined l k
+pub same_turned : (are : Bool → World → List Event → Type 0) (cut : Bool) (told : Option Bool) (l k m : WorldValue) → Joined l k
     → Makes are cut told k m → IsSameKind l m
 same_turned are cut told l k m joined h = same_then l k m (same_joined l k joined) (same_made are cut told k m h)
 
 -- what is said of each answer is what is said of all
-pub finish_is : (answer : Job → ℕ → Outcome) (l m : Linked) (r : Result ℕ WorldFault) → OnOk r (CanFinish l.world)
+pub finish_is : (answer : Job → ℕ → Outcome) (l m : WorldValue) (r : Result ℕ WorldFault) → OnOk r (CanFinish l.world)
     → (IsErrOf r fault.NotNow ↔ ¬ (CanFinish l.world)) → (IsErrOf r fault.NotNow → m ≡ l)
     → IfOk r (λ turns. Finishes answer turns l.world m.world) → IfOk r (λ turns. turns ≤ length (plan_left l.world))
     → OnOk r (CanMeasure answer l.world → m.world.client.client.state ≡ State.Done)

@@ -4,7 +4,7 @@ use Rattle.std.proofs.Common.{Some}
 use Rattle.std.proofs.lemmas.Bool.{false≢true}
 use Rattle.protocol_model.specs.World.{World, can, happens, after, run_of}
 use Rattle.protocol_model.specs.declared.events.Event.{Event}
-use Rattle.link_world.specs.Links.{Linked, with_world}
+use Rattle.link_world.specs.Links.{WorldValue, with_world}
 use Rattle.protocol_model.specs.Rounds.{AreWhile}
 use Rattle.link_world.specs.Parts.{is_any, Makes}
 use Rattle.link_world.proofs.Undisturbed.{after_can}
@@ -29,10 +29,10 @@ none_there [] is = refl
 none_there (e ∷ es) is = absurd (cc)
 
 -- the world behind more events
-pub leads_more : (l k m : Linked) (es fs : List Event) → k ≡ with_world l (run_of es l.world)
+pub leads_more : (l k m : WorldValue) (es fs : List Event) → k ≡ with_world l (run_of es l.world)
     → m ≡ with_world k (run_of fs k.world) → m ≡ with_world l (run_of (es ++ fs) l.world)
 leads_more l k m es fs first then =
-    then ∙ (ap (λ (x : Linked). with_world x (run_of fs x.world)) first
+    then ∙ (ap (λ (x : WorldValue). with_world x (run_of fs x.world)) first
     ∙ ap (λ (x : World). with_world l x) (sym (run_append es fs l.world)))
 
 -- ---- an event while it can happen
@@ -75,20 +75,20 @@ while_ends e w (f ∷ fs) h never = (
       (subst (λ (x : World). can e (run_of fs x) ≡ false) (first e f w h.0 h.1) never),
 )
 
-pub going_more : (e : Event) (b : Bool) (l k m : Linked) → Makes (Going e) false (Some b) l k
+pub going_more : (e : Event) (b : Bool) (l k m : WorldValue) → Makes (Going e) false (Some b) l k
     → can e k.world ≡ true → m ≡ with_world k (after e k.world) → Makes (Going e) false (Some true) l m
 going_more e b l k m h may is = record {
   events = h.events ++ e ∷ [];
-  made = while_more e l.world h.events h.made (subst (λ (x : Linked). can e x.world ≡ true) h.leads may);
+  made = while_more e l.world h.events h.made (subst (λ (x : WorldValue). can e x.world ≡ true) h.leads may);
   leads = leads_more l k m h.events (e ∷ []) h.leads is;
   told_is = any_more h.events e;
 }
 
-pub going_ends : (e : Event) (b : Bool) (l k m : Linked) → Makes (Going e) false (Some b) l k
+pub going_ends : (e : Event) (b : Bool) (l k m : WorldValue) → Makes (Going e) false (Some b) l k
     → can e k.world ≡ false → m ≡ with_world k (after e k.world) → Makes (AreWhile e) false (Some b) l m
 going_ends e b l k m h never is = record {
   events = h.events;
-  made = while_ends e l.world h.events h.made (subst (λ (x : Linked). can e x.world ≡ false) h.leads never);
+  made = while_ends e l.world h.events h.made (subst (λ (x : WorldValue). can e x.world ≡ false) h.leads never);
   leads = is ∙ (ap (λ (x : World). with_world k x) (not_done e k.world never) ∙ h.leads);
   told_is = h.told_is;
 }

@@ -27,13 +27,13 @@ use Rattle.protocol_model.specs.World.{World, can, happens, has_some, is_line, c
 use Rattle.protocol_model.specs.declared.events.Event.{Event}
 use Rattle.protocol_model.specs.declared.events.Event.TheVariants as event
 use Rattle.line_framing.specs.Next.{next_of}
-use Rattle.server_core.specs.Serving.{Serving, with_end}
+use Rattle.server_core.specs.Serving.{ServerValue, with_end}
 use Rattle.link_world.specs.declared.connection.Connection.{Connection}
 use Rattle.link_world.specs.declared.faults.WorldFault.{WorldFault}
 use Rattle.link_world.specs.declared.faults.WorldFault.TheVariants as fault
 use Rattle.link_world.specs.declared.world.World.TheInside.{Inside}
 use Rattle.link_world.specs.Events.{HappensIf, HappensIff}
-use Rattle.link_world.specs.Links.{Linked, StandsOn, link_of_connection, with_up, with_down, fewer_up, fewer_down}
+use Rattle.link_world.specs.Links.{WorldValue, StandsOn, link_of_connection, with_up, with_down, fewer_up, fewer_down}
 use Rattle.link_world.specs.Links.{quiet_client, quiet_server, seen, with_world, IsReached}
 use Rattle.link_world.proofs.Reached.{reached_more, server_number, taken}
 use Rattle.link_world.proofs.ClientBytes.{down_seen, down_may}
@@ -42,7 +42,7 @@ use Rattle.link_world.proofs.ClientWriting.{same_seen as client_same}
 use Rattle.link_world.proofs.ServerAnswers.{answers_seen, up_seen, up_may, reads_may, same_seen}
 
 -- what is seen of a world's parts
-abbrev pub inner : Inside → Linked
+abbrev pub inner : Inside → WorldValue
 inner w = seen w.client w.server w.connections.items w.written.items
 
 pub stands : (w : Inside) → IsReached (inner w) → StandsOn w.server.end w.connections.items
@@ -78,16 +78,16 @@ pub happens_same : (r : Result (Unit {0}) WorldFault) (a b : Bool) → a ≡ b �
 happens_same r a b same h = subst (HappensIf r) same h
 
 -- a world behind an event: a list of events leads to it, and it is as the event makes it
-pub record Tried (l m : Linked) (r : Result (Unit {0}) WorldFault) (makes : World → World) : Type 0 where
+pub record Tried (l m : WorldValue) (r : Result (Unit {0}) WorldFault) (makes : World → World) : Type 0 where
   pub reached : IsReached m
   pub leads : Leads r l m (with_world l (makes l.world))
 
-pub tried : (e : Event) (makes : World → World) (l k m : Linked) (r : Result (Unit {0}) WorldFault) → k ≡ l → IsReached k
+pub tried : (e : Event) (makes : World → World) (l k m : WorldValue) (r : Result (Unit {0}) WorldFault) → k ≡ l → IsReached k
     → (happens e k.world ≡ makes k.world) → HappensIf r (can e l.world)
     → Leads r k m (with_world k (makes k.world)) → Tried l m r makes
 tried e makes l k m r view h same may leads = record {
-  reached = go r (subst (λ (x : Linked). HappensIf r (can e x.world)) (sym view) may) leads;
-  leads = subst (λ (x : Linked). Leads r x m (with_world x (makes x.world))) view leads;
+  reached = go r (subst (λ (x : WorldValue). HappensIf r (can e x.world)) (sym view) may) leads;
+  leads = subst (λ (x : WorldValue). Leads r x m (with_world x (makes x.world))) view leads;
 }
   where
     go : (r : Result (Unit {0}) WorldFault) → HappensIf r (can e k.world)
@@ -97,7 +97,7 @@ tried e makes l k m r view h same may leads = record {
     go (Err f) may leads = subst IsReached (sym leads.1) h
 
 -- the client writes on its connection
-pub writes : (e : Event) (written_by : ClientEnd → ClientEnd) (l : Linked) (w : Inside) (after : ClientEnd) (now : List ℕ) (at : ℕ)
+pub writes : (e : Event) (written_by : ClientEnd → ClientEnd) (l : WorldValue) (w : Inside) (after : ClientEnd) (now : List ℕ) (at : ℕ)
     (c d : Connection) (r : Result (Unit {0}) WorldFault) → inner w ≡ l → IsReached (inner w)
     → ((x : World) → happens e x ≡ client_writes x (written_by x.client))
     → HappensIf r (can e l.world) → at ≡ length w.connections.items - 1 → 0 < length w.connections.items
@@ -127,7 +127,8 @@ writes e written_by l w after now at c d r view h same may place some is sent li
     )
 
 -- bytes come to the client
-pub comes_down : (count : ℕ) (l : Linked) (w : Inside) (after : ClientEnd) (at : ℕ) (c d : Connection) (r : Result (Unit {0}) WorldFault)
+pub comes_down : (count : ℕ) (l : WorldValue) (w : Inside) (after : ClientEnd) (at : ℕ) (c d : Connection)
+    (r : Result (Unit {0}) WorldFault)
     → inner w ≡ l → IsReached (inner w) → HappensIf r (can (event.Down count) l.world)
     → at ≡ length w.connections.items - 1 → 0 < length w.connections.items → c ≡ slice_index_or w.connections.items at c
     → Leads r w.client after (end_fed (take count c.down.waiting) w.client)
@@ -152,16 +153,16 @@ comes_down count l w after at c d r view h may place some is fed link =
     )
 
 -- where bytes may come to the client
-pub down_can : (count : ℕ) (l : Linked) (w : Inside) (at : ℕ) (c : Connection) (r : Result (Unit {0}) WorldFault)
+pub down_can : (count : ℕ) (l : WorldValue) (w : Inside) (at : ℕ) (c : Connection) (r : Result (Unit {0}) WorldFault)
     → inner w ≡ l → IsReached (inner w) → w.client.client.on ≡ true → at ≡ length w.connections.items - 1
     → 0 < length w.connections.items → c ≡ slice_index_or w.connections.items at c → HappensIf r (has_some count c.down.waiting)
     → HappensIf r (can (event.Down count) l.world)
 down_can count l w at c r view h on place some is may =
-    subst (λ (k : Linked). HappensIf r (can (event.Down count) k.world)) view
+    subst (λ (k : WorldValue). HappensIf r (can (event.Down count) k.world)) view
     (happens_same r _ _ (sym (down_may count w.client w.server w.connections.items w.written.items at c h on place some is)) may)
 
 -- the server answers on its connection
-pub answers : (e : Event) (answered : ServerEnd → ServerEnd) (l : Linked) (w : Inside) (after : Serving) (at : ℕ)
+pub answers : (e : Event) (answered : ServerEnd → ServerEnd) (l : WorldValue) (w : Inside) (after : ServerValue) (at : ℕ)
     (c d : Connection) (r : Result (Unit {0}) WorldFault) → inner w ≡ l → IsReached (inner w)
     → ((x : World) → happens e x ≡ server_writes x (answered x.server))
     → HappensIf r (can e l.world) → at ≡ w.server.end.server.last - 1 → at < length w.connections.items
@@ -191,7 +192,8 @@ answers e answered l w after at c d r view h same may place short is served link
     )
 
 -- bytes come to the server
-pub comes_up : (count : ℕ) (l : Linked) (w : Inside) (after : Serving) (at : ℕ) (c d : Connection) (r : Result (Unit {0}) WorldFault)
+pub comes_up : (count : ℕ) (l : WorldValue) (w : Inside) (after : ServerValue) (at : ℕ) (c d : Connection)
+    (r : Result (Unit {0}) WorldFault)
     → inner w ≡ l → IsReached (inner w) → HappensIf r (can (event.Up count) l.world)
     → at ≡ w.server.end.server.last - 1 → at < length w.connections.items → c ≡ slice_index_or w.connections.items at c
     → Leads r w.server after (with_end w.server (serving_fed (take count c.up.waiting) w.server.end))
@@ -216,17 +218,17 @@ comes_up count l w after at c d r view h may place short is fed link =
     )
 
 -- where bytes may come to the server, and where it reads a line
-pub up_can : (count : ℕ) (l : Linked) (w : Inside) (at : ℕ) (c : Connection) (r : Result (Unit {0}) WorldFault)
+pub up_can : (count : ℕ) (l : WorldValue) (w : Inside) (at : ℕ) (c : Connection) (r : Result (Unit {0}) WorldFault)
     → inner w ≡ l → IsReached (inner w) → w.server.end.server.on ≡ true → at ≡ w.server.end.server.last - 1
     → at < length w.connections.items → c ≡ slice_index_or w.connections.items at c → HappensIf r (has_some count c.up.waiting)
     → HappensIf r (can (event.Up count) l.world)
 up_can count l w at c r view h on place short is may =
-    subst (λ (k : Linked). HappensIf r (can (event.Up count) k.world)) view
+    subst (λ (k : WorldValue). HappensIf r (can (event.Up count) k.world)) view
     (happens_same r _ _ (sym (up_may count w.client w.server w.connections.items w.written.items at c h on place short is)) may)
 
-pub reads_can : (l : Linked) (w : Inside) (r : Result (Unit {0}) WorldFault) → inner w ≡ l → IsReached (inner w)
+pub reads_can : (l : WorldValue) (w : Inside) (r : Result (Unit {0}) WorldFault) → inner w ≡ l → IsReached (inner w)
     → w.server.end.server.on ≡ true → HappensIf r (is_line (next_of w.server.end.input.rest))
     → HappensIf r (can event.ServerReads l.world)
 reads_can l w r view h on may =
-    subst (λ (k : Linked). HappensIf r (can event.ServerReads k.world)) view
+    subst (λ (k : WorldValue). HappensIf r (can event.ServerReads k.world)) view
     (happens_same r _ _ (sym (reads_may w.client w.server w.connections.items w.written.items h on)) may)

@@ -15,7 +15,7 @@ use Rattle.protocol_model.specs.declared.plans.Planned.{Planned}
 use Rattle.protocol_model.specs.declared.states.State.{State}
 use Rattle.protocol_model.specs.declared.events.Event.{Event}
 use Rattle.protocol_model.specs.declared.events.Event.TheVariants as event
-use Rattle.link_world.specs.Links.{Linked, with_world}
+use Rattle.link_world.specs.Links.{WorldValue, with_world}
 use Rattle.link_world.specs.Parts.{repeats}
 use Rattle.link_world.proofs.EventLists.{done_now}
 
@@ -138,9 +138,9 @@ less (event.ClientRestart n) w is may = absurd (false≢true is)
 less event.ServerRestart w is may = absurd (false≢true is)
 
 -- behind an event that happened for all readers
-pub less_after : (e : Event) (l m : Linked) → repeats e ≡ true → can e l.world ≡ true
+pub less_after : (e : Event) (l m : WorldValue) → repeats e ≡ true → can e l.world ≡ true
     → (m ≡ with_world l (after e l.world)) → left_of e m.world < left_of e l.world
 less_after e l m is may leads =
-    let same : m.world ≡ happens e l.world = ap (λ (k : Linked). k.world) (leads)
+    let same : m.world ≡ happens e l.world = ap (λ (k : WorldValue). k.world) (leads)
     ∙ done_now e l.world may in
     subst (λ (w : World). left_of e w < left_of e l.world) (sym same) (less e l.world is may)

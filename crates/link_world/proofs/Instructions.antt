@@ -10,7 +10,7 @@ use Rattle.protocol_model.specs.declared.machine.Outcome.{Outcome}
 use Rattle.protocol_model.specs.declared.events.Event.{Event}
 use Rattle.protocol_model.proofs.whole_run.SameProgram.{run_same, run_window}
 use Rattle.link_world.specs.Claims.{Headline}
-use Rattle.link_world.specs.Links.{Linked, with_world, IsReached}
+use Rattle.link_world.specs.Links.{WorldValue, with_world, IsReached}
 use Rattle.protocol_model.specs.Rounds.{IsOne, Then, IsRound}
 use Rattle.link_world.specs.Schedules.{AreMade, ArePlayed, Plays}
 use Rattle.link_world.specs.Parts.{Makes, PlaysPart}
@@ -23,16 +23,16 @@ use Rattle.link_world.specs.Finishing.{IsSameKind}
 
 -- ---- one event
 
-pub once_made : (e : Event) (l m : Linked)
+pub once_made : (e : Event) (l m : WorldValue)
     → (m ≡ with_world l (after e l.world))
     → Makes (λ cut w. IsOne (Some e) cut) false None l m
 once_made e l m leads = record { events = e ∷ []; made = inl refl; leads = leads; told_is = tt }
 
-pub once_cut : (e : Event) (l m : Linked) → m ≡ l
+pub once_cut : (e : Event) (l m : WorldValue) → m ≡ l
     → Makes (λ cut w. IsOne (Some e) cut) true None l m
 once_cut e l m same = record { events = []; made = inr (refl, refl); leads = same; told_is = tt }
 
-one_as : (some : World → Option Event) (e : Event) (cut : Bool) (l m : Linked) → some l.world ≡ Some e
+one_as : (some : World → Option Event) (e : Event) (cut : Bool) (l m : WorldValue) → some l.world ≡ Some e
     → Makes (λ cut w. IsOne (Some e) cut) cut None l m → Makes (λ cut w. IsOne (some w) cut) cut None l m
 one_as some e cut l m is h = record {
   events = h.events;
@@ -41,12 +41,12 @@ one_as some e cut l m is h = record {
   told_is = tt;
 }
 
-pub part_as : {E : Type 0} (r : Result (Unit {0}) E) (some : World → Option Event) (e : Event) (l m : Linked) → some l.world ≡ Some e
+pub part_as : {E : Type 0} (r : Result (Unit {0}) E) (some : World → Option Event) (e : Event) (l m : WorldValue) → some l.world ≡ Some e
     → PlaysPart r (λ cut w. IsOne (Some e) cut) l m → PlaysPart r (λ cut w. IsOne (some w) cut) l m
 part_as (Ok u) some e l m is h = one_as some e false l m is (h)
 part_as (Err f) some e l m is h = one_as some e true l m is (h)
 
-pub none_made : (some : World → Option Event) (l : Linked) → some l.world ≡ None
+pub none_made : (some : World → Option Event) (l : WorldValue) → some l.world ≡ None
     → Makes (λ cut w. IsOne (some w) cut) false None l l
 none_made some l is = record {
   events = [];
@@ -90,11 +90,11 @@ one_ends : (answer : Job → ℕ → Outcome) (i : Instruction) (ys : List Instr
     → AreMade answer i true w fs → ArePlayed answer (i ∷ ys) true w fs
 one_ends answer i ys w fs h = record { front = fs; back = []; whole = search rules; parts = inr (refl, h, refl) }
 
-pub none_played : (answer : Job → ℕ → Outcome) (l : Linked)
+pub none_played : (answer : Job → ℕ → Outcome) (l : WorldValue)
     → Makes (ArePlayed answer []) false None l l
 none_played answer l = record { events = []; made = refl; leads = refl; told_is = tt }
 
-pub played_more : (answer : Job → ℕ → Outcome) (all : List Instruction) (n : ℕ) (i : Instruction) (l k m : Linked)
+pub played_more : (answer : Job → ℕ → Outcome) (all : List Instruction) (n : ℕ) (i : Instruction) (l k m : WorldValue)
     → n < length all → i ≡ slice_index_or all n i
     → Makes (ArePlayed answer (take n all)) false None l k → Makes (AreMade answer i) false None k m
     → Makes (ArePlayed answer (take (n + 1) all)) false None l m
@@ -102,7 +102,7 @@ played_more answer all n i l k m short is h one = record {
   events = h.events ++ one.events;
   made = subst (λ (xs : List Instruction). ArePlayed answer xs false l.world (h.events ++ one.events)) (sym next)
       (played_append answer (take n all) (i ∷ []) false l.world h.events one.events h.made
-      (subst (λ (x : Linked). ArePlayed answer (i ∷ []) false x.world one.events) h.leads
+      (subst (λ (x : WorldValue). ArePlayed answer (i ∷ []) false x.world one.events) h.leads
       (one_whole answer i k.world one.events one.made)));
   leads = leads_more l k m h.events one.events h.leads one.leads;
   told_is = tt;
@@ -117,7 +117,7 @@ split_at [] n i short is = absurd (omega (arith, short))
 split_at (x ∷ all) zero i short is = ap (λ (y : Instruction). y ∷ all) is
 split_at (x ∷ all) (suc n) i short is = ap (λ (ys : List Instruction). x ∷ ys) (split_at all n i (omega (arith, short)) is)
 
-pub played_cut : (answer : Job → ℕ → Outcome) (all : List Instruction) (n : ℕ) (i : Instruction) (l k m : Linked)
+pub played_cut : (answer : Job → ℕ → Outcome) (all : List Instruction) (n : ℕ) (i : Instruction) (l k m : WorldValue)
     → n < length all → i ≡ slice_index_or all n i
     → Makes (ArePlayed answer (take n all)) false None l k → Makes (AreMade answer i) true None k m
     → Makes (ArePlayed answer all) true None l m
@@ -125,18 +125,18 @@ played_cut answer all n i l k m short is h one = record {
   events = h.events ++ one.events;
   made = subst (λ (xs : List Instruction). ArePlayed answer xs true l.world (h.events ++ one.events)) (split_at all n i short is)
       (played_append answer (take n all) (i ∷ drop (suc n) all) true l.world h.events one.events h.made
-      (subst (λ (x : Linked). ArePlayed answer (i ∷ drop (suc n) all) true x.world one.events) h.leads
+      (subst (λ (x : WorldValue). ArePlayed answer (i ∷ drop (suc n) all) true x.world one.events) h.leads
       (one_ends answer i (drop (suc n) all) k.world one.events one.made)));
   leads = leads_more l k m h.events one.events h.leads one.leads;
   told_is = tt;
 }
 
-pub played_all : (answer : Job → ℕ → Outcome) (all : List Instruction) (n : ℕ) (l k : Linked) → length all ≤ n
+pub played_all : (answer : Job → ℕ → Outcome) (all : List Instruction) (n : ℕ) (l k : WorldValue) → length all ≤ n
     → Makes (ArePlayed answer (take n all)) false None l k → Makes (ArePlayed answer all) false None l k
 played_all answer all n l k past h =
     subst (λ (xs : List Instruction). Makes (ArePlayed answer xs) false None l k) (take_all n all past) h
 
-pub made_as : (now first : Job → ℕ → Outcome) (i : Instruction) (cut : Bool) (k m : Linked) → now ≡ first
+pub made_as : (now first : Job → ℕ → Outcome) (i : Instruction) (cut : Bool) (k m : WorldValue) → now ≡ first
     → Makes (AreMade now i) cut None k m → Makes (AreMade first i) cut None k m
 made_as now first i cut k m same h = subst (λ (a : Job → ℕ → Outcome). Makes (AreMade a i) cut None k m) same h
 
@@ -181,7 +181,7 @@ nothing_played answer (i ∷ is) w = one_ends answer i is w [] (nothing_made ans
 
 -- ---- the world behind what was played
 
-run_reached : (l : Linked) (are : Bool → World → List Event → Type 0) (cut : Bool) (m : Linked) → IsReached l
+run_reached : (l : WorldValue) (are : Bool → World → List Event → Type 0) (cut : Bool) (m : WorldValue) → IsReached l
     → Makes are cut None l m → IsReached m
 run_reached l are cut m h made =
     let t : Makes are cut None l m = made in
@@ -196,20 +196,20 @@ run_reached l are cut m h made =
     })
 
 -- what was played leads on, and what always holds, holds behind it
-pub record IsBehind (l m : Linked) : Type 0 where
+pub record IsBehind (l m : WorldValue) : Type 0 where
   pub kind : IsSameKind l m
   pub always : Headline m.world
 
-kind_behind : (l : Linked) (are : Bool → World → List Event → Type 0) (cut : Bool) (m : Linked)
+kind_behind : (l : WorldValue) (are : Bool → World → List Event → Type 0) (cut : Bool) (m : WorldValue)
     → Makes are cut None l m → IsSameKind l m
 kind_behind l are cut m made =
     let t : Makes are cut None l m = made in record {
-      setup = ap (λ (k : Linked). k.setup) t.leads;
-      program = ap (λ (k : Linked). k.world.client.client.program) t.leads ∙ run_same t.events l.world;
-      window = ap (λ (k : Linked). k.world.client.client.window) t.leads ∙ run_window t.events l.world;
+      setup = ap (λ (k : WorldValue). k.setup) t.leads;
+      program = ap (λ (k : WorldValue). k.world.client.client.program) t.leads ∙ run_same t.events l.world;
+      window = ap (λ (k : WorldValue). k.world.client.client.window) t.leads ∙ run_window t.events l.world;
     }
 
-made_behind : (l : Linked) (are : Bool → World → List Event → Type 0) (cut : Bool) (m : Linked) → IsReached l
+made_behind : (l : WorldValue) (are : Bool → World → List Event → Type 0) (cut : Bool) (m : WorldValue) → IsReached l
     → Makes are cut None l m → IsBehind l m
 made_behind l are cut m h made =
     let reached : IsReached m = run_reached l are cut m h made in record {
@@ -217,7 +217,7 @@ made_behind l are cut m h made =
       always = headline m reached;
     }
 
-pub played_behind : {E : Type 0} (r : Result (Unit {0}) E) (are : Bool → World → List Event → Type 0) (l m : Linked)
+pub played_behind : {E : Type 0} (r : Result (Unit {0}) E) (are : Bool → World → List Event → Type 0) (l m : WorldValue)
     → IsReached l → PlaysPart r are l m → IsBehind l m
 played_behind (Ok u) are l m h made = made_behind l are false m h made
 played_behind (Err f) are l m h made = made_behind l are true m h made

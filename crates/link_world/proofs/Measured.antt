@@ -13,7 +13,7 @@ use Rattle.protocol_model.specs.declared.states.State.{State}
 use Rattle.protocol_model.proofs.quiet_run.Finished.{done, features}
 use Rattle.protocol_model.proofs.whole_run.SameProgram.{run_window}
 use Rattle.link_world.specs.Finishing.{AreTurns, Finishes}
-use Rattle.link_world.specs.Links.{Linked, IsReached}
+use Rattle.link_world.specs.Links.{WorldValue, IsReached}
 use Rattle.link_world.proofs.EventLists.{run_append}
 
 -- a world is Done, with what was measured before and what is plainly measured then
@@ -26,11 +26,11 @@ abbrev Measures : (Job → ℕ → Outcome) → List (List Event) → World → 
 Measures answer rounds w = CanFinish w → CanMeasure answer w → AreAllBusy answer (rejoined w) rounds
     → IsMeasured answer w (run_of (all_of rounds) (rejoined w))
 
-window_of : (l : Linked) → (h : IsReached l) → l.world.client.client.window ≡ h.window
+window_of : (l : WorldValue) → (h : IsReached l) → l.world.client.client.window ≡ h.window
 window_of l h =
     ap (λ (w : World). w.client.client.window) h.reached ∙ run_window h.events (start h.program l.setup.tools h.window)
 
-measures : (answer : Job → ℕ → Outcome) (rounds : List (List Event)) (l : Linked) (h : IsReached l)
+measures : (answer : Job → ℕ → Outcome) (rounds : List (List Event)) (l : WorldValue) (h : IsReached l)
     → 1 ≤ l.world.client.client.window → Measures answer rounds l.world
 measures answer rounds l h some =
     let some : 1 ≤ h.window = subst (λ (n : ℕ). 1 ≤ n) (window_of l h) some in
@@ -57,7 +57,7 @@ rounds_at answer turns w events h (inl end) =
     record { rounds = h.rounds; busy = end.0; whole = h.whole ∙ all_alone (all_of h.rounds) h.rest end.2 }
 rounds_at answer turns w events h (inr end) = absurd (false≢true end.0)
 
-pub finish_measures : (answer : Job → ℕ → Outcome) (turns : ℕ) (l m : Linked) → IsReached l → CanFinish l.world
+pub finish_measures : (answer : Job → ℕ → Outcome) (turns : ℕ) (l m : WorldValue) → IsReached l → CanFinish l.world
     → 1 ≤ l.world.client.client.window → CanMeasure answer l.world
     → (Finishes answer turns l.world m.world) → IsMeasured answer l.world m.world
 finish_measures answer turns l m h may some can finishes =

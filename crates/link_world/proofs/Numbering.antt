@@ -8,7 +8,7 @@ use Rattle.fixed_um.specs.declared.lengths.Point.{Point}
 use Rattle.contact_ledger.specs.Ledgers.{contact_count, is_contact}
 use Rattle.contact_ledger.specs.declared.acts.Act.{Act}
 use Rattle.contact_ledger.specs.declared.acts.Act.TheVariants as act
-use Rattle.protocol_model.specs.Claims.{Made, contacts}
+use Rattle.protocol_model.specs.Claims.{MadeContact, contacts}
 use Rattle.protocol_model.proofs.invariant.Served.{contacts_more}
 use Rattle.link_world.specs.Reports.{shown, numbered_from, reported}
 use Rattle.link_world.specs.ReportRows.{contact}
@@ -29,7 +29,7 @@ counted acts =
     is_count_by (λ (acts : List (ℕ × Act)). length (contacts acts)) (λ (entry : ℕ × Act). is_contact entry.1) refl counted_more acts
 
 -- the numbers go on behind other contacts
-numbered_more : (n : ℕ) (front more : List Made)
+numbered_more : (n : ℕ) (front more : List MadeContact)
     → numbered_from n (front ++ more) ≡ numbered_from n front ++ numbered_from (n + length front) more
 numbered_more n [] more = ap (λ (k : ℕ). numbered_from k more) (omega arith)
 numbered_more n (made ∷ front) more =
@@ -59,5 +59,5 @@ none_alone connection (act.Framed f) not = refl
 pub other_more : (front : List (ℕ × Act)) (connection : ℕ) (other : Act) → is_contact other ≡ false
     → reported (front ++ (connection, other) ∷ []) ≡ reported front
 other_more front connection other not =
-    ap (numbered_from 0) (contacts_more front ((connection, other) ∷ []) ∙ ap (λ (ms : List Made). contacts front ++ ms)
+    ap (numbered_from 0) (contacts_more front ((connection, other) ∷ []) ∙ ap (λ (ms : List MadeContact). contacts front ++ ms)
     (none_alone connection other not) ∙ append-nil (contacts front))

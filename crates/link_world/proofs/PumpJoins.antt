@@ -54,7 +54,7 @@ use Rattle.link_world.specs.Pumps as client_stage
 use Rattle.link_world.specs.ServerPumps.{ServerTurn, ServerMoved, ServerStopped}
 use Rattle.link_world.specs.ServerPumps as server_stage
 use Rattle.link_world.specs.Joined.{IsClientTurn, IsServerTurn, TurnLeads, client_joined, AreFit, server_joined}
-use Rattle.link_world.specs.Joined.{Pumped, pumped_of, with_client, with_server, PumpCalls, no_calls, client_moves, client_stops}
+use Rattle.link_world.specs.Joined.{EndPair, pumped_of, with_client, with_server, PumpCalls, no_calls, client_moves, client_stops}
 use Rattle.link_world.specs.Joined.{server_moves, server_stops, AreOnWay, IsWorldOf, IsOneWorld}
 use Rattle.link_world.specs.Joined.{IsCall, no_event, client_turn, client_left, server_turn, server_left, AreCalls, no_call, one_more}
 use Rattle.link_world.proofs.EventLists.{run_append}
@@ -292,7 +292,7 @@ source_front left more read (Some now) h =
 -- ---- one call
 
 -- besides: both stand on one connection, or have left it
-record Stands (w : World) (p : Pumped) : Type 0 where
+record Stands (w : World) (p : EndPair) : Type 0 where
   pub is : IsWorldOf w p
   pub from : 1 ≤ w.client.client.last
   pub same : w.server.server.last ≡ w.client.client.last
@@ -300,7 +300,7 @@ record Stands (w : World) (p : Pumped) : Type 0 where
   pub server_gone : p.server.server.on ≡ false → (e : ServerEnd) × (p.server ≡ serving_left e)
 
 -- one call
-record Step (answer : Job → ℕ → Outcome) (v : World) (p : Pumped) : Type 0 where
+record Step (answer : Job → ℕ → Outcome) (v : World) (p : EndPair) : Type 0 where
   pub events : List Event
   pub is : IsCall answer v events
   pub now : World
@@ -308,7 +308,7 @@ record Step (answer : Job → ℕ → Outcome) (v : World) (p : Pumped) : Type 0
   pub stands : Stands now p
 
 -- all calls
-record Steps (answer : Job → ℕ → Outcome) (v : World) (p : Pumped) : Type 0 where
+record Steps (answer : Job → ℕ → Outcome) (v : World) (p : EndPair) : Type 0 where
   pub events : List Event
   pub are : AreCalls answer v events
   pub now : World
@@ -322,7 +322,7 @@ there v n m l c from is also =
     ap (λ (k : ℕ). link_of (with_link v.links n l) k) (also ∙ sym is)
     ∙ link_same v.links n l (omega (arith, from, is)) (omega (arith, made, is))
 
-nothing_done : (answer : Job → ℕ → Outcome) (v : World) (p q : Pumped) → Stands v p → q ≡ p → Step answer v q
+nothing_done : (answer : Job → ℕ → Outcome) (v : World) (p q : EndPair) → Stands v p → q ≡ p → Step answer v q
 nothing_done answer v p q s same = record {
   events = [];
   is = no_event;
@@ -331,7 +331,7 @@ nothing_done answer v p q s same = record {
   stands = subst (Stands v) (sym same) s;
 }
 
-client_rests : (p : Pumped) (e : ClientEnd) (read written : List ℕ) → e ≡ p.client → read ≡ [] → written ≡ []
+client_rests : (p : EndPair) (e : ClientEnd) (read written : List ℕ) → e ≡ p.client → read ≡ [] → written ≡ []
     → with_client p e read written ≡ p
 client_rests p e read written same read_none written_none = λ i. record {
   client = same i;
@@ -340,7 +340,7 @@ client_rests p e read written same read_none written_none = λ i. record {
   down = drop (length (read_none i)) p.down;
 }
 
-server_rests : (p : Pumped) (e : ServerEnd) (read written : List ℕ) → e ≡ p.server → read ≡ [] → written ≡ []
+server_rests : (p : EndPair) (e : ServerEnd) (read written : List ℕ) → e ≡ p.server → read ≡ [] → written ≡ []
     → with_server p e read written ≡ p
 server_rests p e read written same read_none written_none = λ i. record {
   client = p.client;
@@ -350,14 +350,14 @@ server_rests p e read written same read_none written_none = λ i. record {
 }
 
 -- the client's turn, from a connection on which it stands
-record ClientSteps (v : World) (p : Pumped) (stage : Stage) (read written : List ℕ) (e : ClientEnd) : Type 0 where
+record ClientSteps (v : World) (p : EndPair) (stage : Stage) (read written : List ℕ) (e : ClientEnd) : Type 0 where
   pub joined : TurnLeads (IsClientTurn (length read)) true v (client_joined v e (written ++ e.out) (length read))
   pub stays : Stays p.client.client.on e.client.on p.client.client.last e.client.last
   pub out : stage ≡ Reading → e.out ≡ []
   pub whole : stage ≡ Reading → next_of e.input.rest ≡ Ok None
       → TurnLeads (IsClientTurn (length read)) false v (client_joined v e written (length read))
 
-client_goes : (v : World) (p : Pumped) → IsCarried v → Stands v p → (least : ℕ) (stage : Stage)
+client_goes : (v : World) (p : EndPair) → IsCarried v → Stands v p → (least : ℕ) (stage : Stage)
     (read written : List ℕ) (e : ClientEnd) → take (length read) p.down ≡ read
     → ClientTurn least p.client stage read written e → ClientSteps v p stage read written e
 client_goes v p c s least stage read written e front t =
@@ -376,13 +376,13 @@ client_goes v p c s least stage read written e front t =
     }
 
 -- the way up behind a turn of the client
-up_more : (v : World) (p : Pumped) (written out : List ℕ) → Stands v p → p.client.client.on ≡ true
+up_more : (v : World) (p : EndPair) (written out : List ℕ) → Stands v p → p.client.client.on ≡ true
     → (client_link v).up ++ (written ++ out) ≡ (p.up ++ written) ++ out
 up_more v p written out s on =
     ap (λ (x : List ℕ). x ++ (written ++ out)) (all_wait p.client.client.on p.up (client_link v).up s.is.up on)
     ∙ sym (append_assoc p.up written out)
 
-client_link_now : (v : World) (p : Pumped) (e : ClientEnd) (text : List ℕ) (k : ℕ) → IsCarried v → Stands v p
+client_link_now : (v : World) (p : EndPair) (e : ClientEnd) (text : List ℕ) (k : ℕ) → IsCarried v → Stands v p
     → e.client.last ≡ p.client.client.last
     → client_link (client_joined v e text k) ≡ record { up = (client_link v).up ++ text; down = drop k (client_link v).down }
 client_link_now v p e text k c s last =
@@ -390,11 +390,11 @@ client_link_now v p e text k c s last =
     (record { up = (client_link v).up ++ text; down = drop k (client_link v).down }) c s.from refl
     (last ∙ sym (ap (λ (x : ClientEnd). x.client.last) s.is.client))
 
-client_last_now : (v : World) (p : Pumped) (e : ClientEnd) → Stands v p → e.client.last ≡ p.client.client.last
+client_last_now : (v : World) (p : EndPair) (e : ClientEnd) → Stands v p → e.client.last ≡ p.client.client.last
     → e.client.last ≡ v.client.client.last
 client_last_now v p e s last = last ∙ sym (ap (λ (x : ClientEnd). x.client.last) s.is.client)
 
-client_moved_on : (answer : Job → ℕ → Outcome) → (v : World) (p : Pumped) → IsCarried v
+client_moved_on : (answer : Job → ℕ → Outcome) → (v : World) (p : EndPair) → IsCarried v
     → Stands v p → (least : ℕ)
     (read written : List ℕ) (e : ClientEnd) → p.client.client.on ≡ true → next_of e.input.rest ≡ Ok None → take (length read) p.down ≡ read
     → ClientTurn least p.client Reading read written e → Step answer v (with_client p e read written)
@@ -427,7 +427,7 @@ client_moved_on answer v p c s least read written e on all front t =
       };
     }
 
-client_stopped_on : (answer : Job → ℕ → Outcome) → (v : World) (p : Pumped) → IsCarried v
+client_stopped_on : (answer : Job → ℕ → Outcome) → (v : World) (p : EndPair) → IsCarried v
     → Stands v p → (least : ℕ)
     (stage : Stage) (read written : List ℕ) (e : ClientEnd) → p.client.client.on ≡ true → take (length read) p.down ≡ read
     → ClientTurn least p.client stage read written e → Step answer v (with_client p (end_left e) read written)
@@ -455,7 +455,7 @@ client_stopped_on answer v p c s least stage read written e on front t =
       };
     }
 
-client_moved : (answer : Job → ℕ → Outcome) → (v : World) (p : Pumped) → IsCarried v → Stands v p
+client_moved : (answer : Job → ℕ → Outcome) → (v : World) (p : EndPair) → IsCarried v → Stands v p
     → (least : ℕ) (read written : List ℕ) (e : ClientEnd) (b : Bool) → p.client.client.on ≡ b → next_of e.input.rest ≡ Ok None
     → take (length read) p.down ≡ read → ClientTurn least p.client Reading read written e
     → Step answer v (with_client p e read written)
@@ -464,7 +464,7 @@ client_moved answer v p c s least read written e true on all front t =
 client_moved answer v p c s least read written e false off all front t =
     let gone = s.client_gone off in absurd (client_still least p.client gone.0 Reading read written e gone.1 t)
 
-client_rest : (answer : Job → ℕ → Outcome) (v : World) (p : Pumped) (stage : Stage) (read written : List ℕ)
+client_rest : (answer : Job → ℕ → Outcome) (v : World) (p : EndPair) (stage : Stage) (read written : List ℕ)
     (e x : ClientEnd) → Stands v p
     → p.client ≡ end_left x → ClientStill stage p.client e read written → Step answer v (with_client p (end_left e) read written)
 client_rest answer v p stage read written e x s left k = go stage k
@@ -480,7 +480,7 @@ client_rest answer v p stage read written e x s left k = go stage k
     go Reading k = absurd k
     go Working k = absurd k
 
-client_stopped : (answer : Job → ℕ → Outcome) → (v : World) (p : Pumped) → IsCarried v
+client_stopped : (answer : Job → ℕ → Outcome) → (v : World) (p : EndPair) → IsCarried v
     → Stands v p → (least : ℕ)
     (stage : Stage) (read written : List ℕ) (e : ClientEnd) (b : Bool) → p.client.client.on ≡ b → take (length read) p.down ≡ read
     → ClientTurn least p.client stage read written e → Step answer v (with_client p (end_left e) read written)
@@ -492,7 +492,7 @@ client_stopped answer v p c s least stage read written e false off front t =
     (client_still least p.client gone.0 stage read written e gone.1 t)
 
 -- the server's turn
-record ServerSteps (answer : Job → ℕ → Outcome) (v : World) (p : Pumped) (stage : Stage) (read written : List ℕ)
+record ServerSteps (answer : Job → ℕ → Outcome) (v : World) (p : EndPair) (stage : Stage) (read written : List ℕ)
     (e : ServerEnd) : Type 0
   where
     pub joined : TurnLeads (IsServerTurn answer (length read)) true v (server_joined v e (written ++ e.out) (length read))
@@ -500,7 +500,7 @@ record ServerSteps (answer : Job → ℕ → Outcome) (v : World) (p : Pumped) (
     pub whole : stage ≡ Writing
         → TurnLeads (IsServerTurn answer (length read)) false v (server_joined v e (written ++ e.out) (length read))
 
-server_goes : (answer : Job → ℕ → Outcome) → AreFit answer → (v : World) (p : Pumped) → IsCarried v → Stands v p
+server_goes : (answer : Job → ℕ → Outcome) → AreFit answer → (v : World) (p : EndPair) → IsCarried v → Stands v p
     → (least : ℕ) (stage : Stage) (read written : List ℕ) (e : ServerEnd) → p.server.server.on ≡ true → take (length read) p.up ≡ read
     → ServerTurn answer least p.server stage read written e → ServerSteps answer v p stage read written e
 server_goes answer fit v p c s least stage read written e on front t =
@@ -516,24 +516,24 @@ server_goes answer fit v p c s least stage read written e on front t =
           (subst (λ (x : Stage). ServerTurn answer least v.server x read written e) is turn);
     }
 
-server_link_now : (v : World) (p : Pumped) (e : ServerEnd) (text : List ℕ) (k : ℕ) → IsCarried v → Stands v p
+server_link_now : (v : World) (p : EndPair) (e : ServerEnd) (text : List ℕ) (k : ℕ) → IsCarried v → Stands v p
     → client_link (server_joined v e text k) ≡ record { up = drop k (client_link v).up; down = (client_link v).down ++ text }
 server_link_now v p e text k c s =
     there v v.server.server.last v.client.client.last
     (record { up = drop k (server_link v).up; down = (server_link v).down ++ text }) c s.from s.same refl
     ∙ ap (λ (n : ℕ). record { up = drop k (link_of v.links n).up; down = (link_of v.links n).down ++ text }) s.same
 
-down_more : (v : World) (p : Pumped) (written out : List ℕ) → Stands v p → p.server.server.on ≡ true
+down_more : (v : World) (p : EndPair) (written out : List ℕ) → Stands v p → p.server.server.on ≡ true
     → (client_link v).down ++ (written ++ out) ≡ (p.down ++ written) ++ out
 down_more v p written out s on =
     ap (λ (x : List ℕ). x ++ (written ++ out)) (all_wait p.server.server.on p.down (client_link v).down s.is.down on)
     ∙ sym (append_assoc p.down written out)
 
-server_last_now : (v : World) (p : Pumped) (e : ServerEnd) → Stands v p → e.server.last ≡ p.server.server.last
+server_last_now : (v : World) (p : EndPair) (e : ServerEnd) → Stands v p → e.server.last ≡ p.server.server.last
     → e.server.last ≡ v.client.client.last
 server_last_now v p e s last = last ∙ (sym (ap (λ (x : ServerEnd). x.server.last) s.is.server) ∙ s.same)
 
-server_moved_on : (answer : Job → ℕ → Outcome) → AreFit answer → (v : World) (p : Pumped) → IsCarried v → Stands v p
+server_moved_on : (answer : Job → ℕ → Outcome) → AreFit answer → (v : World) (p : EndPair) → IsCarried v → Stands v p
     → (least : ℕ) (read written : List ℕ) (e : ServerEnd) → p.server.server.on ≡ true → e.out ≡ []
     → take (length read) p.up ≡ read → ServerTurn answer least p.server Writing read written e
     → Step answer v (with_server p e read written)
@@ -565,7 +565,7 @@ server_moved_on answer fit v p c s least read written e on out front t =
       };
     }
 
-server_stopped_on : (answer : Job → ℕ → Outcome) → AreFit answer → (v : World) (p : Pumped) → IsCarried v → Stands v p
+server_stopped_on : (answer : Job → ℕ → Outcome) → AreFit answer → (v : World) (p : EndPair) → IsCarried v → Stands v p
     → (least : ℕ) (stage : Stage) (read written : List ℕ) (e : ServerEnd) → p.server.server.on ≡ true
     → take (length read) p.up ≡ read → ServerTurn answer least p.server stage read written e
     → Step answer v (with_server p (serving_left e) read written)
@@ -593,7 +593,7 @@ server_stopped_on answer fit v p c s least stage read written e on front t =
       };
     }
 
-server_moved : (answer : Job → ℕ → Outcome) → AreFit answer → (v : World) (p : Pumped) → IsCarried v → Stands v p
+server_moved : (answer : Job → ℕ → Outcome) → AreFit answer → (v : World) (p : EndPair) → IsCarried v → Stands v p
     → (least : ℕ) (read written : List ℕ) (e : ServerEnd) (b : Bool) → p.server.server.on ≡ b → e.out ≡ []
     → take (length read) p.up ≡ read → ServerTurn answer least p.server Writing read written e
     → Step answer v (with_server p e read written)
@@ -604,7 +604,7 @@ server_moved answer fit v p c s least read written e false off out front t =
     let k = server_still answer least p.server gone.0 Writing read written e gone.1 t in
     nothing_done answer v p (with_server p e read written) s (server_rests p e read written k.same k.read_none k.written_none)
 
-server_stopped : (answer : Job → ℕ → Outcome) → AreFit answer → (v : World) (p : Pumped) → IsCarried v → Stands v p
+server_stopped : (answer : Job → ℕ → Outcome) → AreFit answer → (v : World) (p : EndPair) → IsCarried v → Stands v p
     → (least : ℕ) (stage : Stage) (read written : List ℕ) (e : ServerEnd) (b : Bool) → p.server.server.on ≡ b
     → take (length read) p.up ≡ read → ServerTurn answer least p.server stage read written e
     → Step answer v (with_server p (serving_left e) read written)
@@ -618,7 +618,7 @@ server_stopped answer fit v p c s least stage read written e false off front t =
 
 -- ---- all calls
 
-steps_more : (answer : Job → ℕ → Outcome) (w : World) (p q : Pumped) → (g : Steps answer w p)
+steps_more : (answer : Job → ℕ → Outcome) (w : World) (p q : EndPair) → (g : Steps answer w p)
     → Step answer g.now q → Steps answer w q
 steps_more answer w p q g h = record {
   events = g.events ++ h.events;
@@ -628,11 +628,11 @@ steps_more answer w p q g h = record {
   stands = h.stands;
 }
 
-now_carried : (answer : Job → ℕ → Outcome) → (w : World) (p : Pumped) → IsCarried w
+now_carried : (answer : Job → ℕ → Outcome) → (w : World) (p : EndPair) → IsCarried w
     → (g : Steps answer w p) → IsCarried g.now
 now_carried answer w p c g = subst IsCarried g.leads (run_carried g.events w c)
 
-calls : (answer : Job → ℕ → Outcome) → AreFit answer → (w : World) (p : Pumped) → IsCarried w
+calls : (answer : Job → ℕ → Outcome) → AreFit answer → (w : World) (p : EndPair) → IsCarried w
     → Stands w (pumped_of w) → PumpCalls answer (pumped_of w) p → Steps answer w p
 calls answer fit w _ c s no_calls = record { events = []; are = no_call; now = w; leads = refl; stands = s }
 calls answer fit w _ c s (client_moves p e least left left_now taken taken_now moved t h front) =
@@ -677,7 +677,7 @@ begins_so w c client server same = record {
   server_gone = λ off. absurd (false≢true (sym off ∙ server));
 }
 
-pumps_reach : (answer : Job → ℕ → Outcome) → AreFit answer → (w : World) (p : Pumped)
+pumps_reach : (answer : Job → ℕ → Outcome) → AreFit answer → (w : World) (p : EndPair)
     (program : Meaning) (rack : List (List ℕ)) (window : ℕ) (events : List Event) → IsProgram program → window ≤ 16
     → w ≡ run_of events (start program rack window) → w.client.client.on ≡ true → w.server.server.on ≡ true
     → w.server.server.last ≡ w.client.client.last → PumpCalls answer (pumped_of w) p → Steps answer w p
@@ -686,7 +686,7 @@ pumps_reach answer fit w p program rack window events is few reached client serv
     subst IsCarried (sym reached) (run_carried events (start program rack window) (start_carried program rack window is few)) in
     calls answer fit w p c (begins_so w c client server same) t
 
-pub pumps_join : (answer : Job → ℕ → Outcome) → AreFit answer → (w : World) (p : Pumped)
+pub pumps_join : (answer : Job → ℕ → Outcome) → AreFit answer → (w : World) (p : EndPair)
     (program : Meaning) (rack : List (List ℕ)) (window : ℕ) (events : List Event) → IsProgram program → window ≤ 16
     → w ≡ run_of events (start program rack window) → w.client.client.on ≡ true → w.server.server.on ≡ true
     → w.server.server.last ≡ w.client.client.last → PumpCalls answer (pumped_of w) p → IsOneWorld answer w p
@@ -695,13 +695,13 @@ pumps_join answer fit w p program rack window events is few reached client serve
     record { events = g.events; are = g.are; is = subst (λ (v : World). IsWorldOf v p) (sym g.leads) g.stands.is }
 
 -- the whole list of events, from the start
-from_start : (answer : Job → ℕ → Outcome) (w : World) (p : Pumped) (v : World) (events : List Event)
+from_start : (answer : Job → ℕ → Outcome) (w : World) (p : EndPair) (v : World) (events : List Event)
     → w ≡ run_of events v
     → (g : Steps answer w p) → run_of (events ++ g.events) v ≡ g.now
 from_start answer w p v events reached g =
     run_append events g.events v ∙ (ap (run_of g.events) (sym reached) ∙ g.leads)
 
-pub pumps_sound : (answer : Job → ℕ → Outcome) → AreFit answer → (w : World) (p : Pumped)
+pub pumps_sound : (answer : Job → ℕ → Outcome) → AreFit answer → (w : World) (p : EndPair)
     (program : Meaning) (rack : List (List ℕ)) (window : ℕ) (events : List Event) → IsProgram program → window ≤ 16
     → w ≡ run_of events (start program rack window) → w.client.client.on ≡ true → w.server.server.on ≡ true
     → w.server.server.last ≡ w.client.client.last → PumpCalls answer (pumped_of w) p
@@ -714,7 +714,7 @@ pumps_sound answer fit w p program rack window events is few reached client serv
     (from_start answer w p (start program rack window) events reached g)
     (always_sound program rack window (events ++ g.events) is few)))
 
-pub pumps_told : (answer : Job → ℕ → Outcome) → AreFit answer → (w : World) (p : Pumped)
+pub pumps_told : (answer : Job → ℕ → Outcome) → AreFit answer → (w : World) (p : EndPair)
     (program : Meaning) (rack : List (List ℕ)) (window : ℕ) (events : List Event) → IsProgram program → window ≤ 16
     → w ≡ run_of events (start program rack window) → w.client.client.on ≡ true → w.server.server.on ≡ true
     → w.server.server.last ≡ w.client.client.last → PumpCalls answer (pumped_of w) p
@@ -727,7 +727,7 @@ pumps_told answer fit w p program rack window events is few reached client serve
     (from_start answer w p (start program rack window) events reached g)
     (always_told program rack window (events ++ g.events) is few)))
 
-pub pumps_agree : (answer : Job → ℕ → Outcome) → AreFit answer → (w : World) (p : Pumped)
+pub pumps_agree : (answer : Job → ℕ → Outcome) → AreFit answer → (w : World) (p : EndPair)
     (program : Meaning) (rack : List (List ℕ)) (window : ℕ) (events : List Event) → IsProgram program → window ≤ 16
     → w ≡ run_of events (start program rack window) → w.client.client.on ≡ true → w.server.server.on ≡ true
     → w.server.server.last ≡ w.client.client.last → PumpCalls answer (pumped_of w) p

@@ -19,13 +19,13 @@ use Rattle.protocol_model.proofs.invariant.Served.{served_sound}
 use Rattle.protocol_model.proofs.whole_run.Wires.{IsWhole}
 use Rattle.protocol_model.proofs.written_lines.Writable.{command_lines}
 use Rattle.protocol_model.proofs.whole_run.WholeRun.{run_carried, start_carried}
-use Rattle.server_core.specs.Serving.{Serving, new_serving}
+use Rattle.server_core.specs.Serving.{ServerValue, new_serving}
 use Rattle.link_world.specs.declared.connection.Connection.{Connection}
 use Rattle.protocol_model.specs.Claims.{Sound, Told}
 use Rattle.link_world.specs.Claims.{Headline}
-use Rattle.link_world.specs.Links.{Linked, links_of, seen, with_world, IsReached}
+use Rattle.link_world.specs.Links.{WorldValue, links_of, seen, with_world, IsReached}
 
-pub carried : (l : Linked) → IsReached l → IsCarried l.world
+pub carried : (l : WorldValue) → IsReached l → IsCarried l.world
 carried l h = subst IsCarried (sym h.reached) (run_carried h.events (start h.program l.setup.tools h.window)
     (start_carried h.program l.setup.tools h.window h.is_program h.few))
 
@@ -41,7 +41,7 @@ happened : (e : Event) (w : World) (b : Bool) → can e w ≡ b → b ≡ true
 happened e w true is may = refl
 happened e w false is may = absurd (false≢true may)
 
-pub reached_more : (l m : Linked) (e : Event) → IsReached l → can e l.world ≡ true
+pub reached_more : (l m : WorldValue) (e : Event) → IsReached l → can e l.world ≡ true
     → (m ≡ with_world l (happens e l.world)) → IsReached m
 reached_more l m e h may is =
     subst IsReached (sym (is)) (record {
@@ -57,17 +57,18 @@ reached_more l m e h may is =
 
 -- ---- the claims
 
-pub sound : (l : Linked) → IsReached l
+pub sound : (l : WorldValue) → IsReached l
     → Sound l.world.client.client.program.features l.world.client.client.table.tally.features l.world.server.server.ledger
 sound l h = let c : IsCarried l.world = carried l h in
     served_sound l.world.client.client.program.features l.world.client.client.table.tally.features l.world.server.server.ledger
     (served_now (lined l.world c.up c.down) c.inv)
 
-told : (l : Linked) → IsReached l → Told l.world.client.client.table.tally.counted l.world.server.server.ledger l.world.client.client.last
+told : (l : WorldValue) → IsReached l → Told l.world.client.client.table.tally.counted l.world.server.server.ledger
+    l.world.client.client.last
 told l h = let c : IsCarried l.world = carried l h in let t = told_now (lined l.world c.up c.down) c.inv
     in record { more = t.0; whole = t.1 }
 
-pub headline : (l : Linked) → IsReached l → Headline l.world
+pub headline : (l : WorldValue) → IsReached l → Headline l.world
 headline l h = let c : IsCarried l.world = carried l h in record {
   features = sound l h;
   counted = told l h;
@@ -76,8 +77,8 @@ headline l h = let c : IsCarried l.world = carried l h in record {
 }
 
 -- the same of what is seen as another
-pub headline_seen : (l m : Linked) → l ≡ m → IsReached l → Headline m.world
-headline_seen l m same h = subst (λ (k : Linked). Headline k.world) same (headline l h)
+pub headline_seen : (l m : WorldValue) → l ≡ m → IsReached l → Headline m.world
+headline_seen l m same h = subst (λ (k : WorldValue). Headline k.world) same (headline l h)
 
 -- ---- numbers of connections
 
@@ -85,26 +86,27 @@ pub links_long : (cs : List Connection) → length (links_of cs) ≡ length cs
 links_long [] = refl
 links_long (c ∷ cs) = ap suc (links_long cs)
 
-pub made : (client : ClientEnd) (server : Serving) (cs : List Connection) (written : List ℕ) → IsReached (seen client server cs written)
+pub made : (client : ClientEnd) (server : ServerValue) (cs : List Connection) (written : List ℕ) → IsReached (seen client server cs written)
     → length cs ≡ client.client.last
 made client server cs written h = sym (links_long cs) ∙ (carried (seen client server cs written) h).wired.made
 
-pub taken : (client : ClientEnd) (server : Serving) (cs : List Connection) (written : List ℕ) → IsReached (seen client server cs written)
+pub taken : (client : ClientEnd) (server : ServerValue) (cs : List Connection) (written : List ℕ)
+    → IsReached (seen client server cs written)
     → server.end.server.last ≤ length cs
 taken client server cs written h =
     let w = (carried (seen client server cs written) h).wired in
     let same : length cs ≡ client.client.last = made client server cs written h in
     let le : server.end.server.last ≤ client.client.last = w.numbers in omega (arith, same, le)
 
-pub server_number : (client : ClientEnd) (server : Serving) (cs : List Connection) (written : List ℕ)
+pub server_number : (client : ClientEnd) (server : ServerValue) (cs : List Connection) (written : List ℕ)
     → IsReached (seen client server cs written) → server.end.server.on ≡ true → 1 ≤ server.end.server.last
 server_number client server cs written h on = (carried (seen client server cs written) h).wired.taken on
 
 -- the number of the connection on which a server stands
-abbrev pub number_on : Serving → Option ℕ
+abbrev pub number_on : ServerValue → Option ℕ
 number_on server = if server.end.server.on then Some server.end.server.last else None
 
-some_number : (server : Serving) (number : ℕ) → number_on server ≡ Some number → (server.end.server.on ≡ true)
+some_number : (server : ServerValue) (number : ℕ) → number_on server ≡ Some number → (server.end.server.on ≡ true)
     × (server.end.server.last ≡ number)
 some_number server number is = go server.end.server.on refl is
   where
@@ -117,12 +119,12 @@ some_number server number is = go server.end.server.on refl is
     go true on e = (on, ap value e)
     go false off e = absurd (cc)
 
-pub record Stands (l : Linked) (at : ℕ) : Type 0 where
+pub record Stands (l : WorldValue) (at : ℕ) : Type 0 where
   pub on : l.world.server.server.on ≡ true
   pub place : at ≡ l.world.server.server.last - 1
   pub within : at < length l.world.links
 
-pub stands : (l : Linked) (client : ClientEnd) (server : Serving) (cs : List Connection) (written : List ℕ) (number at : ℕ)
+pub stands : (l : WorldValue) (client : ClientEnd) (server : ServerValue) (cs : List Connection) (written : List ℕ) (number at : ℕ)
     → l ≡ seen client server cs written → IsReached (seen client server cs written)
     → number_on server ≡ Some number → at ≡ number - 1 → (1 ≤ number) × Stands l at
 stands l client server cs written number at view h is place =
@@ -131,7 +133,7 @@ stands l client server cs written number at view h is place =
     let le : server.end.server.last ≤ length cs = taken client server cs written h in
     let last : server.end.server.last ≡ number = two.1 in (
       omega (arith, one, last),
-      subst (λ (k : Linked). Stands k at) (sym view) (record {
+      subst (λ (k : WorldValue). Stands k at) (sym view) (record {
         on = two.0;
         place = place ∙ omega (arith, last);
         within = omega (arith, one, le, last, place, links_long cs);
@@ -140,17 +142,17 @@ stands l client server cs written number at view h is place =
 
 -- ---- what is to be sent was sent
 
-pub client_quiet : (client : ClientEnd) (server : Serving) (cs : List Connection) (written : List ℕ)
+pub client_quiet : (client : ClientEnd) (server : ServerValue) (cs : List Connection) (written : List ℕ)
     → IsReached (seen client server cs written) → client.out ≡ []
 client_quiet client server cs written h = (carried (seen client server cs written) h).client_out
 
-pub server_quiet : (client : ClientEnd) (server : Serving) (cs : List Connection) (written : List ℕ)
+pub server_quiet : (client : ClientEnd) (server : ServerValue) (cs : List Connection) (written : List ℕ)
     → IsReached (seen client server cs written) → server.end.out ≡ []
 server_quiet client server cs written h = (carried (seen client server cs written) h).server_out
 
 -- ---- no side meets what is no line
 
-pub server_reads_lines : (client : ClientEnd) (server : Serving) (cs : List Connection) (written : List ℕ)
+pub server_reads_lines : (client : ClientEnd) (server : ServerValue) (cs : List Connection) (written : List ℕ)
     → IsReached (seen client server cs written)
     → server.end.server.on ≡ true → (why : FramingFault) → next_of server.end.input.rest ≡ Err why → ⊥
 server_reads_lines client server cs written h on why is =
@@ -159,7 +161,7 @@ server_reads_lines client server cs written h on why is =
     no_fault server.end.input.rest (server_link (seen client server cs written).world).up (command_texts whole.lines) why
     (command_lines whole.lines whole.writable) whole.is is
 
-pub never_faulted_behind : (l : Linked) (e : Event) → IsReached l → can e l.world ≡ true
+pub never_faulted_behind : (l : WorldValue) (e : Event) → IsReached l → can e l.world ≡ true
     → (happens e l.world).client.client.state ≢ State.Faulted
 never_faulted_behind l e h may =
     let c : IsCarried (happens e l.world) = Rattle.protocol_model.proofs.whole_run.WholeRun.happens_carried e l.world
@@ -168,13 +170,13 @@ never_faulted_behind l e h may =
 
 -- ---- before any event
 
-pub start_reached : (program : Meaning) (setup : SetupValue) (window : ℕ) (client : ClientEnd) (server : Serving) (cs : List Connection)
+pub start_reached : (program : Meaning) (setup : SetupValue) (window : ℕ) (client : ClientEnd) (server : ServerValue) (cs : List Connection)
     (written : List ℕ) → IsProgram program → (nat_le 1 window && nat_le window 16) ≡ true
     → client ≡ new_client_end program [] window → server ≡ new_serving setup → cs ≡ [] → written ≡ []
     → IsReached (seen client server cs written)
 start_reached program setup window client server cs written is_program few c s none nothing =
-    subst (λ (l : Linked). IsReached l) (sym (ap (λ (x : ClientEnd). seen x server cs written) c
-    ∙ (ap (λ (x : Serving). seen (new_client_end program [] window) x cs written) s
+    subst (λ (l : WorldValue). IsReached l) (sym (ap (λ (x : ClientEnd). seen x server cs written) c
+    ∙ (ap (λ (x : ServerValue). seen (new_client_end program [] window) x cs written) s
     ∙ (ap (λ (x : List Connection). seen (new_client_end program [] window) (new_serving setup) x written) none
     ∙ ap (λ (x : List ℕ). seen (new_client_end program [] window) (new_serving setup) [] x) nothing))))
     (record {

@@ -18,16 +18,16 @@ use Rattle.protocol_model.specs.Plan.{is_empty, plan, planned, behind, up_to, to
 use Rattle.protocol_model.specs.World.{World, can, happens, after, run_of}
 use Rattle.protocol_model.specs.declared.events.Event.{Event}
 use Rattle.protocol_model.specs.declared.events.Event.TheVariants as event
-use Rattle.protocol_model.specs.declared.held.Held.{Held}
+use Rattle.protocol_model.specs.declared.held.OpenCommand.{OpenCommand}
 use Rattle.protocol_model.specs.declared.plans.Does.TheVariants.{Nothing}
 use Rattle.protocol_model.specs.declared.plans.Planned.{Planned}
 use Rattle.protocol_model.specs.declared.plans.Start.{Start}
 use Rattle.protocol_model.specs.declared.states.State.{State}
 use Rattle.client_core.specs.Always.{FitsState}
-use Rattle.server_core.specs.Serving.{Serving}
+use Rattle.server_core.specs.Serving.{ServerValue}
 use Rattle.link_world.specs.declared.connection.Connection.{Connection}
 use Rattle.link_world.specs.Finishing.{commands_most, AreFirstOfJoining}
-use Rattle.link_world.specs.Links.{Linked, seen, with_world, IsReached}
+use Rattle.link_world.specs.Links.{WorldValue, seen, with_world, IsReached}
 use Rattle.link_world.specs.Parts.{Makes}
 use Rattle.link_world.proofs.EventLists.{leads_more, done_now}
 use Rattle.link_world.proofs.Reached.{made}
@@ -36,12 +36,13 @@ use Rattle.link_world.proofs.Undisturbed.{program_is}
 below_yes : (n : ℕ) → n < connection_most → IsTrue (nat_lt n connection_most)
 below_yes n lt = search rules
 
-pub finish_at : (l : Linked) (client : ClientEnd) (server : Serving) (cs : List Connection) (written : List ℕ) (n : ℕ)
+pub finish_at : (l : WorldValue) (client : ClientEnd) (server : ServerValue) (cs : List Connection) (written : List ℕ) (n : ℕ)
     → seen client server cs written ≡ l → IsReached (seen client server cs written) → n ≡ length cs
     → l.world.client.client.state ≢ State.Done
     → (IsTrue (nat_lt n 4000000000) → CanFinish l.world) × (CanFinish l.world → IsTrue (nat_lt n 4000000000))
 finish_at l client server cs written n view h long undone =
-    let count : n ≡ l.world.client.client.last = long ∙ (made client server cs written h ∙ ap (λ (k : Linked). k.world.client.client.last) view) in (
+    let count : n ≡ l.world.client.client.last = long ∙ (made client server cs written h
+    ∙ ap (λ (k : WorldValue). k.world.client.client.last) view) in (
       λ few. record {
         undone = undone;
         connections = subst (λ (i : ℕ). i < connection_most) count (ltb-true _ _ few);
@@ -51,12 +52,12 @@ finish_at l client server cs written n view h long undone =
 
 -- ---- the events of joining
 
-joins_one : (e : Event) (l k m : Linked) (es : List Event) → k ≡ with_world l (run_of es l.world)
+joins_one : (e : Event) (l k m : WorldValue) (es : List Event) → k ≡ with_world l (run_of es l.world)
     → m ≡ with_world k (after e k.world) → m ≡ with_world l (run_of (es ++ e ∷ []) l.world)
 joins_one e l k m es first then = leads_more l k m es (e ∷ []) first then
 
 -- each of them happened
-pub joins_all : (l a b c m : Linked) (n : ℕ) → n ≡ suc l.world.client.client.last
+pub joins_all : (l a b c m : WorldValue) (n : ℕ) → n ≡ suc l.world.client.client.last
     → a ≡ with_world l (after event.ClientLeaves l.world) → b ≡ with_world a (after event.ServerLeaves a.world)
     → c ≡ with_world b (after event.Connect b.world) → m ≡ with_world c (after (event.Accept n) c.world)
     → m ≡ with_world l (rejoined l.world)
@@ -68,7 +69,7 @@ joins_all l a b c m n is first second third fourth =
     (joins_one event.ServerLeaves l a b (event.ClientLeaves ∷ []) first second) third) fourth)
 
 -- the first of them happened, and the next wanted memory
-pub joins_cut : (l k m : Linked) (es more : List Event) → k ≡ with_world l (run_of es l.world) → m ≡ k
+pub joins_cut : (l k m : WorldValue) (es more : List Event) → k ≡ with_world l (run_of es l.world) → m ≡ k
     → es ++ more ≡ rejoining l.world → Makes AreFirstOfJoining true None l m
 joins_cut l k m es more leads same parts = record {
   events = es;
@@ -77,20 +78,20 @@ joins_cut l k m es more leads same parts = record {
   told_is = tt;
 }
 
-pub joins_none : (l m : Linked) → m ≡ l → Makes AreFirstOfJoining true None l m
+pub joins_none : (l m : WorldValue) → m ≡ l → Makes AreFirstOfJoining true None l m
 joins_none l m same = joins_cut l l m [] (rejoining l.world) refl same refl
 
-pub joins_client : (l a m : Linked) → a ≡ with_world l (after event.ClientLeaves l.world) → m ≡ a
+pub joins_client : (l a m : WorldValue) → a ≡ with_world l (after event.ClientLeaves l.world) → m ≡ a
     → Makes AreFirstOfJoining true None l m
 joins_client l a m first same = joins_cut l a m (event.ClientLeaves ∷ []) _ first same refl
 
-pub joins_server : (l a b m : Linked) → a ≡ with_world l (after event.ClientLeaves l.world)
+pub joins_server : (l a b m : WorldValue) → a ≡ with_world l (after event.ClientLeaves l.world)
     → b ≡ with_world a (after event.ServerLeaves a.world) → m ≡ b → Makes AreFirstOfJoining true None l m
 joins_server l a b m first second same =
     joins_cut l b m (event.ClientLeaves ∷ event.ServerLeaves ∷ []) _
     (joins_one event.ServerLeaves l a b (event.ClientLeaves ∷ []) first second) same refl
 
-pub joins_connect : (l a b c m : Linked) → a ≡ with_world l (after event.ClientLeaves l.world)
+pub joins_connect : (l a b c m : WorldValue) → a ≡ with_world l (after event.ClientLeaves l.world)
     → b ≡ with_world a (after event.ServerLeaves a.world) → c ≡ with_world b (after event.Connect b.world) → m ≡ c
     → Makes AreFirstOfJoining true None l m
 joins_connect l a b c m first second third same =
@@ -99,10 +100,11 @@ joins_connect l a b c m first second third same =
     (joins_one event.ServerLeaves l a b (event.ClientLeaves ∷ []) first second) third) same refl
 
 -- the number of the next connection
-pub next_at : (l : Linked) (client : ClientEnd) (server : Serving) (cs : List Connection) (written : List ℕ) (n : ℕ)
+pub next_at : (l : WorldValue) (client : ClientEnd) (server : ServerValue) (cs : List Connection) (written : List ℕ) (n : ℕ)
     → seen client server cs written ≡ l → IsReached (seen client server cs written) → n ≡ length cs → n + 1 ≡ suc l.world.client.client.last
 next_at l client server cs written n view h long =
-    let count : n ≡ l.world.client.client.last = long ∙ (made client server cs written h ∙ ap (λ (k : Linked). k.world.client.client.last) view) in
+    let count : n ≡ l.world.client.client.last = long ∙ (made client server cs written h
+    ∙ ap (λ (k : WorldValue). k.world.client.client.last) view) in
     omega (arith, count)
 
 -- ---- the client behind them
@@ -212,7 +214,7 @@ pub joined_due : (w v : World) → IsJoined w v → 1 ≤ w.client.client.window
 joined_due w v joined some =
     ap (λ (s : State). is_some (cond (is_running s && not (is_asking v.client.client.table.standard)) (first_due v.client.client.window
     (count_open v.client.client.table.standard) v.client.client.table.tally.unsent) None)) joined.state
-    ∙ (ap (λ (hs : List Held). is_some (cond (not (is_asking hs)) (first_due v.client.client.window (count_open hs)
+    ∙ (ap (λ (hs : List OpenCommand). is_some (cond (not (is_asking hs)) (first_due v.client.client.window (count_open hs)
     v.client.client.table.tally.unsent) None)) joined.standard
     ∙ (ap (λ (ps : List Planned). is_some (first_due v.client.client.window 0 ps)) joined.unsent
     ∙ (ap (λ (n : ℕ). is_some (first_due n 0 (plan_left w))) joined.window ∙ go w.client.client.window some)))
@@ -274,7 +276,7 @@ plan_few p k short =
     let a = measuring_few (tool_behind None (up_to k p.steps)) (frame_behind Machine (up_to k p.steps)) (behind k p.steps) in
     let b = behind_few k p.steps in omega (arith, a, b, short)
 
-pub left_few : (l : Linked) → IsReached l → length (plan_left l.world) ≤ commands_most
+pub left_few : (l : WorldValue) → IsReached l → length (plan_left l.world) ≤ commands_most
 left_few l h = plan_few l.world.client.client.program (length l.world.client.client.table.tally.features) (program_is l h).short
 
 -- a call told that what is left can be brought to its end

@@ -8,7 +8,7 @@ use Rattle.protocol_model.proofs.whole_run.SameProgram.{run_same, run_window}
 use Rattle.link_world.specs.Claims.{IsAnswer, takes_memory}
 use Rattle.link_world.specs.Events.{HappensIf}
 use Rattle.link_world.specs.Finishing.{IsSameKind}
-use Rattle.link_world.specs.Links.{Linked, with_world}
+use Rattle.link_world.specs.Links.{WorldValue, with_world}
 use Rattle.link_world.specs.declared.faults.WorldFault.{WorldFault}
 use Rattle.link_world.specs.declared.faults.WorldFault.TheVariants as fault
 use Rattle.link_world.proofs.Undisturbed.{after_can}
@@ -31,39 +31,39 @@ answer_wanting e w (Ok u) a is = absurd (cc)
 answer_wanting e w (Err fault.NotNow) a is = absurd (cc)
 answer_wanting e w (Err fault.Memory) a is = a
 
-same_kind : (l m : Linked) (e : Event) → can e l.world ≡ true
+same_kind : (l m : WorldValue) (e : Event) → can e l.world ≡ true
     → (m ≡ with_world l (happens e l.world)) → IsSameKind l m
 same_kind l m e may is =
     let new : m ≡ with_world l (happens e l.world) = is in record {
-      setup = ap (λ (k : Linked). k.setup) new;
+      setup = ap (λ (k : WorldValue). k.setup) new;
       program =
-          ap (λ (k : Linked). k.world.client.client.program) new
+          ap (λ (k : WorldValue). k.world.client.client.program) new
           ∙ (ap (λ (w : World). w.client.client.program) (sym (after_can e l.world (can e l.world) refl may))
           ∙ run_same (e ∷ []) l.world);
       window =
-          ap (λ (k : Linked). k.world.client.client.window) new
+          ap (λ (k : WorldValue). k.world.client.client.window) new
           ∙ (ap (λ (w : World). w.client.client.window) (sym (after_can e l.world (can e l.world) refl may))
           ∙ run_window (e ∷ []) l.world);
     }
 
-pub same_behind : (l m : Linked) (e : Event) (r : Result (Unit {0}) WorldFault) → HappensIf r (can e l.world)
+pub same_behind : (l m : WorldValue) (e : Event) (r : Result (Unit {0}) WorldFault) → HappensIf r (can e l.world)
     → Leads r l m (with_world l (happens e l.world)) → IsSameKind l m
 same_behind l m e (Ok u) may leads = same_kind l m e may.0 leads.0
 same_behind l m e (Err fault) may leads = record {
-  setup = ap (λ (k : Linked). k.setup) leads.1;
-  program = ap (λ (k : Linked). k.world.client.client.program) leads.1;
-  window = ap (λ (k : Linked). k.world.client.client.window) leads.1;
+  setup = ap (λ (k : WorldValue). k.setup) leads.1;
+  program = ap (λ (k : WorldValue). k.world.client.client.program) leads.1;
+  window = ap (λ (k : WorldValue). k.world.client.client.window) leads.1;
 }
 
 -- behind any list of events
-pub same_run : (es : List Event) (l m : Linked) → m ≡ with_world l (run_of es l.world) → IsSameKind l m
+pub same_run : (es : List Event) (l m : WorldValue) → m ≡ with_world l (run_of es l.world) → IsSameKind l m
 same_run es l m is = record {
-  setup = ap (λ (k : Linked). k.setup) is;
-  program = ap (λ (k : Linked). k.world.client.client.program) is ∙ run_same es l.world;
-  window = ap (λ (k : Linked). k.world.client.client.window) is ∙ run_window es l.world;
+  setup = ap (λ (k : WorldValue). k.setup) is;
+  program = ap (λ (k : WorldValue). k.world.client.client.program) is ∙ run_same es l.world;
+  window = ap (λ (k : WorldValue). k.world.client.client.window) is ∙ run_window es l.world;
 }
 
-pub same_then : (l k m : Linked) → IsSameKind l k → IsSameKind k m → IsSameKind l m
+pub same_then : (l k m : WorldValue) → IsSameKind l k → IsSameKind k m → IsSameKind l m
 same_then l k m first then = record {
   setup = then.setup ∙ first.setup;
   program = then.program ∙ first.program;

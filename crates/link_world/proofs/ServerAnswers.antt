@@ -13,43 +13,43 @@ use Rattle.protocol_model.specs.declared.lines.Line.{Line}
 use Rattle.protocol_model.specs.declared.lines.Waiting.{Waiting}
 use Rattle.protocol_model.specs.declared.machine.Outcome.{Outcome}
 use Rattle.protocol_model.proofs.invariant.Holding.{IsIdle}
-use Rattle.server_core.specs.Serving.{Serving, with_end, may_turn}
+use Rattle.server_core.specs.Serving.{ServerValue, with_end, may_turn}
 use Rattle.link_world.specs.declared.connection.Connection.{Connection}
-use Rattle.link_world.specs.Links.{Linked, link_of_connection, links_of, with_down, fewer_up, quiet_server, seen, with_world, IsReached}
+use Rattle.link_world.specs.Links.{WorldValue, link_of_connection, links_of, with_down, fewer_up, quiet_server, seen, with_world, IsReached}
 use Rattle.link_world.proofs.Linking.{links_get, links_same, link_put}
 use Rattle.link_world.proofs.Reached.{carried, headline}
 
 -- ---- on no connection it does nothing
 
-idle : (client : ClientEnd) (server : Serving) (cs : List Connection) (written : List ℕ) → IsReached (seen client server cs written)
+idle : (client : ClientEnd) (server : ServerValue) (cs : List Connection) (written : List ℕ) → IsReached (seen client server cs written)
     → server.end.server.on ≡ false → IsIdle server.end.server
 idle client server cs written h off = (carried (seen client server cs written) h).inv.idle off
 
-pub off_turn : (l : Linked) (client : ClientEnd) (server : Serving) (cs : List Connection) (written : List ℕ)
+pub off_turn : (l : WorldValue) (client : ClientEnd) (server : ServerValue) (cs : List Connection) (written : List ℕ)
     → seen client server cs written ≡ l → IsReached (seen client server cs written) → server.end.server.on ≡ false
     → may_turn l.world.server.server ≡ false
 off_turn l client server cs written view h off =
     let i : IsIdle server.end.server = idle client server cs written h off in
-    subst (λ (k : Linked). may_turn k.world.server.server ≡ false) view
+    subst (λ (k : WorldValue). may_turn k.world.server.server ≡ false) view
     (ap (λ (r : Option Line). is_none r && not (is_empty server.end.server.waiting)) i.running
     ∙ ap (λ (w : List Waiting). not (is_empty w)) i.waiting)
 
-pub off_end : (l : Linked) (outcome : Outcome) (client : ClientEnd) (server : Serving) (cs : List Connection) (written : List ℕ)
+pub off_end : (l : WorldValue) (outcome : Outcome) (client : ClientEnd) (server : ServerValue) (cs : List Connection) (written : List ℕ)
     → seen client server cs written ≡ l → IsReached (seen client server cs written) → server.end.server.on ≡ false
     → may_end l.world.server.server.running outcome ≡ false
 off_end l outcome client server cs written view h off =
     let i : IsIdle server.end.server = idle client server cs written h off in
-    subst (λ (k : Linked). may_end k.world.server.server.running outcome ≡ false) view
+    subst (λ (k : WorldValue). may_end k.world.server.server.running outcome ≡ false) view
     (ap (λ (r : Option Line). may_end r outcome) i.running)
 
 -- ---- the bytes of its connection
 
-here : (server : Serving) (cs : List Connection) (at : ℕ) (c : Connection) → at ≡ server.end.server.last - 1 → at < length cs
+here : (server : ServerValue) (cs : List Connection) (at : ℕ) (c : Connection) → at ≡ server.end.server.last - 1 → at < length cs
     → c ≡ slice_index_or cs at c → link_of (links_of cs) server.end.server.last ≡ link_of_connection c
 here server cs at c place short is = ap (λ (n : ℕ). slice_index_or (links_of cs) n no_link) (sym place) ∙ links_get cs at c short is
 
 -- an answer
-pub answers_seen : (client : ClientEnd) (server after : Serving) (cs : List Connection) (written : List ℕ) (at : ℕ) (c d : Connection)
+pub answers_seen : (client : ClientEnd) (server after : ServerValue) (cs : List Connection) (written : List ℕ) (at : ℕ) (c d : Connection)
     (e : ServerEnd)
     → at ≡ server.end.server.last - 1 → at < length cs → c ≡ slice_index_or cs at c
     → after ≡ with_end server (quiet_server e) → link_of_connection d ≡ with_down c e.out
@@ -59,7 +59,7 @@ answers_seen client server after cs written at c d e place short is quiet down =
     let links : links_of (slice_set cs at d) ≡ with_link (links_of cs) server.end.server.last
     (record (link_of (links_of cs) server.end.server.last) { down = (link_of (links_of cs) server.end.server.last).down ++ e.out }) =
     link_put (λ (l : Link). record l { down = l.down ++ e.out }) cs at server.end.server.last c d short is place down in
-    ap (λ (x : Serving). seen client x (slice_set cs at d) written) quiet
+    ap (λ (x : ServerValue). seen client x (slice_set cs at d) written) quiet
     ∙ ap (λ (l : List Link). record {
       setup = server.setup;
       world = record {
@@ -72,7 +72,7 @@ answers_seen client server after cs written at c d e place short is quiet down =
 
 -- ---- bytes that come
 
-pub up_may : (count : ℕ) (client : ClientEnd) (server : Serving) (cs : List Connection) (written : List ℕ) (at : ℕ) (c : Connection)
+pub up_may : (count : ℕ) (client : ClientEnd) (server : ServerValue) (cs : List Connection) (written : List ℕ) (at : ℕ) (c : Connection)
     → IsReached (seen client server cs written) → server.end.server.on ≡ true
     → at ≡ server.end.server.last - 1 → at < length cs → c ≡ slice_index_or cs at c
     → can (event.Up count) (seen client server cs written).world ≡ has_some count c.up.waiting
@@ -83,7 +83,7 @@ up_may count client server cs written at c h on place short is =
     (headline (seen client server cs written) h).server
     ∙ ap (λ (l : Link). has_some count l.up) link)
 
-pub up_seen : (count : ℕ) (client : ClientEnd) (server after : Serving) (cs : List Connection) (written : List ℕ) (at : ℕ)
+pub up_seen : (count : ℕ) (client : ClientEnd) (server after : ServerValue) (cs : List Connection) (written : List ℕ) (at : ℕ)
     (c d : Connection)
     → at ≡ server.end.server.last - 1 → at < length cs → c ≡ slice_index_or cs at c
     → after ≡ with_end server (serving_fed (take count c.up.waiting) server.end) → link_of_connection d ≡ fewer_up count c
@@ -96,7 +96,7 @@ up_seen count client server after cs written at c d place short is fed up =
     link_put (λ (l : Link). record l { up = drop count l.up }) cs at server.end.server.last c d short is place up in
     let read : after ≡ with_end server (serving_fed (take count (link_of (links_of cs) server.end.server.last).up) server.end) = fed
     ∙ ap (λ (l : Link). with_end server (serving_fed (take count l.up) server.end)) (sym link) in
-    ap (λ (x : Serving). seen client x (slice_set cs at d) written) read
+    ap (λ (x : ServerValue). seen client x (slice_set cs at d) written) read
     ∙ ap (λ (l : List Link). record {
       setup = server.setup;
       world = record {
@@ -108,12 +108,12 @@ up_seen count client server after cs written at c d place short is fed up =
     }) links
 
 -- nothing is answered
-pub same_seen : (l : Linked) (client : ClientEnd) (server after : Serving) (cs : List Connection) (written : List ℕ) (at : ℕ)
+pub same_seen : (l : WorldValue) (client : ClientEnd) (server after : ServerValue) (cs : List Connection) (written : List ℕ) (at : ℕ)
     (c d : Connection)
     → l ≡ seen client server cs written → at < length cs → c ≡ slice_index_or cs at c → after ≡ server
     → link_of_connection d ≡ link_of_connection c → seen client after (slice_set cs at d) written ≡ l
 same_seen l client server after cs written at c d view short is same link =
-    ap (λ (x : Serving). seen client x (slice_set cs at d) written) same
+    ap (λ (x : ServerValue). seen client x (slice_set cs at d) written) same
     ∙ (ap (λ (x : List Link). record {
       setup = server.setup;
       world = record {
@@ -126,7 +126,7 @@ same_seen l client server after cs written at c d view short is same link =
 
 -- ---- whether it reads
 
-pub reads_may : (client : ClientEnd) (server : Serving) (cs : List Connection) (written : List ℕ)
+pub reads_may : (client : ClientEnd) (server : ServerValue) (cs : List Connection) (written : List ℕ)
     → IsReached (seen client server cs written) → server.end.server.on ≡ true
     → can event.ServerReads (seen client server cs written).world ≡ is_line (next_of server.end.input.rest)
 reads_may client server cs written h on =

@@ -17,7 +17,7 @@ use Rattle.protocol_model.specs.World.{World, is_line}
 use Rattle.protocol_model.specs.declared.lines.Line.{Line}
 use Rattle.protocol_model.specs.declared.machine.Job.{Job}
 use Rattle.protocol_model.specs.declared.machine.Outcome.{Outcome}
-use Rattle.server_core.specs.Serving.{Serving, with_end, may_feed, may_turn, IsFeedFault, IsReadFault}
+use Rattle.server_core.specs.Serving.{ServerValue, with_end, may_feed, may_turn, IsFeedFault, IsReadFault}
 use Rattle.server_core.specs.Steady.{IsRunnable}
 use Rattle.server_core.specs.declared.faults.ServerFault.{ServerFault}
 use Rattle.server_core.specs.declared.faults.ServerFault.TheVariants as server_fault
@@ -35,10 +35,10 @@ use Rattle.link_world.proofs.ClientPumps.{fed_twice, fed_nothing, none_lost, pul
 
 -- ---- bytes come
 
-fed_none : (s : Serving) → with_end s (serving_fed [] s.end) ≡ s
+fed_none : (s : ServerValue) → with_end s (serving_fed [] s.end) ≡ s
 fed_none s = ap (λ (f : Framing). with_end s (record (s.end) { input = f })) (fed_nothing s.end.input.fault s.end.input.rest)
 
-pub server_came_none : (s : Serving) (left : Option (List ℕ)) (budget : ℕ) → ServerCame s s left left budget budget 0
+pub server_came_none : (s : ServerValue) (left : Option (List ℕ)) (budget : ℕ) → ServerCame s s left left budget budget 0
 server_came_none s left budget = record {
   read = [];
   fed = sym (fed_none s);
@@ -47,7 +47,7 @@ server_came_none s left budget = record {
   count_is = refl;
 }
 
-pub server_came_more : (a b c : Serving) (left mid left_now : Option (List ℕ)) (budget now then count more : ℕ) (piece tail : List ℕ)
+pub server_came_more : (a b c : ServerValue) (left mid left_now : Option (List ℕ)) (budget now then count more : ℕ) (piece tail : List ℕ)
     → ServerCame a b left mid budget now count → Consumes mid left_now (take more piece)
     → c ≡ with_end b (serving_fed (take more (piece ++ tail)) b.end)
     → now ≡ then + 1 → 0 < more → more ≤ length piece → ServerCame a c left left_now budget then (count + more)
@@ -58,7 +58,7 @@ server_came_more a b c left mid left_now budget now then count more piece tail h
     let counted = h.count_is in record {
       read = h.read ++ take more piece;
       fed = same ∙ (ap (λ (xs : List ℕ). with_end b (serving_fed xs b.end)) (take-append-le more piece tail within)
-          ∙ (ap (λ (s : Serving). with_end s (serving_fed (take more piece) s.end)) h.fed
+          ∙ (ap (λ (s : ServerValue). with_end s (serving_fed (take more piece) s.end)) h.fed
           ∙ ap (λ (f : Framing). with_end a (record (a.end) { input = f }))
           (fed_twice a.end.input.fault a.end.input.rest h.read (take more piece))));
       consumed = Consumes-trans left mid left_now h.read (take more piece) h.consumed consumed;
@@ -66,7 +66,7 @@ server_came_more a b c left mid left_now budget now then count more piece tail h
       count_is = omega (arith, counted, is, total);
     }
 
-pub server_pulls_none : (a b : Serving) (left mid left_now : Option (List ℕ)) (least budget now count : ℕ) (f : PumpFault ServerFault)
+pub server_pulls_none : (a b : ServerValue) (left mid left_now : Option (List ℕ)) (least budget now count : ℕ) (f : PumpFault ServerFault)
     → ServerCame a b left mid budget now count → Consumes mid left_now [] → count < least → IsPullFault now left_now f
     → ServerCameShort least a b left left_now budget f
 server_pulls_none a b left mid left_now least budget now count f h consumed few r = record {
@@ -82,11 +82,11 @@ fault_same : (f : Option FramingFault) (rest xs : List ℕ) → (fed_behind f re
 fault_same None rest xs = refl
 fault_same (Some f) rest xs = refl
 
-pub may_stay : (a b : Serving) (read : List ℕ) → b ≡ with_end a (serving_fed read a.end) → may_feed a.end ≡ true → may_feed b.end ≡ true
-may_stay a b read fed may = ap (λ (s : Serving). may_feed s.end) fed
+pub may_stay : (a b : ServerValue) (read : List ℕ) → b ≡ with_end a (serving_fed read a.end) → may_feed a.end ≡ true → may_feed b.end ≡ true
+may_stay a b read fed may = ap (λ (s : ServerValue). may_feed s.end) fed
     ∙ (ap (λ (f : Option FramingFault). a.end.server.on && is_none f) (fault_same a.end.input.fault a.end.input.rest read) ∙ may)
 
-pub server_feeds_none : (a b c : Serving) (left mid left_now : Option (List ℕ)) (least budget now count : ℕ) (bytes : List ℕ)
+pub server_feeds_none : (a b c : ServerValue) (left mid left_now : Option (List ℕ)) (least budget now count : ℕ) (bytes : List ℕ)
     (why : ServerFault) → ServerCame a b left mid budget now count → Consumes mid left_now bytes → may_feed a.end ≡ true → c ≡ b
     → IsFeedFault b.end why → ServerCameShort least a c left left_now budget (of_server why)
 server_feeds_none a b c left mid left_now least budget now count bytes server_fault.NotNow h consumed may same r =
@@ -107,18 +107,18 @@ server_feeds_none a b c left mid left_now least budget now count bytes server_fa
 
 -- ---- lines are read
 
-pub record ServerLinesRead (a b : Serving) (budget now : ℕ) : Type 0 where
+pub record ServerLinesRead (a b : ServerValue) (budget now : ℕ) : Type 0 where
   pub goes : (answer : Job → ℕ → Outcome) → ServerGoesOn answer Reading budget now a b
   pub counted : 2 * budget + length b.end.input.rest ≤ 2 * now + length a.end.input.rest
 
-pub server_lines_none : (s : Serving) (budget : ℕ) → ServerLinesRead s s budget budget
+pub server_lines_none : (s : ServerValue) (budget : ℕ) → ServerLinesRead s s budget budget
 server_lines_none s budget = record {
   goes = λ answer. record { setup = refl; turn = λ least start read t. (t, omega arith) };
   counted = omega arith;
 }
 
 -- what is left of a budget may be less
-pub goes_less : (answer : Job → ℕ → Outcome) (stage : Stage) (budget now then : ℕ) (a b : Serving)
+pub goes_less : (answer : Job → ℕ → Outcome) (stage : Stage) (budget now then : ℕ) (a b : ServerValue)
     → ServerGoesOn answer stage budget now a b → then ≤ now → ServerGoesOn answer stage budget then a b
 goes_less answer stage budget now then a b h less = record {
   setup = h.setup;
@@ -139,21 +139,21 @@ served_rest e (Ok None) is line = absurd (false≢true line)
 served_rest e (Ok (Some (found, rest))) is line = two_less e.input (Ok (Some (found, rest))) is line
 served_rest e (Err why) is line = absurd line
 
-pub server_lines_more : (a b c : Serving) (budget now then : ℕ) → ServerLinesRead a b budget now → now ≡ then + 1
+pub server_lines_more : (a b c : ServerValue) (budget now then : ℕ) → ServerLinesRead a b budget now → now ≡ then + 1
     → b.end.server.on ≡ true → IsLineDue (next_of b.end.input.rest)
     → (c ≡ with_end b (serving_read b.end)) → ServerLinesRead a c budget then
 server_lines_more a b c budget now then h step on is same =
     let less : length c.end.input.rest + 2 ≤ length b.end.input.rest =
-    subst (λ (s : Serving). length s.end.input.rest + 2 ≤ length b.end.input.rest) (sym (same))
+    subst (λ (s : ServerValue). length s.end.input.rest + 2 ≤ length b.end.input.rest) (sym (same))
     (served_rest b.end (next_of b.end.input.rest) refl is) in
     let before = h.counted in record {
       goes = λ answer. record {
-        setup = ap (λ (s : Serving). s.setup) (same) ∙ (h.goes answer).setup;
+        setup = ap (λ (s : ServerValue). s.setup) (same) ∙ (h.goes answer).setup;
         turn = λ least start read t.
             let p : (u : ServerTurn answer least start Reading read [] b.end) × (now + steps_made u ≤ budget + steps_made t) =
             (h.goes answer).turn least start read t in
             let few = p.1 in
-            subst (λ (s : Serving). (u : ServerTurn answer least start Reading read [] s.end)
+            subst (λ (s : ServerValue). (u : ServerTurn answer least start Reading read [] s.end)
             × (then + steps_made u ≤ budget + steps_made t)) (sym (same))
             (reads b.end read p.0 on (line_there (next_of b.end.input.rest) is), omega (arith, few, step));
       };
@@ -169,20 +169,20 @@ is_on true x f never = refl
 is_on false x f never = absurd (ok_err x f (never refl))
 
 -- no more lines are read
-pub server_read_stops : (a b c : Serving) (why : ServerFault) (budget now : ℕ) → ServerLinesRead a b budget now → IsReadFault b c why
+pub server_read_stops : (a b c : ServerValue) (why : ServerFault) (budget now : ℕ) → ServerLinesRead a b budget now → IsReadFault b c why
     → (why ≡ server_fault.NotNow → b.end.server.on ≡ false) → ServerReadStops a c budget (of_server why)
 server_read_stops a b c server_fault.NotNow budget now h r off = record {
   last = b;
   goes = λ answer. goes_less answer Reading budget now 0 a b (h.goes answer) (omega arith);
-  setup = ap (λ (s : Serving). s.setup) r ∙ (h.goes (λ job n. Outcome.Fault)).setup;
-  same = ap (λ (s : Serving). serving_left s.end) r;
+  setup = ap (λ (s : ServerValue). s.setup) r ∙ (h.goes (λ job n. Outcome.Fault)).setup;
+  same = ap (λ (s : ServerValue). serving_left s.end) r;
   why = off refl;
 }
 server_read_stops a b c (server_fault.Framing why) budget now h r off = record {
   last = b;
   goes = λ answer. goes_less answer Reading budget now 0 a b (h.goes answer) (omega arith);
-  setup = ap (λ (s : Serving). s.setup) r.1 ∙ (h.goes (λ job n. Outcome.Fault)).setup;
-  same = ap (λ (s : Serving). serving_left s.end) r.1;
+  setup = ap (λ (s : ServerValue). s.setup) r.1 ∙ (h.goes (λ job n. Outcome.Fault)).setup;
+  same = ap (λ (s : ServerValue). serving_left s.end) r.1;
   why = r.0;
 }
 server_read_stops a b c server_fault.NothingRuns budget now h r off = absurd r
@@ -191,12 +191,12 @@ server_read_stops a b c server_fault.OutOfVolume budget now h r off = absurd r
 server_read_stops a b c server_fault.Memory budget now h r off = record {
   last = b;
   goes = λ answer. goes_less answer Reading budget now 0 a b (h.goes answer) (omega arith);
-  setup = ap (λ (s : Serving). s.setup) r.1 ∙ (h.goes (λ job n. Outcome.Fault)).setup;
-  same = ap (λ (s : Serving). serving_left s.end) r.1;
+  setup = ap (λ (s : ServerValue). s.setup) r.1 ∙ (h.goes (λ job n. Outcome.Fault)).setup;
+  same = ap (λ (s : ServerValue). serving_left s.end) r.1;
   why = tt;
 }
 
-pub server_lines_spent : (a b : Serving) (budget now : ℕ) → ServerLinesRead a b budget now → now ≡ 0
+pub server_lines_spent : (a b : ServerValue) (budget now : ℕ) → ServerLinesRead a b budget now → now ≡ 0
     → ServerReadStops a b budget fault.TurnsSpent
 server_lines_spent a b budget now h none = let counted = h.counted in record {
   last = b;
@@ -217,7 +217,7 @@ asked_why least bound left_now e server_fault.WrongOutcome held sound r = absurd
 asked_why least bound left_now e server_fault.OutOfVolume held sound r = absurd r
 asked_why least bound left_now e server_fault.Memory held sound r = tt
 
-pub server_stops_asking : (a b : Serving) (why : ServerFault) (answer : Job → ℕ → Outcome) (least bound calls : ℕ)
+pub server_stops_asking : (a b : ServerValue) (why : ServerFault) (answer : Job → ℕ → Outcome) (least bound calls : ℕ)
     (left taken : Option (List ℕ)) → b ≡ a → IsSound a.end.input → IsFeedFault a.end why
     → ServerStoppedWithin answer bound calls calls least a.end (serving_left b.end) left left taken taken (of_server why)
 server_stops_asking a b why answer least bound calls left taken same sound r = record {
@@ -228,7 +228,7 @@ server_stops_asking a b why answer least bound calls left taken same sound r = r
     lost = [];
     last = a.end;
     turn = begins;
-    leaves = ap (λ (s : Serving). serving_left s.end) same;
+    leaves = ap (λ (s : ServerValue). serving_left s.end) same;
     consumed = Consumes-nil left;
     is_lost = none_lost (of_server why);
     appended = Appends-nil taken;
@@ -247,11 +247,11 @@ take_why least bound read held left_now e (fault.Core why) r = absurd r
 take_why least bound read held left_now e fault.Memory r = tt
 
 -- fed nothing, and then these
-fed_now : (a b c : Serving) (read : List ℕ) → b ≡ with_end a (serving_fed [] a.end) → c ≡ with_end b (serving_fed read b.end)
+fed_now : (a b c : ServerValue) (read : List ℕ) → b ≡ with_end a (serving_fed [] a.end) → c ≡ with_end b (serving_fed read b.end)
     → c ≡ with_end a (serving_fed read a.end)
-fed_now a b c read same fed = fed ∙ ap (λ (s : Serving). with_end s (serving_fed read s.end)) (same ∙ fed_none a)
+fed_now a b c read same fed = fed ∙ ap (λ (s : ServerValue). with_end s (serving_fed read s.end)) (same ∙ fed_none a)
 
-pub server_stops_taking : (a b c : Serving) (f : PumpFault ServerFault) (answer : Job → ℕ → Outcome) (least bound calls calls_now : ℕ)
+pub server_stops_taking : (a b c : ServerValue) (f : PumpFault ServerFault) (answer : Job → ℕ → Outcome) (least bound calls calls_now : ℕ)
     (left left_now taken : Option (List ℕ)) → may_feed a.end ≡ true → b ≡ with_end a (serving_fed [] a.end)
     → ServerCameShort least b c left left_now bound f → calls_now ≤ calls + bound
     → ServerStoppedWithin answer bound calls calls_now least a.end (serving_left c.end) left left_now taken taken f
@@ -263,7 +263,7 @@ server_stops_taking a b c f answer least bound calls calls_now left left_now tak
     lost = s.lost;
     last = serving_fed s.read a.end;
     turn = takes s.read may;
-    leaves = ap (λ (x : Serving). serving_left x.end) (fed_now a b c s.read same s.fed);
+    leaves = ap (λ (x : ServerValue). serving_left x.end) (fed_now a b c s.read same s.fed);
     consumed = s.consumed;
     is_lost = s.is_lost;
     appended = Appends-nil taken;
@@ -272,21 +272,21 @@ server_stops_taking a b c f answer least bound calls calls_now left left_now tak
   within = omega (arith, most);
 }
 
-few : (a c : Serving) (read : List ℕ) → c ≡ with_end a (serving_fed read a.end)
+few : (a c : ServerValue) (read : List ℕ) → c ≡ with_end a (serving_fed read a.end)
     → length c.end.input.rest ≤ length a.end.input.rest + length read
-few a c read same = subst (λ (s : Serving). length s.end.input.rest ≤ length a.end.input.rest + length read) (sym same)
+few a c read same = subst (λ (s : ServerValue). length s.end.input.rest ≤ length a.end.input.rest + length read) (sym same)
     (longer a.end.input.fault a.end.input.rest read)
 
-has_come : (a c : Serving) (answer : Job → ℕ → Outcome) (least come : ℕ) (read : List ℕ) → may_feed a.end ≡ true
+has_come : (a c : ServerValue) (answer : Job → ℕ → Outcome) (least come : ℕ) (read : List ℕ) → may_feed a.end ≡ true
     → c ≡ with_end a (serving_fed read a.end) → come ≡ length read → least ≤ come → (t : ServerTurn answer least a.end Reading read [] c.end) × (steps_made t ≡ 0)
 has_come a c answer least come read may same many enough =
     let t : (t : ServerTurn answer least a.end Taking read [] c.end) × (steps_made t ≡ 0) =
-    subst (λ (s : Serving). (t : ServerTurn answer least a.end Taking read [] s.end) × (steps_made t ≡ 0)) (sym same)
+    subst (λ (s : ServerValue). (t : ServerTurn answer least a.end Taking read [] s.end) × (steps_made t ≡ 0)) (sym same)
     (takes read may, refl) in
     (has c.end read t.0 (omega (arith, many, enough)), t.1)
 
 -- bytes have come, and it has gone on from there
-comes_on : (a b c d : Serving) (answer : Job → ℕ → Outcome) (least bound mid late come : ℕ) (left left_now : Option (List ℕ))
+comes_on : (a b c d : ServerValue) (answer : Job → ℕ → Outcome) (least bound mid late come : ℕ) (left left_now : Option (List ℕ))
     → may_feed a.end ≡ true → b ≡ with_end a (serving_fed [] a.end) → (s : ServerCame b c left left_now bound mid come) → least ≤ come
     → ServerGoesOn answer Reading mid late c d → (t : ServerTurn answer least a.end Reading s.read [] d.end) × (late + steps_made t ≤ mid)
 comes_on a b c d answer least bound mid late come left left_now may same s enough goes =
@@ -306,7 +306,7 @@ read_why least bound mid read held now left_now e fault.TurnsSpent come most r =
 read_why least bound mid read held now left_now e (fault.Core why) come most r = r
 read_why least bound mid read held now left_now e fault.Memory come most r = tt
 
-pub server_stops_reading : (a b c d : Serving) (f : PumpFault ServerFault) (answer : Job → ℕ → Outcome)
+pub server_stops_reading : (a b c d : ServerValue) (f : PumpFault ServerFault) (answer : Job → ℕ → Outcome)
     (least bound calls calls_now mid come : ℕ)
     (left left_now taken : Option (List ℕ)) → may_feed a.end ≡ true → b ≡ with_end a (serving_fed [] a.end)
     → ServerCame b c left left_now bound mid come → least ≤ come → ServerReadStops c d mid f → calls_now + mid ≤ calls + bound
@@ -332,7 +332,8 @@ server_stops_reading a b c d f answer least bound calls calls_now mid come left 
     read_on : (t : ServerTurn answer least a.end Reading s.read [] r.last.end) × (0 + steps_made t ≤ mid)
     read_on = comes_on a b c r.last answer least bound mid 0 come left left_now may same s enough (r.goes answer)
 
-pub reads_in : (a b c d : Serving) (least bound calls calls_now mid late come : ℕ) (left left_now : Option (List ℕ)) → may_feed a.end ≡ true
+pub reads_in : (a b c d : ServerValue) (least bound calls calls_now mid late come : ℕ) (left left_now : Option (List ℕ))
+    → may_feed a.end ≡ true
     → b ≡ with_end a (serving_fed [] a.end) → ServerCame b c left left_now bound mid come → least ≤ come
     → ((answer : Job → ℕ → Outcome) → ServerGoesOn answer Reading mid late c d) → 2 * mid ≤ 2 * late + length c.end.input.rest
     → next_of d.end.input.rest ≡ Ok None → calls_now + mid ≤ calls + bound
@@ -341,7 +342,7 @@ reads_in a b c d least bound calls calls_now mid late come left left_now may sam
     let most = few a c s.read (fed_now a b c s.read same s.fed) in
     let before = s.counted in record {
       read = s.read;
-      setup = (goes (λ job n. Outcome.Fault)).setup ∙ ap (λ (x : Serving). x.setup) (fed_now a b c s.read same s.fed);
+      setup = (goes (λ job n. Outcome.Fault)).setup ∙ ap (λ (x : ServerValue). x.setup) (fed_now a b c s.read same s.fed);
       turn = λ answer.
           let p : (t : ServerTurn answer least a.end Reading s.read [] d.end) × (late + steps_made t ≤ mid) =
           comes_on a b c d answer least bound mid late come left left_now may same s enough (goes answer) in
@@ -358,14 +359,14 @@ reads_in a b c d least bound calls calls_now mid late come left left_now may sam
 abbrev pub beside : ServerEnd → World
 beside e = record { client = new_client_end (record { features = []; steps = [] }) [] 1; server = e; links = []; written = [] }
 
-pub works_none : (answer : Job → ℕ → Outcome) (budget : ℕ) (s : Serving) → ServerGoesOn answer Working budget budget s s
+pub works_none : (answer : Job → ℕ → Outcome) (budget : ℕ) (s : ServerValue) → ServerGoesOn answer Working budget budget s s
 works_none answer budget s = record { setup = refl; turn = λ least start read t. (t, omega arith) }
 
-pub works_same : (answer : Job → ℕ → Outcome) (a b : Serving) → b ≡ a → ServerGoesOn answer Working 1 0 a b
+pub works_same : (answer : Job → ℕ → Outcome) (a b : ServerValue) → b ≡ a → ServerGoesOn answer Working 1 0 a b
 works_same answer a b same = subst (ServerGoesOn answer Working 1 0 a) (sym same)
     (goes_less answer Working 1 1 0 a a (works_none answer 1 a) (omega arith))
 
-pub works_on : (answer : Job → ℕ → Outcome) (budget now then : ℕ) (a b c : Serving) → ServerGoesOn answer Working budget now a b
+pub works_on : (answer : Job → ℕ → Outcome) (budget now then : ℕ) (a b c : ServerValue) → ServerGoesOn answer Working budget now a b
     → now ≡ then + 1 → ServerGoesOn answer Working 1 0 b c → ServerGoesOn answer Working budget then a c
 works_on answer budget now then a b c p step q = record {
   setup = q.setup ∙ p.setup;
@@ -378,12 +379,12 @@ works_on answer budget now then a b c p step q = record {
       let one = v.1 in (v.0, omega (arith, before, one, step));
 }
 
-pub works_turn : (answer : Job → ℕ → Outcome) (a b : Serving) → may_turn a.end.server ≡ true → b ≡ with_end a (serving_turned a.end)
+pub works_turn : (answer : Job → ℕ → Outcome) (a b : ServerValue) → may_turn a.end.server ≡ true → b ≡ with_end a (serving_turned a.end)
     → ServerGoesOn answer Working 1 0 a b
 works_turn answer a b may same = subst (ServerGoesOn answer Working 1 0 a) (sym same)
     (record { setup = refl; turn = λ least start read t. (turns a.end read t may, omega arith) })
 
-pub works_end : (answer : Job → ℕ → Outcome) (a b : Serving) (o : Outcome)
+pub works_end : (answer : Job → ℕ → Outcome) (a b : ServerValue) (o : Outcome)
     → Some o ≡ option_map (λ job. answer job (contact_count a.end.server.ledger)) (running_job a.end.server)
     → b ≡ with_end a (serving_machined o a.end) → ServerGoesOn answer Working 1 0 a b
 works_end answer a b o is same = go (running_job a.end.server) refl is
@@ -412,16 +413,16 @@ has_turn answer s work none = go (running_job s) (may_turn s) work none
     go None b work none = work
     go (Some job) b work none = absurd (cc)
 
-pub turn_fewer : (a b : Serving) → may_turn a.end.server ≡ true → b ≡ with_end a (serving_turned a.end)
+pub turn_fewer : (a b : ServerValue) → may_turn a.end.server ≡ true → b ≡ with_end a (serving_turned a.end)
     → steps_of b.end.server < steps_of a.end.server
-turn_fewer a b may same = subst (λ (s : Serving). steps_of s.end.server < steps_of a.end.server) (sym same)
+turn_fewer a b may same = subst (λ (s : ServerValue). steps_of s.end.server < steps_of a.end.server) (sym same)
     (fewer (serving_turned a.end).server.running a.end.server.running (length (serving_turned a.end).server.waiting)
     (length a.end.server.waiting) (turn_less (beside a.end) may))
 
-pub end_fewer : (a b : Serving) (o : Outcome) → may_end a.end.server.running o ≡ true
+pub end_fewer : (a b : ServerValue) (o : Outcome) → may_end a.end.server.running o ≡ true
     → ((line : Line) → a.end.server.running ≡ Some line → IsRunnable a.end.server line) → b ≡ with_end a (serving_machined o a.end)
     → steps_of b.end.server < steps_of a.end.server
-end_fewer a b o may fine same = subst (λ (s : Serving). steps_of s.end.server < steps_of a.end.server) (sym same)
+end_fewer a b o may fine same = subst (λ (s : ServerValue). steps_of s.end.server < steps_of a.end.server) (sym same)
     (fewer (serving_machined o a.end).server.running a.end.server.running (length (serving_machined o a.end).server.waiting)
     (length a.end.server.waiting) (machine_less (beside a.end) o may fine))
 
@@ -429,7 +430,7 @@ steps_most : (running : Option Line) (n : ℕ) → n ≤ 64 → steps_of_one run
 steps_most None n few = omega (arith, few)
 steps_most (Some line) n few = omega (arith, few)
 
-pub most_steps : (s : Serving) → length s.end.server.waiting ≤ 64 → steps_of s.end.server ≤ 129
+pub most_steps : (s : ServerValue) → length s.end.server.waiting ≤ 64 → steps_of s.end.server ≤ 129
 most_steps s few = steps_most s.end.server.running (length s.end.server.waiting) few
 
 -- ---- the whole turn
@@ -454,7 +455,7 @@ work_why least bound mid read held left_now e (fault.Core why) most r = absurd r
 work_why least bound mid read held left_now e fault.Memory most r = tt
 
 -- it has read, and has worked on from there
-works_from : (a b c : Serving) (answer : Job → ℕ → Outcome) (least bound calls calls_now mid late come : ℕ)
+works_from : (a b c : ServerValue) (answer : Job → ℕ → Outcome) (least bound calls calls_now mid late come : ℕ)
     (left left_now : Option (List ℕ)) (h : ReadIn least calls calls_now a b left left_now bound mid come)
     → ServerGoesOn answer Working mid late b c → (t : ServerTurn answer least a.end Working h.read [] c.end) × (calls_now + late + steps_made t ≤ calls + bound)
 works_from a b c answer least bound calls calls_now mid late come left left_now h goes =
@@ -465,7 +466,7 @@ works_from a b c answer least bound calls calls_now mid late come left left_now 
     let before = t.1 in
     let few = u.1 in (u.0, omega (arith, before, few))
 
-pub server_stops_working : (a b c : Serving) (f : PumpFault ServerFault) (answer : Job → ℕ → Outcome)
+pub server_stops_working : (a b c : ServerValue) (f : PumpFault ServerFault) (answer : Job → ℕ → Outcome)
     (least bound calls calls_now more mid late come : ℕ) (left left_now taken : Option (List ℕ))
     → ReadIn least calls calls_now a b left left_now bound mid come → ServerGoesOn answer Working mid late b c → IsWorkFault mid f
     → ServerStoppedWithin answer bound (calls + more) (calls_now + more) least a.end (serving_left c.end) left left_now taken taken f
@@ -513,7 +514,7 @@ push_why least bound mid late read written held n left_now e fault.TurnsSpent mo
 push_why least bound mid late read written held n left_now e (fault.Core why) most work same r = absurd r
 push_why least bound mid late read written held n left_now e fault.Memory most work same r = absurd r
 
-pub server_stops_writing : (a b c : Serving) (f : PumpFault ServerFault) (answer : Job → ℕ → Outcome)
+pub server_stops_writing : (a b c : ServerValue) (f : PumpFault ServerFault) (answer : Job → ℕ → Outcome)
     (least bound calls calls_now pushes pushes_now mid late come : ℕ) (left left_now taken taken_now : Option (List ℕ)) (bytes : List ℕ)
     → ReadIn least calls calls_now a b left left_now bound mid come → ServerGoesOn answer Working mid late b c
     → has_work c.end.server ≡ false → mid ≤ late + 129 → bytes ≡ c.end.out → Pushed bytes taken taken_now late f
@@ -546,7 +547,7 @@ server_stops_writing a b c f answer least bound calls calls_now pushes pushes_no
     p : Pushed c.end.out taken taken_now late f
     p = subst (λ (xs : List ℕ). Pushed xs taken taken_now late f) are pushed
 
-pub has_served : (a b c d : Serving) (answer : Job → ℕ → Outcome)
+pub has_served : (a b c d : ServerValue) (answer : Job → ℕ → Outcome)
     (least bound calls calls_now pushes pushes_now mid late come gone : ℕ) (left left_now taken taken_now : Option (List ℕ))
     (bytes : List ℕ) → ReadIn least calls calls_now a b left left_now bound mid come
     → ServerGoesOn answer Working mid late b c → has_work c.end.server ≡ false → bytes ≡ c.end.out → gone ≡ length c.end.out
@@ -559,7 +560,7 @@ has_served a b c d answer least bound calls calls_now pushes pushes_now mid late
         read = h.read;
         written = c.end.out;
         turn = (wrote).0;
-        all = ap (λ (s : Serving). s.end.out) same ∙ nothing gone c.end.out is;
+        all = ap (λ (s : ServerValue). s.end.out) same ∙ nothing gone c.end.out is;
         consumed = h.consumed;
         appended = subst (Appends taken taken_now) are appended;
         read_is = h.count_is;
@@ -583,7 +584,7 @@ has_served a b c d answer least bound calls calls_now pushes pushes_now mid late
     wrote =
         let t : (t : ServerTurn answer least a.end Working h.read [] c.end) × (calls_now + late + steps_made t ≤ calls + bound) =
         work_on in
-        subst (λ (s : Serving). (t : ServerTurn answer least a.end Writing h.read c.end.out s.end)
+        subst (λ (s : ServerValue). (t : ServerTurn answer least a.end Writing h.read c.end.out s.end)
         × (calls_now + late + steps_made t ≤ calls + bound)) (sym same)
         (subst (λ (xs : List ℕ). (t : ServerTurn answer least a.end Writing h.read xs (serving_taken gone c.end))
         × (calls_now + late + steps_made t ≤ calls + bound)) (whole gone c.end.out is)

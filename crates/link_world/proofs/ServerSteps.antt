@@ -10,9 +10,9 @@ use Rattle.protocol_model.specs.declared.events.Event.TheVariants as event
 use Rattle.protocol_model.proofs.whole_run.Links.{link_long}
 use Rattle.protocol_model.proofs.whole_run.Carrying.{IsCarried}
 use Rattle.protocol_model.proofs.whole_run.WholeRun.{happens_carried, start_carried}
-use Rattle.server_core.specs.Serving.{Serving, with_end, may_accept}
+use Rattle.server_core.specs.Serving.{ServerValue, with_end, may_accept}
 use Rattle.link_world.specs.declared.connection.Connection.{Connection}
-use Rattle.link_world.specs.Links.{Linked, links_of, seen, with_world, IsReached}
+use Rattle.link_world.specs.Links.{WorldValue, links_of, seen, with_world, IsReached}
 use Rattle.link_world.proofs.Reached.{reached_more, links_long}
 
 -- ---- no more connections than have numbers are made
@@ -51,7 +51,7 @@ runs_within (e ∷ es) w h le = go (can e w) refl
     go true may later = later (happens e w) (happens_carried e w h may) (within e w may h.wired.made le)
     go false never later = later w h le
 
-pub connections_few : (client : ClientEnd) (server : Serving) (cs : List Connection) (written : List ℕ)
+pub connections_few : (client : ClientEnd) (server : ServerValue) (cs : List Connection) (written : List ℕ)
     → IsReached (seen client server cs written) → length cs ≤ connection_most
 connections_few client server cs written h =
     let few : length (links_of cs) ≤ connection_most =
@@ -62,7 +62,7 @@ connections_few client server cs written h =
 
 -- ---- events of the server alone
 
-alone : (client : ClientEnd) (server : Serving) (after : ServerEnd) (cs : List Connection) (written : List ℕ) (e : Event)
+alone : (client : ClientEnd) (server : ServerValue) (after : ServerEnd) (cs : List Connection) (written : List ℕ) (e : Event)
     → IsReached (seen client server cs written) → can e (seen client server cs written).world ≡ true
     → (record (seen client server cs written).world { server = after }
     ≡ happens e (seen client server cs written).world) → IsReached (seen client (with_end server after) cs written)
@@ -70,7 +70,7 @@ alone client server after cs written e h may is =
     reached_more (seen client server cs written) (seen client (with_end server after) cs written) e h may
     (ap (λ (w : World). with_world (seen client server cs written) w) (is))
 
-accept_may : (number : ℕ) (client : ClientEnd) (server : Serving) (cs : List Connection) (written : List ℕ)
+accept_may : (number : ℕ) (client : ClientEnd) (server : ServerValue) (cs : List Connection) (written : List ℕ)
     → may_accept number server.end.server ≡ true → number ≤ length cs
     → can (event.Accept number) (seen client server cs written).world ≡ true
 accept_may number client server cs written may le =
@@ -78,16 +78,16 @@ accept_may number client server cs written may le =
     and_from _ _ parts.0 (and_from _ _ (and_parts _ _ parts.1).0
     (le-leb number (length (links_of cs)) (subst (λ (n : ℕ). number ≤ n) (sym (links_long cs)) le)))
 
-pub accept_can : (l : Linked) (number : ℕ) (client : ClientEnd) (server : Serving) (cs : List Connection) (written : List ℕ)
+pub accept_can : (l : WorldValue) (number : ℕ) (client : ClientEnd) (server : ServerValue) (cs : List Connection) (written : List ℕ)
     → l ≡ seen client server cs written → may_accept number server.end.server ≡ true → number ≤ length cs
     → can (event.Accept number) l.world ≡ true
-accept_can l number client server cs written view may le = subst (λ (k : Linked). can (event.Accept number) k.world ≡ true) (sym view)
+accept_can l number client server cs written view may le = subst (λ (k : WorldValue). can (event.Accept number) k.world ≡ true) (sym view)
     (accept_may number client server cs written may le)
 
-pub accept_far : (l : Linked) (number : ℕ) (client : ClientEnd) (server : Serving) (cs : List Connection) (written : List ℕ)
+pub accept_far : (l : WorldValue) (number : ℕ) (client : ClientEnd) (server : ServerValue) (cs : List Connection) (written : List ℕ)
     → l ≡ seen client server cs written → length cs < number → can (event.Accept number) l.world ≡ false
 accept_far l number client server cs written view far =
-    subst (λ (k : Linked). can (event.Accept number) k.world ≡ false) (sym view)
+    subst (λ (k : WorldValue). can (event.Accept number) k.world ≡ false) (sym view)
     (go (can (event.Accept number) (seen client server cs written).world) refl)
   where
     go : (b : Bool) → can (event.Accept number) (seen client server cs written).world ≡ b → b ≡ false
@@ -96,11 +96,11 @@ accept_far l number client server cs written view far =
         let le : number ≤ length (links_of cs) = leb-true number (length (links_of cs)) (and_parts _ _ (and_parts _ _ e).1).1 in
         absurd (omega (arith, le, links_long cs, far))
 
-pub accept_refused : (l : Linked) (number : ℕ) (client : ClientEnd) (server : Serving) (cs : List Connection) (written : List ℕ)
+pub accept_refused : (l : WorldValue) (number : ℕ) (client : ClientEnd) (server : ServerValue) (cs : List Connection) (written : List ℕ)
     → l ≡ seen client server cs written → IsReached (seen client server cs written)
     → number ≤ length cs → may_accept number server.end.server ≡ false → can (event.Accept number) l.world ≡ false
 accept_refused l number client server cs written view h near never =
-    subst (λ (k : Linked). can (event.Accept number) k.world ≡ false) (sym view)
+    subst (λ (k : WorldValue). can (event.Accept number) k.world ≡ false) (sym view)
     (go (can (event.Accept number) (seen client server cs written).world) refl)
   where
     go : (b : Bool) → can (event.Accept number) (seen client server cs written).world ≡ b → b ≡ false
@@ -111,25 +111,25 @@ accept_refused l number client server cs written view h near never =
         absurd (false≢true (sym never ∙ and_from _ _ parts.0 (and_from _ _ (and_parts _ _ parts.1).0
         (le-leb number connection_most (omega (arith, near, few))))))
 
-pub accept_reached : (number : ℕ) (client : ClientEnd) (server after : Serving) (cs : List Connection) (written : List ℕ)
+pub accept_reached : (number : ℕ) (client : ClientEnd) (server after : ServerValue) (cs : List Connection) (written : List ℕ)
     → IsReached (seen client server cs written)
     → may_accept number server.end.server ≡ true → number ≤ length cs → after ≡ with_end server (serving_accepted number server.end)
     → IsReached (seen client after cs written)
 accept_reached number client server after cs written h may le is =
-    subst (λ (s : Serving). IsReached (seen client s cs written)) (sym is)
+    subst (λ (s : ServerValue). IsReached (seen client s cs written)) (sym is)
     (alone client server (serving_accepted number server.end) cs written (event.Accept number) h
     (accept_may number client server cs written may le) (refl))
 
-pub left_reached : (client : ClientEnd) (server after : Serving) (cs : List Connection) (written : List ℕ)
+pub left_reached : (client : ClientEnd) (server after : ServerValue) (cs : List Connection) (written : List ℕ)
     → IsReached (seen client server cs written)
     → server.end.server.on ≡ true → after ≡ with_end server (serving_left server.end) → IsReached (seen client after cs written)
 left_reached client server after cs written h may is =
-    subst (λ (s : Serving). IsReached (seen client s cs written)) (sym is)
+    subst (λ (s : ServerValue). IsReached (seen client s cs written)) (sym is)
     (alone client server (serving_left server.end) cs written event.ServerLeaves h may (refl))
 
-pub restart_reached : (client : ClientEnd) (server after : Serving) (cs : List Connection) (written : List ℕ)
+pub restart_reached : (client : ClientEnd) (server after : ServerValue) (cs : List Connection) (written : List ℕ)
     → IsReached (seen client server cs written)
     → after ≡ with_end server (serving_restarted server.end) → IsReached (seen client after cs written)
 restart_reached client server after cs written h is =
-    subst (λ (s : Serving). IsReached (seen client s cs written)) (sym is)
+    subst (λ (s : ServerValue). IsReached (seen client s cs written)) (sym is)
     (alone client server (serving_restarted server.end) cs written event.ServerRestart h refl (refl))

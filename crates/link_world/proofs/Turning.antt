@@ -8,7 +8,7 @@ use Rattle.protocol_model.specs.declared.events.Event.{Event}
 use Rattle.protocol_model.specs.declared.events.Event.TheVariants as event
 use Rattle.protocol_model.specs.declared.machine.Job.{Job}
 use Rattle.protocol_model.specs.declared.machine.Outcome.{Outcome}
-use Rattle.link_world.specs.Links.{Linked, IsReached, with_world}
+use Rattle.link_world.specs.Links.{WorldValue, IsReached, with_world}
 use Rattle.link_world.specs.Parts.{is_any, Makes}
 use Rattle.link_world.proofs.Reached.{never_faulted_behind}
 use Rattle.link_world.proofs.Resting.{round_still, round_fewer}
@@ -19,7 +19,7 @@ any_there [] some = absurd (some refl)
 any_there (e ∷ es) some = refl
 
 -- a round that was made where something was due did something
-pub turn_made : (answer : Job → ℕ → Outcome) (told : Option Bool) (l m : Linked) → IsReached l
+pub turn_made : (answer : Job → ℕ → Outcome) (told : Option Bool) (l m : WorldValue) → IsReached l
     → is_some (due l.world.client.client) ≡ true → Makes (IsRound answer) false told l m
     → Makes (IsRound answer) false (Some true) l m
 turn_made answer told l m reached some h = record {
@@ -31,21 +31,21 @@ turn_made answer told l m reached some h = record {
 }
 
 -- and left less to be sent
-pub turn_fewer : (answer : Job → ℕ → Outcome) (told : Option Bool) (l m : Linked) → IsReached l
+pub turn_fewer : (answer : Job → ℕ → Outcome) (told : Option Bool) (l m : WorldValue) → IsReached l
     → is_some (due l.world.client.client) ≡ true
     → (Makes (IsRound answer) false told l m)
     → unsent m.world < unsent l.world
 turn_fewer answer told l m reached some made =
     let h = made in
-    subst (λ (k : Linked). unsent k.world < unsent l.world) (sym h.leads)
+    subst (λ (k : WorldValue). unsent k.world < unsent l.world) (sym h.leads)
     (round_fewer answer l.world h.events h.made some
     (never_faulted_behind l event.ClientSends reached some)).1
 
 -- where nothing is due behind it, the next does nothing
-pub turn_still : (answer : Job → ℕ → Outcome) (told : Option Bool) (l m : Linked)
+pub turn_still : (answer : Job → ℕ → Outcome) (told : Option Bool) (l m : WorldValue)
     → Makes (IsRound answer) false told l m → due m.world.client.client ≡ None → IsRound answer false m.world []
 turn_still answer told l m h none =
-    let same : m.world ≡ run_of h.events l.world = ap (λ (k : Linked). k.world) h.leads in
+    let same : m.world ≡ run_of h.events l.world = ap (λ (k : WorldValue). k.world) h.leads in
     subst (λ (w : World). IsRound answer false w []) (sym same)
     (round_still answer l.world h.events h.made (subst (λ (w : World). due w.client.client ≡ None) same none))
 

@@ -9,7 +9,7 @@ use Rattle.protocol_model.proofs.whole_run.Carrying.{IsCarried}
 use Rattle.protocol_model.proofs.whole_run.SameProgram.{run_same}
 use Rattle.protocol_model.proofs.undisturbed_run.UndisturbedRun.{undisturbed_lines, undisturbed_acts, undisturbed_counts}
 use Rattle.link_world.specs.Claims.{IsNew, first_plan}
-use Rattle.link_world.specs.Links.{Linked, IsReached}
+use Rattle.link_world.specs.Links.{WorldValue, IsReached}
 use Rattle.link_world.specs.Runs.{Answer, Happened, Refused, Wanting, Follows, wanting, HasRun, FollowsPlan}
 use Rattle.link_world.proofs.Reached.{carried}
 
@@ -62,29 +62,30 @@ run_leads w v events done not_now memory h none = all_lead w v events h.answers 
 
 -- ---- the program and the window of a world to which events have led
 
-pub program_is : (l : Linked) → IsReached l → IsProgram l.world.client.client.program
+pub program_is : (l : WorldValue) → IsReached l → IsProgram l.world.client.client.program
 program_is l h =
     subst IsProgram (sym (ap (λ (w : World). w.client.client.program) h.reached
     ∙ run_same h.events (start h.program l.setup.tools h.window))) h.is_program
 
-pub window_few : (l : Linked) → IsReached l → l.world.client.client.window ≤ 16
+pub window_few : (l : WorldValue) → IsReached l → l.world.client.client.window ≤ 16
 window_few l h = let c : IsCarried l.world = carried l h in c.inv.window
 
 -- ---- the claims
 
-abbrev Runs : Linked → World → List Event → ℕ → ℕ → ℕ → Type 0
+abbrev Runs : WorldValue → World → List Event → ℕ → ℕ → ℕ → Type 0
 Runs l v events done not_now memory = HasRun l.world events v done not_now memory
 
-ran : (l : Linked) (v : World) (events : List Event) (done not_now memory : ℕ) → Runs l v events done not_now memory → AreUndisturbed events
+ran : (l : WorldValue) (v : World) (events : List Event) (done not_now memory : ℕ) → Runs l v events done not_now memory
+    → AreUndisturbed events
     → Quietly l.world v
 ran l v events done not_now memory h q = let r = h
     in quietly l.world v events r.answers q r.leads
 
-from_new : (l : Linked) (v : World) → IsNew l.world → (q : Quietly l.world v)
+from_new : (l : WorldValue) (v : World) → IsNew l.world → (q : Quietly l.world v)
     → run_of q.events (start l.world.client.client.program l.world.server.server.rack l.world.client.client.window) ≡ v
 from_new l v new q = sym (q.leads ∙ ap (run_of q.events) new)
 
-new_lines : (l : Linked) (v : World) (events : List Event) (done not_now memory : ℕ) → IsReached l → Runs l v events done not_now memory
+new_lines : (l : WorldValue) (v : World) (events : List Event) (done not_now memory : ℕ) → IsReached l → Runs l v events done not_now memory
     → IsNew l.world → AreUndisturbed events
     → AreFirstLines v.written (first_plan l.world)
 new_lines l v events done not_now memory h runs new quiet =
@@ -93,7 +94,7 @@ new_lines l v events done not_now memory h runs new quiet =
     (undisturbed_lines l.world.client.client.program l.world.server.server.rack
     l.world.client.client.window q.events (program_is l h) (window_few l h) q.quiet)
 
-new_acts : (l : Linked) (v : World) (events : List Event) (done not_now memory : ℕ) → IsReached l → Runs l v events done not_now memory
+new_acts : (l : WorldValue) (v : World) (events : List Event) (done not_now memory : ℕ) → IsReached l → Runs l v events done not_now memory
     → IsNew l.world → AreUndisturbed events
     → AreFirstActs (acts_in v.server.server.ledger) (acts_planned (first_plan l.world))
 new_acts l v events done not_now memory h runs new quiet =
@@ -102,7 +103,7 @@ new_acts l v events done not_now memory h runs new quiet =
     (undisturbed_acts l.world.client.client.program l.world.server.server.rack
     l.world.client.client.window q.events (program_is l h) (window_few l h) q.quiet)
 
-new_counts : (l : Linked) (v : World) (events : List Event) (done not_now memory : ℕ) → IsReached l
+new_counts : (l : WorldValue) (v : World) (events : List Event) (done not_now memory : ℕ) → IsReached l
     → Runs l v events done not_now memory → IsNew l.world → AreUndisturbed events
     → AreFirstOf v.client.client.table.tally.counted (acts_in v.server.server.ledger)
 new_counts l v events done not_now memory h runs new quiet =
@@ -111,7 +112,7 @@ new_counts l v events done not_now memory h runs new quiet =
     (undisturbed_counts l.world.client.client.program l.world.server.server.rack
     l.world.client.client.window q.events (program_is l h) (window_few l h) q.quiet)
 
-pub new_follows : (l : Linked) (v : World) (events : List Event) (done not_now memory : ℕ) → IsReached l
+pub new_follows : (l : WorldValue) (v : World) (events : List Event) (done not_now memory : ℕ) → IsReached l
     → Runs l v events done not_now memory → IsNew l.world → AreUndisturbed events → FollowsPlan (first_plan l.world) v
 new_follows l v events done not_now memory h runs new quiet = record {
   lines = new_lines l v events done not_now memory h runs new quiet;

@@ -9,7 +9,7 @@ use Rattle.protocol_model.specs.declared.machine.Outcome.{Outcome}
 use Rattle.protocol_model.specs.declared.events.Event.{Event}
 use Rattle.protocol_model.specs.declared.events.Event.TheVariants as event
 use Rattle.server_core.specs.Steady.{IsRunnable}
-use Rattle.link_world.specs.Links.{Linked, with_world}
+use Rattle.link_world.specs.Links.{WorldValue, with_world}
 use Rattle.protocol_model.specs.Rounds.{AreWork, ending, ended, working}
 use Rattle.link_world.specs.Parts.{Makes}
 use Rattle.link_world.proofs.EventLists.{any_more, leads_more, done_now}
@@ -33,22 +33,22 @@ work_ends : (answer : Job → ℕ → Outcome) (w : World) (es : List Event) →
 work_ends answer w [] h is = is
 work_ends answer w (f ∷ fs) h is = (h.0, work_ends answer (after f w) fs h.1 is)
 
-pub working_more : (answer : Job → ℕ → Outcome) (e : Event) (b : Bool) (l k m : Linked)
+pub working_more : (answer : Job → ℕ → Outcome) (e : Event) (b : Bool) (l k m : WorldValue)
     → Makes (Working answer) false (Some b) l k → next answer k.world ≡ Some e
     → m ≡ with_world k (after e k.world) → Makes (Working answer) false (Some true) l m
 working_more answer e b l k m h is leads = record {
   events = h.events ++ e ∷ [];
-  made = work_more answer e l.world h.events h.made (subst (λ (x : Linked). next answer x.world ≡ Some e) h.leads is);
+  made = work_more answer e l.world h.events h.made (subst (λ (x : WorldValue). next answer x.world ≡ Some e) h.leads is);
   leads = leads_more l k m h.events (e ∷ []) h.leads leads;
   told_is = any_more h.events e;
 }
 
-pub working_ends : (answer : Job → ℕ → Outcome) (b : Bool) (l k : Linked)
+pub working_ends : (answer : Job → ℕ → Outcome) (b : Bool) (l k : WorldValue)
     → Makes (Working answer) false (Some b) l k → next answer k.world ≡ None
     → Makes (AreWork answer) false (Some b) l k
 working_ends answer b l k h is = record {
   events = h.events;
-  made = work_ends answer l.world h.events h.made (subst (λ (x : Linked). next answer x.world ≡ None) h.leads is);
+  made = work_ends answer l.world h.events h.made (subst (λ (x : WorldValue). next answer x.world ≡ None) h.leads is);
   leads = h.leads;
   told_is = h.told_is;
 }
@@ -72,11 +72,11 @@ next_less answer e w (Some job) is may fine =
     subst (λ (x : Event). work_left (happens x w) < work_left w) (sym same)
     (machine_less w (answer job (contact_count w.server.server.ledger)) (subst (λ (x : Event). can x w ≡ true) same may) fine)
 
-pub work_less : (answer : Job → ℕ → Outcome) (e : Event) (l m : Linked) → next answer l.world ≡ Some e → can e l.world ≡ true
+pub work_less : (answer : Job → ℕ → Outcome) (e : Event) (l m : WorldValue) → next answer l.world ≡ Some e → can e l.world ≡ true
     → ((line : Line) → l.world.server.server.running ≡ Some line → IsRunnable l.world.server.server line)
     → (m ≡ with_world l (after e l.world)) → work_left m.world < work_left l.world
 work_less answer e l m is may fine leads =
-    let same : m.world ≡ happens e l.world = ap (λ (k : Linked). k.world) (leads)
+    let same : m.world ≡ happens e l.world = ap (λ (k : WorldValue). k.world) (leads)
     ∙ done_now e l.world may in
     subst (λ (w : World). work_left w < work_left l.world) (sym same)
     (next_less answer e l.world (running_job l.world.server.server) is may fine)

@@ -9,13 +9,13 @@ use Rattle.protocol_model.specs.declared.machine.Job.{Job}
 use Rattle.protocol_model.specs.declared.machine.Outcome.{Outcome}
 use Rattle.protocol_model.specs.declared.states.State.{State}
 use Rattle.link_world.specs.Claims.{Headline}
-use Rattle.link_world.specs.Links.{Linked}
+use Rattle.link_world.specs.Links.{WorldValue}
 use Rattle.link_world.specs.declared.faults.WorldFault.{WorldFault}
 use Rattle.link_world.specs.declared.faults.WorldFault.TheVariants as fault
 use Rattle.link_world.specs.declared.finishing.Quiet.{Quiet}
 
 -- what no event changes is the same
-pub record IsSameKind (old new : Linked) : Type 0 where
+pub record IsSameKind (old new : WorldValue) : Type 0 where
   pub setup : new.setup ≡ old.setup
   pub program : new.world.client.client.program ≡ old.world.client.client.program
   pub window : new.world.client.client.window ≡ old.world.client.client.window
@@ -62,7 +62,7 @@ pub record IsEnd (answer : Job → ℕ → Outcome) (turns : ℕ) (w v : World) 
 
 -- the answer to a call that brings what is left to its end, and what it leaves: it is refused exactly if nothing can be finished, and changes
 -- nothing then; where memory is missing, the first of its events have happened
-abbrev pub IsFinish : (Job → ℕ → Outcome) → Linked → Result ℕ WorldFault → Linked → Type 0
+abbrev pub IsFinish : (Job → ℕ → Outcome) → WorldValue → Result ℕ WorldFault → WorldValue → Type 0
 IsFinish answer l (Ok turns) m = CanFinish l.world × IsEnd answer turns l.world m.world
 IsFinish answer l (Err fault.NotNow) m = ¬ (CanFinish l.world) × (m ≡ l)
 IsFinish answer l (Err fault.Memory) m = CanFinish l.world × Stops answer l.world m.world

@@ -64,41 +64,41 @@ server_joined w e text count = record {
 -- ---- both sides
 
 -- both ends of one connection, and the bytes on their way: those that a side's pump has written and the other's has not yet taken
-pub record Pumped : Type 0 where
+pub record EndPair : Type 0 where
   pub client : ClientEnd
   pub server : ServerEnd
   pub up : List ℕ
   pub down : List ℕ
 
 -- the ends of a world, with the bytes that wait on the client's connection
-abbrev pub pumped_of : World → Pumped
+abbrev pub pumped_of : World → EndPair
 pumped_of w = record { client = w.client; server = w.server; up = (client_link w).up; down = (client_link w).down }
 
 -- behind a call of the client's pump: the bytes that it took are gone from the way down, and those that it wrote have joined the way up
-abbrev pub with_client : Pumped → ClientEnd → (read written : List ℕ) → Pumped
+abbrev pub with_client : EndPair → ClientEnd → (read written : List ℕ) → EndPair
 with_client p e read written = record { client = e; server = p.server; up = p.up ++ written; down = drop (length read) p.down }
 
 -- the same of the server's pump
-abbrev pub with_server : Pumped → ServerEnd → (read written : List ℕ) → Pumped
+abbrev pub with_server : EndPair → ServerEnd → (read written : List ℕ) → EndPair
 with_server p e read written = record { client = p.client; server = e; up = drop (length read) p.up; down = p.down ++ written }
 
 -- calls of both pumps, one after another in any order, each whole or stopped, with whatever bounds and over whatever ports, where the bytes
 -- that a call took are the first of those on their way to its side
-pub data PumpCalls (answer : Job → ℕ → Outcome) (start : Pumped) : Pumped → Type 0 where
+pub data PumpCalls (answer : Job → ℕ → Outcome) (start : EndPair) : EndPair → Type 0 where
   no_calls : PumpCalls answer start start
-  client_moves : (p : Pumped) (e : ClientEnd) (least : ℕ) (left left_now taken taken_now : Option (List ℕ)) (moved : Moved)
+  client_moves : (p : EndPair) (e : ClientEnd) (least : ℕ) (left left_now taken taken_now : Option (List ℕ)) (moved : Moved)
       → PumpCalls answer start p
       → (h : ClientMoved least p.client e left left_now taken taken_now moved) → take (length h.read) p.down ≡ h.read
       → PumpCalls answer start (with_client p e h.read h.written)
-  client_stops : (p : Pumped) (e : ClientEnd) (least bound : ℕ) (left left_now taken taken_now : Option (List ℕ))
+  client_stops : (p : EndPair) (e : ClientEnd) (least bound : ℕ) (left left_now taken taken_now : Option (List ℕ))
       (fault : PumpFault ClientFault) → PumpCalls answer start p
       → (h : ClientStopped least bound p.client e left left_now taken taken_now fault) → take (length h.read) p.down ≡ h.read
       → PumpCalls answer start (with_client p e h.read h.written)
-  server_moves : (p : Pumped) (e : ServerEnd) (least : ℕ) (left left_now taken taken_now : Option (List ℕ)) (moved : Moved)
+  server_moves : (p : EndPair) (e : ServerEnd) (least : ℕ) (left left_now taken taken_now : Option (List ℕ)) (moved : Moved)
       → PumpCalls answer start p
       → (h : ServerMoved answer least p.server e left left_now taken taken_now moved) → take (length h.read) p.up ≡ h.read
       → PumpCalls answer start (with_server p e h.read h.written)
-  server_stops : (p : Pumped) (e : ServerEnd) (least bound : ℕ) (left left_now taken taken_now : Option (List ℕ))
+  server_stops : (p : EndPair) (e : ServerEnd) (least bound : ℕ) (left left_now taken taken_now : Option (List ℕ))
       (fault : PumpFault ServerFault) → PumpCalls answer start p
       → (h : ServerStopped answer least bound p.server e left left_now taken taken_now fault) → take (length h.read) p.up ≡ h.read
       → PumpCalls answer start (with_server p e h.read h.written)
@@ -109,7 +109,7 @@ AreOnWay true bytes waiting = waiting ≡ bytes
 AreOnWay false bytes waiting = (more : List ℕ) × (waiting ≡ bytes ++ more)
 
 -- a world has both ends, and the bytes on their way wait on its connection
-pub record IsWorldOf (w : World) (p : Pumped) : Type 0 where
+pub record IsWorldOf (w : World) (p : EndPair) : Type 0 where
   pub client : w.client ≡ p.client
   pub server : w.server ≡ p.server
   pub up : AreOnWay p.client.client.on p.up (client_link w).up
@@ -132,7 +132,7 @@ pub data AreCalls (answer : Job → ℕ → Outcome) (w : World) : List Event �
       → AreCalls answer w (events ++ more)
 
 -- calls as events lead a world there
-pub record IsOneWorld (answer : Job → ℕ → Outcome) (w : World) (p : Pumped) : Type 0 where
+pub record IsOneWorld (answer : Job → ℕ → Outcome) (w : World) (p : EndPair) : Type 0 where
   pub events : List Event
   pub are : AreCalls answer w events
   pub is : IsWorldOf (run_of events w) p

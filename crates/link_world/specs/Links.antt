@@ -7,7 +7,7 @@ use Rattle.protocol_model.specs.Ends.{ClientEnd, ServerEnd}
 use Rattle.protocol_model.specs.World.{World, Link, start, run_of}
 use Rattle.protocol_model.specs.declared.events.Event.{Event}
 use Rattle.client_core.specs.Clients.{window_most}
-use Rattle.server_core.specs.Serving.{Serving}
+use Rattle.server_core.specs.Serving.{ServerValue}
 use Rattle.link_world.specs.declared.connection.Connection.{Connection}
 
 -- the bytes of a connection, without the room for more
@@ -46,12 +46,12 @@ abbrev pub quiet_server : ServerEnd → ServerEnd
 quiet_server e = record e { out = [] }
 
 -- a setup, and the world of its server
-pub record Linked : Type 0 where
+pub record WorldValue : Type 0 where
   pub setup : SetupValue
   pub world : World
 
 -- what is seen of the code's parts
-abbrev pub seen : ClientEnd → Serving → List Connection → List ℕ → Linked
+abbrev pub seen : ClientEnd → ServerValue → List Connection → List ℕ → WorldValue
 seen client server connections written =
     record {
       setup = server.setup;
@@ -64,11 +64,11 @@ seen client server connections written =
     }
 
 -- the same setup with another world
-abbrev pub with_world : Linked → World → Linked
+abbrev pub with_world : WorldValue → World → WorldValue
 with_world l w = record { setup = l.setup; world = w }
 
 -- a list of events leads to it from a world in which nothing has happened
-pub record IsReached (l : Linked) : Type 0 where
+pub record IsReached (l : WorldValue) : Type 0 where
   pub program : Meaning
   pub is_program : IsProgram program
   pub window : ℕ

@@ -3,7 +3,7 @@ use Rattle.std.specs.Prelude.{◌≡◌, Bool, true, false, Option, Some, None, 
 use Rattle.protocol_model.specs.World.{World, run_of}
 use Rattle.protocol_model.specs.declared.events.Event.{Event}
 use Rattle.protocol_model.specs.declared.events.Event.TheVariants as event
-use Rattle.link_world.specs.Links.{Linked, with_world}
+use Rattle.link_world.specs.Links.{WorldValue, with_world}
 
 -- there is an event
 abbrev pub is_any : List Event → Bool
@@ -18,7 +18,7 @@ repeats event.ClientReads = true
 repeats _ = false
 
 -- events of a part of a schedule, whole or cut, lead from one world to another; whether there are any, where that is told
-pub record Makes (are : Bool → World → List Event → Type 0) (cut : Bool) (told : Option Bool) (l m : Linked) : Type 0
+pub record Makes (are : Bool → World → List Event → Type 0) (cut : Bool) (told : Option Bool) (l m : WorldValue) : Type 0
   where
     pub events : List Event
     pub made : are cut l.world events
@@ -26,11 +26,11 @@ pub record Makes (are : Bool → World → List Event → Type 0) (cut : Bool) (
     pub told_is : IfSome told (λ busy. busy ≡ is_any events)
 
 -- a call played a part whole, and told whether there was any event; or it wanted memory, and cut the part
-abbrev pub Tells : {E : Type 0} → Result Bool E → (Bool → World → List Event → Type 0) → Linked → Linked → Type 0
+abbrev pub Tells : {E : Type 0} → Result Bool E → (Bool → World → List Event → Type 0) → WorldValue → WorldValue → Type 0
 Tells (Ok busy) are l m = Makes are false (Some busy) l m
 Tells (Err fault) are l m = Makes are true None l m
 
 -- the same of a call that tells nothing
-abbrev pub PlaysPart : {E : Type 0} → Result (Unit {0}) E → (Bool → World → List Event → Type 0) → Linked → Linked → Type 0
+abbrev pub PlaysPart : {E : Type 0} → Result (Unit {0}) E → (Bool → World → List Event → Type 0) → WorldValue → WorldValue → Type 0
 PlaysPart (Ok u) are l m = Makes are false None l m
 PlaysPart (Err fault) are l m = Makes are true None l m

@@ -5,17 +5,17 @@ use Rattle.fixed_um.specs.Written.{printed_point}
 use Rattle.fixed_um.specs.declared.lengths.Point.{Point}
 use Rattle.contact_ledger.specs.declared.acts.Act.{Act}
 use Rattle.contact_ledger.specs.declared.features.Feature.{Feature}
-use Rattle.protocol_model.specs.Claims.{Made, contacts}
+use Rattle.protocol_model.specs.Claims.{MadeContact, contacts}
 use Rattle.protocol_model.specs.declared.states.State.{State}
 use Rattle.link_world.specs.declared.reports.Report.{Report}
 use Rattle.link_world.specs.declared.reports.Reported.{Reported}
 
 -- what is shown of a contact with this number
-abbrev pub shown : ℕ → Made → Reported
+abbrev pub shown : ℕ → MadeContact → Reported
 shown number made = record { number = number; connection = made.connection; point = made.point }
 
 -- contacts whose numbers begin with this one, each beside its number
-abbrev pub numbered_from : ℕ → List Made → List Reported
+abbrev pub numbered_from : ℕ → List MadeContact → List Reported
 numbered_from number [] = []
 numbered_from number (made ∷ more) = shown number made ∷ numbered_from (suc number) more
 

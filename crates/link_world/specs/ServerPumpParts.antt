@@ -8,7 +8,7 @@ use Rattle.protocol_model.specs.Ends.{ServerEnd, serving_fed, serving_left}
 use Rattle.protocol_model.specs.declared.lines.Line.{Line}
 use Rattle.protocol_model.specs.declared.machine.Job.{Job}
 use Rattle.protocol_model.specs.declared.machine.Outcome.{Outcome}
-use Rattle.server_core.specs.Serving.{Serving, with_end, may_turn}
+use Rattle.server_core.specs.Serving.{ServerValue, with_end, may_turn}
 use Rattle.server_core.specs.declared.faults.ServerFault.{ServerFault}
 use Rattle.link_world.specs.declared.pumps.PumpFault.{PumpFault}
 use Rattle.link_world.specs.declared.pumps.PumpFault.TheVariants as fault
@@ -18,7 +18,7 @@ use Rattle.link_world.specs.ServerPumps.{ServerTurn, steps_made, IsServerRefusal
 
 -- a stage of a server's turn goes on from one end to another, whatever the turn was before, and each step was one of the budget; its
 -- setup stays
-pub record ServerGoesOn (answer : Job → ℕ → Outcome) (stage : Stage) (budget budget_now : ℕ) (old new : Serving) : Type 0 where
+pub record ServerGoesOn (answer : Job → ℕ → Outcome) (stage : Stage) (budget budget_now : ℕ) (old new : ServerValue) : Type 0 where
   pub setup : new.setup ≡ old.setup
   pub turn : (least : ℕ) (start : ServerEnd) (read : List ℕ)
       → (turn : ServerTurn answer least start stage read [] old.end)
@@ -26,7 +26,7 @@ pub record ServerGoesOn (answer : Job → ℕ → Outcome) (stage : Stage) (budg
       × (budget_now + steps_made further ≤ budget + steps_made turn)
 
 -- a server was fed what was pulled, and each step gave one byte or more
-pub record ServerCame (old new : Serving) (left left_now : Option (List ℕ)) (budget budget_now count : ℕ) : Type 0 where
+pub record ServerCame (old new : ServerValue) (left left_now : Option (List ℕ)) (budget budget_now count : ℕ) : Type 0 where
   pub read : List ℕ
   pub fed : new ≡ with_end old (serving_fed read old.end)
   pub consumed : Consumes left left_now read
@@ -34,7 +34,8 @@ pub record ServerCame (old new : Serving) (left left_now : Option (List ℕ)) (b
   pub count_is : count ≡ length read
 
 -- the same, short of so many bytes
-pub record ServerCameShort (least : ℕ) (old new : Serving) (left left_now : Option (List ℕ)) (budget : ℕ) (fault : PumpFault ServerFault)
+pub record ServerCameShort (least : ℕ) (old new : ServerValue) (left left_now : Option (List ℕ)) (budget : ℕ)
+    (fault : PumpFault ServerFault)
     : Type 0
   where
     pub read : List ℕ
@@ -53,15 +54,15 @@ IsServerReadFault budget held e _ = ⊥
 
 -- lines were read up to one that is none, or that wants memory, or that may not be read any more; but for its framing fault the server is as
 -- it was then
-pub record ServerReadStops (old new : Serving) (budget : ℕ) (fault : PumpFault ServerFault) : Type 0 where
-  pub last : Serving
+pub record ServerReadStops (old new : ServerValue) (budget : ℕ) (fault : PumpFault ServerFault) : Type 0 where
+  pub last : ServerValue
   pub goes : (answer : Job → ℕ → Outcome) → ServerGoesOn answer Reading budget 0 old last
   pub setup : new.setup ≡ old.setup
   pub same : serving_left new.end ≡ serving_left last.end
   pub why : IsServerReadFault budget (length old.end.input.rest) last.end fault
 
 -- bytes have come, at least so many, and each whole line was read, so many bytes and lines a step
-pub record ReadIn (least calls calls_now : ℕ) (old new : Serving) (left left_now : Option (List ℕ)) (budget budget_now count : ℕ)
+pub record ReadIn (least calls calls_now : ℕ) (old new : ServerValue) (left left_now : Option (List ℕ)) (budget budget_now count : ℕ)
     : Type 0
   where
     pub read : List ℕ

@@ -22,7 +22,7 @@ ghost use Rattle.link_world.specs.Pumps.{Stage, Writing, Reading, ClientTurn};
 ghost use Rattle.link_world.specs.ServerPumps.{ServerTurn};
 ghost use Rattle.link_world.specs.Joined.{IsClientTurn, IsServerTurn, TurnLeads, client_joined};
 ghost use Rattle.link_world.specs.Joined.{AreFit, server_joined};
-ghost use Rattle.link_world.specs.Joined.{Pumped, pumped_of, PumpCalls, IsOneWorld};
+ghost use Rattle.link_world.specs.Joined.{EndPair, pumped_of, PumpCalls, IsOneWorld};
 ghost use Rattle.link_world.specs.Joined.{ClientCalls, AreOwnCalls};
 
 /// A client's turn over its ports is a list of events of the world. For every world whose client has nothing to send and stands on a
@@ -158,14 +158,14 @@ pub fn turns_of_a_server_are_events()
 /// - `front`: a source that holds a front of the bytes on their way gives the first of them.
 #[tactic(auto, using(crate::proofs::PumpJoins::pumps_join, crate::proofs::PumpJoins::pumps_sound, crate::proofs::PumpJoins::pumps_told, crate::proofs::PumpJoins::pumps_agree, crate::proofs::PumpJoins::source_front))]
 pub fn two_pumps_are_a_world()
-    ensures world { (answer : OneJob → ℕ → OneOutcome) → AreFit answer → (w : World) (p : Pumped)
+    ensures world { (answer : OneJob → ℕ → OneOutcome) → AreFit answer → (w : World) (p : EndPair)
         (program : Meaning) (rack : List (List ℕ)) (window : ℕ) (events : List OneEvent)
         → IsProgram program → window ≤ 16
         → w ≡ run_of events (start program rack window)
         → w.client.client.on ≡ true → w.server.server.on ≡ true
         → w.server.server.last ≡ w.client.client.last
         → PumpCalls answer (pumped_of w) p → IsOneWorld answer w p }
-    ensures sound { (answer : OneJob → ℕ → OneOutcome) → AreFit answer → (w : World) (p : Pumped)
+    ensures sound { (answer : OneJob → ℕ → OneOutcome) → AreFit answer → (w : World) (p : EndPair)
         (program : Meaning) (rack : List (List ℕ)) (window : ℕ) (events : List OneEvent)
         → IsProgram program → window ≤ 16
         → w ≡ run_of events (start program rack window)
@@ -173,7 +173,7 @@ pub fn two_pumps_are_a_world()
         → w.server.server.last ≡ w.client.client.last
         → PumpCalls answer (pumped_of w) p
         → Sound program.features p.client.client.table.tally.features p.server.server.ledger }
-    ensures told { (answer : OneJob → ℕ → OneOutcome) → AreFit answer → (w : World) (p : Pumped)
+    ensures told { (answer : OneJob → ℕ → OneOutcome) → AreFit answer → (w : World) (p : EndPair)
         (program : Meaning) (rack : List (List ℕ)) (window : ℕ) (events : List OneEvent)
         → IsProgram program → window ≤ 16
         → w ≡ run_of events (start program rack window)
@@ -181,7 +181,7 @@ pub fn two_pumps_are_a_world()
         → w.server.server.last ≡ w.client.client.last
         → PumpCalls answer (pumped_of w) p
         → Told p.client.client.table.tally.counted p.server.server.ledger p.client.client.last }
-    ensures agree { (answer : OneJob → ℕ → OneOutcome) → AreFit answer → (w : World) (p : Pumped)
+    ensures agree { (answer : OneJob → ℕ → OneOutcome) → AreFit answer → (w : World) (p : EndPair)
         (program : Meaning) (rack : List (List ℕ)) (window : ℕ) (events : List OneEvent)
         → IsProgram program → window ≤ 16
         → w ≡ run_of events (start program rack window)

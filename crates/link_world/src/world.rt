@@ -52,9 +52,9 @@ pub struct RunCount {
 }
 
 impl Model for World {
-    ghost use Rattle.link_world.specs.Links.{Linked, seen, IsReached};
+    ghost use Rattle.link_world.specs.Links.{WorldValue, seen, IsReached};
 
-    ghost Value = { Linked };
+    ghost Value = { WorldValue };
 
     ghost view = { λ w. seen w.client w.server w.connections.items w.written.items };
 

@@ -9,7 +9,7 @@ use Rattle.dme_line.specs.declared.commands.Command.TheVariants as command
 use Rattle.dmis_program.specs.Meaning.{touch_with}
 use Rattle.dmis_program.specs.declared.features.Touch.{Touch}
 use Rattle.protocol_model.specs.Plan.{planned}
-use Rattle.protocol_model.specs.PlainExecution.{Measured}
+use Rattle.protocol_model.specs.PlainExecution.{MeasuredFeature}
 use Rattle.protocol_model.specs.Examples.{at, from_above, tool}
 use Rattle.protocol_examples.specs.Scripts.{simulated}
 use Rattle.protocol_model.specs.declared.machine.Job.{Job}
@@ -42,7 +42,7 @@ unmoved (Job.Touch p d) n = Outcome.Touched p
 unmoved j n = Outcome.Done
 
 -- a feature as it was measured
-abbrev pub measured_so : List ℕ → List Point → Measured
+abbrev pub measured_so : List ℕ → List Point → MeasuredFeature
 measured_so label points = record { label = label; points = points }
 
 -- a touch in a part's frame

@@ -14,13 +14,13 @@ use Rattle.dmis_program.specs.declared.features.Touch.{Touch}
 use Rattle.dmis_program.specs.declared.steps.Step.{Step}
 use Rattle.dmis_program.specs.declared.steps.Step.TheVariants as step
 use Rattle.protocol_model.specs.Replies.{Reply}
-use Rattle.protocol_model.specs.Claims.{Made, contacts}
+use Rattle.protocol_model.specs.Claims.{MadeContact, contacts}
 use Rattle.protocol_model.specs.Server.{in_volume, running_job}
 use Rattle.protocol_model.specs.Typed.{World, Event, start, after}
 use Rattle.protocol_model.specs.declared.states.State.{State}
 use Rattle.protocol_model.specs.declared.lines.Line.{Line}
 use Rattle.protocol_model.specs.declared.held.Stage.{Stage}
-use Rattle.protocol_model.specs.declared.held.Held.{Held}
+use Rattle.protocol_model.specs.declared.held.OpenCommand.{OpenCommand}
 use Rattle.protocol_model.specs.declared.machine.Job.{Job}
 use Rattle.protocol_model.specs.declared.machine.Outcome.{Outcome}
 use Rattle.protocol_model.specs.Examples.{along, at, failed, from_above, neg, part, tool}
@@ -271,7 +271,7 @@ pub record Report : Type 0 where
   pub contacts : List Reported
 
 -- contacts with their numbers, from one on
-abbrev pub numbered : ℕ → List Made → List Reported
+abbrev pub numbered : ℕ → List MadeContact → List Reported
 numbered n [] = []
 numbered n (m ∷ ms) = record { number = n; connection = m.connection; point = m.point } ∷ numbered (suc n) ms
 
@@ -307,5 +307,5 @@ failed_under kind n zero = []
 failed_under kind n (suc more) = failed n 9007 kind ++ failed_under kind (suc n) more
 
 -- a command that is open under a standard tag
-abbrev pub held_at : ℕ → Kind → Stage → Held
+abbrev pub held_at : ℕ → Kind → Stage → OpenCommand
 held_at n kind stage = record { tag = Std n; kind = kind; stage = stage }

@@ -25,7 +25,7 @@ use Rattle.protocol_model.specs.declared.states.Cause.{Cause}
 use Rattle.protocol_model.specs.declared.held.Datum.{Datum}
 use Rattle.protocol_model.specs.declared.held.Datum.TheVariants as datum
 use Rattle.protocol_model.specs.declared.held.Stage.{Stage}
-use Rattle.protocol_model.specs.declared.held.Held.{Held}
+use Rattle.protocol_model.specs.declared.held.OpenCommand.{OpenCommand}
 use Rattle.protocol_model.specs.declared.plans.Planned.{Planned}
 use Rattle.protocol_model.specs.declared.plans.Does.{Does}
 use Rattle.protocol_model.specs.declared.plans.Start.{Start}
@@ -46,8 +46,8 @@ pub record Tally : Type 0 where
 
 -- what replies change: the open commands on standard tags and on event tags, each in sending order, and the tally
 pub record Table : Type 0 where
-  pub standard : List Held
-  pub event : List Held
+  pub standard : List OpenCommand
+  pub event : List OpenCommand
   pub tally : Tally
 
 -- the act that a counted command stands for, with what its data line told: whether the machine is homed, or the point of a contact
@@ -214,7 +214,7 @@ client_connected n c =
     }
 
 -- the first number from here on that is not held, of so many
-abbrev pub first_free : (ℕ → Tag) → List Held → ℕ → ℕ → Option ℕ
+abbrev pub first_free : (ℕ → Tag) → List OpenCommand → ℕ → ℕ → Option ℕ
 first_free sort hs n zero = None
 first_free sort hs n (suc left) = elim (is_held (sort n) hs) [ true ↦ first_free sort hs (suc n) left | false ↦ Some n ]
 
@@ -224,7 +224,7 @@ or_else None other = other
 or_else (Some n) other = Some n
 
 -- numbers are drawn one after another up to 9,999, and again from 1 on, passing over those that are held
-abbrev pub next_number : (ℕ → Tag) → List Held → ℕ → Option ℕ
+abbrev pub next_number : (ℕ → Tag) → List OpenCommand → ℕ → Option ℕ
 next_number sort hs drawn = or_else (first_free sort hs (suc drawn) (9999 - drawn)) (first_free sort hs 1 9999)
 
 -- the command that ends the error state
@@ -258,7 +258,7 @@ pub record Sends : Type 0 where
   pub lines : List Line
 
 -- a command that was just sent
-abbrev pub held_now : Tag → Kind → Held
+abbrev pub held_now : Tag → Kind → OpenCommand
 held_now t k = record { tag = t; kind = k; stage = Stage.Sent }
 
 -- the first unsent command goes out under this number; without one the client is Faulted

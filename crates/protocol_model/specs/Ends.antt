@@ -26,7 +26,7 @@ use Rattle.protocol_model.specs.Server.{Server, Answer, new_server, server_accep
 use Rattle.protocol_model.specs.Server.{server_left, server_restarted}
 use Rattle.protocol_model.specs.declared.states.Cause.{Cause}
 use Rattle.protocol_model.specs.declared.held.Datum.TheVariants as datum
-use Rattle.protocol_model.specs.declared.held.Held.{Held}
+use Rattle.protocol_model.specs.declared.held.OpenCommand.{OpenCommand}
 use Rattle.protocol_model.specs.declared.machine.Outcome.{Outcome}
 
 -- ---- the client's end
@@ -62,7 +62,7 @@ abbrev pub end_fed : List ℕ → ClientEnd → ClientEnd
 end_fed bytes e = record e { input = fed e.input bytes }
 
 -- the kind of the first command that is held under a tag
-abbrev pub held_kind : Tag → List Held → Option Kind
+abbrev pub held_kind : Tag → List OpenCommand → Option Kind
 held_kind t [] = None
 held_kind t (h ∷ hs) = if tag_is h.tag t then Some h.kind else held_kind t hs
 

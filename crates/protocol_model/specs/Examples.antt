@@ -13,7 +13,7 @@ use Rattle.dmis_program.specs.Meaning.{touch_with}
 use Rattle.dmis_program.specs.declared.features.Touch.{Touch}
 use Rattle.dmis_program.specs.declared.features.Wanted.{Wanted}
 use Rattle.protocol_model.specs.Replies.{Reading, Reply}
-use Rattle.protocol_model.specs.Claims.{Made}
+use Rattle.protocol_model.specs.Claims.{MadeContact}
 use Rattle.protocol_model.specs.Server.{Server, Answer, server_read, server_turned, server_machined}
 use Rattle.protocol_model.specs.declared.lines.Line.{Line}
 use Rattle.protocol_model.specs.declared.machine.Outcome.{Outcome}
@@ -66,7 +66,7 @@ failed n code kind = Reply.Error (Std n) code (Some kind) ∷ Reply.Done (Std n)
 -- ---- claims
 
 -- a contact that was made for a touch ten millimetres along x, and met the surface so far along x
-abbrev pub made : ℕ → Made
+abbrev pub made : ℕ → MadeContact
 made x = record {
   connection = 1;
   target = at (pos 10000) (pos 0) (pos 0);

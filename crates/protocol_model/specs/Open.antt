@@ -9,7 +9,7 @@ use Rattle.protocol_model.specs.declared.held.Datum.TheVariants as datum
 use Rattle.protocol_model.specs.declared.held.Stage.{Stage}
 use Rattle.protocol_model.specs.declared.states.Cause.{Cause}
 use Rattle.protocol_model.specs.declared.states.Cause.TheVariants.{UnknownTag, OutOfOrder, NoData, SecondData}
-use Rattle.protocol_model.specs.declared.held.Held.{Held}
+use Rattle.protocol_model.specs.declared.held.OpenCommand.{OpenCommand}
 
 -- an error was read
 abbrev pub is_failed : Stage → Bool
@@ -95,10 +95,10 @@ pub data Effect : Type 0 where
 
 -- the open commands after a reply, with its effect
 abbrev pub Heard : Type 0
-Heard = Result (List Held × Effect) Cause
+Heard = Result (List OpenCommand × Effect) Cause
 
 -- the open commands after the command at their front was judged: it stays at another stage, or is gone
-abbrev pub settled : Held → List Held → Verdict → Heard
+abbrev pub settled : OpenCommand → List OpenCommand → Verdict → Heard
 settled h hs (Becomes stage) = Ok (record h { stage = stage } ∷ hs, Quiet)
 settled h hs Breaks = Ok (record h { stage = Stage.Failed } ∷ hs, Failure)
 settled h hs Closes = Ok (hs, Quiet)
@@ -106,12 +106,12 @@ settled h hs (Counts given) = Ok (hs, Count h.kind given)
 settled h hs (Refused cause) = Err cause
 
 -- an earlier command stays as it is
-abbrev pub put_before : Held → Heard → Heard
+abbrev pub put_before : OpenCommand → Heard → Heard
 put_before h (Ok (hs, effect)) = Ok (h ∷ hs, effect)
 put_before h (Err cause) = Err cause
 
 -- a mark goes to the first command of its tag; a command is at the front where the first argument holds and each earlier one has failed
-abbrev pub heard_in : Bool → List Held → Tag → Mark → Heard
+abbrev pub heard_in : Bool → List OpenCommand → Tag → Mark → Heard
 heard_in front [] t m = Err UnknownTag
 heard_in front (h ∷ hs) t m =
     if tag_is h.tag t
@@ -119,7 +119,7 @@ heard_in front (h ∷ hs) t m =
     else put_before h (heard_in (front && is_failed h.stage) hs t m)
 
 -- how many commands have neither failed nor ended
-abbrev pub count_open : List Held → ℕ
+abbrev pub count_open : List OpenCommand → ℕ
 count_open [] = 0
 count_open (h ∷ hs) = if is_failed h.stage then count_open hs else suc (count_open hs)
 
@@ -129,11 +129,11 @@ asks_homed kind.IsHomed = true
 asks_homed _ = false
 
 -- an IsHomed has neither failed nor ended
-abbrev pub is_asking : List Held → Bool
+abbrev pub is_asking : List OpenCommand → Bool
 is_asking [] = false
 is_asking (h ∷ hs) = (asks_homed h.kind && not (is_failed h.stage)) || is_asking hs
 
 -- a command is open under this tag
-abbrev pub is_held : Tag → List Held → Bool
+abbrev pub is_held : Tag → List OpenCommand → Bool
 is_held t [] = false
 is_held t (h ∷ hs) = if tag_is h.tag t then true else is_held t hs

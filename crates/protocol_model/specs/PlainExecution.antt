@@ -13,7 +13,7 @@ use Rattle.protocol_model.specs.declared.machine.Outcome.{Outcome}
 use Rattle.protocol_model.specs.declared.machine.Outcome.TheVariants as outcome
 
 -- a feature as it was measured: its label and its points
-pub record Measured : Type 0 where
+pub record MeasuredFeature : Type 0 where
   pub label : List ℕ
   pub points : List Point
 
@@ -36,12 +36,12 @@ plain_points answer n [] = []
 plain_points answer n (t ∷ ts) = plain_point answer n t ∷ plain_points answer (suc n) ts
 
 -- the features that are wanted, each with its label; their touches are numbered through all features, from this number on
-abbrev pub plain_execution : (Job → ℕ → Outcome) → ℕ → List Wanted → List Measured
+abbrev pub plain_execution : (Job → ℕ → Outcome) → ℕ → List Wanted → List MeasuredFeature
 plain_execution answer n [] = []
 plain_execution answer n (w ∷ ws) =
     record { label = w.label; points = plain_points answer n w.touches } ∷ plain_execution answer (n + length w.touches) ws
 
 -- features that are held, as they were measured
-abbrev pub as_measured : List Feature → List Measured
+abbrev pub as_measured : List Feature → List MeasuredFeature
 as_measured [] = []
 as_measured (f ∷ fs) = record { label = f.label; points = f.points } ∷ as_measured fs

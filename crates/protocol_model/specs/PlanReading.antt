@@ -62,13 +62,13 @@ commands_of [] = []
 commands_of (p ∷ ps) = p.command ∷ commands_of ps
 
 -- what commands have selected: the tool, the stored offset and the frame, each perhaps not yet
-pub record Selected : Type 0 where
+pub record Selection : Type 0 where
   pub tool : Option (List ℕ)
   pub stored : Option Point
   pub frame : Option Frame
 
 -- before the first command nothing is known to be selected
-abbrev pub nothing_selected : Selected
+abbrev pub nothing_selected : Selection
 nothing_selected = record { tool = None; stored = None; frame = None }
 
 -- the frame of a coordinate system: the machine's, or that of the part at the stored offset
@@ -78,7 +78,7 @@ selected_frame PartCsy None = None
 selected_frame PartCsy (Some offset) = Some (Part offset)
 
 -- what is selected behind a command; the offset of a transformation is stored with its signs turned
-abbrev pub selected_by : Selected → Command → Selected
+abbrev pub selected_by : Selection → Command → Selection
 selected_by s (command.ChangeTool n) = record s { tool = Some n }
 selected_by s (command.SetCsyTransformation p) = record s { stored = Some (point_opposite p) }
 selected_by s (command.SetCoordSystem system) = record s { frame = selected_frame system s.stored }
@@ -100,7 +100,7 @@ read_frame (Some frame) = Some (Does.Frames frame)
 read_frame None = None
 
 -- what a command does where this is selected; that a touch is the last of its feature is no part of its command, and is given
-abbrev pub read_as : Selected → Bool → Command → Option Does
+abbrev pub read_as : Selection → Bool → Command → Option Does
 read_as s last command.StartSession = Some Does.Nothing
 read_as s last command.EndSession = Some Does.Nothing
 read_as s last command.ClearAllErrors = Some Does.Nothing
@@ -121,7 +121,7 @@ is_last _ = false
 
 -- each command, read where it stands, does what it is planned for: a touch has its target, direction, tool and frame, a move its target and
 -- frame
-abbrev pub ReadAsPlanned : Selected → List Planned → Type 0
+abbrev pub ReadAsPlanned : Selection → List Planned → Type 0
 ReadAsPlanned s [] = Unit {0}
 ReadAsPlanned s (p ∷ ps) = (read_as s (is_last p.does) p.command ≡ Some p.does) × ReadAsPlanned (selected_by s p.command) ps
 
@@ -131,12 +131,12 @@ touch_made (Some (Does.Touches t last)) = Some t
 touch_made _ = None
 
 -- the touch that a command makes where this is selected, if it makes one; None where its tool or its frame is not known
-abbrev pub touches_made_by : Selected → Command → List (Option Touch)
+abbrev pub touches_made_by : Selection → Command → List (Option Touch)
 touches_made_by s (command.PtMeas p d) = touch_made (read_as s false (command.PtMeas p d)) ∷ []
 touches_made_by s _ = []
 
 -- the touches that commands make, one after another, from what is selected before them
-abbrev pub touches_made : Selected → List Command → List (Option Touch)
+abbrev pub touches_made : Selection → List Command → List (Option Touch)
 touches_made s [] = []
 touches_made s (c ∷ cs) = touches_made_by s c ++ touches_made (selected_by s c) cs
 

@@ -25,7 +25,7 @@ pub enum Stage {
 
 /// An open command: its tag, which is held until its `%` is read, its kind and its stage.
 #[derive(Clone, Copy, Debug, PartialEq, Eq)]
-pub struct Held {
+pub struct OpenCommand {
     pub tag: Tag,
     pub kind: Kind,
     pub stage: Stage,

@@ -41,7 +41,7 @@ pub mod typed;
 pub mod undisturbed;
 
 pub use events::Event;
-pub use held::{Datum, Held, Stage};
+pub use held::{Datum, OpenCommand, Stage};
 pub use lines::{Line, Misread, Waiting};
 pub use machine::{Job, Outcome};
 pub use plan_laws::plans_measure_what_is_left;

@@ -4,7 +4,7 @@ ghost use Rattle.std.specs.Prelude.{◌≡◌, ◌<◌, ◌≤◌, ℕ, List, No
 ghost use Rattle.dme_line.specs.declared.tags.Tag.{Tag};
 ghost use Rattle.protocol_model.specs.Client.{next_number};
 ghost use Rattle.protocol_model.specs.Open.{is_held};
-ghost use Rattle.protocol_model.specs.declared.held.Held.{Held};
+ghost use Rattle.protocol_model.specs.declared.held.OpenCommand.{OpenCommand};
 
 /// Behind the number that was drawn last comes the first that is not held, where 1 follows 9,999;
 /// for standard and for event tags:
@@ -15,20 +15,20 @@ ghost use Rattle.protocol_model.specs.declared.held.Held.{Held};
 ///   and so is each one below it;
 /// - `spent`: there is none only where all are held.
 pub fn numbers_that_are_held_are_passed_over()
-    ensures free { (sort : ℕ → Tag) (held : List Held) (drawn next : ℕ)
+    ensures free { (sort : ℕ → Tag) (held : List OpenCommand) (drawn next : ℕ)
         → next_number sort held drawn ≡ Some next → is_held (sort next) held ≡ false }
-    ensures within { (sort : ℕ → Tag) (held : List Held) (drawn next : ℕ)
+    ensures within { (sort : ℕ → Tag) (held : List OpenCommand) (drawn next : ℕ)
         → next_number sort held drawn ≡ Some next → (1 ≤ next) × (next ≤ 9999) }
-    ensures passed { (sort : ℕ → Tag) (held : List Held) (drawn next number : ℕ)
+    ensures passed { (sort : ℕ → Tag) (held : List OpenCommand) (drawn next number : ℕ)
         → next_number sort held drawn ≡ Some next → drawn < next
         → drawn < number → number < next → is_held (sort number) held ≡ true }
-    ensures passed_up { (sort : ℕ → Tag) (held : List Held) (drawn next number : ℕ)
+    ensures passed_up { (sort : ℕ → Tag) (held : List OpenCommand) (drawn next number : ℕ)
         → next_number sort held drawn ≡ Some next → next ≤ drawn
         → drawn < number → number ≤ 9999 → is_held (sort number) held ≡ true }
-    ensures passed_again { (sort : ℕ → Tag) (held : List Held) (drawn next number : ℕ)
+    ensures passed_again { (sort : ℕ → Tag) (held : List OpenCommand) (drawn next number : ℕ)
         → next_number sort held drawn ≡ Some next → next ≤ drawn
         → 1 ≤ number → number < next → is_held (sort number) held ≡ true }
-    ensures spent { (sort : ℕ → Tag) (held : List Held) (drawn number : ℕ)
+    ensures spent { (sort : ℕ → Tag) (held : List OpenCommand) (drawn number : ℕ)
         → next_number sort held drawn ≡ None
         → 1 ≤ number → number ≤ 9999 → is_held (sort number) held ≡ true }
 {}

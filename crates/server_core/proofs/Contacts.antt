@@ -11,7 +11,7 @@ use Rattle.dme_line.specs.declared.commands.Command.TheVariants as command
 use Rattle.contact_ledger.specs.declared.acts.Act.{Act}
 use Rattle.contact_ledger.specs.declared.acts.Act.TheVariants as act
 use Rattle.protocol_model.specs.Lines.{reply_bytes}
-use Rattle.protocol_model.specs.Claims.{Made, contacts}
+use Rattle.protocol_model.specs.Claims.{MadeContact, contacts}
 use Rattle.protocol_model.specs.Server.{Server, offset, server_turned, finished, touched, machined, server_machined}
 use Rattle.protocol_model.specs.Ends.{ServerEnd}
 use Rattle.protocol_model.specs.declared.lines.Line.{Line}
@@ -26,7 +26,7 @@ use Rattle.server_core.proofs.Ledgers.{IsNoContact, AddsNoContact, turned_adds}
 added_no_contact : (n : ℕ) (acts : List (ℕ × Act)) (made : Option Act) → IsNoContact made → contacts (with_act n made acts) ≡ contacts acts
 added_no_contact n acts None none = refl
 added_no_contact n acts (Some a) none =
-    contacts_more acts ((n, a) ∷ []) ∙ (ap (λ (ms : List Made). contacts acts ++ ms) (none n) ∙ append-nil (contacts acts))
+    contacts_more acts ((n, a) ∷ []) ∙ (ap (λ (ms : List MadeContact). contacts acts ++ ms) (none n) ∙ append-nil (contacts acts))
 
 pub turned_no_contact : (s : Server) → contacts (server_turned s).server.ledger ≡ contacts s.ledger
 turned_no_contact s =
@@ -35,27 +35,27 @@ turned_no_contact s =
 
 -- ---- which ends of what runs make one
 
-pub not_longer : (ms : List Made) (m : Made) → ms ≡ ms ++ m ∷ [] → ⊥
+pub not_longer : (ms : List MadeContact) (m : MadeContact) → ms ≡ ms ++ m ∷ [] → ⊥
 not_longer ms m e =
     let longer : length ms ≡ length (ms ++ m ∷ []) = ap length e in
     let sum : length (ms ++ m ∷ []) ≡ length ms + 1 = length-append ms (m ∷ []) in
     omega arith
 
 -- an act that is no contact
-no_more : (n : ℕ) (acts : List (ℕ × Act)) (a : Act) (m : Made) → contacts ((n, a) ∷ []) ≡ []
+no_more : (n : ℕ) (acts : List (ℕ × Act)) (a : Act) (m : MadeContact) → contacts ((n, a) ∷ []) ≡ []
     → contacts (acts ++ (n, a) ∷ []) ≡ contacts acts ++ m ∷ [] → ⊥
 no_more n acts a m none e =
     not_longer (contacts acts) m
-    (sym (contacts_more acts ((n, a) ∷ []) ∙ (ap (λ (ms : List Made). contacts acts ++ ms) none ∙ append-nil (contacts acts))) ∙ e)
+    (sym (contacts_more acts ((n, a) ∷ []) ∙ (ap (λ (ms : List MadeContact). contacts acts ++ ms) none ∙ append-nil (contacts acts))) ∙ e)
 
-abbrev first_or : Made → List Made → Made
+abbrev first_or : MadeContact → List MadeContact → MadeContact
 first_or m [] = m
 first_or m (k ∷ ms) = k
 
-first_of : (m k : Made) → m ∷ [] ≡ k ∷ [] → m ≡ k
+first_of : (m k : MadeContact) → m ∷ [] ≡ k ∷ [] → m ≡ k
 first_of m k e = ap (first_or m) e
 
-abbrev contact_of : Server → Point → Point → Option Direction → List ℕ → Made
+abbrev contact_of : Server → Point → Point → Option Direction → List ℕ → MadeContact
 contact_of s at p d tool = record {
   connection = s.last;
   target = p;
@@ -82,11 +82,11 @@ as_commanded e at t p d tool ran head = record {
       ∙ ap (λ (in_head : Option (List ℕ)). e.out ++ reply_bytes (touched e.server t (command.PtMeas p d) at in_head).said) head;
 }
 
-same : (e : ServerEnd) (ended : Outcome) (made : Made) → contacts e.server.ledger ≡ contacts e.server.ledger ++ made ∷ []
+same : (e : ServerEnd) (ended : Outcome) (made : MadeContact) → contacts e.server.ledger ≡ contacts e.server.ledger ++ made ∷ []
     → IsCommanded e ended made
 same e ended made longer = absurd (not_longer _ _ longer)
 
-finished_made : (e : ServerEnd) (made : Made) (t : Tag) (c : Command)
+finished_made : (e : ServerEnd) (made : MadeContact) (t : Tag) (c : Command)
     → contacts (finished e.server t c).server.ledger ≡ contacts e.server.ledger ++ made ∷ [] → IsCommanded e outcome.Done made
 finished_made e made t command.StartSession longer = same e outcome.Done made longer
 finished_made e made t command.EndSession longer = same e outcome.Done made longer
@@ -102,7 +102,7 @@ finished_made e made t (command.SetCsyTransformation p) longer = same e outcome.
 finished_made e made t (command.SetCoordSystem system) longer = same e outcome.Done made longer
 finished_made e made t command.AbortE longer = same e outcome.Done made longer
 
-touched_made : (e : ServerEnd) (made : Made) (at : Point) (t : Tag) (c : Command) (tool : Option (List ℕ))
+touched_made : (e : ServerEnd) (made : MadeContact) (at : Point) (t : Tag) (c : Command) (tool : Option (List ℕ))
     → e.server.running ≡ Some (record { tag = t; command = c }) → e.server.tool ≡ tool
     → contacts (touched e.server t c at tool).server.ledger ≡ contacts e.server.ledger ++ made ∷ []
     → IsCommanded e (outcome.Touched at) made
@@ -116,14 +116,14 @@ touched_made e made at t (command.GoTo p) tool ran head longer = same e (outcome
 touched_made e made at t (command.PtMeas p d) (Some tool) ran head longer =
     let one : contact_of e.server at p d tool ≡ made =
     first_of _ made (append_cancel_left (contacts e.server.ledger) _ _ (sym (contacts_more e.server.ledger (_ ∷ [])) ∙ longer)) in
-    subst (λ (m : Made). IsCommanded e (outcome.Touched at) m) one (as_commanded e at t p d tool ran head)
+    subst (λ (m : MadeContact). IsCommanded e (outcome.Touched at) m) one (as_commanded e at t p d tool ran head)
 touched_made e made at t (command.PtMeas p d) None ran head longer = same e (outcome.Touched at) made longer
 touched_made e made at t (command.ChangeTool n) tool ran head longer = same e (outcome.Touched at) made longer
 touched_made e made at t (command.SetCsyTransformation p) tool ran head longer = same e (outcome.Touched at) made longer
 touched_made e made at t (command.SetCoordSystem system) tool ran head longer = same e (outcome.Touched at) made longer
 touched_made e made at t command.AbortE tool ran head longer = same e (outcome.Touched at) made longer
 
-machined_made : (e : ServerEnd) (made : Made) (ended : Outcome) (running : Option Line) → e.server.running ≡ running
+machined_made : (e : ServerEnd) (made : MadeContact) (ended : Outcome) (running : Option Line) → e.server.running ≡ running
     → contacts (machined e.server ended running).server.ledger ≡ contacts e.server.ledger ++ made ∷ [] → IsCommanded e ended made
 machined_made e made ended None ran longer = same e ended made longer
 machined_made e made outcome.Done (Some line) ran longer = finished_made e made line.tag line.command longer
@@ -132,6 +132,6 @@ machined_made e made (outcome.Touched at) (Some line) ran longer =
 machined_made e made outcome.Missed (Some line) ran longer = same e outcome.Missed made longer
 machined_made e made outcome.Fault (Some line) ran longer = same e outcome.Fault made longer
 
-pub machined_as_commanded : (ended : Outcome) (e : ServerEnd) (made : Made)
+pub machined_as_commanded : (ended : Outcome) (e : ServerEnd) (made : MadeContact)
     → contacts (server_machined e.server ended).server.ledger ≡ contacts e.server.ledger ++ made ∷ [] → IsCommanded e ended made
 machined_as_commanded ended e made longer = machined_made e made ended e.server.running refl longer

@@ -13,7 +13,7 @@ use Rattle.dme_line.specs.declared.commands.Command.TheVariants as command
 use Rattle.protocol_model.specs.declared.lines.Misread.{Misread}
 use Rattle.protocol_model.specs.Replies.{Reply}
 use Rattle.protocol_model.specs.Lines.{reply_bytes}
-use Rattle.protocol_model.specs.Claims.{Made, contacts}
+use Rattle.protocol_model.specs.Claims.{MadeContact, contacts}
 use Rattle.protocol_model.specs.Server.{Server, Answer, offset, in_volume, first_failing, checks, refusal, carried_out, carried, taken}
 use Rattle.protocol_model.specs.Server.{turned_to, server_turned, finished, touched, machined, server_machined, may_end}
 use Rattle.protocol_model.specs.Ends.{ServerEnd, with_answer, serving_accepted, serving_fed, serving_turned, serving_machined, serving_left}
@@ -276,21 +276,21 @@ act_due (Sent count) e h = refl
 
 -- ---- contacts
 
-same_contacts : (e f : ServerEnd) (made : Made) → contacts f.server.ledger ≡ contacts e.server.ledger
+same_contacts : (e f : ServerEnd) (made : MadeContact) → contacts f.server.ledger ≡ contacts e.server.ledger
     → contacts f.server.ledger ≡ contacts e.server.ledger ++ made ∷ [] → ⊥
 same_contacts e f made same longer = not_longer (contacts e.server.ledger) made (sym same ∙ longer)
 
-no_contact : (e f : ServerEnd) (call : Call) (made : Made) → contacts f.server.ledger ≡ contacts e.server.ledger
+no_contact : (e f : ServerEnd) (call : Call) (made : MadeContact) → contacts f.server.ledger ≡ contacts e.server.ledger
     → contacts f.server.ledger ≡ contacts e.server.ledger ++ made ∷ [] → IsContactOf e call made
 no_contact e f call made same longer = absurd (same_contacts e f made same longer)
 
-target_in_volume : (e : ServerEnd) (ended : Outcome) (made : Made) → IsSteady e → IsCommanded e ended made
+target_in_volume : (e : ServerEnd) (ended : Outcome) (made : MadeContact) → IsSteady e → IsCommanded e ended made
     → in_volume (point_sum made.target (offset made.frame)) ≡ true
 target_in_volume e ended made h commanded =
     subst (λ (frame : Frame). in_volume (point_sum made.target (offset frame)) ≡ true) (sym commanded.frame)
     (not_false _ (touch_passes e.server made.target made.dir (h.orderly.running _ commanded.ran).1).target)
 
-pub contact_of_call : (call : Call) (e : ServerEnd) (made : Made) → IsSteady e
+pub contact_of_call : (call : Call) (e : ServerEnd) (made : MadeContact) → IsSteady e
     → contacts (behind_call call e).server.ledger ≡ contacts e.server.ledger ++ made ∷ [] → IsContactOf e call made
 contact_of_call (Accept n) e made h =
     chosen (λ (f : ServerEnd). contacts f.server.ledger ≡ contacts e.server.ledger ++ made ∷ []

@@ -32,7 +32,7 @@ use Rattle.server_core.proofs.Steadies.{branch, none_some, not_empty, nothing_ru
 use Rattle.server_core.proofs.Steadies.{turned_steady, machined_steady, left_steady, restarted_steady, taken_steady, new_steady}
 use Rattle.server_core.proofs.Standards.{read_standard, turned_standard, machined_standard}
 use Rattle.server_core.proofs.Deeds.{chosen, call_done, act_due, contact_of_call}
-use Rattle.protocol_model.specs.Claims.{Made, contacts}
+use Rattle.protocol_model.specs.Claims.{MadeContact, contacts}
 
 -- ---- what holds at any time
 
@@ -89,7 +89,7 @@ pub act_is_due : (tools : List (List ℕ)) (calls : List Call) (call : Call)
     → is_some (deed_of call (reached tools calls)) ≡ completes_act call (reached tools calls)
 act_is_due tools calls call = act_due call (reached tools calls) (reached_steady tools calls)
 
-pub contact_is_commanded : (tools : List (List ℕ)) (calls : List Call) (call : Call) (made : Made)
+pub contact_is_commanded : (tools : List (List ℕ)) (calls : List Call) (call : Call) (made : MadeContact)
     → contacts (behind_call call (reached tools calls)).server.ledger ≡ contacts (reached tools calls).server.ledger
     ++ made ∷ []
     → IsContactOf (reached tools calls) call made

@@ -9,7 +9,7 @@ use Rattle.protocol_model.specs.Server.{Server, Answer, server_read, server_turn
 use Rattle.protocol_model.specs.Ends.{ServerEnd, front_served, serving_accepted, serving_fed, serving_left, serving_restarted}
 use Rattle.protocol_model.specs.Ends.{serving_taken, new_server_end}
 use Rattle.protocol_model.specs.declared.machine.Outcome.{Outcome}
-use Rattle.server_core.specs.Serving.{Controlled, with_answered, may_accept, may_feed, may_turn}
+use Rattle.server_core.specs.Serving.{ControllerValue, with_answered, may_accept, may_feed, may_turn}
 use Rattle.server_core.specs.Steady.{IsSteady, AreStandard, IsServing}
 use Rattle.server_core.proofs.Steadies.{new_steady, accepted_steady, fed_steady, fault_steady, read_steady, turned_steady, machined_steady}
 use Rattle.server_core.proofs.Steadies.{left_steady, restarted_steady, taken_steady}
@@ -43,17 +43,17 @@ pub taken_holds : (count : ℕ) (e : ServerEnd) → IsServing e → IsServing (s
 taken_holds count e h = record { steady = taken_steady count e h.steady; standard = h.standard }
 
 -- an answer, or want of memory, which changes nothing
-answered_holds : {A B : Type 0} (r : Result A B) (b d : Controlled) (input : Framing) (out mid more : List ℕ) (a : Answer) → mid ≡ out
+answered_holds : {A B : Type 0} (r : Result A B) (b d : ControllerValue) (input : Framing) (out mid more : List ℕ) (a : Answer) → mid ≡ out
     → OnOk r (d ≡ with_answered b a) → OnOk r (more ≡ mid ++ reply_bytes a.said) → OnErr r (d ≡ b) → OnErr r (more ≡ mid)
     → Holds a.server input (out ++ reply_bytes a.said) → Holds b.server input out → Holds d.server input more
 answered_holds (Ok x) b d input out mid more a room is said same silent after before =
-    subst (λ (c : Controlled). Holds c.server input more) (sym is)
+    subst (λ (c : ControllerValue). Holds c.server input more) (sym is)
     (subst (λ (l : List ℕ). Holds a.server input l) (sym (said ∙ ap (λ (l : List ℕ). l ++ reply_bytes a.said) room)) after)
 answered_holds (Err y) b d input out mid more a room is said same silent after before =
-    subst (λ (c : Controlled). Holds c.server input more) (sym same)
+    subst (λ (c : ControllerValue). Holds c.server input more) (sym same)
     (subst (λ (l : List ℕ). Holds b.server input l) (sym (silent ∙ room)) before)
 
-pub machined_holds : {A B : Type 0} (ended : Outcome) (r : Result A B) (b d : Controlled) (input : Framing) (out mid more : List ℕ)
+pub machined_holds : {A B : Type 0} (ended : Outcome) (r : Result A B) (b d : ControllerValue) (input : Framing) (out mid more : List ℕ)
     → OnOk r (d ≡ with_answered b (server_machined b.server ended))
     → OnOk r (more ≡ mid ++ reply_bytes (server_machined b.server ended).said)
     → OnErr r (d ≡ b) → OnErr r (more ≡ mid) → Holds b.server input out → mid ≡ out → may_end b.server.running ended ≡ true
@@ -65,7 +65,7 @@ machined_holds ended r b d input out mid more is said same silent h room may =
       standard = machined_standard b.server ended h.standard;
     }) h
 
-pub turned_holds : {A B : Type 0} (r : Result A B) (b d : Controlled) (input : Framing) (out mid more : List ℕ)
+pub turned_holds : {A B : Type 0} (r : Result A B) (b d : ControllerValue) (input : Framing) (out mid more : List ℕ)
     → OnOk r (d ≡ with_answered b (server_turned b.server)) → OnOk r (more ≡ mid ++ reply_bytes (server_turned b.server).said)
     → OnErr r (d ≡ b) → OnErr r (more ≡ mid) → Holds b.server input out → mid ≡ out → may_turn b.server ≡ true → Holds d.server input more
 turned_holds r b d input out mid more is said same silent h room may =
@@ -76,7 +76,7 @@ turned_holds r b d input out mid more is said same silent h room may =
     }) h
 
 -- a line that was read, and taken off the front of the bytes
-pub read_holds : {A B : Type 0} (r : Result A B) (b d : Controlled) (input now left : Framing) (out mid more line rest : List ℕ)
+pub read_holds : {A B : Type 0} (r : Result A B) (b d : ControllerValue) (input now left : Framing) (out mid more line rest : List ℕ)
     → OnOk r (d ≡ with_answered b (server_read b.server (reading_of (command_of line))))
     → OnOk r (more ≡ mid
     ++ reply_bytes (server_read b.server (reading_of (command_of line))).said)
@@ -90,7 +90,7 @@ read_holds (Ok x) b d input now left out mid more line rest is said parts h room
     let steady : IsSteady served = subst (λ (f : Front). IsSteady (front_served e f))
     (sym (ap (λ (f : Framing). next_of f.rest) same) ∙ front) (read_steady e on h.steady) in
     let standard : AreStandard served.server.waiting = front_standard e (Ok (Some (line, rest))) h.standard in
-    subst (λ (c : Controlled). Holds c.server left more) (sym is)
+    subst (λ (c : ControllerValue). Holds c.server left more) (sym is)
     (subst (λ (f : Framing). Holds served.server f more) (sym (parts ∙ ap (λ (f : Framing). record f { rest = rest }) same))
     (subst (λ (l : List ℕ). Holds served.server (record input { rest = rest }) l)
     (sym (said ∙ ap (λ (l : List ℕ). l ++ reply_bytes (server_read b.server (reading_of (command_of line))).said) room))

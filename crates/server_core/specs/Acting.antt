@@ -7,7 +7,7 @@ use Rattle.dme_line.specs.declared.commands.Command.TheVariants as command
 use Rattle.contact_ledger.specs.declared.acts.Act.{Act}
 use Rattle.protocol_model.specs.Replies.{Reply}
 use Rattle.protocol_model.specs.Lines.{reply_bytes}
-use Rattle.protocol_model.specs.Claims.{Made}
+use Rattle.protocol_model.specs.Claims.{MadeContact}
 use Rattle.protocol_model.specs.Server.{offset}
 use Rattle.protocol_model.specs.Ends.{ServerEnd, serving_machined}
 use Rattle.protocol_model.specs.declared.held.Datum.TheVariants as datum
@@ -29,7 +29,7 @@ pub record IsOneMore (n : ℕ) (old new : List (ℕ × Act)) : Type 0 where
 -- present connection, with the tool in the probe head and the selected frame, its point is the touched one as seen from the frame's zero
 -- point, and the call
 -- answers the data line with this point and the touch's end, and nothing else
-pub record IsCommanded (e : ServerEnd) (ended : Outcome) (made : Made) : Type 0 where
+pub record IsCommanded (e : ServerEnd) (ended : Outcome) (made : MadeContact) : Type 0 where
   pub tag : Tag
   pub at : Point
   pub ran : e.server.running ≡ Some (record { tag = tag; command = command.PtMeas made.target made.dir })

@@ -10,7 +10,7 @@ use Rattle.protocol_model.specs.Server.{Answer, may_end}
 use Rattle.protocol_model.specs.declared.lines.Misread.{Misread}
 use Rattle.protocol_model.specs.declared.machine.Outcome.{Outcome}
 use Rattle.server_core.specs.Kept.{IsReadingFit}
-use Rattle.server_core.specs.Serving.{Controlled, with_answered, may_turn}
+use Rattle.server_core.specs.Serving.{ControllerValue, with_answered, may_turn}
 
 -- the most bytes of one line that a server answers, its end included
 abbrev pub answer_line_most : ℕ
@@ -33,19 +33,19 @@ abbrev pub HasAnswerRoom : {X Z : Type 0} → Vec X Z → Type 0
 HasAnswerRoom out = HasRoom out answer_most
 
 -- a server on a connection may read a line, and has room to answer it
-abbrev pub MayHear : {X Z : Type 0} → Controlled → Vec X Z → Type 0
+abbrev pub MayHear : {X Z : Type 0} → ControllerValue → Vec X Z → Type 0
 MayHear c out = (c.server.on ≡ true) × HasAnswerRoom out
 
 -- it may, under a tag, and knows what was read there
-abbrev pub MayTake : {X Z : Type 0} → Controlled → Vec X Z → Tag → Result Command Misread → Type 0
+abbrev pub MayTake : {X Z : Type 0} → ControllerValue → Vec X Z → Tag → Result Command Misread → Type 0
 MayTake c out tag reading = IsTag tag × IsReadingFit reading × MayHear c out
 
 -- the first waiting command may have its turn, and has room for its answer
-abbrev pub MayTurn : {X Z : Type 0} → Controlled → Vec X Z → Type 0
+abbrev pub MayTurn : {X Z : Type 0} → ControllerValue → Vec X Z → Type 0
 MayTurn c out = (may_turn c.server ≡ true) × HasAnswerRoom out
 
 -- what runs can end so, and has room for its answer
-abbrev pub MayEnd : {X Z : Type 0} → Controlled → Vec X Z → Outcome → Type 0
+abbrev pub MayEnd : {X Z : Type 0} → ControllerValue → Vec X Z → Outcome → Type 0
 MayEnd c out ended = (may_end c.server.running ended ≡ true) × HasAnswerRoom out
 
 -- at most what one call may answer was appended
@@ -57,11 +57,11 @@ abbrev pub Says : {Z : Type 0} → Vec ℕ Z → Vec ℕ Z → List Reply → �
 Says out sent lines most = (sent.items ≡ out.items ++ reply_bytes lines) × Grows out sent most
 
 -- the server is as an answer says, and its lines were written
-abbrev pub Answers : {Z : Type 0} → Controlled → Controlled → Vec ℕ Z → Vec ℕ Z → Answer → Type 0
+abbrev pub Answers : {Z : Type 0} → ControllerValue → ControllerValue → Vec ℕ Z → Vec ℕ Z → Answer → Type 0
 Answers old new out sent answer =
     (new ≡ with_answered old answer) × (sent.items ≡ out.items ++ reply_bytes answer.said) × IsBounded out sent
 
 -- the same, or an error is answered, and neither the server nor what it says has changed
-abbrev pub AnswersIfOk : {A E Z : Type 0} → Result A E → Controlled → Controlled → Vec ℕ Z → Vec ℕ Z → Answer → Type 0
+abbrev pub AnswersIfOk : {A E Z : Type 0} → Result A E → ControllerValue → ControllerValue → Vec ℕ Z → Vec ℕ Z → Answer → Type 0
 AnswersIfOk result old new out sent answer =
     Leads result old new (with_answered old answer) × Writes result out sent (reply_bytes answer.said) × IsBounded out sent

@@ -11,7 +11,7 @@ use Rattle.contact_ledger.specs.declared.acts.Act.{Act}
 use Rattle.contact_ledger.specs.declared.acts.Act.TheVariants as act
 use Rattle.protocol_model.specs.Replies.{Reply}
 use Rattle.protocol_model.specs.Lines.{reply_bytes}
-use Rattle.protocol_model.specs.Claims.{Made}
+use Rattle.protocol_model.specs.Claims.{MadeContact}
 use Rattle.protocol_model.specs.Server.{Server, offset, in_volume, frame_of, may_end, refusal}
 use Rattle.protocol_model.specs.Ends.{ServerEnd, new_server_end, serving_accepted, serving_fed, serving_read, serving_turned}
 use Rattle.protocol_model.specs.Ends.{serving_machined, serving_left, serving_restarted, serving_taken}
@@ -155,7 +155,7 @@ IsDone None old new = new.server.ledger ≡ old.server.ledger
 IsDone (Some deed) old new = HasActed deed old new
 
 -- a contact was made by a call of the machine as the running command asked, for a target that the machine can reach
-pub record IsContactOf (e : ServerEnd) (call : Call) (made : Made) : Type 0 where
+pub record IsContactOf (e : ServerEnd) (call : Call) (made : MadeContact) : Type 0 where
   pub ended : Outcome
   pub is_end : call ≡ Machine ended
   pub commanded : IsCommanded e ended made

@@ -20,15 +20,15 @@ use Rattle.protocol_model.specs.declared.lines.Line.{Line}
 use Rattle.protocol_model.specs.declared.machine.Outcome.{Outcome}
 
 -- a server's setup, and its end of a connection
-pub record Serving : Type 0 where
+pub record ServerValue : Type 0 where
   pub setup : SetupValue
   pub end : ServerEnd
 
 -- a server that was never on a connection
-abbrev pub new_serving : SetupValue → Serving
+abbrev pub new_serving : SetupValue → ServerValue
 new_serving setup = record { setup = setup; end = new_server_end setup.tools }
 
-abbrev pub with_end : Serving → ServerEnd → Serving
+abbrev pub with_end : ServerValue → ServerEnd → ServerValue
 with_end s e = record { setup = s.setup; end = e }
 
 -- a server comes to a connection while it is on none, and to each number once, in rising order
@@ -100,17 +100,17 @@ fits_running None outcome = false
 fits_running (Some line) outcome = fits line.command outcome
 
 -- a server's setup, and the server without the bytes of its connection
-pub record Controlled : Type 0 where
+pub record ControllerValue : Type 0 where
   pub setup : SetupValue
   pub server : Server
 
-abbrev pub new_controlled : SetupValue → Controlled
+abbrev pub new_controlled : SetupValue → ControllerValue
 new_controlled setup = record { setup = setup; server = new_server setup.tools }
 
-abbrev pub with_server : Controlled → Server → Controlled
+abbrev pub with_server : ControllerValue → Server → ControllerValue
 with_server c s = record { setup = c.setup; server = s }
 
-abbrev pub with_answered : Controlled → Answer → Controlled
+abbrev pub with_answered : ControllerValue → Answer → ControllerValue
 with_answered c a = record { setup = c.setup; server = a.server }
 
 -- why bytes are not taken: the server is on no connection, it keeps a framing fault, or memory is wanting where neither is so
@@ -121,12 +121,12 @@ IsFeedFault e server_fault.Memory = may_feed e ≡ true
 IsFeedFault e _ = ⊥
 
 -- a framing fault is kept, and all else is as it was
-abbrev pub with_fault : Serving → FramingFault → Serving
+abbrev pub with_fault : ServerValue → FramingFault → ServerValue
 with_fault s why = with_end s (record (s.end) { input = record (s.end.input) { fault = Some why } })
 
 -- why no line is read, and what the server is then: it is on no connection, what stands at the front is no line, which is kept, or memory
 -- is wanting for a line
-abbrev pub IsReadFault : Serving → Serving → ServerFault → Type 0
+abbrev pub IsReadFault : ServerValue → ServerValue → ServerFault → Type 0
 IsReadFault old new server_fault.NotNow = new ≡ old
 IsReadFault old new (server_fault.Framing why) = (next_of old.end.input.rest ≡ Err why) × (new ≡ with_fault old why)
 IsReadFault old new server_fault.Memory = IsLineDue (next_of old.end.input.rest) × (new ≡ old)

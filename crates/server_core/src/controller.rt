@@ -40,9 +40,9 @@ pub(crate) struct Controller {
 
 impl Model for Controller {
     ghost use Rattle.std.specs.Prelude.{option_map};
-    ghost use Rattle.server_core.specs.Serving.{Controlled};
+    ghost use Rattle.server_core.specs.Serving.{ControllerValue};
 
-    ghost Value = { Controlled };
+    ghost Value = { ControllerValue };
 
     ghost use Rattle.server_core.specs.Kept.{IsKept};
 

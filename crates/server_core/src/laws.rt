@@ -1,7 +1,7 @@
 // What follows from the definitions for the ledger of a server. Each function has laws for its contract and does nothing.
 
 ghost use Rattle.std.specs.Prelude.{◌≡◌, ℕ, Bool, List, [], ◌∷◌, ◌++◌, ◌*◌, None, Some, Err, is_some, true, false};
-ghost use Rattle.protocol_model.specs.Claims.{Made, contacts};
+ghost use Rattle.protocol_model.specs.Claims.{MadeContact, contacts};
 ghost use Rattle.protocol_model.specs.Ends.{ServerEnd, new_server_end, serving_accepted, serving_fed, serving_read, serving_turned, serving_machined, serving_left, serving_restarted, serving_taken};
 ghost use Rattle.protocol_model.specs.declared.machine.Outcome.{Outcome as OneOutcome};
 ghost use Rattle.server_core.specs.Answering.{answer_line_most, answer_most};
@@ -39,7 +39,7 @@ pub fn ledger_only_grows()
 /// the touch are answered in the same call. No turn makes a contact, and where nothing runs the machine makes no act (this profile).
 #[tactic(auto, using(crate::proofs::Contacts::machined_as_commanded, crate::proofs::Contacts::turned_no_contact, crate::proofs::Ledgers::idle_keeps))]
 pub fn contacts_are_as_commanded()
-    ensures made { (ended : OneOutcome) (e : ServerEnd) (made : Made)
+    ensures made { (ended : OneOutcome) (e : ServerEnd) (made : MadeContact)
         → contacts (serving_machined ended e).server.ledger ≡ contacts e.server.ledger ++ made ∷ []
         → IsCommanded e ended made }
     ensures turned { (e : ServerEnd) → contacts (serving_turned e).server.ledger
@@ -74,7 +74,7 @@ pub fn one_act_at_its_completing_call()
         → is_some (deed_of call (reached tools calls))
         ≡ completes_act call (reached tools calls) }
     ensures contacts { (tools : List (List ℕ)) (calls : List Call) (call : Call)
-        (made : Made)
+        (made : MadeContact)
         → contacts (behind_call call (reached tools calls)).server.ledger
         ≡ contacts (reached tools calls).server.ledger ++ made ∷ []
         → IsContactOf (reached tools calls) call made }

@@ -40,9 +40,9 @@ pub struct Server {
 }
 
 impl Model for Server {
-    ghost use Rattle.server_core.specs.Serving.{Serving};
+    ghost use Rattle.server_core.specs.Serving.{ServerValue};
 
-    ghost Value = { Serving };
+    ghost Value = { ServerValue };
 
     ghost view = { λ s. record {
       setup = s.controller.setup;

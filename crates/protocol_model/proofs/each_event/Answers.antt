@@ -8,7 +8,7 @@ use Rattle.protocol_model.specs.Replies.{Reply}
 use Rattle.dme_line.specs.declared.tags.Tag.{Tag}
 use Rattle.protocol_model.specs.Client.{Table}
 use Rattle.protocol_model.specs.Server.{Server, Answer}
-use Rattle.protocol_model.specs.Claims.{Made, contacts, acts_on}
+use Rattle.protocol_model.specs.Claims.{MadeContact, contacts, acts_on}
 use Rattle.protocol_model.specs.Typed.{World, answered}
 use Rattle.protocol_model.proofs.table.Basics.{if_true, if_false}
 use Rattle.protocol_model.proofs.table.Replying.{Reads, reads_more, IsFront, front_trans, front_more}
@@ -55,7 +55,7 @@ off_answers w up a acts inv off on m = record {
   side = inl (record {
     off = off.off;
     rest = off.rest;
-    served = subst (λ (l : List Made). Served w.client.program.features w.client.table.tally.features l)
+    served = subst (λ (l : List MadeContact). Served w.client.program.features w.client.table.tally.features l)
         (sym (moved_contacts w.server a.server acts m)) (served_more _ _ (contacts w.server.ledger) _ off.served);
     told = front_trans _ _ _ off.told (subst (λ (l : List Act). IsFront (acts_on w.client.last w.server.ledger) l)
         (sym (moved_acts w.client.last w.server a.server acts m)) (front_more _ _));
@@ -88,7 +88,8 @@ old_answers w a acts inv live on below m =
         counted = live.counted ∙ sym (moved_acts w.client.last w.server a.server acts m
             ∙ (ap (λ (l : List Act). acts_on w.client.last w.server.ledger ++ l) (acts_elsewhere w.client.last w.server.last acts apart)
             ∙ append-nil _));
-        progress = subst (λ (l : List Made). IsProgress ws w.client.last live.table.tally.features live.table.tally.points l live.left)
+        progress = subst (λ (l : List MadeContact). IsProgress ws w.client.last live.table.tally.features live.table.tally.points l
+            live.left)
             (sym (moved_contacts w.server a.server acts m))
             (progress_other ws w.client.last live.table.tally.features live.table.tally.points (contacts w.server.ledger)
             (contacts (done_on w.server.last acts)) live.left live.progress none);
@@ -165,7 +166,7 @@ here_answers w up a inv live on same is =
             (reads_more ws w.down a.said w.client.table live.table is.next live.reads is.reads);
         counted = is.counted ∙ (ap (λ (l : List Act). l ++ is.acts) live.counted
             ∙ (ap (λ (l : List Act). acts_on n w.server.ledger ++ l) (sym done) ∙ sym (moved_acts n w.server a.server is.acts is.moves)));
-        progress = subst (λ (l : List Made). IsProgress ws n is.next.tally.features is.next.tally.points l is.left)
+        progress = subst (λ (l : List MadeContact). IsProgress ws n is.next.tally.features is.next.tally.points l is.left)
             (sym (moved_contacts w.server a.server is.acts is.moves)) is.progress;
         pending = live.pending;
         pending_is = live.pending_is;

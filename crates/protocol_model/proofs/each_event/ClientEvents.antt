@@ -31,7 +31,7 @@ use Rattle.protocol_model.specs.declared.lines.Line.{Line}
 use Rattle.protocol_model.specs.declared.plans.Planned.{Planned}
 use Rattle.protocol_model.specs.declared.plans.Start.{Start}
 use Rattle.protocol_model.specs.declared.held.Stage.{Stage}
-use Rattle.protocol_model.specs.declared.held.Held.{Held}
+use Rattle.protocol_model.specs.declared.held.OpenCommand.{OpenCommand}
 use Rattle.protocol_model.specs.declared.states.State.{State}
 use Rattle.protocol_model.specs.declared.lines.Waiting.{Waiting}
 
@@ -178,12 +178,12 @@ client_restart_event w k inv = record {
 -- ---- a command is sent
 
 -- a further command that has not failed changes nothing of the tags of those that have
-pub failed_tags_more : (hs : List Held) (x : Held) → is_failed x.stage ≡ false → failed_tags (hs ++ x ∷ []) ≡ failed_tags hs
+pub failed_tags_more : (hs : List OpenCommand) (x : OpenCommand) → is_failed x.stage ≡ false → failed_tags (hs ++ x ∷ []) ≡ failed_tags hs
 failed_tags_more [] x e = if_false {A = List Tag} (is_failed x.stage) (x.tag ∷ []) [] e
 failed_tags_more (h ∷ hs) x e = ap (λ (ts : List Tag). cond (is_failed h.stage) (h.tag ∷ ts) ts) (failed_tags_more hs x e)
 
 -- a further command adds at most one to the count of the open ones
-pub count_more : (hs : List Held) (x : Held) → count_open (hs ++ x ∷ []) ≤ suc (count_open hs)
+pub count_more : (hs : List OpenCommand) (x : OpenCommand) → count_open (hs ++ x ∷ []) ≤ suc (count_open hs)
 count_more [] x = go (is_failed x.stage)
   where
     go : (b : Bool) → cond b 0 1 ≤ 1
@@ -196,7 +196,8 @@ count_more (h ∷ hs) x = go (is_failed h.stage) (count_more hs x)
     go true le = le
     go false le = omega arith
 
-one_more_tag : (u : Tag) (hs : List Held) (x : Held) → is_held u hs ≡ false → tag_is x.tag u ≡ false → is_held u (hs ++ x ∷ []) ≡ false
+one_more_tag : (u : Tag) (hs : List OpenCommand) (x : OpenCommand) → is_held u hs ≡ false → tag_is x.tag u ≡ false
+    → is_held u (hs ++ x ∷ []) ≡ false
 one_more_tag u [] x e apart = if_false {A = Bool} (tag_is x.tag u) true false apart
 one_more_tag u (h ∷ hs) x e apart = if_cases {A = Bool} (tag_is h.tag u) true (is_held u hs) false (is_held u (h ∷ (hs ++ x ∷ [])) ≡ false)
     e
@@ -204,7 +205,7 @@ one_more_tag u (h ∷ hs) x e apart = if_cases {A = Bool} (tag_is h.tag u) true 
     (λ other rest. if_false {A = Bool} (tag_is h.tag u) true (is_held u (hs ++ x ∷ [])) other ∙ one_more_tag u hs x rest apart)
 
 -- where each tag is held once, it is so with a further command whose tag was not held
-pub distinct_more : (hs : List Held) (x : Held) → AreDistinct hs → is_held x.tag hs ≡ false → AreDistinct (hs ++ x ∷ [])
+pub distinct_more : (hs : List OpenCommand) (x : OpenCommand) → AreDistinct hs → is_held x.tag hs ≡ false → AreDistinct (hs ++ x ∷ [])
 distinct_more [] x d free = (refl, tt)
 distinct_more (h ∷ hs) x d free = if_cases {A = Bool} (tag_is h.tag x.tag) true (is_held x.tag hs) false (AreDistinct (h ∷ (hs ++ x ∷ [])))
     free
@@ -261,9 +262,9 @@ near_sends table p ps left up running waiting error know n h unsent quiet no_eve
         waiting_is = h.by.waiting_is;
         up_is = ap (λ (l : List Line). l ++ line ∷ []) (h.by.up_is
             ∙ (ap (λ (ks : List ℕ). h.coming ++ abort_lines ks) aborts ∙ append-nil h.coming)) ∙ sym (append-nil (h.coming ++ line ∷ []));
-        standard_is = ap (λ (hs : List Held). hs ++ sent_now line ∷ []) h.by.standard_is
+        standard_is = ap (λ (hs : List OpenCommand). hs ++ sent_now line ∷ []) h.by.standard_is
             ∙ (append_assoc (all_received (busy ++ h.queued)) (all_sent h.coming) (sent_now line ∷ [])
-            ∙ ap (λ (hs : List Held). all_received (busy ++ h.queued) ++ hs) (sym (sent_more h.coming (line ∷ []))));
+            ∙ ap (λ (hs : List OpenCommand). all_received (busy ++ h.queued) ++ hs) (sym (sent_more h.coming (line ∷ []))));
         event_is = no_event;
         standard = subst AreStandard longer (standard_join lines (line ∷ []) h.by.standard (refl, plain, tt));
         idle = h.by.idle;

@@ -26,7 +26,7 @@ use Rattle.protocol_model.proofs.each_event.ClientEvents.{no_aborts, none_receiv
 use Rattle.protocol_model.specs.declared.lines.Line.{Line}
 use Rattle.protocol_model.specs.declared.plans.Planned.{Planned}
 use Rattle.protocol_model.specs.declared.plans.Start.{Start}
-use Rattle.protocol_model.specs.declared.held.Held.{Held}
+use Rattle.protocol_model.specs.declared.held.OpenCommand.{OpenCommand}
 use Rattle.protocol_model.specs.declared.states.State.{State}
 use Rattle.protocol_model.specs.declared.lines.Waiting.{Waiting}
 
@@ -47,7 +47,7 @@ near_aborts table left up running waiting error know k h no_event =
         up_is = ap (λ (l : List Line). l ++ abort_line k ∷ []) (h.by.up_is
             ∙ (ap (λ (ks : List ℕ). h.coming ++ abort_lines ks) aborts ∙ append-nil h.coming));
         standard_is = h.by.standard_is;
-        event_is = ap (λ (hs : List Held). hs ++ abort_held k ∷ []) no_event;
+        event_is = ap (λ (hs : List OpenCommand). hs ++ abort_held k ∷ []) no_event;
         standard = h.by.standard;
         idle = h.by.idle;
         stopped = h.by.stopped;
@@ -88,7 +88,7 @@ aborts_one : (w : World) (inv : Inv w) (live : IsLive w) (k : ℕ) → w.client.
 aborts_one w inv live k no_event =
     let c : Client = w.client in
     let ws : List Wanted = c.program.features in
-    let x : Held = abort_held k in
+    let x : OpenCommand = abort_held k in
     record {
       program = inv.program;
       window = inv.window;
@@ -112,7 +112,7 @@ aborts_one w inv live k no_event =
           tag = Event (suc k);
           held = x;
           abort_is = refl;
-          event_is = ap (λ (hs : List Held). hs ++ x ∷ []) no_event;
+          event_is = ap (λ (hs : List OpenCommand). hs ++ x ∷ []) no_event;
           same = refl;
           sort = refl;
         };
@@ -139,8 +139,8 @@ aborts_one w inv live k no_event =
     }))
     placed none (inr (inr gone)) = inr (inr (record { off = gone.off; same = gone.same }))
 
-none_at_all : (n : ℕ) (hs : List Held) → hs ≡ [] → suc n ≤ length hs → ⊥
-none_at_all n hs e le = let short : suc n ≤ 0 = subst (λ (l : List Held). suc n ≤ length l) e le in absurd (go short)
+none_at_all : (n : ℕ) (hs : List OpenCommand) → hs ≡ [] → suc n ≤ length hs → ⊥
+none_at_all n hs e le = let short : suc n ≤ 0 = subst (λ (l : List OpenCommand). suc n ≤ length l) e le in absurd (go short)
   where
     go : suc n ≤ 0 → ⊥
     go h = omega arith

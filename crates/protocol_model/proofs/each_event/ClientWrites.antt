@@ -21,7 +21,7 @@ use Rattle.protocol_model.proofs.invariant.Holding.{HasEvents, HasState, tags_of
 use Rattle.protocol_model.proofs.invariant.Holding.{Inv, know_of}
 use Rattle.protocol_model.proofs.each_event.ClientEvents.{failed_tags_more, count_more, distinct_more, near_sends}
 use Rattle.protocol_model.specs.declared.plans.Planned.{Planned}
-use Rattle.protocol_model.specs.declared.held.Held.{Held}
+use Rattle.protocol_model.specs.declared.held.OpenCommand.{OpenCommand}
 use Rattle.protocol_model.specs.declared.states.State.{State}
 
 -- ---- a command is sent
@@ -73,7 +73,7 @@ sends_one : (w : World) (inv : Inv w) (live : IsLive w) (d : IsDue w.client) (n 
 sends_one w inv live d n free =
     let c : Client = w.client in
     let ws : List Wanted = c.program.features in
-    let x : Held = held_now (Std n) (kind_of d.planned.command) in
+    let x : OpenCommand = held_now (Std n) (kind_of d.planned.command) in
     let next : Table = with_standard x (with_unsent d.others live.table) in
     let unasked : AreUnasked ws c.table live.table w.down = reads_unasked ws w.down c.table live.table live.reads d.quiet in
     let failed : c.table.tally.failed ≡ false = subst (λ (s : State). HasState s c.table) d.running live.state in
@@ -107,7 +107,7 @@ sends_one w inv live d n free =
       });
     }
   where
-    x : Held
+    x : OpenCommand
     x = held_now (Std n) (kind_of d.planned.command)
 
     after_sending : World

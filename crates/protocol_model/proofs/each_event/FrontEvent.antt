@@ -30,7 +30,7 @@ use Rattle.protocol_model.specs.declared.lines.Line.{Line}
 use Rattle.protocol_model.specs.declared.plans.Planned.{Planned}
 use Rattle.protocol_model.specs.declared.plans.Does.{Does}
 use Rattle.protocol_model.specs.declared.held.Datum.{Datum}
-use Rattle.protocol_model.specs.declared.held.Held.{Held}
+use Rattle.protocol_model.specs.declared.held.OpenCommand.{OpenCommand}
 
 -- the first command that the server has to do, on its client's connection, with those that wait and those that come
 pub record IsAtFront (w : World) (table : Table) (left : List Wanted) (x : Line) (queued coming : List Line) (aborts : List ℕ) : Type 0
@@ -114,7 +114,7 @@ front_fails w table left x queued coming aborts s code f moves no_run no_wait er
     let said : List Reply = fails x.tag code (Some (kind_of x.command)) ++ all_fail 9007 (all_wait queued) in
     let sorts : AreStandard queued = standard_before queued coming f.standard.2 in
     quiet_answer w table left w.up (answers s said) (all_sent coming) table.event true moves f.progress
-    (subst (λ (hs : List Held). Reads ws (tabled hs table.event table.tally) said
+    (subst (λ (hs : List OpenCommand). Reads ws (tabled hs table.event table.tally) said
     (tabled (all_sent coming) table.event (broken table.tally))) (sym f.standard_is)
     (pair_and_pairs ws x queued (all_sent coming) table.event table.tally code (Some (kind_of x.command)) f.standard.0 sorts))
     (tidy_pair_and_pairs x queued code (Some (kind_of x.command)) f.standard.0 sorts)
@@ -166,7 +166,7 @@ front_done w table left x queued coming aborts s said given f moves same no_run 
     let next : Tally = measured ws f.does given mid in
     let is : counted_next ws (kind_of x.command) given y.todo y ≡ next =
     ap (λ (l : List Planned). counted_next ws (kind_of x.command) given l y) f.todo in
-    let hs : List Held = all_received queued ++ all_sent coming in
+    let hs : List OpenCommand = all_received queued ++ all_sent coming in
     let keeps : Keeps mid next = measured_keeps ws f.does given mid in
     let goes : Goes ws w.client.last mid (contacts w.server.ledger) f.does given (touches_in whole) =
     does_goes ws w.client.last mid (contacts w.server.ledger) left f.does given (touches_in whole) f.progress has f.touches in
@@ -178,7 +178,7 @@ front_done w table left x queued coming aborts s said given f moves same no_run 
       next = tabled hs table.event next;
       left = goes.left;
       reads = subst (λ (z : Tally). Reads ws table said (tabled hs table.event z)) is
-          (subst (λ (l : List Held). Reads ws (tabled l table.event y) said
+          (subst (λ (l : List OpenCommand). Reads ws (tabled l table.event y) said
           (tabled hs table.event (counted_next ws (kind_of x.command) given y.todo y))) (sym f.standard_is) reads);
       tidy = tidy;
       counted = keeps.counted;

@@ -14,7 +14,7 @@ use Rattle.protocol_model.proofs.table.Counts.{is_error, no_break, done_moves}
 use Rattle.protocol_model.proofs.invariant.Holding.{HasEvents, HasState}
 use Rattle.protocol_model.specs.declared.held.Datum.{Datum}
 use Rattle.protocol_model.specs.declared.held.Stage.{Stage}
-use Rattle.protocol_model.specs.declared.held.Held.{Held}
+use Rattle.protocol_model.specs.declared.held.OpenCommand.{OpenCommand}
 use Rattle.protocol_model.specs.declared.states.State.{State}
 
 -- ---- states
@@ -60,7 +60,7 @@ has_state State.Done ends b c h le = tt
 has_state State.Faulted ends b c h le = h
 
 -- where no event command is held, each later state has none
-pub failing_events : (b : Table) (abort : Option Tag) (event : List Held) → event ≡ []
+pub failing_events : (b : Table) (abort : Option Tag) (event : List OpenCommand) → event ≡ []
     → HasEvents (last_state State.Failing (is_whole b) (count_open b.standard)) abort event
 failing_events b abort event none = go (is_whole b) (eqb (count_open b.standard) 0)
   where
@@ -69,7 +69,7 @@ failing_events b abort event none = go (is_whole b) (eqb (count_open b.standard)
     go false true = none
     go false false = none
 
-running_events : (b : Table) (abort : Option Tag) (event : List Held) → event ≡ []
+running_events : (b : Table) (abort : Option Tag) (event : List OpenCommand) → event ≡ []
     → HasEvents (last_state State.Running (is_whole b) (count_open b.standard)) abort event
 running_events b abort event none = go (is_whole b)
   where
@@ -94,7 +94,8 @@ ends_no_abort abort a t m is sort other = ap (λ (o : Option Tag). ends_abort o 
     go Mark.Error = apart a t sort other
 
 -- behind a reply on a standard tag, the open event commands are still such as the state allows
-pub standard_events : (state : State) (abort : Option Tag) (event : List Held) (t : Tag) (m : Mark) (b : Table) → is_event_tag t ≡ false
+pub standard_events : (state : State) (abort : Option Tag) (event : List OpenCommand) (t : Tag) (m : Mark) (b : Table)
+    → is_event_tag t ≡ false
     → HasEvents state abort event → HasEvents (state_behind state (ends_abort abort t m) b) abort event
 standard_events State.Apart abort event t m b sort h = h
 standard_events State.Running abort event t m b sort h = go b.tally.failed
@@ -140,7 +141,7 @@ data_counts true Stage.Failed p given e = cc
 data_counts false s p given e = cc
 
 -- what the reply left of the abort: still there, or gone by its end
-pub data AbortLeft (held : Held) (m : Mark) (hs : List Held) : Type 0 where
+pub data AbortLeft (held : OpenCommand) (m : Mark) (hs : List OpenCommand) : Type 0 where
   there : (s : Stage) → hs ≡ staged held s ∷ [] → ((a : Option Tag) (t : Tag) → ends_abort a t m ≡ false) → AbortLeft held m hs
   gone : hs ≡ [] → m ≡ Mark.Done → AbortLeft held m hs
 
@@ -151,21 +152,23 @@ no_end (Mark.Given p) other n (Some a) t = refl
 no_end Mark.Done other n (Some a) t = absurd (other refl)
 no_end Mark.Error other n (Some a) t = absurd (false≢true (sym n))
 
-closes_by : (held : Held) (m : Mark) (hs : List Held) → is_error m ≡ false → judged true held.kind held.stage m ≡ Closes → hs ≡ []
+closes_by : (held : OpenCommand) (m : Mark) (hs : List OpenCommand) → is_error m ≡ false → judged true held.kind held.stage m ≡ Closes
+    → hs ≡ []
     → AbortLeft held m hs
 closes_by held Mark.Ack hs n v e = absurd (ack_ends held.stage v)
 closes_by held (Mark.Given p) hs n v e = absurd (data_ends (true && fits held.kind p) held.stage p v)
 closes_by held Mark.Done hs n v e = gone e refl
 closes_by held Mark.Error hs n v e = absurd (false≢true (sym n))
 
-counts_by : (held : Held) (m : Mark) (hs : List Held) (given : Option Datum) → is_error m ≡ false
+counts_by : (held : OpenCommand) (m : Mark) (hs : List OpenCommand) (given : Option Datum) → is_error m ≡ false
     → judged true held.kind held.stage m ≡ Counts given → hs ≡ [] → AbortLeft held m hs
 counts_by held Mark.Ack hs given n v e = absurd (ack_counts held.stage given v)
 counts_by held (Mark.Given p) hs given n v e = absurd (data_counts (true && fits held.kind p) held.stage p given v)
 counts_by held Mark.Done hs given n v e = gone e refl
 counts_by held Mark.Error hs given n v e = absurd (false≢true (sym n))
 
-becomes_by : (held : Held) (m : Mark) (hs : List Held) (s : Stage) → is_error m ≡ false → judged true held.kind held.stage m ≡ Becomes s
+becomes_by : (held : OpenCommand) (m : Mark) (hs : List OpenCommand) (s : Stage) → is_error m ≡ false
+    → judged true held.kind held.stage m ≡ Becomes s
     → hs ≡ staged held s ∷ [] → AbortLeft held m hs
 becomes_by held m hs s n v e = there s e (no_end m (λ (d : m ≡ Mark.Done). not_done d) n)
   where
@@ -174,12 +177,12 @@ becomes_by held m hs s n v e = there s e (no_end m (λ (d : m ≡ Mark.Done). no
         (subst (λ (x : Mark). judged true held.kind held.stage x ≡ Becomes s) d v)
 
 -- a reply is on the tag of this abort, and either left it open or ended it
-pub record IsAbortReply (held : Held) (t : Tag) (m : Mark) (hs : List Held) : Type 0 where
+pub record IsAbortReply (held : OpenCommand) (t : Tag) (m : Mark) (hs : List OpenCommand) : Type 0 where
   pub same : tag_is held.tag t ≡ true
   pub left : AbortLeft held m hs
 
 -- where one event command is open, a reply with its place that is no error is on its tag, and leaves it open or ends it
-pub abort_reply : (held : Held) (t : Tag) (m : Mark) (hs : List Held) (e : Effect) → heard_in true (held ∷ []) t m ≡ two hs e
+pub abort_reply : (held : OpenCommand) (t : Tag) (m : Mark) (hs : List OpenCommand) (e : Effect) → heard_in true (held ∷ []) t m ≡ two hs e
     → is_error m ≡ false → IsAbortReply held t m hs
 abort_reply held t m hs e is n =
     heard_cases true held [] t m hs e (IsAbortReply held t m hs) is
@@ -189,5 +192,5 @@ abort_reply held t m hs e is n =
     (λ given same v g f. record { same = same; left = counts_by held m hs given n v g })
     (λ rest other later g. absurd (nowhere later))
   where
-    nowhere : {rest : List Held} → heard_in (true && is_failed held.stage) [] t m ≡ two rest e → ⊥
+    nowhere : {rest : List OpenCommand} → heard_in (true && is_failed held.stage) [] t m ≡ two rest e → ⊥
     nowhere later = cc

@@ -20,31 +20,32 @@ use Rattle.protocol_model.proofs.invariant.Holding.{IsAborting, HasEvents, IsTid
 use Rattle.protocol_model.proofs.each_event.HearEvent.{has_state, standard_events, failing_events, AbortLeft, there, gone, IsAbortReply}
 use Rattle.protocol_model.proofs.each_event.HearEvent.{abort_reply}
 use Rattle.protocol_model.specs.declared.states.Cause.{Cause}
-use Rattle.protocol_model.specs.declared.held.Held.{Held}
+use Rattle.protocol_model.specs.declared.held.OpenCommand.{OpenCommand}
 use Rattle.protocol_model.proofs.plan.Marks.{HasNoAbort}
 use Rattle.protocol_model.proofs.plan.PassedOver.{passed_no_abort}
 use Rattle.protocol_model.proofs.table.Asking.{step_leaves}
 use Rattle.protocol_model.specs.declared.states.State.{State}
 
-event_events : (state : State) (abort : Option Tag) (event hs : List Held) (t : Tag) (m : Mark) (e : Effect) (b : Table)
+event_events : (state : State) (abort : Option Tag) (event hs : List OpenCommand) (t : Tag) (m : Mark) (e : Effect) (b : Table)
     → HasEvents state abort event → heard_in true event t m ≡ two hs e → is_error m ≡ false
     → HasEvents (state_behind state (ends_abort abort t m) b) abort hs
 event_events State.Apart abort event hs t m e b h is n = absurd (none_heard event hs t m e h is)
   where
-    none_heard : (event hs : List Held) (t : Tag) (m : Mark) (e : Effect) → event ≡ [] → heard_in true event t m ≡ two hs e → ⊥
+    none_heard : (event hs : List OpenCommand) (t : Tag) (m : Mark) (e : Effect) → event ≡ [] → heard_in true event t m ≡ two hs e → ⊥
     none_heard event hs t m e none is = let nowhere : heard_in true [] t m ≡ two hs e =
-        ap (λ (l : List Held). heard_in true l t m) (sym none) ∙ is in cc
+        ap (λ (l : List OpenCommand). heard_in true l t m) (sym none) ∙ is in cc
 event_events State.Running abort event hs t m e b h is n = let nowhere : heard_in true [] t m ≡ two hs e =
-    ap (λ (l : List Held). heard_in true l t m) (sym h) ∙ is in absurd (cc)
+    ap (λ (l : List OpenCommand). heard_in true l t m) (sym h) ∙ is in absurd (cc)
 event_events State.Failing abort event hs t m e b h is n = let nowhere : heard_in true [] t m ≡ two hs e =
-    ap (λ (l : List Held). heard_in true l t m) (sym h) ∙ is in absurd (cc)
+    ap (λ (l : List OpenCommand). heard_in true l t m) (sym h) ∙ is in absurd (cc)
 event_events State.Halted abort event hs t m e b h is n = let nowhere : heard_in true [] t m ≡ two hs e =
-    ap (λ (l : List Held). heard_in true l t m) (sym h) ∙ is in absurd (cc)
+    ap (λ (l : List OpenCommand). heard_in true l t m) (sym h) ∙ is in absurd (cc)
 event_events State.Done abort event hs t m e b h is n = let nowhere : heard_in true [] t m ≡ two hs e =
-    ap (λ (l : List Held). heard_in true l t m) (sym h) ∙ is in absurd (cc)
+    ap (λ (l : List OpenCommand). heard_in true l t m) (sym h) ∙ is in absurd (cc)
 event_events State.Faulted abort event hs t m e b h is n = absurd h
 event_events State.Aborting abort event hs t m e b h is n =
-    let reply : IsAbortReply h.held t m hs = abort_reply h.held t m hs e (ap (λ (l : List Held). heard_in true l t m) (sym h.event_is)
+    let reply : IsAbortReply h.held t m hs = abort_reply h.held t m hs e
+    (ap (λ (l : List OpenCommand). heard_in true l t m) (sym h.event_is)
     ∙ is) n in
     go reply.left reply.same
   where
@@ -84,12 +85,12 @@ calm_event (Some t) (Reply.Done u) rs h e = absurd (false≢true (sym h.1 ∙ (a
 calm_event (Some t) (Reply.Error u code name) rs h e = absurd h
 
 -- behind a reply on a standard tag
-pub record IsPending (hs : List Held) (rs : List Reply) : Type 0 where
+pub record IsPending (hs : List OpenCommand) (rs : List Reply) : Type 0 where
   pub pending : Option Tag
   pub is : failed_tags hs ≡ tags_of pending
   pub tidy : IsTidy pending rs
 
-pends : (p : Option Tag) (r : Reply) (rs : List Reply) (front : Bool) (hs gs : List Held) (e : Effect) → IsTidy p (r ∷ rs)
+pends : (p : Option Tag) (r : Reply) (rs : List Reply) (front : Bool) (hs gs : List OpenCommand) (e : Effect) → IsTidy p (r ∷ rs)
     → failed_tags hs ≡ tags_of p → AreDistinct hs → heard_in front hs (tag_of r) (mark_of r) ≡ two gs e → IsPending gs rs
 pends None (Reply.Ack u) rs front hs gs e h p d is = record { pending = None; is = none_fails front hs u Mark.Ack gs e is refl p; tidy = h }
 pends None (Reply.Given u q) rs front hs gs e h p d is = record {
@@ -244,7 +245,7 @@ is_heard w live r down b tidy other step =
       pending = subst (λ (x : Table). IsPending x.standard down) (sym g) pends_now;
       distinct = step_distinct ws c.table t m b step live.distinct;
       count = step_counts ws c.table t m b step;
-      events = subst (λ (l : List Held). HasEvents (state_behind c.state (ends_abort c.abort t m) b) c.abort l)
+      events = subst (λ (l : List OpenCommand). HasEvents (state_behind c.state (ends_abort c.abort t m) b) c.abort l)
           (ap (λ (x : Table). x.event) (sym g)) (standard_events c.state c.abort c.table.event t m b sort live.events);
       plain = plain;
     })
@@ -258,7 +259,7 @@ is_heard w live r down b tidy other step =
       pending = subst (λ (x : Table). IsPending x.standard down) (sym g) still;
       distinct = step_distinct ws c.table t m b step live.distinct;
       count = step_counts ws c.table t m b step;
-      events = subst (λ (l : List Held). HasEvents (state_behind c.state (ends_abort c.abort t m) b) c.abort l)
+      events = subst (λ (l : List OpenCommand). HasEvents (state_behind c.state (ends_abort c.abort t m) b) c.abort l)
           (ap (λ (x : Table). x.event) (sym g)) (event_events c.state c.abort c.table.event hs t m e b live.events walked calm.mark);
       plain = plain;
     })

@@ -14,7 +14,7 @@ use Rattle.protocol_model.specs.Open.{count_open, is_held}
 use Rattle.protocol_model.specs.Client.{Table, Tally, is_clearing}
 use Rattle.protocol_model.specs.Server.{Server, Answer, answers, fails, all_fail, queued, runs_under, waits_under, is_abort, is_clear}
 use Rattle.protocol_model.specs.Server.{running_fails, aborted, stands, server_read}
-use Rattle.protocol_model.specs.Claims.{Made, contacts}
+use Rattle.protocol_model.specs.Claims.{MadeContact, contacts}
 use Rattle.protocol_model.specs.Typed.{World}
 use Rattle.protocol_model.proofs.table.Basics.{if_true, if_false}
 use Rattle.protocol_model.proofs.table.Walks.{AreDistinct}
@@ -32,17 +32,18 @@ use Rattle.protocol_model.proofs.invariant.LineFacts.{wait_more, one_behind, rec
 use Rattle.protocol_model.proofs.invariant.LineFacts.{IsFirstStep, first_step}
 use Rattle.protocol_model.specs.declared.lines.Line.{Line}
 use Rattle.protocol_model.specs.declared.plans.Planned.{Planned}
-use Rattle.protocol_model.specs.declared.held.Held.{Held}
+use Rattle.protocol_model.specs.declared.held.OpenCommand.{OpenCommand}
 use Rattle.protocol_model.specs.declared.lines.Waiting.{Waiting}
 
 -- ---- an answer that tells no act
 
-quiet_progress : (ws : List Wanted) (n m : ℕ) (fs : List Feature) (points : List Point) (ms : List Made) (left : List Wanted)
+quiet_progress : (ws : List Wanted) (n m : ℕ) (fs : List Feature) (points : List Point) (ms : List MadeContact) (left : List Wanted)
     → IsProgress ws n fs points ms left → IsProgress ws n fs points (ms ++ contacts (done_on m [])) left
-quiet_progress ws n m fs points ms left h = subst (λ (l : List Made). IsProgress ws n fs points l left) (sym (append-nil ms)) h
+quiet_progress ws n m fs points ms left h = subst (λ (l : List MadeContact). IsProgress ws n fs points l left) (sym (append-nil ms)) h
 
 -- the facts of an event in which nothing is counted; the tally is as before but for its flag
-pub quiet_answer : (w : World) (table : Table) (left : List Wanted) (up : List Line) (a : Answer) (standard event : List Held) (flag : Bool)
+pub quiet_answer : (w : World) (table : Table) (left : List Wanted) (up : List Line) (a : Answer) (standard event : List OpenCommand)
+    (flag : Bool)
     → Moves w.server a.server []
     → IsProgress w.client.program.features w.client.last table.tally.features table.tally.points (contacts w.server.ledger) left
     → Reads w.client.program.features table a.said (tabled standard event (record (table.tally) { failed = flag }))
@@ -106,7 +107,8 @@ refused w table left x queued coming aborts r error other =
     (Reply.Ack x.tag ∷ fails x.tag 9008 (Some (kind_of x.command)))) (all_sent coming) table.event true
     (record { on = refl; last = refl; ledger = sym (append-nil w.server.ledger) })
     r.progress
-    (subst (λ (st : List Held). Reads ws (tabled st table.event table.tally) (Reply.Ack x.tag ∷ fails x.tag 9008 (Some (kind_of x.command)))
+    (subst (λ (st : List OpenCommand). Reads ws (tabled st table.event table.tally)
+    (Reply.Ack x.tag ∷ fails x.tag 9008 (Some (kind_of x.command)))
     (tabled (all_sent coming) table.event (broken table.tally))) (sym same) (
       tabled (received x ∷ all_sent coming) table.event table.tally,
       ack ws [] x (all_sent coming) table.event table.tally standard.0 refl,
@@ -154,11 +156,11 @@ joins w table left x waiting coming aborts s r on last ledger running waits_same
     (all_received (busy ++ now) ++ all_sent coming) table.event table.tally.failed
     (record { on = on; last = last; ledger = ledger ∙ sym (append-nil w.server.ledger) })
     r.progress
-    (subst (λ (st : List Held). Reads ws (tabled st table.event table.tally) (Reply.Ack x.tag ∷ [])
+    (subst (λ (st : List OpenCommand). Reads ws (tabled st table.event table.tally) (Reply.Ack x.tag ∷ [])
     (tabled (all_received (busy ++ now) ++ all_sent coming) table.event table.tally)) (sym n.standard_is) (
       tabled (all_received (busy ++ waiting) ++ received x ∷ all_sent coming) table.event table.tally,
       ack ws (busy ++ waiting) x (all_sent coming) table.event table.tally standard.0 free,
-      ap (λ (st : List Held). tabled st table.event table.tally) (received_behind busy waiting x coming),
+      ap (λ (st : List OpenCommand). tabled st table.event table.tally) (received_behind busy waiting x coming),
     ))
     tt
     (record {
@@ -224,7 +226,7 @@ reads_standard w table left x waiting coming aborts r =
           arith,
           wait_long waiting,
           few_wait (listed w.server.running) waiting (sent_now x ∷ all_sent coming),
-          subst (λ (hs : List Held). count_open hs ≤ 16) n.standard_is r.few,
+          subst (λ (hs : List OpenCommand). count_open hs ≤ 16) n.standard_is r.few,
         ))
 
     test : (e b : Bool) → w.server.error ≡ e → is_clear (Ok x.command) ≡ b
@@ -288,7 +290,7 @@ reads_queued w table left x waiting coming aborts r error =
       arith,
       wait_long waiting,
       few_wait (listed w.server.running) waiting (sent_now x ∷ all_sent coming),
-      subst (λ (hs : List Held). count_open hs ≤ 16) n.standard_is r.few,
+      subst (λ (hs : List OpenCommand). count_open hs ≤ 16) n.standard_is r.few,
     )) in
     let clear : Bool = not (is_clear (Ok x.command)) in
     stands_is w.server x waiting n.waiting_is free standard.1
@@ -376,10 +378,10 @@ reads_abort w table left k queued aborts n progress =
     (subst (λ (y : Tally). Reads ws table (Reply.Ack (abort_tag k)
     ∷ (running_fails s.running ++ (all_fail 9007 (all_wait queued) ++ Reply.Done (abort_tag k) ∷ [])))
     (tabled [] (abort_helds aborts) y)) (breaks_flag busy table.tally)
-    (subst (λ (hs : List Held). Reads ws (tabled hs table.event table.tally)
+    (subst (λ (hs : List OpenCommand). Reads ws (tabled hs table.event table.tally)
     (Reply.Ack (abort_tag k) ∷ (running_fails s.running ++ (all_fail 9007 (all_wait queued) ++ Reply.Done (abort_tag k) ∷ [])))
     (tabled [] (abort_helds aborts) (breaks busy table.tally))) (sym n.standard_is)
-    (subst (λ (hs : List Held). Reads ws (tabled (all_received busy ++ []) hs table.tally)
+    (subst (λ (hs : List OpenCommand). Reads ws (tabled (all_received busy ++ []) hs table.tally)
     (Reply.Ack (abort_tag k) ∷ (running_fails s.running ++ (all_fail 9007 (all_wait queued) ++ Reply.Done (abort_tag k) ∷ [])))
     (tabled [] (abort_helds aborts) (breaks busy table.tally))) (sym n.event_is) reads))))
     (subst (λ (rs : List Reply). IsTidy None rs) (sym said_is) (tidy_running s.running queued (abort_tag k) standard))

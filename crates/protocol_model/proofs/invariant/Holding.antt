@@ -26,7 +26,7 @@ use Rattle.protocol_model.specs.Undisturbed.{AreUpTo}
 use Rattle.protocol_model.proofs.invariant.Served.{Served, IsProgress}
 use Rattle.protocol_model.specs.declared.lines.Line.{Line}
 use Rattle.protocol_model.specs.declared.held.Stage.{Stage}
-use Rattle.protocol_model.specs.declared.held.Held.{Held}
+use Rattle.protocol_model.specs.declared.held.OpenCommand.{OpenCommand}
 use Rattle.protocol_model.specs.declared.plans.Planned.{Planned}
 use Rattle.protocol_model.specs.declared.states.State.{State}
 use Rattle.protocol_model.specs.declared.lines.Waiting.{Waiting}
@@ -39,20 +39,20 @@ listed None = []
 listed (Some line) = line ∷ []
 
 -- a line as an open command that was received
-abbrev pub received : Line → Held
+abbrev pub received : Line → OpenCommand
 received l = record { tag = l.tag; kind = kind_of l.command; stage = Stage.Received }
 
 -- a line as an open command that was just sent
-abbrev pub sent_now : Line → Held
+abbrev pub sent_now : Line → OpenCommand
 sent_now l = record { tag = l.tag; kind = kind_of l.command; stage = Stage.Sent }
 
 -- lines as open commands that were received, in order
-abbrev pub all_received : List Line → List Held
+abbrev pub all_received : List Line → List OpenCommand
 all_received [] = []
 all_received (l ∷ ls) = received l ∷ all_received ls
 
 -- lines as open commands that were just sent, in order
-abbrev pub all_sent : List Line → List Held
+abbrev pub all_sent : List Line → List OpenCommand
 all_sent [] = []
 all_sent (l ∷ ls) = sent_now l ∷ all_sent ls
 
@@ -79,11 +79,11 @@ abort_lines [] = []
 abort_lines (k ∷ ks) = abort_line k ∷ abort_lines ks
 
 -- such an abort as an open command that was just sent
-abbrev pub abort_held : ℕ → Held
+abbrev pub abort_held : ℕ → OpenCommand
 abort_held k = record { tag = abort_tag k; kind = kind.AbortE; stage = Stage.Sent }
 
 -- such aborts as open commands that were just sent, in order
-abbrev pub abort_helds : List ℕ → List Held
+abbrev pub abort_helds : List ℕ → List OpenCommand
 abort_helds [] = []
 abort_helds (k ∷ ks) = abort_held k ∷ abort_helds ks
 
@@ -159,16 +159,16 @@ pub record IsNear (table : Table) (left : List Wanted) (up : List Line) (running
 -- ---- the client's own facts
 
 -- an abort is under way in Aborting alone
-pub record IsAborting (abort : Option Tag) (event : List Held) : Type 0 where
+pub record IsAborting (abort : Option Tag) (event : List OpenCommand) : Type 0 where
   pub tag : Tag
-  pub held : Held
+  pub held : OpenCommand
   pub abort_is : abort ≡ Some tag
   pub event_is : event ≡ held ∷ []
   pub same : held.tag ≡ tag
   pub sort : is_event_tag tag ≡ true
 
 -- which event commands are open in a state: the abort in Aborting, none in the others, and Faulted is ruled out
-abbrev pub HasEvents : State → Option Tag → List Held → Type 0
+abbrev pub HasEvents : State → Option Tag → List OpenCommand → Type 0
 HasEvents State.Apart abort event = event ≡ []
 HasEvents State.Running abort event = event ≡ []
 HasEvents State.Failing abort event = event ≡ []

@@ -18,7 +18,7 @@ use Rattle.protocol_model.proofs.invariant.Holding.{listed, received, sent_now, 
 use Rattle.protocol_model.proofs.invariant.Holding.{IsClearFirst, IsAskedLast, commands_of, commands_in}
 use Rattle.protocol_model.proofs.table.Asking.{AskNothing, ask_nothing}
 use Rattle.protocol_model.specs.declared.lines.Line.{Line}
-use Rattle.protocol_model.specs.declared.held.Held.{Held}
+use Rattle.protocol_model.specs.declared.held.OpenCommand.{OpenCommand}
 use Rattle.protocol_model.specs.declared.plans.Planned.{Planned}
 use Rattle.protocol_model.specs.declared.plans.Does.{Does}
 
@@ -32,24 +32,25 @@ tag_is_false t u e = go (tag_is u t) refl
         in absurd (false≢true (sym e ∙ same))
 
 -- the first of these that come is not among those that are received
-held_parts : (t : Tag) (h : Held) (hs : List Held) → is_held t (h ∷ hs) ≡ false → (tag_is h.tag t ≡ false) × (is_held t hs ≡ false)
+held_parts : (t : Tag) (h : OpenCommand) (hs : List OpenCommand) → is_held t (h ∷ hs) ≡ false
+    → (tag_is h.tag t ≡ false) × (is_held t hs ≡ false)
 held_parts t h hs e = if_cases {A = Bool} (tag_is h.tag t) true (is_held t hs) false ((tag_is h.tag t ≡ false) × (is_held t hs ≡ false)) e
     (λ same no_way. absurd (false≢true (sym no_way)))
     (λ other rest. (other, rest))
 
 -- a tag that is not held in two lists together is not held in the second
-pub not_held_behind : (t : Tag) (xs ys : List Held) → is_held t (xs ++ ys) ≡ false → is_held t ys ≡ false
+pub not_held_behind : (t : Tag) (xs ys : List OpenCommand) → is_held t (xs ++ ys) ≡ false → is_held t ys ≡ false
 not_held_behind t [] ys e = e
 not_held_behind t (x ∷ xs) ys e = not_held_behind t xs ys (held_parts t x (xs ++ ys) e).1
 
 -- nor in the first
-pub not_held_before : (t : Tag) (xs ys : List Held) → is_held t (xs ++ ys) ≡ false → is_held t xs ≡ false
+pub not_held_before : (t : Tag) (xs ys : List OpenCommand) → is_held t (xs ++ ys) ≡ false → is_held t xs ≡ false
 not_held_before t [] ys e = refl
 not_held_before t (x ∷ xs) ys e = let parts = held_parts t x (xs ++ ys) e
     in if_false {A = Bool} (tag_is x.tag t) true (is_held t xs) parts.0 ∙ not_held_before t xs ys parts.1
 
 -- where each tag is held once, the tag of a command is not held before it
-pub apart_from : (xs : List Held) (y : Held) (ys : List Held) → AreDistinct (xs ++ y ∷ ys) → is_held y.tag xs ≡ false
+pub apart_from : (xs : List OpenCommand) (y : OpenCommand) (ys : List OpenCommand) → AreDistinct (xs ++ y ∷ ys) → is_held y.tag xs ≡ false
 apart_from [] y ys d = refl
 apart_from (x ∷ xs) y ys d =
     let here : tag_is y.tag x.tag ≡ false = (held_parts x.tag y ys (not_held_behind x.tag xs (y ∷ ys) d.0)).0 in
@@ -144,12 +145,12 @@ clear_first_none failed (l ∷ ls) h = ((λ e. absurd (false≢true (sym h.0 ∙
 -- two lists of received lines: the open commands of the first, then those of the second
 pub received_more : (xs ys : List Line) → all_received (xs ++ ys) ≡ all_received xs ++ all_received ys
 received_more [] ys = refl
-received_more (x ∷ xs) ys = ap (λ (l : List Held). received x ∷ l) (received_more xs ys)
+received_more (x ∷ xs) ys = ap (λ (l : List OpenCommand). received x ∷ l) (received_more xs ys)
 
 -- two lists of lines that were just sent, likewise
 pub sent_more : (xs ys : List Line) → all_sent (xs ++ ys) ≡ all_sent xs ++ all_sent ys
 sent_more [] ys = refl
-sent_more (x ∷ xs) ys = ap (λ (l : List Held). sent_now x ∷ l) (sent_more xs ys)
+sent_more (x ∷ xs) ys = ap (λ (l : List OpenCommand). sent_now x ∷ l) (sent_more xs ys)
 
 -- what waits of two lists of lines: that of the first, then that of the second
 pub wait_more : (xs ys : List Line) → all_wait (xs ++ ys) ≡ all_wait xs ++ all_wait ys
@@ -166,12 +167,12 @@ pub received_behind : (busy queued : List Line) (x : Line) (coming : List Line)
     → all_received (busy ++ queued) ++ received x ∷ all_sent coming ≡ all_received (busy ++ (queued ++ x ∷ [])) ++ all_sent coming
 received_behind busy queued x coming =
     sym (append_assoc (all_received (busy ++ queued)) (received x ∷ []) (all_sent coming))
-    ∙ ap (λ (l : List Held). l ++ all_sent coming) (sym (received_more (busy ++ queued) (x ∷ []))
+    ∙ ap (λ (l : List OpenCommand). l ++ all_sent coming) (sym (received_more (busy ++ queued) (x ∷ []))
     ∙ ap all_received (append_assoc busy queued (x ∷ [])))
 
 -- ---- how many
 
-count_received : (ls : List Line) (hs : List Held) → length ls ≤ count_open (all_received ls ++ hs)
+count_received : (ls : List Line) (hs : List OpenCommand) → length ls ≤ count_open (all_received ls ++ hs)
 count_received [] hs = omega arith
 count_received (l ∷ ls) hs = let rest = count_received ls hs in omega arith
 
@@ -181,7 +182,7 @@ wait_long [] = refl
 wait_long (l ∷ ls) = ap suc (wait_long ls)
 
 -- no more lines wait than commands are open
-pub few_wait : (busy queued : List Line) (hs : List Held) → length queued ≤ count_open (all_received (busy ++ queued) ++ hs)
+pub few_wait : (busy queued : List Line) (hs : List OpenCommand) → length queued ≤ count_open (all_received (busy ++ queued) ++ hs)
 few_wait busy queued hs = omega (arith, count_received (busy ++ queued) hs, length-append busy queued)
 
 -- ---- commands

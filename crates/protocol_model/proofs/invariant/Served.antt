@@ -14,7 +14,7 @@ use Rattle.dmis_program.specs.declared.steps.Step.{Step}
 use Rattle.dmis_program.specs.declared.steps.Step.TheVariants as step
 use Rattle.protocol_model.proofs.plan.Blocks.{AreBlocks, IsPlain}
 use Rattle.protocol_model.specs.Undisturbed.{AreUpTo}
-use Rattle.protocol_model.specs.Claims.{Made, contacts, acts_on, IsServed, Serves, IsRun, AreRuns, Sound}
+use Rattle.protocol_model.specs.Claims.{MadeContact, contacts, acts_on, IsServed, Serves, IsRun, AreRuns, Sound}
 use Rattle.protocol_model.specs.Client.{joined}
 use Rattle.protocol_model.specs.Plan.{is_empty}
 use Rattle.protocol_model.proofs.table.Basics.{if_true, if_false}
@@ -26,8 +26,8 @@ use Rattle.protocol_model.proofs.plan.Marks.{Marked, marks, marks_of}
 pub contacts_more : (l m : List (ℕ × Act)) → contacts (l ++ m) ≡ contacts l ++ contacts m
 contacts_more [] m = refl
 contacts_more ((n, act.Contact target dir tool frame point) ∷ l) m =
-    let first : Made = record { connection = n; target = target; dir = dir; tool = tool; frame = frame; point = point } in
-    ap (λ (ms : List Made). first ∷ ms) (contacts_more l m)
+    let first : MadeContact = record { connection = n; target = target; dir = dir; tool = tool; frame = frame; point = point } in
+    ap (λ (ms : List MadeContact). first ∷ ms) (contacts_more l m)
 contacts_more ((n, act.HomedIs homed) ∷ l) m = contacts_more l m
 contacts_more ((n, act.Homed) ∷ l) m = contacts_more l m
 contacts_more ((n, act.Moved p f) ∷ l) m = contacts_more l m
@@ -68,7 +68,7 @@ acts_none n m ((k, b) ∷ l) h lt = if_false {A = List Act} _ (b ∷ acts_on m l
     below e = let le : k ≤ n = h.0 in omega arith
 
 -- nor is a contact
-abbrev pub AreMadeUpTo : ℕ → List Made → Type 0
+abbrev pub AreMadeUpTo : ℕ → List MadeContact → Type 0
 AreMadeUpTo n [] = Unit {0}
 AreMadeUpTo n (m ∷ ms) = (m.connection ≤ n) × AreMadeUpTo n ms
 
@@ -83,59 +83,60 @@ made_up_to n ((m, act.Changed k) ∷ l) h = made_up_to n l h.1
 made_up_to n ((m, act.Framed f) ∷ l) h = made_up_to n l h.1
 
 -- where no contact of two lists is above a connection, none of the second is
-pub made_behind : (n : ℕ) (xs ys : List Made) → AreMadeUpTo n (xs ++ ys) → AreMadeUpTo n ys
+pub made_behind : (n : ℕ) (xs ys : List MadeContact) → AreMadeUpTo n (xs ++ ys) → AreMadeUpTo n ys
 made_behind n [] ys h = h
 made_behind n (x ∷ xs) ys h = made_behind n xs ys h.1
 
 -- ---- served features
 
 -- contacts are some that serve nobody, then a run that serves this feature, then the rest
-pub record HasRun (wanted : Wanted) (feature : Feature) (made rest : List Made) : Type 0 where
-  pub gap : List Made
-  pub run : List Made
+pub record HasRun (wanted : Wanted) (feature : Feature) (made rest : List MadeContact) : Type 0 where
+  pub gap : List MadeContact
+  pub run : List MadeContact
   pub connection : ℕ
   pub whole : made ≡ gap ++ (run ++ rest)
   pub label : feature.label ≡ wanted.label
   pub serves : Serves connection wanted.touches feature.points run
 
 -- features are the first of the wanted ones, and each is served by a run of contacts, behind the run of the one before
-abbrev pub Served : List Wanted → List Feature → List Made → Type 0
+abbrev pub Served : List Wanted → List Feature → List MadeContact → Type 0
 Served ws [] made = Unit {0}
 Served [] (f ∷ fs) made = ⊥
-Served (w ∷ ws) (f ∷ fs) made = (rest : List Made) × HasRun w f made rest × Served ws fs rest
+Served (w ∷ ws) (f ∷ fs) made = (rest : List MadeContact) × HasRun w f made rest × Served ws fs rest
 
-run_more : (w : Wanted) (f : Feature) (made rest more : List Made) → HasRun w f made rest → HasRun w f (made ++ more) (rest ++ more)
+run_more : (w : Wanted) (f : Feature) (made rest more : List MadeContact) → HasRun w f made rest → HasRun w f (made ++ more) (rest ++ more)
 run_more w f made rest more h = record {
   gap = h.gap;
   run = h.run;
   connection = h.connection;
-  whole = ap (λ (l : List Made). l ++ more) h.whole ∙ (append_assoc h.gap (h.run ++ rest) more
-      ∙ ap (λ (l : List Made). h.gap ++ l) (append_assoc h.run rest more));
+  whole = ap (λ (l : List MadeContact). l ++ more) h.whole ∙ (append_assoc h.gap (h.run ++ rest) more
+      ∙ ap (λ (l : List MadeContact). h.gap ++ l) (append_assoc h.run rest more));
   label = h.label;
   serves = h.serves;
 }
 
 -- features that are served are so with more contacts behind
-pub served_more : (ws : List Wanted) (fs : List Feature) (made more : List Made) → Served ws fs made → Served ws fs (made ++ more)
+pub served_more : (ws : List Wanted) (fs : List Feature) (made more : List MadeContact) → Served ws fs made → Served ws fs (made ++ more)
 served_more ws [] made more h = tt
 served_more [] (f ∷ fs) made more h = absurd h
 served_more (w ∷ ws) (f ∷ fs) made more h = (h.0 ++ more, run_more w f made h.0 more h.1, served_more ws fs h.0 more h.2)
 
 -- where features are served, the first ones of them are
-pub served_front : (ws : List Wanted) (fs gs : List Feature) (made : List Made) → Served ws (fs ++ gs) made → Served ws fs made
+pub served_front : (ws : List Wanted) (fs gs : List Feature) (made : List MadeContact) → Served ws (fs ++ gs) made → Served ws fs made
 served_front ws [] gs made h = tt
 served_front [] (f ∷ fs) gs made h = absurd h
 served_front (w ∷ ws) (f ∷ fs) gs made h = (h.0, h.1, served_front ws fs gs h.0 h.2)
 
 -- so are the first k of them
-pub served_take : (k : ℕ) (ws : List Wanted) (fs : List Feature) (made : List Made) → Served ws fs made → Served ws (take k fs) made
+pub served_take : (k : ℕ) (ws : List Wanted) (fs : List Feature) (made : List MadeContact) → Served ws fs made → Served ws (take k fs) made
 served_take zero ws fs made h = tt
 served_take (suc k) ws [] made h = tt
 served_take (suc k) [] (f ∷ fs) made h = absurd h
 served_take (suc k) (w ∷ ws) (f ∷ fs) made h = (h.0, h.1, served_take k ws fs h.0 h.2)
 
 -- one feature more, served by the contacts behind
-pub served_push : (front : List Wanted) (w : Wanted) (later : List Wanted) (fs : List Feature) (f : Feature) (made run : List Made) (n : ℕ)
+pub served_push : (front : List Wanted) (w : Wanted) (later : List Wanted) (fs : List Feature) (f : Feature) (made run : List MadeContact)
+    (n : ℕ)
     → length front ≡ length fs → Served (front ++ w ∷ later) fs made → f.label ≡ w.label → Serves n w.touches f.points run
     → Served (front ++ w ∷ later) (fs ++ f ∷ []) (made ++ run)
 served_push [] w later [] f made run n e h label serves = (
@@ -144,7 +145,7 @@ served_push [] w later [] f made run n e h label serves = (
     gap = made;
     run = run;
     connection = n;
-    whole = ap (λ (l : List Made). made ++ l) (sym (append-nil run));
+    whole = ap (λ (l : List MadeContact). made ++ l) (sym (append-nil run));
     label = label;
     serves = serves;
   },
@@ -165,7 +166,8 @@ joined_is (v ∷ front) w later [] ps origin e = absurd (cc)
 joined_is (v ∷ front) w later (g ∷ gs) ps origin e = ap (λ (l : List Feature). g ∷ l) (joined_is front w later gs ps origin (omega arith))
 
 -- behind contacts that serve touches, a contact that serves one touch more
-pub serves_more : (n : ℕ) (ts : List Touch) (ps : List Point) (ms : List Made) (t : Touch) (p : Point) (m : Made) → Serves n ts ps ms
+pub serves_more : (n : ℕ) (ts : List Touch) (ps : List Point) (ms : List MadeContact) (t : Touch) (p : Point) (m : MadeContact)
+    → Serves n ts ps ms
     → IsServed n t p m → Serves n (ts ++ t ∷ []) (ps ++ p ∷ []) (ms ++ m ∷ [])
 serves_more n [] [] [] t p m h g = (g, tt)
 serves_more n [] [] (y ∷ ms) t p m h g = absurd h
@@ -187,12 +189,13 @@ with_made made [] = []
 with_made made (w ∷ ws) = record { label = w.label; touches = made ++ w.touches } ∷ ws
 
 -- contacts: those that serve the features held, then those that serve the touches made of the unfinished one; and what is left
-pub record IsProgress (ws : List Wanted) (n : ℕ) (fs : List Feature) (points : List Point) (ms : List Made) (left : List Wanted) : Type 0
+pub record IsProgress (ws : List Wanted) (n : ℕ) (fs : List Feature) (points : List Point) (ms : List MadeContact)
+    (left : List Wanted) : Type 0
   where
     pub front : List Wanted
     pub made : List Touch
-    pub before : List Made
-    pub run : List Made
+    pub before : List MadeContact
+    pub run : List MadeContact
     pub whole : ws ≡ front ++ with_made made left
     pub long : length front ≡ length fs
     pub parts : ms ≡ before ++ run
@@ -201,13 +204,13 @@ pub record IsProgress (ws : List Wanted) (n : ℕ) (fs : List Feature) (points :
     pub some : HaveTouches left
 
 -- the features that are held are served by all of these contacts
-pub progress_served : (ws : List Wanted) (n : ℕ) (fs : List Feature) (points : List Point) (ms : List Made) (left : List Wanted)
+pub progress_served : (ws : List Wanted) (n : ℕ) (fs : List Feature) (points : List Point) (ms : List MadeContact) (left : List Wanted)
     → IsProgress ws n fs points ms left → Served ws fs ms
-progress_served ws n fs points ms left h = subst (λ (l : List Made). Served ws fs l) (sym h.parts)
+progress_served ws n fs points ms left h = subst (λ (l : List MadeContact). Served ws fs l) (sym h.parts)
     (served_more ws fs h.before h.run h.served)
 
 -- a front of so many wanted features
-served_cut : (ws : List Wanted) (fs : List Feature) (ms : List Made) → Served ws fs ms → (front : List Wanted)
+served_cut : (ws : List Wanted) (fs : List Feature) (ms : List MadeContact) → Served ws fs ms → (front : List Wanted)
     × (ws ≡ front ++ drop (length fs) ws) × (length front ≡ length fs)
 served_cut ws [] ms h = ([], refl, refl)
 served_cut [] (f ∷ fs) ms h = absurd h
@@ -225,7 +228,7 @@ with_none [] = refl
 with_none (w ∷ ws) = refl
 
 -- at the beginning of a plan nothing is unfinished
-pub progress_new : (ws : List Wanted) (n : ℕ) (fs : List Feature) (ms : List Made) → Served ws fs ms → HaveTouches ws
+pub progress_new : (ws : List Wanted) (n : ℕ) (fs : List Feature) (ms : List MadeContact) → Served ws fs ms → HaveTouches ws
     → IsProgress ws n fs [] ms (drop (length fs) ws)
 progress_new ws n fs ms h some =
     let cut = served_cut ws fs ms h in
@@ -242,13 +245,14 @@ progress_new ws n fs ms h some =
       some = have_drop (length fs) ws some;
     }
 
-serves_none : (n : ℕ) (ts : List Touch) (ms : List Made) → Serves n ts [] ms → (ts ≡ []) × (ms ≡ [])
+serves_none : (n : ℕ) (ts : List Touch) (ms : List MadeContact) → Serves n ts [] ms → (ts ≡ []) × (ms ≡ [])
 serves_none n [] [] h = (refl, refl)
 serves_none n [] (m ∷ ms) h = absurd h
 serves_none n (t ∷ ts) ms h = absurd h
 
 -- contacts that are made on a connection are not all below it
-serves_up_to : (n b : ℕ) (ts : List Touch) (ps : List Point) (ms : List Made) → Serves n ts ps ms → AreMadeUpTo b ms → b < n → ps ≡ []
+serves_up_to : (n b : ℕ) (ts : List Touch) (ps : List Point) (ms : List MadeContact) → Serves n ts ps ms → AreMadeUpTo b ms → b < n
+    → ps ≡ []
 serves_up_to n b ts [] ms h u lt = refl
 serves_up_to n b [] (p ∷ ps) ms h u lt = absurd h
 serves_up_to n b (t ∷ ts) (p ∷ ps) [] h u lt = absurd h
@@ -256,13 +260,14 @@ serves_up_to n b (t ∷ ts) (p ∷ ps) (m ∷ ms) h u lt = let on : m.connection
     in absurd (omega arith)
 
 -- where all contacts are on earlier connections, the unfinished feature has no points yet
-pub no_points : (ws : List Wanted) (n b : ℕ) (fs : List Feature) (points : List Point) (ms : List Made) (left : List Wanted)
+pub no_points : (ws : List Wanted) (n b : ℕ) (fs : List Feature) (points : List Point) (ms : List MadeContact) (left : List Wanted)
     → IsProgress ws n fs points ms left → AreMadeUpTo b ms → b < n → points ≡ []
 no_points ws n b fs points ms left h u lt =
-    serves_up_to n b h.made points h.run h.serves (made_behind b h.before h.run (subst (λ (l : List Made). AreMadeUpTo b l) h.parts u)) lt
+    serves_up_to n b h.made points h.run h.serves (made_behind b h.before h.run
+    (subst (λ (l : List MadeContact). AreMadeUpTo b l) h.parts u)) lt
 
 -- a contact that is none of the unfinished feature's, where nothing is unfinished
-pub progress_other : (ws : List Wanted) (n : ℕ) (fs : List Feature) (points : List Point) (ms more : List Made) (left : List Wanted)
+pub progress_other : (ws : List Wanted) (n : ℕ) (fs : List Feature) (points : List Point) (ms more : List MadeContact) (left : List Wanted)
     → IsProgress ws n fs points ms left → points ≡ [] → IsProgress ws n fs points (ms ++ more) left
 progress_other ws n fs points ms more left h e =
     let nothing = serves_none n h.made h.run (subst (λ (l : List Point). Serves n h.made l h.run) e h.serves) in
@@ -273,17 +278,17 @@ progress_other ws n fs points ms more left h e =
       run = h.run;
       whole = h.whole;
       long = h.long;
-      parts = ap (λ (l : List Made). l ++ more) h.parts
-          ∙ (ap (λ (l : List Made). (h.before ++ l) ++ more) nothing.1
-          ∙ (ap (λ (l : List Made). l ++ more) (append-nil h.before)
-          ∙ (sym (append-nil (h.before ++ more)) ∙ ap (λ (l : List Made). (h.before ++ more) ++ l) (sym nothing.1))));
+      parts = ap (λ (l : List MadeContact). l ++ more) h.parts
+          ∙ (ap (λ (l : List MadeContact). (h.before ++ l) ++ more) nothing.1
+          ∙ (ap (λ (l : List MadeContact). l ++ more) (append-nil h.before)
+          ∙ (sym (append-nil (h.before ++ more)) ∙ ap (λ (l : List MadeContact). (h.before ++ more) ++ l) (sym nothing.1))));
       served = served_more ws fs h.before more h.served;
       serves = h.serves;
       some = h.some;
     }
 
 -- the points of the unfinished feature are given up
-pub progress_anew : (ws : List Wanted) (n m : ℕ) (fs : List Feature) (points : List Point) (ms : List Made) (left : List Wanted)
+pub progress_anew : (ws : List Wanted) (n m : ℕ) (fs : List Feature) (points : List Point) (ms : List MadeContact) (left : List Wanted)
     → HaveTouches ws → IsProgress ws n fs points ms left → IsProgress ws m fs [] ms (drop (length fs) ws)
 progress_anew ws n m fs points ms left some h = progress_new ws m fs ms (progress_served ws n fs points ms left h) some
 
@@ -338,7 +343,7 @@ program_has p h = subst HaveTouches (sym h.features) (features_have false p.step
 
 -- ---- the same with start numbers
 
-serves_long : (n : ℕ) (ts : List Touch) (ps : List Point) (ms : List Made) → Serves n ts ps ms → length ms ≡ length ps
+serves_long : (n : ℕ) (ts : List Touch) (ps : List Point) (ms : List MadeContact) → Serves n ts ps ms → length ms ≡ length ps
 serves_long n [] [] [] h = refl
 serves_long n [] [] (m ∷ ms) h = absurd h
 serves_long n [] (p ∷ ps) ms h = absurd h
@@ -346,34 +351,34 @@ serves_long n (t ∷ ts) [] ms h = absurd h
 serves_long n (t ∷ ts) (p ∷ ps) [] h = absurd h
 serves_long n (t ∷ ts) (p ∷ ps) (m ∷ ms) h = ap suc (serves_long n ts ps ms h.1)
 
-drop_front : (xs ys : List Made) → drop (length xs) (xs ++ ys) ≡ ys
+drop_front : (xs ys : List MadeContact) → drop (length xs) (xs ++ ys) ≡ ys
 drop_front [] ys = refl
 drop_front (x ∷ xs) ys = drop_front xs ys
 
-take_front : (xs ys : List Made) → take (length xs) (xs ++ ys) ≡ xs
+take_front : (xs ys : List MadeContact) → take (length xs) (xs ++ ys) ≡ xs
 take_front [] ys = refl
-take_front (x ∷ xs) ys = ap (λ (l : List Made). x ∷ l) (take_front xs ys)
+take_front (x ∷ xs) ys = ap (λ (l : List MadeContact). x ∷ l) (take_front xs ys)
 
-served_starts : (ws : List Wanted) (fs : List Feature) (passed ms : List Made) → Served ws fs ms → (starts : List ℕ)
+served_starts : (ws : List Wanted) (fs : List Feature) (passed ms : List MadeContact) → Served ws fs ms → (starts : List ℕ)
     × AreRuns ws fs starts (length passed) (passed ++ ms)
 served_starts ws [] passed ms h = ([], tt)
 served_starts [] (f ∷ fs) passed ms h = absurd h
 served_starts (w ∷ ws) (f ∷ fs) passed ms h =
     let r : HasRun w f ms h.0 = h.1 in
-    let begin : List Made = passed ++ r.gap in
-    let over : List Made = begin ++ r.run in
+    let begin : List MadeContact = passed ++ r.gap in
+    let over : List MadeContact = begin ++ r.run in
     let long : length r.run ≡ length f.points = serves_long r.connection w.touches f.points r.run r.serves in
-    let all : passed ++ ms ≡ begin ++ (r.run ++ h.0) = ap (λ (l : List Made). passed ++ l) r.whole
+    let all : passed ++ ms ≡ begin ++ (r.run ++ h.0) = ap (λ (l : List MadeContact). passed ++ l) r.whole
     ∙ sym (append_assoc passed r.gap (r.run ++ h.0)) in
     let cut : take (length f.points) (drop (length begin) (passed ++ ms)) ≡ r.run =
-    ap (λ (l : List Made). take (length f.points) (drop (length begin) l)) all
-    ∙ (ap (λ (l : List Made). take (length f.points) l) (drop_front begin (r.run ++ h.0))
+    ap (λ (l : List MadeContact). take (length f.points) (drop (length begin) l)) all
+    ∙ (ap (λ (l : List MadeContact). take (length f.points) l) (drop_front begin (r.run ++ h.0))
     ∙ (ap (λ (k : ℕ). take k (r.run ++ h.0)) (sym long) ∙ take_front r.run h.0)) in
     let rest = served_starts ws fs over h.0 h.2 in
     let one : IsRun w f (length begin) (passed ++ ms) = record {
       label = r.label;
       connection = r.connection;
-      serves = subst (λ (l : List Made). Serves r.connection w.touches f.points l) (sym cut) r.serves;
+      serves = subst (λ (l : List MadeContact). Serves r.connection w.touches f.points l) (sym cut) r.serves;
     } in
     let least : length over ≡ length begin + length f.points = length-append begin r.run ∙ ap (λ (k : ℕ). length begin + k) long in
     let together : over ++ h.0 ≡ passed ++ ms = append_assoc begin r.run h.0 ∙ sym all in (
@@ -382,7 +387,7 @@ served_starts (w ∷ ws) (f ∷ fs) passed ms h =
         omega (arith, length-append passed r.gap),
         one,
         subst (λ (k : ℕ). AreRuns ws fs rest.0 k (passed ++ ms)) least
-            (subst (λ (l : List Made). AreRuns ws fs rest.0 (length over) l) together rest.1),
+            (subst (λ (l : List MadeContact). AreRuns ws fs rest.0 (length over) l) together rest.1),
       ),
     )
 

@@ -7,7 +7,7 @@ use Rattle.contact_ledger.specs.declared.features.Origin.{Origin}
 use Rattle.contact_ledger.specs.declared.features.Feature.{Feature}
 use Rattle.dmis_program.specs.declared.features.Touch.{Touch}
 use Rattle.dmis_program.specs.declared.features.Wanted.{Wanted}
-use Rattle.protocol_model.specs.Claims.{Made, contacts, IsServed}
+use Rattle.protocol_model.specs.Claims.{MadeContact, contacts, IsServed}
 use Rattle.protocol_model.specs.Plan.{is_empty}
 use Rattle.protocol_model.specs.Client.{Tally, act_of, origin_of, joined, measured}
 use Rattle.protocol_model.proofs.plan.Marks.{Marked, marks, marks_of, touch_in}
@@ -56,14 +56,15 @@ measured_keeps ws (Does.Changes n) given y = keeps_all y
 measured_keeps ws (Does.Frames f) given y = keeps_all y
 
 -- behind a counted command: what is left, and the contacts cut anew
-pub record Goes (ws : List Wanted) (n : ℕ) (y : Tally) (ms : List Made) (does : Does) (given : Option Datum) (rest : List Marked) : Type 0
+pub record Goes (ws : List Wanted) (n : ℕ) (y : Tally) (ms : List MadeContact) (does : Does) (given : Option Datum)
+    (rest : List Marked) : Type 0
   where
     pub left : List Wanted
     pub touches : rest ≡ marks_of left
     pub progress : IsProgress ws n (measured ws does given y).features (measured ws does given y).points (ms
         ++ contacts (done_on n (act_of does given))) left
 
-made_of : ℕ → Touch → Point → Made
+made_of : ℕ → Touch → Point → MadeContact
 made_of n t p = record { connection = n; target = t.target; dir = t.dir; tool = t.tool; frame = t.frame; point = p }
 
 is_served : (n : ℕ) (t : Touch) (p : Point) → IsServed n t p
@@ -79,12 +80,12 @@ empty_is [] e = refl
 empty_is (t ∷ ts) e = absurd (false≢true e)
 
 -- a touch that is not the last of its feature
-touch_goes : (ws : List Wanted) (n : ℕ) (fs : List Feature) (points : List Point) (ms : List Made) (left : List Wanted) (t : Touch)
+touch_goes : (ws : List Wanted) (n : ℕ) (fs : List Feature) (points : List Point) (ms : List MadeContact) (left : List Wanted) (t : Touch)
     (p : Point) (rest : List Marked) → IsProgress ws n fs points ms left → IsNext t false rest left
     → (later : List Wanted) × (rest ≡ marks_of later) × IsProgress ws n fs (points ++ p ∷ []) (ms
     ++ record { connection = n; target = t.target; dir = t.dir; tool = t.tool; frame = t.frame; point = p } ∷ []) later
 touch_goes ws n fs points ms left t p rest h next =
-    let m : Made = record { connection = n; target = t.target; dir = t.dir; tool = t.tool; frame = t.frame; point = p } in
+    let m : MadeContact = record { connection = n; target = t.target; dir = t.dir; tool = t.tool; frame = t.frame; point = p } in
     let smaller : Wanted = record { label = next.wanted.label; touches = next.ts } in
     let here : with_made h.made left ≡ with_made (h.made ++ t ∷ []) (smaller ∷ next.later) =
     ap (with_made h.made) next.first
@@ -100,7 +101,7 @@ touch_goes ws n fs points ms left t p rest h next =
         run = h.run ++ m ∷ [];
         whole = h.whole ∙ ap (λ (l : List Wanted). h.front ++ l) here;
         long = h.long;
-        parts = ap (λ (l : List Made). l ++ m ∷ []) h.parts ∙ append_assoc h.before h.run (m ∷ []);
+        parts = ap (λ (l : List MadeContact). l ++ m ∷ []) h.parts ∙ append_assoc h.before h.run (m ∷ []);
         served = h.served;
         serves = serves_more n h.made points h.run t p m h.serves (is_served n t p);
         some = (not_empty next.ts (sym next.ends), some.1);
@@ -112,12 +113,12 @@ with_none [] = refl
 with_none (w ∷ ws) = refl
 
 -- and one that is, whatever its origin
-touch_ends : (ws : List Wanted) (n : ℕ) (fs : List Feature) (points : List Point) (ms : List Made) (left : List Wanted) (t : Touch)
+touch_ends : (ws : List Wanted) (n : ℕ) (fs : List Feature) (points : List Point) (ms : List MadeContact) (left : List Wanted) (t : Touch)
     (p : Point) (origin : Option Origin) (rest : List Marked) → IsProgress ws n fs points ms left → IsNext t true rest left
     → (later : List Wanted) × (rest ≡ marks_of later) × IsProgress ws n (joined ws fs (points ++ p ∷ []) origin) [] (ms
     ++ record { connection = n; target = t.target; dir = t.dir; tool = t.tool; frame = t.frame; point = p } ∷ []) later
 touch_ends ws n fs points ms left t p origin rest h next =
-    let m : Made = record { connection = n; target = t.target; dir = t.dir; tool = t.tool; frame = t.frame; point = p } in
+    let m : MadeContact = record { connection = n; target = t.target; dir = t.dir; tool = t.tool; frame = t.frame; point = p } in
     let none : next.ts ≡ [] = empty_is next.ts (sym next.ends) in
     let whole_one : Wanted = record { label = next.wanted.label; touches = h.made ++ t ∷ [] } in
     let here : with_made h.made left ≡ whole_one ∷ next.later =
@@ -125,7 +126,7 @@ touch_ends ws n fs points ms left t p origin rest h next =
     ∙ ap (λ (ts : List Touch). record { label = next.wanted.label; touches = ts } ∷ next.later)
     (ap (λ (ts : List Touch). h.made ++ ts) (next.touches ∙ ap (λ (ts : List Touch). t ∷ ts) none)) in
     let whole : ws ≡ h.front ++ whole_one ∷ next.later = h.whole ∙ ap (λ (l : List Wanted). h.front ++ l) here in
-    let run : List Made = h.run ++ m ∷ [] in
+    let run : List MadeContact = h.run ++ m ∷ [] in
     let feature : Feature = record { label = whole_one.label; points = points ++ p ∷ []; origin = origin } in
     let features : joined ws fs (points ++ p ∷ []) origin ≡ fs ++ feature ∷ [] =
     ap (λ (l : List Wanted). joined l fs (points ++ p ∷ []) origin) whole
@@ -147,7 +148,7 @@ touch_ends ws n fs points ms left t p origin rest h next =
             whole = whole ∙ (sym (append_assoc h.front (whole_one ∷ []) next.later)
                 ∙ ap (λ (l : List Wanted). (h.front ++ whole_one ∷ []) ++ l) (sym (with_none next.later)));
             long = length-append h.front (whole_one ∷ []) ∙ (ap (λ (k : ℕ). k + 1) h.long ∙ sym (length-append fs (feature ∷ [])));
-            parts = ap (λ (l : List Made). l ++ m ∷ []) h.parts ∙ (append_assoc h.before h.run (m ∷ [])
+            parts = ap (λ (l : List MadeContact). l ++ m ∷ []) h.parts ∙ (append_assoc h.before h.run (m ∷ [])
                 ∙ sym (append-nil (h.before ++ run)));
             served = served;
             serves = tt;
@@ -155,12 +156,13 @@ touch_ends ws n fs points ms left t p origin rest h next =
           }),
     )
 
-calm_goes : (ws : List Wanted) (n : ℕ) (y : Tally) (ms : List Made) (left : List Wanted) → IsProgress ws n y.features y.points ms left
+calm_goes : (ws : List Wanted) (n : ℕ) (y : Tally) (ms : List MadeContact) (left : List Wanted)
+    → IsProgress ws n y.features y.points ms left
     → IsProgress ws n y.features y.points (ms ++ []) left
-calm_goes ws n y ms left h = subst (λ (l : List Made). IsProgress ws n y.features y.points l left) (sym (append-nil ms)) h
+calm_goes ws n y ms left h = subst (λ (l : List MadeContact). IsProgress ws n y.features y.points l left) (sym (append-nil ms)) h
 
 -- a command that does the next touch left, with a point, brings its contact to the progress; one that does none leaves it
-pub does_goes : (ws : List Wanted) (n : ℕ) (y : Tally) (ms : List Made) (left : List Wanted) (does : Does) (given : Option Datum)
+pub does_goes : (ws : List Wanted) (n : ℕ) (y : Tally) (ms : List MadeContact) (left : List Wanted) (does : Does) (given : Option Datum)
     (rest : List Marked) → IsProgress ws n y.features y.points ms left → HasDatum does given → touch_in does ++ rest ≡ marks_of left
     → Goes ws n y ms does given rest
 does_goes ws n y ms left (Does.Touches t false) (Some (datum.Point p)) rest h has e =

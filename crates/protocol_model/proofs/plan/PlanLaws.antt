@@ -20,7 +20,7 @@ use Rattle.dmis_program.specs.declared.features.Wanted.{Wanted}
 use Rattle.dmis_program.specs.declared.steps.Step.{Step}
 use Rattle.dmis_program.specs.declared.steps.Step.TheVariants as step
 use Rattle.protocol_model.specs.Plan.{tool_behind, frame_behind, behind, up_to, planned, framing, tooling, stepping, measuring, plan}
-use Rattle.protocol_model.specs.PlanReading.{touch_of, touches_of, end_of, ends_of, touch_ends, feature_ends, commands_of, Selected}
+use Rattle.protocol_model.specs.PlanReading.{touch_of, touches_of, end_of, ends_of, touch_ends, feature_ends, commands_of, Selection}
 use Rattle.protocol_model.specs.PlanReading.{nothing_selected, selected_frame, selected_by, read_touch, read_move, read_frame, read_as}
 use Rattle.protocol_model.specs.PlanReading.{is_last, ReadAsPlanned, touch_made, touches_made_by, touches_made, all_known, opening}
 use Rattle.protocol_model.specs.PlanReading.{is_measuring, IsInOrder, step_commands, whole_commands, CanBeWritten}
@@ -116,12 +116,12 @@ plan_ends_left p k start h = ends_second (plan p k start) ∙ (ap seconds (plan_
 -- ---- what commands do where they stand
 
 -- what is known is selected
-record IsSelected (k : Know) (s : Selected) : Type 0 where
+record IsSelected (k : Know) (s : Selection) : Type 0 where
   pub tool : (n : List ℕ) → k.tool ≡ Some n → s.tool ≡ Some n
   pub frame : (f : Frame) → k.frame ≡ Some f → s.frame ≡ Some f
   pub stored : (p : Point) → k.stored ≡ Some p → s.stored ≡ Some p
 
-nothing_known : (s : Selected) → IsSelected unknown s
+nothing_known : (s : Selection) → IsSelected unknown s
 nothing_known s = record { tool = λ n e. absurd (cc); frame = λ f e. absurd (cc); stored = λ p e. absurd (cc) }
 
 frame_is_selected : (system : Csy) (s r : Option Point) → ((p : Point) → s ≡ Some p → r ≡ Some p) → (f : Frame)
@@ -130,7 +130,7 @@ frame_is_selected MachineCsy s r more f e = e
 frame_is_selected PartCsy None r more f e = absurd (cc)
 frame_is_selected PartCsy (Some p) r more f e = ap (selected_frame PartCsy) (more p refl) ∙ e
 
-selects : (k : Know) (s : Selected) (c : Command) → IsSelected k s → IsSelected (known_by k c) (selected_by s c)
+selects : (k : Know) (s : Selection) (c : Command) → IsSelected k s → IsSelected (known_by k c) (selected_by s c)
 selects k s command.StartSession h = h
 selects k s command.EndSession h = h
 selects k s command.ClearAllErrors h = nothing_known s
@@ -149,7 +149,7 @@ selects k s (command.SetCoordSystem system) h = record {
 selects k s command.AbortE h = h
 
 -- a command that fits what is known does what it is planned for
-fits_as : (k : Know) (s : Selected) (c : Command) (d : Does) → IsSelected k s → FitsOne k c d → read_as s (is_last d) c ≡ Some d
+fits_as : (k : Know) (s : Selection) (c : Command) (d : Does) → IsSelected k s → FitsOne k c d → read_as s (is_last d) c ≡ Some d
 fits_as k s command.StartSession d h fits = ap (λ (x : Does). Some x) (sym fits)
 fits_as k s command.EndSession d h fits = ap (λ (x : Does). Some x) (sym fits)
 fits_as k s command.ClearAllErrors d h fits = ap (λ (x : Does). Some x) (sym fits)
@@ -174,7 +174,7 @@ fits_as k s (command.SetCoordSystem system) d h fits =
     ap read_frame (frame_is_selected system k.stored s.stored h.stored f.frame f.known) ∙ ap (λ (x : Does). Some x) (sym f.is)
 fits_as k s command.AbortE d h fits = absurd fits
 
-as_planned : (ps : List Planned) (k : Know) (s : Selected) → IsSelected k s → Fits k ps → ReadAsPlanned s ps
+as_planned : (ps : List Planned) (k : Know) (s : Selection) → IsSelected k s → Fits k ps → ReadAsPlanned s ps
 as_planned [] k s h fits = tt
 as_planned (p ∷ ps) k s h fits = (
   fits_as k s p.command p.does h fits.0,
@@ -195,7 +195,7 @@ made_as : (d : Option Does) (e : Does) → d ≡ Some e → touch_made d ≡ tou
 made_as d e is = ap touch_made is
 
 -- a touch that is read as the last of its feature is the same touch as one that is not
-made_same : (s : Selected) (p : Point) (d : Option Direction) (last : Bool)
+made_same : (s : Selection) (p : Point) (d : Option Direction) (last : Bool)
     → touch_made (read_as s false (command.PtMeas p d)) ≡ touch_made (read_as s last (command.PtMeas p d))
 made_same s p d last = go s.tool s.frame
   where
@@ -230,7 +230,7 @@ no_touch_frame : (frame : Option Frame) (does : Does) → read_frame frame ≡ S
 no_touch_frame (Some f) does e = ap (λ (x : Does). all_known (touch_of x)) (some_does (Does.Frames f) does e)
 no_touch_frame None does e = absurd (cc)
 
-makes : (s : Selected) (c : Command) (d : Does) → read_as s (is_last d) c ≡ Some d → touches_made_by s c ≡ all_known (touch_of d)
+makes : (s : Selection) (c : Command) (d : Does) → read_as s (is_last d) c ≡ Some d → touches_made_by s c ≡ all_known (touch_of d)
 makes s command.StartSession d e = ap (λ (x : Does). all_known (touch_of x)) (some_does Does.Nothing d e)
 makes s command.EndSession d e = ap (λ (x : Does). all_known (touch_of x)) (some_does Does.Nothing d e)
 makes s command.ClearAllErrors d e = ap (λ (x : Does). all_known (touch_of x)) (some_does Does.Nothing d e)
@@ -249,7 +249,7 @@ known_more : (ts us : List Touch) → all_known (ts ++ us) ≡ all_known ts ++ a
 known_more [] us = refl
 known_more (t ∷ ts) us = ap (λ (l : List (Option Touch)). Some t ∷ l) (known_more ts us)
 
-all_makes : (ps : List Planned) (s : Selected) → ReadAsPlanned s ps → touches_made s (commands_of ps) ≡ all_known (touches_of ps)
+all_makes : (ps : List Planned) (s : Selection) → ReadAsPlanned s ps → touches_made s (commands_of ps) ≡ all_known (touches_of ps)
 all_makes [] s h = refl
 all_makes (p ∷ ps) s h =
     ap (λ (l : List (Option Touch)). touches_made_by s p.command ++ l) (all_makes ps (selected_by s p.command) h.1)

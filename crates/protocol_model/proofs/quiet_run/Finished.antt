@@ -21,14 +21,14 @@ use Rattle.protocol_model.specs.Client.{Client, Table, first_due, may_go, is_run
 use Rattle.protocol_model.specs.Server.{may_end}
 use Rattle.protocol_model.specs.Ends.{front_served}
 use Rattle.protocol_model.specs.World.{World, link_of, client_link, start, can, happens, after, run_of}
-use Rattle.protocol_model.specs.PlainExecution.{Measured, plain_execution, as_measured}
+use Rattle.protocol_model.specs.PlainExecution.{MeasuredFeature, plain_execution, as_measured}
 use Rattle.protocol_model.specs.Finishing.{CanFinish, rejoined, plan_left, AreInReach, AreObeyed, CanMeasure, HasMeasured}
 use Rattle.protocol_model.specs.Rounds.{AreWhile, IsRound, all_of, AreAllBusy}
 use Rattle.protocol_model.specs.declared.events.Event.{Event}
 use Rattle.protocol_model.specs.declared.events.Event.TheVariants.{Connect, Accept, ClientSends, Up, ServerReads, ServerTurn, Machine, Down}
 use Rattle.protocol_model.specs.declared.events.Event.TheVariants.{ClientReads, ClientLeaves, ServerLeaves, Abort, Resume, ClientRestart}
 use Rattle.protocol_model.specs.declared.events.Event.TheVariants.{ServerRestart}
-use Rattle.protocol_model.specs.declared.held.Held.{Held}
+use Rattle.protocol_model.specs.declared.held.OpenCommand.{OpenCommand}
 use Rattle.protocol_model.specs.declared.lines.Line.{Line}
 use Rattle.protocol_model.specs.declared.machine.Job.{Job}
 use Rattle.protocol_model.specs.declared.machine.Outcome.{Outcome}
@@ -128,7 +128,7 @@ still_up w s k =
 -- ---- the beginning
 
 -- what is to be held in the end
-abbrev goal_of : (Job → ℕ → Outcome) → World → List Measured
+abbrev goal_of : (Job → ℕ → Outcome) → World → List MeasuredFeature
 goal_of answer b = as_measured b.client.client.table.tally.features ++ plain_execution answer (contact_count b.server.server.ledger)
     (drop (length b.client.client.table.tally.features) b.client.client.program.features)
 
@@ -146,7 +146,7 @@ begins_good answer b w r closed can_measure = record {
     kept : List Feature
     kept = b.client.client.table.tally.features
 
-    goal : List Measured
+    goal : List MeasuredFeature
     goal = goal_of answer b
 
     ws : List Wanted
@@ -170,7 +170,7 @@ begins_good answer b w r closed can_measure = record {
           (touches_in (plan_left b))) r.program
           ∙ (ap (λ (l : List _). as_measured kept ++ rest_of answer n (drop (length kept) b.client.client.program.features) [] l)
           (plan_touches b.client.client.program (length kept) Start.NewConnection plain)
-          ∙ ap (λ (l : List Measured). as_measured kept ++ l)
+          ∙ ap (λ (l : List MeasuredFeature). as_measured kept ++ l)
           (rest_plain answer n (drop (length kept) b.client.client.program.features)
           (have_drop (length kept) b.client.client.program.features (program_has b.client.client.program plain)))));
     }
@@ -192,7 +192,8 @@ open_none window c le = ap (λ (t : Bool). t && (not (is_clearing c) || eqb 0 0)
     or_zero true = refl
     or_zero false = refl
 
-all_done : (answer : Job → ℕ → Outcome) (goal : List Measured) (kept : List Feature) (w : World) → IsStill w → IsGood answer goal kept w
+all_done : (answer : Job → ℕ → Outcome) (goal : List MeasuredFeature) (kept : List Feature) (w : World) → IsStill w
+    → IsGood answer goal kept w
     → 1 ≤ w.client.client.window → can ClientSends w ≡ false → IsAll w
 all_done answer goal kept w s g window never = go g.going
   where
@@ -247,7 +248,8 @@ all_done answer goal kept w s g window never = go g.going
     due_now (p ∷ ps) e some running =
         ap (λ (x : State). is_some (cond (is_running x && not (is_asking c.table.standard))
         (first_due c.window (count_open c.table.standard) c.table.tally.unsent) None)) running
-        ∙ (ap (λ (hs : List Held). is_some (cond (not (is_asking hs)) (first_due c.window (count_open hs) c.table.tally.unsent) None))
+        ∙ (ap (λ (hs : List OpenCommand). is_some (cond (not (is_asking hs))
+        (first_due c.window (count_open hs) c.table.tally.unsent) None))
         standard
         ∙ (ap (λ (l : List Planned). is_some (first_due c.window 0 l)) e
         ∙ ap (λ (t : Bool). is_some (cond t (Some p) None)) (open_none c.window p.command window)))
@@ -283,7 +285,7 @@ finished answer b rounds k closed window f can_measure busy =
     kept : List Feature
     kept = b.client.client.table.tally.features
 
-    goal : List Measured
+    goal : List MeasuredFeature
     goal = goal_of answer b
 
     joined : World

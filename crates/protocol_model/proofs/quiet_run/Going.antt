@@ -19,11 +19,11 @@ use Rattle.protocol_model.specs.Client.{next_number, held_now, state_behind, las
 use Rattle.protocol_model.specs.Server.{Server, Answer, answers, queued, server_read, server_turned, server_machined, turned_to, machined}
 use Rattle.protocol_model.specs.Server.{job_run}
 use Rattle.protocol_model.specs.World.{World, can, happens, after}
-use Rattle.protocol_model.specs.PlainExecution.{Measured}
+use Rattle.protocol_model.specs.PlainExecution.{MeasuredFeature}
 use Rattle.protocol_model.specs.declared.events.Event.{Event as OneEvent}
 use Rattle.protocol_model.specs.declared.events.Event.TheVariants as event
 use Rattle.protocol_model.specs.declared.held.Datum.{Datum}
-use Rattle.protocol_model.specs.declared.held.Held.{Held}
+use Rattle.protocol_model.specs.declared.held.OpenCommand.{OpenCommand}
 use Rattle.protocol_model.specs.declared.held.Stage.{Stage}
 use Rattle.protocol_model.specs.declared.lines.Line.{Line}
 use Rattle.protocol_model.specs.declared.lines.Waiting.{Waiting}
@@ -130,7 +130,7 @@ ack_counts Stage.Received given e = cc
 ack_counts (Stage.Given p) given e = cc
 ack_counts Stage.Failed given e = cc
 
-ack_quiet : (front : Bool) (hs : List Held) (t : Tag) (gs : List Held) (e : Effect) → heard_in front hs t Mark.Ack ≡ two gs e
+ack_quiet : (front : Bool) (hs : List OpenCommand) (t : Tag) (gs : List OpenCommand) (e : Effect) → heard_in front hs t Mark.Ack ≡ two gs e
     → e ≡ Effect.Quiet
 ack_quiet front [] t gs e is = absurd (cc)
 ack_quiet front (h ∷ hs) t gs e is = heard_cases front h hs t Mark.Ack gs e (e ≡ Effect.Quiet) is
@@ -154,7 +154,7 @@ abbrev pub IsGoing : Client → Type 0
 IsGoing c = ((c.state ≡ State.Running) × (is_empty c.table.tally.todo ≡ false)) ⊎ ((c.state ≡ State.Done) × (c.table.tally.todo ≡ []))
 
 -- nothing has failed, and once the client has read all, what is to be done is ready at the server
-pub record IsGood (answer : Job → ℕ → Outcome) (goal : List Measured) (kept : List Feature) (b : World) : Type 0 where
+pub record IsGood (answer : Job → ℕ → Outcome) (goal : List MeasuredFeature) (kept : List Feature) (b : World) : Type 0 where
   pub carried : IsCarried b
   pub going : IsGoing b.client.client
   pub error : b.server.server.error ≡ false
@@ -186,7 +186,7 @@ here_of b h client_on on same = go h.inv.side
 
 -- ---- the server answers
 
-answered_good : (answer : Job → ℕ → Outcome) (goal : List Measured) (kept : List Feature) (b : World) → IsJoined b
+answered_good : (answer : Job → ℕ → Outcome) (goal : List MeasuredFeature) (kept : List Feature) (b : World) → IsJoined b
     → (g : IsGood answer goal kept b) (live : IsLive (lined b g.carried.up g.carried.down)) (v : World) (carried : IsCarried v) (a : Answer)
     → v.client ≡ b.client → v.server.server ≡ a.server
     → carried.down ≡ cond (eqb b.server.server.last b.client.client.last) (g.carried.down ++ a.said) g.carried.down
@@ -220,7 +220,7 @@ answered_good answer goal kept b j g live v carried a client server down succeed
         subst (λ (x : Table). ReadyAt answer goal kept ws a.server x.tally) same succeeds.ready
 
 -- the first that waits has its turn
-turn_good : (answer : Job → ℕ → Outcome) (goal : List Measured) (kept : List Feature) (b : World) → IsJoined b
+turn_good : (answer : Job → ℕ → Outcome) (goal : List MeasuredFeature) (kept : List Feature) (b : World) → IsJoined b
     → IsGood answer goal kept b → can event.ServerTurn b ≡ true → IsGood answer goal kept (happens event.ServerTurn b)
 turn_good answer goal kept b j g may =
     answered_good answer goal kept b j g here.live (happens event.ServerTurn b) (turn_carried b g.carried j.on may)
@@ -252,7 +252,7 @@ turn_good answer goal kept b j g may =
         here.near.aborts n here.live.progress (ap (λ (o : Option Line). listed o ++ x ∷ others) no_run) g.error) ready g.error)
 
 -- what runs ends
-end_good : (answer : Job → ℕ → Outcome) (goal : List Measured) (kept : List Feature) (b : World) (outcome : Outcome)
+end_good : (answer : Job → ℕ → Outcome) (goal : List MeasuredFeature) (kept : List Feature) (b : World) (outcome : Outcome)
     → IsJoined b → IsGood answer goal kept b → IsEnd answer b.server.server outcome → can (event.Machine outcome) b ≡ true
     → IsGood answer goal kept (happens (event.Machine outcome) b)
 end_good answer goal kept b outcome j g end may =
@@ -295,7 +295,7 @@ first_line [] d = d
 first_line (l ∷ ls) d = l
 
 -- a line that is read has joined what waits, and its receipt changes no tally
-line_succeeds : (answer : Job → ℕ → Outcome) (goal : List Measured) (kept : List Feature) (b : World) → IsJoined b
+line_succeeds : (answer : Job → ℕ → Outcome) (goal : List MeasuredFeature) (kept : List Feature) (b : World) → IsJoined b
     → (g : IsGood answer goal kept b) (here : Here b g.carried) (x : Line) (up : List Line) → g.carried.up ≡ x ∷ up
     → Succeeds answer goal kept (lined b g.carried.up g.carried.down) here.live.table (server_read b.server.server (Ok x))
 line_succeeds answer goal kept b j g here x up up_is = go here.near.coming refl
@@ -355,7 +355,7 @@ line_succeeds answer goal kept b j g here x up up_is = go here.near.coming refl
           few = few_open (lined b g.carried.up g.carried.down) g.carried.inv here.live;
         }) g.error)
 
-read_good : (answer : Job → ℕ → Outcome) (goal : List Measured) (kept : List Feature) (b : World)
+read_good : (answer : Job → ℕ → Outcome) (goal : List MeasuredFeature) (kept : List Feature) (b : World)
     → IsJoined b → IsGood answer goal kept b → can event.ServerReads b ≡ true
     → IsGood answer goal kept (happens event.ServerReads b)
 read_good answer goal kept b j g may =
@@ -369,13 +369,13 @@ read_good answer goal kept b j g may =
 -- ---- the client sends
 
 -- what is asked of a client
-record IsFine (answer : Job → ℕ → Outcome) (goal : List Measured) (kept : List Feature) (s : Server) (down : List Reply) (c : Client)
+record IsFine (answer : Job → ℕ → Outcome) (goal : List MeasuredFeature) (kept : List Feature) (s : Server) (down : List Reply) (c : Client)
     : Type 0
   where
     going : IsGoing c
     ready : (t : Table) → Reads c.program.features c.table down t → ReadyAt answer goal kept c.program.features s t.tally
 
-with_others : (answer : Job → ℕ → Outcome) (goal : List Measured) (kept : List Feature) (ws : List Wanted) (s : Server) (y : Tally)
+with_others : (answer : Job → ℕ → Outcome) (goal : List MeasuredFeature) (kept : List Feature) (ws : List Wanted) (s : Server) (y : Tally)
     (ps : List Planned) → ReadyAt answer goal kept ws s y → ReadyAt answer goal kept ws s (record y { unsent = ps })
 with_others answer goal kept ws s y ps r = record {
   failed = r.failed;
@@ -386,7 +386,7 @@ with_others answer goal kept ws s y ps r = record {
   rest = r.rest;
 }
 
-sends_good : (answer : Job → ℕ → Outcome) (goal : List Measured) (kept : List Feature)
+sends_good : (answer : Job → ℕ → Outcome) (goal : List MeasuredFeature) (kept : List Feature)
     (b : World) → IsJoined b → IsGood answer goal kept b → can event.ClientSends b ≡ true
     → IsGood answer goal kept (happens event.ClientSends b)
 sends_good answer goal kept b j g may =
@@ -413,7 +413,7 @@ sends_good answer goal kept b j g may =
     sent_so : (n : ℕ) → IsFine answer goal kept b.server.server g.carried.down (sends_next c (d.planned ∷ d.others) (Some n)).client
     sent_so n =
         let here : Here b g.carried = here_of b g.carried j.client_on j.on j.same in
-        let x : Held = held_now (Std n) (kind_of d.planned.command) in
+        let x : OpenCommand = held_now (Std n) (kind_of d.planned.command) in
         let unasked : AreUnasked ws c.table here.live.table g.carried.down =
         reads_unasked ws g.carried.down c.table here.live.table here.live.reads d.quiet in
         let reads : Reads ws (with_standard x (with_unsent d.others c.table)) g.carried.down
@@ -462,7 +462,7 @@ heard_going c t m mid is failed events (inl running) = go (is_empty mid.tally.to
         failed ∙ last_whole (is_whole mid) (count_open mid.standard))
 
     whole : (e : Bool) → is_empty mid.tally.todo ≡ e → is_whole mid ≡ e
-    whole true e = ap (λ (x : Bool). x && eqb (count_open mid.event) 0) e ∙ ap (λ (hs : List Held). eqb (count_open hs) 0) event
+    whole true e = ap (λ (x : Bool). x && eqb (count_open mid.event) 0) e ∙ ap (λ (hs : List OpenCommand). eqb (count_open hs) 0) event
     whole false e = ap (λ (x : Bool). x && eqb (count_open mid.event) 0) e
 
     none : (l : List Planned) → is_empty l ≡ true → l ≡ []
@@ -477,7 +477,7 @@ heard_going c t m mid is failed events (inr done) = inr (
   step_todo c.program.features c.table t m mid is done.1,
 )
 
-hears_good : (answer : Job → ℕ → Outcome) (goal : List Measured) (kept : List Feature)
+hears_good : (answer : Job → ℕ → Outcome) (goal : List MeasuredFeature) (kept : List Feature)
     (b : World) → IsJoined b → IsGood answer goal kept b → can event.ClientReads b ≡ true
     → IsGood answer goal kept (happens event.ClientReads b)
 hears_good answer goal kept b j g may =
@@ -546,7 +546,7 @@ hears_good answer goal kept b j g may =
 
 -- ---- all events of a round
 
-pub keeps_good : (answer : Job → ℕ → Outcome) (goal : List Measured) (kept : List Feature)
+pub keeps_good : (answer : Job → ℕ → Outcome) (goal : List MeasuredFeature) (kept : List Feature)
     → Keeps answer (IsGood answer goal kept)
 keeps_good answer goal kept e b of j g = go (can e b) refl
   where

@@ -19,7 +19,7 @@ use Rattle.dmis_program.specs.declared.steps.Step.TheVariants as step
 use Rattle.protocol_model.specs.Client.{Tally, is_homing, passed_over, measured, counted_next, tells_homed, begins_session}
 use Rattle.protocol_model.specs.Client.{act_of, joined, origin_of}
 use Rattle.protocol_model.specs.Plan.{planned, framing, tooling, stepping, plan, tool_behind, frame_behind, up_to, behind}
-use Rattle.protocol_model.specs.PlainExecution.{Measured, plain_point, plain_points, plain_execution, as_measured}
+use Rattle.protocol_model.specs.PlainExecution.{MeasuredFeature, plain_point, plain_points, plain_execution, as_measured}
 use Rattle.protocol_model.specs.Finishing.{AreInReach, AreObeyed, number_behind}
 use Rattle.protocol_model.specs.declared.held.Datum.{Datum}
 use Rattle.protocol_model.specs.declared.held.Datum.TheVariants as datum
@@ -142,7 +142,7 @@ plan_opened p k homed =
 -- ---- what is still to be measured
 
 -- what is measured of touches, with these points of the unfinished feature; the last touch of a feature ends it
-abbrev pub rest_of : (Job → ℕ → Outcome) → ℕ → List Wanted → List Point → List Marked → List Measured
+abbrev pub rest_of : (Job → ℕ → Outcome) → ℕ → List Wanted → List Point → List Marked → List MeasuredFeature
 rest_of answer n ws points [] = []
 rest_of answer n ws points ((t, false) ∷ ms) = rest_of answer (suc n) ws (points ++ plain_point answer n t ∷ []) ms
 rest_of answer n [] points ((t, true) ∷ ms) = rest_of answer (suc n) [] [] ms
@@ -183,14 +183,15 @@ rest_plain answer n (w ∷ ws) h = go (rest_plain answer (n + length w.touches) 
         ∙ (rest_block answer n w ws [] t ts (marks_of ws)
         ∙ (ap (λ (l : List Touch). record { label = w.label; points = plain_points answer n l }
         ∷ rest_of answer (n + length l) ws [] (marks_of ws)) (sym e)
-        ∙ ap (λ (l : List Measured). record { label = w.label; points = plain_points answer n w.touches } ∷ l)
+        ∙ ap (λ (l : List MeasuredFeature). record { label = w.label; points = plain_points answer n w.touches } ∷ l)
         later))
 
 -- ---- all that must hold of what is to be done
 
 -- nothing has failed, what is to be done succeeds, the features held before are the first of those held, and all of them, with what is
 -- still to be measured, are the ones that are wanted
-pub record IsReady (answer : Job → ℕ → Outcome) (goal : List Measured) (kept : List Feature) (ws : List Wanted) (session homed : Bool)
+pub record IsReady (answer : Job → ℕ → Outcome) (goal : List MeasuredFeature) (kept : List Feature) (ws : List Wanted)
+    (session homed : Bool)
     (rack : List (List ℕ)) (n : ℕ) (y : Tally) : Type 0 where
   pub failed : y.failed ≡ false
   pub opened : Opened session homed y.todo
@@ -260,7 +261,7 @@ counted_mid k given p todo y = record y {
 }
 
 -- a command that is no touch is counted
-pub counts_ready : (answer : Job → ℕ → Outcome) (goal : List Measured) (kept : List Feature) (ws : List Wanted)
+pub counts_ready : (answer : Job → ℕ → Outcome) (goal : List MeasuredFeature) (kept : List Feature) (ws : List Wanted)
     (session homed later_session later_homed : Bool) (rack : List (List ℕ)) (n : ℕ) (y : Tally) (k : Kind) (given : Option Datum)
     (p : Planned) (whole : List Planned) (know : Know)
     → IsReady answer goal kept ws session homed rack n y → y.todo ≡ p ∷ whole → IsNoTouch p.does → Fits know whole
@@ -300,7 +301,7 @@ counts_ready answer goal kept ws session homed later_session later_homed rack n 
 -- features as they were measured, one list behind another
 pub measured_more : (fs gs : List Feature) → as_measured (fs ++ gs) ≡ as_measured fs ++ as_measured gs
 measured_more [] gs = refl
-measured_more (f ∷ fs) gs = ap (λ (l : List Measured). record { label = f.label; points = f.points } ∷ l) (measured_more fs gs)
+measured_more (f ∷ fs) gs = ap (λ (l : List MeasuredFeature). record { label = f.label; points = f.points } ∷ l) (measured_more fs gs)
 
 -- what joins the features that are held: the next one that is wanted
 record Joins (ws : List Wanted) (fs : List Feature) (points : List Point) (origin : Option Origin) (answer : Job → ℕ → Outcome) (n : ℕ)
@@ -323,11 +324,11 @@ joins (w ∷ ws) (f ∷ fs) before origin answer n t ms =
     let j = joins ws fs before origin answer n t ms in
     record {
       front = (j.front.0, ap (λ (l : List Feature). f ∷ l) j.front.1);
-      rest = ap (λ (l : List Measured). record { label = f.label; points = f.points } ∷ l) j.rest;
+      rest = ap (λ (l : List MeasuredFeature). record { label = f.label; points = f.points } ∷ l) j.rest;
     }
 
 -- a touch is counted, with the point that the plain execution has there
-pub touch_ready : (answer : Job → ℕ → Outcome) (goal : List Measured) (kept : List Feature) (ws : List Wanted)
+pub touch_ready : (answer : Job → ℕ → Outcome) (goal : List MeasuredFeature) (kept : List Feature) (ws : List Wanted)
     (session homed : Bool) (rack : List (List ℕ)) (n : ℕ) (y : Tally) (k : Kind) (t : Touch) (last : Bool) (p : Planned)
     (whole : List Planned)
     → IsReady answer goal kept ws session homed rack n y → y.todo ≡ p ∷ whole → p.does ≡ Does.Touches t last

@@ -25,13 +25,13 @@ use Rattle.protocol_model.specs.Server.{Server, Answer, answers, acted, idle, re
 use Rattle.protocol_model.specs.Server.{machined, offset, in_volume, frame_of, job_of, wants_session, opens, wants_home, lacks_tool}
 use Rattle.protocol_model.specs.Server.{has_no_tool}
 use Rattle.protocol_model.specs.Server.{leaves_volume}
-use Rattle.protocol_model.specs.Claims.{Made, contacts}
+use Rattle.protocol_model.specs.Claims.{MadeContact, contacts}
 use Rattle.protocol_model.specs.Typed.{World}
-use Rattle.protocol_model.specs.PlainExecution.{Measured, touch_job, met_at, plain_point, as_measured}
+use Rattle.protocol_model.specs.PlainExecution.{MeasuredFeature, touch_job, met_at, plain_point, as_measured}
 use Rattle.protocol_model.specs.Finishing.{IsInReach, AreInReach, IsTouched, IsObeyed, AreObeyed}
 use Rattle.protocol_model.specs.declared.held.Datum.{Datum}
 use Rattle.protocol_model.specs.declared.held.Datum.TheVariants as datum
-use Rattle.protocol_model.specs.declared.held.Held.{Held}
+use Rattle.protocol_model.specs.declared.held.OpenCommand.{OpenCommand}
 use Rattle.protocol_model.specs.declared.lines.Line.{Line}
 use Rattle.protocol_model.specs.declared.machine.Job.{Job}
 use Rattle.protocol_model.specs.declared.machine.Job.TheVariants as job
@@ -59,7 +59,7 @@ some_is : {A : Type 0} (x y : A) → ◌≡◌ {A = Option A} (Some x) (Some y) 
 some_is {A} x y e = ap (λ (o : Option A). or_else o x) e
 
 -- what is to be done is ready at a server
-abbrev pub ReadyAt : (Job → ℕ → Outcome) → List Measured → List Feature → List Wanted → Server → Tally → Type 0
+abbrev pub ReadyAt : (Job → ℕ → Outcome) → List MeasuredFeature → List Feature → List Wanted → Server → Tally → Type 0
 ReadyAt answer goal kept ws s y = IsReady answer goal kept ws s.session s.homed s.rack (contact_count s.ledger) y
 
 -- ---- no check fails
@@ -131,7 +131,8 @@ counted acts =
     is_count_by (λ (l : List (ℕ × Act)). length (contacts l)) (λ (entry : ℕ × Act). is_contact entry.1) refl counted_more acts
 
 count_more : (l k : List (ℕ × Act)) → contact_count (l ++ k) ≡ contact_count l + length (contacts k)
-count_more l k = sym (counted (l ++ k)) ∙ (ap (λ (ms : List Made). length ms) (contacts_more l k) ∙ (length-append (contacts l) (contacts k)
+count_more l k = sym (counted (l ++ k)) ∙ (ap (λ (ms : List MadeContact). length ms) (contacts_more l k)
+    ∙ (length-append (contacts l) (contacts k)
     ∙ ap (λ (i : ℕ). i + length (contacts k)) (counted l)))
 
 -- an act that is no contact adds none
@@ -160,7 +161,8 @@ count_one l m target dir tool frame point =
 -- ---- a command succeeds
 
 -- the client reads the answer, nothing has failed, and what is left is ready
-pub record Succeeds (answer : Job → ℕ → Outcome) (goal : List Measured) (kept : List Feature) (w : World) (table : Table) (a : Answer)
+pub record Succeeds (answer : Job → ℕ → Outcome) (goal : List MeasuredFeature) (kept : List Feature) (w : World) (table : Table)
+    (a : Answer)
     : Type 0
   where
     pub next : Table
@@ -169,28 +171,32 @@ pub record Succeeds (answer : Job → ℕ → Outcome) (goal : List Measured) (k
     pub error : a.server.error ≡ false
 
 -- the facts of a front command
-record AtFront (answer : Job → ℕ → Outcome) (goal : List Measured) (kept : List Feature) (w : World) (table : Table) (left : List Wanted)
+record AtFront (answer : Job → ℕ → Outcome) (goal : List MeasuredFeature) (kept : List Feature) (w : World) (table : Table)
+    (left : List Wanted)
     (x : Line) (queued coming : List Line) (aborts : List ℕ) : Type 0 where
   front : IsAtFront w table left x queued coming aborts
   ready : ReadyAt answer goal kept w.client.program.features w.server table.tally
   error : w.server.error ≡ false
 
-abbrev first_of : {answer : Job → ℕ → Outcome} {goal : List Measured} {kept : List Feature} {w : World} {table : Table} {left : List Wanted}
+abbrev first_of : {answer : Job → ℕ → Outcome} {goal : List MeasuredFeature} {kept : List Feature} {w : World} {table : Table}
+    {left : List Wanted}
     {x : Line} {queued coming : List Line} {aborts : List ℕ} → AtFront answer goal kept w table left x queued coming aborts → Planned
 first_of {x = x} h = record { command = x.command; does = h.front.does }
 
-abbrev whole_of : {answer : Job → ℕ → Outcome} {goal : List Measured} {kept : List Feature} {w : World} {table : Table} {left : List Wanted}
+abbrev whole_of : {answer : Job → ℕ → Outcome} {goal : List MeasuredFeature} {kept : List Feature} {w : World} {table : Table}
+    {left : List Wanted}
     {x : Line} {queued coming : List Line} {aborts : List ℕ} → AtFront answer goal kept w table left x queued coming aborts → List Planned
 whole_of {table = table} h = h.front.steps ++ table.tally.unsent
 
-opened_front : (answer : Job → ℕ → Outcome) (goal : List Measured) (kept : List Feature) (w : World) (table : Table) (left : List Wanted)
+opened_front : (answer : Job → ℕ → Outcome) (goal : List MeasuredFeature) (kept : List Feature) (w : World) (table : Table)
+    (left : List Wanted)
     (x : Line) (queued coming : List Line) (aborts : List ℕ) (h : AtFront answer goal kept w table left x queued coming aborts)
     → Opened w.server.session w.server.homed (first_of h ∷ whole_of h)
 opened_front answer goal kept w table left x queued coming aborts h =
     subst (Opened w.server.session w.server.homed) h.front.todo h.ready.opened
 
 -- it is done without data
-done_ok : (answer : Job → ℕ → Outcome) (goal : List Measured) (kept : List Feature) (w : World) (table : Table) (left : List Wanted)
+done_ok : (answer : Job → ℕ → Outcome) (goal : List MeasuredFeature) (kept : List Feature) (w : World) (table : Table) (left : List Wanted)
     (x : Line) (queued coming : List Line) (aborts : List ℕ) (s : Server)
     (h : AtFront answer goal kept w table left x queued coming aborts) (does : Does) → h.front.does ≡ does → IsNoTouch does
     → asks_data (kind_of x.command) ≡ false → tells_homed (kind_of x.command) None ≡ false
@@ -199,10 +205,10 @@ done_ok : (answer : Job → ℕ → Outcome) (goal : List Measured) (kept : List
 done_ok answer goal kept w table left x queued coming aborts s h does is none asks quiet opened rack count error =
     let ws : List Wanted = w.client.program.features in
     let f : IsAtFront w table left x queued coming aborts = h.front in
-    let hs : List Held = all_received queued ++ all_sent coming in
+    let hs : List OpenCommand = all_received queued ++ all_sent coming in
     record {
       next = tabled hs table.event (counted_next ws (kind_of x.command) None table.tally.todo table.tally);
-      reads = subst (λ (l : List Held). Reads ws (tabled l table.event table.tally) (Reply.Done x.tag ∷ [])
+      reads = subst (λ (l : List OpenCommand). Reads ws (tabled l table.event table.tally) (Reply.Done x.tag ∷ [])
           (tabled hs table.event (counted_next ws (kind_of x.command) None table.tally.todo table.tally))) (sym f.standard_is)
           (done_first ws x hs table.event table.tally f.standard.0 f.calm asks);
       ready = subst (λ (r : List (List ℕ)). IsReady answer goal kept ws s.session s.homed r (contact_count s.ledger)
@@ -217,7 +223,7 @@ done_ok answer goal kept w table left x queued coming aborts s h does is none as
     }
 
 -- it runs
-runs_ok : (answer : Job → ℕ → Outcome) (goal : List Measured) (kept : List Feature) (w : World) (table : Table) (left : List Wanted)
+runs_ok : (answer : Job → ℕ → Outcome) (goal : List MeasuredFeature) (kept : List Feature) (w : World) (table : Table) (left : List Wanted)
     (x : Line) (queued coming : List Line) (aborts : List ℕ) (s : Server)
     (h : AtFront answer goal kept w table left x queued coming aborts) → Opened s.session s.homed (first_of h ∷ whole_of h)
     → s.rack ≡ w.server.rack → s.ledger ≡ w.server.ledger → s.error ≡ false → Succeeds answer goal kept w table (answers s [])
@@ -239,7 +245,7 @@ runs_ok answer goal kept w table left x queued coming aborts s h opened rack led
 
 -- ---- a turn
 
-turn_ok : (answer : Job → ℕ → Outcome) (goal : List Measured) (kept : List Feature) (w : World) (table : Table) (left : List Wanted)
+turn_ok : (answer : Job → ℕ → Outcome) (goal : List MeasuredFeature) (kept : List Feature) (w : World) (table : Table) (left : List Wanted)
     (t : Tag) (c : Command) (queued coming : List Line) (aborts : List ℕ)
     → AtFront answer goal kept w table left (record { tag = t; command = c }) queued coming aborts
     → Succeeds answer goal kept w table (carried_out (record (w.server) { waiting = all_wait queued }) t c)
@@ -270,14 +276,14 @@ turn_ok answer goal kept w table left t command.IsHomed queued coming aborts h =
     let ws : List Wanted = w.client.program.features in
     let x : Line = record { tag = t; command = command.IsHomed } in
     let f : IsAtFront w table left x queued coming aborts = h.front in
-    let hs : List Held = all_received queued ++ all_sent coming in
+    let hs : List OpenCommand = all_received queued ++ all_sent coming in
     let d : Datum = datum.Homed w.server.homed in
     let k : Option Datum = Some d in
     let next : Tally = counted_next ws (kind_of command.IsHomed) k table.tally.todo table.tally in
     let s : Server = acted (act.HomedIs w.server.homed) (record (w.server) { waiting = all_wait queued }) in
     record {
       next = tabled hs table.event next;
-      reads = subst (λ (l : List Held). Reads ws (tabled l table.event table.tally) (Reply.Given t d ∷ Reply.Done t ∷ [])
+      reads = subst (λ (l : List OpenCommand). Reads ws (tabled l table.event table.tally) (Reply.Given t d ∷ Reply.Done t ∷ [])
           (tabled hs table.event next)) (sym f.standard_is)
           (given_first ws x d hs table.event table.tally f.standard.0 f.calm refl);
       ready = subst (λ (i : ℕ). IsReady answer goal kept ws w.server.session w.server.homed w.server.rack i next)
@@ -309,7 +315,7 @@ turn_ok answer goal kept w table left t (command.PtMeas p d) queued coming abort
 turn_ok answer goal kept w table left t command.AbortE queued coming aborts h = absurd h.front.one
 
 -- the turn of a command that is ready succeeds
-pub turn_succeeds : (answer : Job → ℕ → Outcome) (goal : List Measured) (kept : List Feature) (w : World) (table : Table)
+pub turn_succeeds : (answer : Job → ℕ → Outcome) (goal : List MeasuredFeature) (kept : List Feature) (w : World) (table : Table)
     (left : List Wanted) (x : Line) (queued coming : List Line) (aborts : List ℕ) → IsAtFront w table left x queued coming aborts
     → ReadyAt answer goal kept w.client.program.features w.server table.tally → w.server.error ≡ false
     → Succeeds answer goal kept w table (taken w.server (waits x) (all_wait queued) (refusal w.server (Ok x.command)))
@@ -323,7 +329,7 @@ turn_succeeds answer goal kept w table left x queued coming aborts f r error =
 
 -- ---- the end of what runs
 
-obeyed : (answer : Job → ℕ → Outcome) (goal : List Measured) (kept : List Feature) (w : World) (table : Table) (left : List Wanted)
+obeyed : (answer : Job → ℕ → Outcome) (goal : List MeasuredFeature) (kept : List Feature) (w : World) (table : Table) (left : List Wanted)
     (x : Line) (queued coming : List Line) (aborts : List ℕ) (h : AtFront answer goal kept w table left x queued coming aborts)
     → IsObeyed answer (contact_count w.server.ledger) h.front.does
 obeyed answer goal kept w table left x queued coming aborts h =
@@ -334,13 +340,13 @@ job_outcome : (answer : Job → ℕ → Outcome) (n : ℕ) (j k : Job) (outcome 
     → outcome ≡ answer k n → answer j n ≡ o → outcome ≡ o
 job_outcome answer n j k outcome o same is e = is ∙ (ap (λ (i : Job). answer i n) (sym (some_is j k same)) ∙ e)
 
-done_end : (answer : Job → ℕ → Outcome) (goal : List Measured) (kept : List Feature) (w : World) (table : Table) (x : Line)
+done_end : (answer : Job → ℕ → Outcome) (goal : List MeasuredFeature) (kept : List Feature) (w : World) (table : Table) (x : Line)
     (outcome : Outcome) → outcome ≡ Outcome.Done → Succeeds answer goal kept w table (machined w.server Outcome.Done (Some x))
     → Succeeds answer goal kept w table (machined w.server outcome (Some x))
 done_end answer goal kept w table x outcome e h =
     subst (λ (o : Outcome). Succeeds answer goal kept w table (machined w.server o (Some x))) (sym e) h
 
-touch_ok : (answer : Job → ℕ → Outcome) (goal : List Measured) (kept : List Feature) (w : World) (table : Table) (left : List Wanted)
+touch_ok : (answer : Job → ℕ → Outcome) (goal : List MeasuredFeature) (kept : List Feature) (w : World) (table : Table) (left : List Wanted)
     (t : Tag) (p : Point) (d : Option Direction) (queued coming : List Line) (aborts : List ℕ)
     (h : AtFront answer goal kept w table left (record { tag = t; command = command.PtMeas p d }) queued coming aborts)
     (fits : FitsTouch (know_of w.server) p d h.front.does) (at : Point) (tool : Option (List ℕ)) → w.server.tool ≡ tool
@@ -352,14 +358,15 @@ touch_ok answer goal kept w table left t p d queued coming aborts h fits at (Som
     let ws : List Wanted = w.client.program.features in
     let x : Line = record { tag = t; command = command.PtMeas p d } in
     let f : IsAtFront w table left x queued coming aborts = h.front in
-    let hs : List Held = all_received queued ++ all_sent coming in
+    let hs : List OpenCommand = all_received queued ++ all_sent coming in
     let q : Point = point_difference at (offset w.server.frame) in
     let k : Option Datum = Some (datum.Point q) in
     let n : ℕ = contact_count w.server.ledger in
     let next : Tally = counted_next ws (kind_of (command.PtMeas p d)) k table.tally.todo table.tally in
     record {
       next = tabled hs table.event next;
-      reads = subst (λ (l : List Held). Reads ws (tabled l table.event table.tally) (Reply.Given t (datum.Point q) ∷ Reply.Done t ∷ [])
+      reads = subst (λ (l : List OpenCommand). Reads ws (tabled l table.event table.tally)
+          (Reply.Given t (datum.Point q) ∷ Reply.Done t ∷ [])
           (tabled hs table.event next)) (sym f.standard_is)
           (given_first ws x (datum.Point q) hs table.event table.tally f.standard.0 f.calm refl);
       ready = subst (λ (i : ℕ). IsReady answer goal kept ws w.server.session w.server.homed w.server.rack i next)
@@ -372,7 +379,7 @@ touch_ok answer goal kept w table left t p d queued coming aborts h fits at (Som
       error = h.error;
     }
 
-end_ok : (answer : Job → ℕ → Outcome) (goal : List Measured) (kept : List Feature) (w : World) (table : Table) (left : List Wanted)
+end_ok : (answer : Job → ℕ → Outcome) (goal : List MeasuredFeature) (kept : List Feature) (w : World) (table : Table) (left : List Wanted)
     (t : Tag) (c : Command) (queued coming : List Line) (aborts : List ℕ)
     → AtFront answer goal kept w table left (record { tag = t; command = c }) queued coming aborts → IsJob c
     → w.server.waiting ≡ all_wait queued → (k : Job) → job_of w.server.frame c ≡ Some k → (outcome : Outcome)
@@ -459,7 +466,7 @@ end_ok answer goal kept w table left t (command.SetCoordSystem system) queued co
 end_ok answer goal kept w table left t command.AbortE queued coming aborts h j waiting k asked outcome is = absurd j
 
 -- the end of a job that is ready and that the machine obeys succeeds
-pub end_succeeds : (answer : Job → ℕ → Outcome) (goal : List Measured) (kept : List Feature) (w : World) (table : Table)
+pub end_succeeds : (answer : Job → ℕ → Outcome) (goal : List MeasuredFeature) (kept : List Feature) (w : World) (table : Table)
     (left : List Wanted) (x : Line) (queued coming : List Line) (aborts : List ℕ) → IsAtFront w table left x queued coming aborts
     → ReadyAt answer goal kept w.client.program.features w.server table.tally → w.server.error ≡ false → IsJob x.command
     → w.server.waiting ≡ all_wait queued → (k : Job) → job_of w.server.frame x.command ≡ Some k → (outcome : Outcome)

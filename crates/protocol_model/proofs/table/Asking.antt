@@ -15,7 +15,7 @@ use Rattle.protocol_model.specs.Client.{passed_over, heard_on}
 use Rattle.protocol_model.proofs.HeardTables.{heard}
 use Rattle.protocol_model.specs.declared.held.Datum.{Datum}
 use Rattle.protocol_model.specs.declared.held.Datum.TheVariants as datum
-use Rattle.protocol_model.specs.declared.held.Held.{Held}
+use Rattle.protocol_model.specs.declared.held.OpenCommand.{OpenCommand}
 use Rattle.protocol_model.specs.declared.held.Stage.{Stage}
 use Rattle.protocol_model.specs.declared.plans.Does.{Does}
 use Rattle.protocol_model.specs.declared.plans.Planned.{Planned}
@@ -28,7 +28,7 @@ use Rattle.protocol_model.proofs.table.Replying.{tabled, fine, same_table, step_
 -- ---- open commands of which none asks whether the machine is homed
 
 -- the first does not, and neither do the others
-pub record AskNothing (h : Held) (hs : List Held) : Type 0 where
+pub record AskNothing (h : OpenCommand) (hs : List OpenCommand) : Type 0 where
   pub first : (asks_homed h.kind && not (is_failed h.stage)) ≡ false
   pub others : is_asking hs ≡ false
 
@@ -37,10 +37,10 @@ or_parts false b e = (refl, e)
 or_parts true b e = absurd (false≢true (sym e))
 
 -- of commands of which none does
-pub ask_nothing : (h : Held) (hs : List Held) → is_asking (h ∷ hs) ≡ false → AskNothing h hs
+pub ask_nothing : (h : OpenCommand) (hs : List OpenCommand) → is_asking (h ∷ hs) ≡ false → AskNothing h hs
 ask_nothing h hs e = let parts = or_parts _ _ e in record { first = parts.0; others = parts.1 }
 
-asking_cons : (h : Held) (hs : List Held) → AskNothing h hs → is_asking (h ∷ hs) ≡ false
+asking_cons : (h : OpenCommand) (hs : List OpenCommand) → AskNothing h hs → is_asking (h ∷ hs) ≡ false
 asking_cons h hs a = ap (λ (b : Bool). b || is_asking hs) a.first ∙ a.others
 
 -- a command that does not ask does not ask at another stage
@@ -54,7 +54,8 @@ still_nothing true s x e stays = ap not (stays (go (is_failed s) e))
     go false e = absurd (false≢true (sym e))
 
 -- a reply opens no question
-pub asking_keeps : (front : Bool) (hs : List Held) (t : Tag) (m : Mark) (gs : List Held) (e : Effect) → heard_in front hs t m ≡ two gs e
+pub asking_keeps : (front : Bool) (hs : List OpenCommand) (t : Tag) (m : Mark) (gs : List OpenCommand) (e : Effect)
+    → heard_in front hs t m ≡ two gs e
     → is_asking hs ≡ false → is_asking gs ≡ false
 asking_keeps front [] t m gs e is none = absurd (cc)
 asking_keeps front (h ∷ hs) t m gs e is none =
@@ -75,13 +76,13 @@ asking_keeps front (h ∷ hs) t m gs e is none =
       others = asking_keeps (front && is_failed h.stage) hs t m rest e later a.others;
     })))
   where
-    stays : (f : Bool) (h : Held) (m : Mark) (s : Stage) → is_failed h.stage ≡ true → judged f h.kind h.stage m ≡ Becomes s
+    stays : (f : Bool) (h : OpenCommand) (m : Mark) (s : Stage) → is_failed h.stage ≡ true → judged f h.kind h.stage m ≡ Becomes s
         → is_failed s ≡ true
     stays f h m s b v = ap is_failed (failed_stays f h.kind m s
         (ap (λ (x : Stage). judged f h.kind x m) (sym (is_failed-true h.stage b)) ∙ v))
 
 -- and counts none
-pub counts_unasked : (front : Bool) (hs : List Held) (t : Tag) (m : Mark) (gs : List Held) (k : Kind) (given : Option Datum)
+pub counts_unasked : (front : Bool) (hs : List OpenCommand) (t : Tag) (m : Mark) (gs : List OpenCommand) (k : Kind) (given : Option Datum)
     → heard_in front hs t m ≡ two gs (Effect.Count k given) → is_asking hs ≡ false → asks_homed k ≡ false
 counts_unasked front [] t m gs k given is none = absurd (cc)
 counts_unasked front (h ∷ hs) t m gs k given is none =
@@ -93,7 +94,7 @@ counts_unasked front (h ∷ hs) t m gs k given is none =
     (λ got same v g f. let kinds : k ≡ h.kind = cc in ap asks_homed kinds ∙ counted h got v a.first (is_failed h.stage) refl)
     (λ rest other later g. counts_unasked (front && is_failed h.stage) hs t m rest k given later a.others)
   where
-    counted : (h : Held) (got : Option Datum) → judged front h.kind h.stage m ≡ Counts got
+    counted : (h : OpenCommand) (got : Option Datum) → judged front h.kind h.stage m ≡ Counts got
         → (asks_homed h.kind && not (is_failed h.stage)) ≡ false
         → (b : Bool) → is_failed h.stage ≡ b → asks_homed h.kind ≡ false
     counted h got v e true b = absurd (never_counts front h.kind m got

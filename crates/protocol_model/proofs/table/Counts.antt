@@ -11,7 +11,7 @@ use Rattle.protocol_model.proofs.table.Walks.{two, heard_at, heard_past, staged,
 use Rattle.protocol_model.specs.declared.states.Cause.{Cause}
 use Rattle.protocol_model.specs.declared.held.Datum.{Datum}
 use Rattle.protocol_model.specs.declared.held.Stage.{Stage}
-use Rattle.protocol_model.specs.declared.held.Held.{Held}
+use Rattle.protocol_model.specs.declared.held.OpenCommand.{OpenCommand}
 
 -- ---- what has failed stays so
 
@@ -34,21 +34,21 @@ is_failed-true Stage.Received e = absurd (false≢true e)
 is_failed-true (Stage.Given p) e = absurd (false≢true e)
 is_failed-true Stage.Failed e = refl
 
-pub count_cons : (h : Held) (hs : List Held) → count_open (h ∷ hs) ≤ suc (count_open hs)
+pub count_cons : (h : OpenCommand) (hs : List OpenCommand) → count_open (h ∷ hs) ≤ suc (count_open hs)
 count_cons h hs = go (is_failed h.stage)
   where
     go : (b : Bool) → cond b (count_open hs) (suc (count_open hs)) ≤ suc (count_open hs)
     go true = omega arith
     go false = omega arith
 
-pub count_behind : (h : Held) (hs : List Held) → count_open hs ≤ count_open (h ∷ hs)
+pub count_behind : (h : OpenCommand) (hs : List OpenCommand) → count_open hs ≤ count_open (h ∷ hs)
 count_behind h hs = go (is_failed h.stage)
   where
     go : (b : Bool) → count_open hs ≤ cond b (count_open hs) (suc (count_open hs))
     go true = omega arith
     go false = omega arith
 
-count_becomes : (front : Bool) (h : Held) (hs : List Held) (m : Mark) (s : Stage) (b : Bool) → is_failed h.stage ≡ b
+count_becomes : (front : Bool) (h : OpenCommand) (hs : List OpenCommand) (m : Mark) (s : Stage) (b : Bool) → is_failed h.stage ≡ b
     → judged front h.kind h.stage m ≡ Becomes s → count_open (staged h s ∷ hs) ≤ count_open (h ∷ hs)
 count_becomes front h hs m s true f v =
     let failed : h.stage ≡ Stage.Failed = is_failed-true h.stage f in
@@ -61,7 +61,8 @@ count_becomes front h hs m s false f v =
     rw one (count_cons (staged h s) hs)
 
 -- a reply opens no command
-pub count_keeps : (front : Bool) (hs : List Held) (t : Tag) (m : Mark) (gs : List Held) (e : Effect) → heard_in front hs t m ≡ two gs e
+pub count_keeps : (front : Bool) (hs : List OpenCommand) (t : Tag) (m : Mark) (gs : List OpenCommand) (e : Effect)
+    → heard_in front hs t m ≡ two gs e
     → count_open gs ≤ count_open hs
 count_keeps front [] t m gs e is = absurd (cc)
 count_keeps front (h ∷ hs) t m gs e is =
@@ -72,7 +73,7 @@ count_keeps front (h ∷ hs) t m gs e is =
     (λ given same v g f. rw g (count_behind h hs))
     (λ rest other later g. rw g (go (is_failed h.stage) rest (count_keeps (front && is_failed h.stage) hs t m rest e later)))
   where
-    go : (b : Bool) (rest : List Held) → count_open rest ≤ count_open hs
+    go : (b : Bool) (rest : List OpenCommand) → count_open rest ≤ count_open hs
         → cond b (count_open rest) (suc (count_open rest)) ≤ cond b (count_open hs) (suc (count_open hs))
     go true rest le = le
     go false rest le = omega arith
@@ -80,23 +81,23 @@ count_keeps front (h ∷ hs) t m gs e is =
 -- ---- where all have failed
 
 -- each of these commands has failed
-abbrev pub AreFailed : List Held → Type 0
+abbrev pub AreFailed : List OpenCommand → Type 0
 AreFailed [] = Unit {0}
 AreFailed (h ∷ hs) = (h.stage ≡ Stage.Failed) × AreFailed hs
 
 -- where none is open, each has failed
-pub all_failed : (hs : List Held) → count_open hs ≡ 0 → AreFailed hs
+pub all_failed : (hs : List OpenCommand) → count_open hs ≡ 0 → AreFailed hs
 all_failed [] e = tt
 all_failed (h ∷ hs) e = if_cases {A = ℕ} (is_failed h.stage) (count_open hs) (suc (count_open hs)) 0 (AreFailed (h ∷ hs)) e
     (λ failed others. (is_failed-true h.stage failed, all_failed hs others))
     (λ live no_way. absurd (cc))
 
-pub none_open : (hs : List Held) → AreFailed hs → count_open hs ≡ 0
+pub none_open : (hs : List OpenCommand) → AreFailed hs → count_open hs ≡ 0
 none_open [] f = refl
 none_open (h ∷ hs) f = if_true {A = ℕ} (is_failed h.stage) (count_open hs) (suc (count_open hs)) (ap is_failed f.0) ∙ none_open hs f.1
 
 -- a reply to failed commands only ends them, wherever the front is
-pub record OnlyEnds (hs gs : List Held) (t : Tag) (m : Mark) (e : Effect) : Type 0 where
+pub record OnlyEnds (hs gs : List OpenCommand) (t : Tag) (m : Mark) (e : Effect) : Type 0 where
   pub quiet : e ≡ Effect.Quiet
   pub left : AreFailed gs
   pub anywhere : (front : Bool) → heard_in front hs t m ≡ two gs e
@@ -123,7 +124,8 @@ never_counts b k Mark.Done given e = cc
 never_counts b k Mark.Error given e = cc
 
 -- where each has failed, a reply counts nothing, and has its place at the front or not
-pub only_ends : (front : Bool) (hs : List Held) (t : Tag) (m : Mark) (gs : List Held) (e : Effect) → heard_in front hs t m ≡ two gs e
+pub only_ends : (front : Bool) (hs : List OpenCommand) (t : Tag) (m : Mark) (gs : List OpenCommand) (e : Effect)
+    → heard_in front hs t m ≡ two gs e
     → AreFailed hs → OnlyEnds hs gs t m e
 only_ends front [] t m gs e is failed = absurd (cc)
 only_ends front (h ∷ hs) t m gs e is failed =
@@ -161,12 +163,12 @@ only_ends front (h ∷ hs) t m gs e is failed =
 -- ---- which tags have failed
 
 -- the tags of the commands that have failed
-abbrev pub failed_tags : List Held → List Tag
+abbrev pub failed_tags : List OpenCommand → List Tag
 failed_tags [] = []
 failed_tags (h ∷ hs) = cond (is_failed h.stage) (h.tag ∷ failed_tags hs) (failed_tags hs)
 
 -- the first has not failed, nor the others
-none_of : (h : Held) (hs : List Held) → failed_tags (h ∷ hs) ≡ [] → (is_failed h.stage ≡ false) × (failed_tags hs ≡ [])
+none_of : (h : OpenCommand) (hs : List OpenCommand) → failed_tags (h ∷ hs) ≡ [] → (is_failed h.stage ≡ false) × (failed_tags hs ≡ [])
 none_of h hs e = if_cases {A = List Tag} (is_failed h.stage) (h.tag ∷ failed_tags hs) (failed_tags hs) [] ((is_failed h.stage ≡ false)
     × (failed_tags hs ≡ [])) e
     (λ failed no_way. absurd (cc))
@@ -243,7 +245,8 @@ no_break b k s Mark.Done n e = done_no_break b (asks_data k) s e
 no_break b k s Mark.Error n e = false≢true (sym n)
 
 -- where none has failed, a mark other than an error leaves it so
-pub none_fails : (front : Bool) (hs : List Held) (t : Tag) (m : Mark) (gs : List Held) (e : Effect) → heard_in front hs t m ≡ two gs e
+pub none_fails : (front : Bool) (hs : List OpenCommand) (t : Tag) (m : Mark) (gs : List OpenCommand) (e : Effect)
+    → heard_in front hs t m ≡ two gs e
     → is_error m ≡ false → failed_tags hs ≡ [] → failed_tags gs ≡ []
 none_fails front [] t m gs e is n none = absurd (cc)
 none_fails front (h ∷ hs) t m gs e is n none =
@@ -276,7 +279,8 @@ error_no_close (Stage.Given p) e = cc
 error_no_close Stage.Failed e = cc
 
 -- where none has failed, an error makes its command the one that has, and is a failure
-pub one_fails : (front : Bool) (hs : List Held) (t : Tag) (gs : List Held) (e : Effect) → heard_in front hs t Mark.Error ≡ two gs e
+pub one_fails : (front : Bool) (hs : List OpenCommand) (t : Tag) (gs : List OpenCommand) (e : Effect)
+    → heard_in front hs t Mark.Error ≡ two gs e
     → failed_tags hs ≡ [] → (failed_tags gs ≡ t ∷ []) × (e ≡ Effect.Failure)
 one_fails front [] t gs e is none = absurd (cc)
 one_fails front (h ∷ hs) t gs e is none =
@@ -291,7 +295,7 @@ one_fails front (h ∷ hs) t gs e is none =
     (rw g (if_false {A = List Tag} (is_failed h.stage) (h.tag ∷ failed_tags rest) (failed_tags rest) parts.0 ∙ behind_it.0), behind_it.1))
 
 -- a tag that has failed is held
-failed_is_held : (t : Tag) (hs : List Held) (ts : List Tag) → failed_tags hs ≡ t ∷ ts → is_held t hs ≡ true
+failed_is_held : (t : Tag) (hs : List OpenCommand) (ts : List Tag) → failed_tags hs ≡ t ∷ ts → is_held t hs ≡ true
 failed_is_held t [] ts e = absurd (cc)
 failed_is_held t (h ∷ hs) ts e = if_cases {A = List Tag} (is_failed h.stage) (h.tag ∷ failed_tags hs) (failed_tags hs) (t ∷ ts)
     (is_held t (h ∷ hs) ≡ true) e
@@ -304,7 +308,8 @@ failed_is_held t (h ∷ hs) ts e = if_cases {A = List Tag} (is_failed h.stage) (
     go false yes_held = yes_held
 
 -- the end of the one that has failed leaves none
-pub none_left : (front : Bool) (hs : List Held) (t : Tag) (gs : List Held) (e : Effect) → heard_in front hs t Mark.Done ≡ two gs e
+pub none_left : (front : Bool) (hs : List OpenCommand) (t : Tag) (gs : List OpenCommand) (e : Effect)
+    → heard_in front hs t Mark.Done ≡ two gs e
     → AreDistinct hs → failed_tags hs ≡ t ∷ [] → failed_tags gs ≡ []
 none_left front [] t gs e is d one = absurd (cc)
 none_left front (h ∷ hs) t gs e is d one =
@@ -324,7 +329,7 @@ none_left front (h ∷ hs) t gs e is d one =
         let free : is_held t hs ≡ false = subst (λ (u : Tag). is_held u hs ≡ false) (tag_is-true h.tag t same) d.0 in
         absurd (false≢true (sym free ∙ held)))
 
-    elsewhere : (rest : List Held) → tag_is h.tag t ≡ false → heard_in (front && is_failed h.stage) hs t Mark.Done ≡ two rest e
+    elsewhere : (rest : List OpenCommand) → tag_is h.tag t ≡ false → heard_in (front && is_failed h.stage) hs t Mark.Done ≡ two rest e
         → (failed_tags hs ≡ t ∷ [] → failed_tags rest ≡ []) → failed_tags (h ∷ rest) ≡ []
     elsewhere rest other later deeper = if_cases {A = List Tag} (is_failed h.stage) (h.tag ∷ failed_tags hs) (failed_tags hs) (t ∷ [])
         (failed_tags (h ∷ rest) ≡ []) one

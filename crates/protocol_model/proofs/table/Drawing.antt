@@ -9,15 +9,15 @@ use Rattle.protocol_model.specs.Open.{is_failed, count_open, is_held}
 use Rattle.protocol_model.specs.Client.{first_free, or_else}
 use Rattle.protocol_model.proofs.table.Basics.{if_cases, if_true, if_false, tag_is-true}
 use Rattle.protocol_model.proofs.table.Counts.{failed_tags}
-use Rattle.protocol_model.specs.declared.held.Held.{Held}
+use Rattle.protocol_model.specs.declared.held.OpenCommand.{OpenCommand}
 
 -- a number that is found is free, and none is found only where all are held
-pub record IsFound (sort : ℕ → Tag) (hs : List Held) (n left m : ℕ) : Type 0 where
+pub record IsFound (sort : ℕ → Tag) (hs : List OpenCommand) (n left m : ℕ) : Type 0 where
   pub free : is_held (sort m) hs ≡ false
   pub from : n ≤ m
   pub below : m < n + left
 
-found_by : (sort : ℕ → Tag) (hs : List Held) (n left m : ℕ) (b : Bool) → is_held (sort n) hs ≡ b
+found_by : (sort : ℕ → Tag) (hs : List OpenCommand) (n left m : ℕ) (b : Bool) → is_held (sort n) hs ≡ b
     → (elim b as (λ x. Option ℕ) [ true ↦ first_free sort hs (suc n) left | false ↦ Some n ]) ≡ Some m
     → (first_free sort hs (suc n) left ≡ Some m → IsFound sort hs (suc n) left m) → IsFound sort hs n (suc left) m
 found_by sort hs n left m true e is deeper = let f : IsFound sort hs (suc n) left m = deeper is
@@ -26,11 +26,11 @@ found_by sort hs n left m false e is deeper = let same : n ≡ m = cc
     in record { free = subst (λ (k : ℕ). is_held (sort k) hs ≡ false) same e; from = omega arith; below = omega arith }
 
 -- the number that is found is free, and those before it are held
-pub found : (sort : ℕ → Tag) (hs : List Held) (n left m : ℕ) → first_free sort hs n left ≡ Some m → IsFound sort hs n left m
+pub found : (sort : ℕ → Tag) (hs : List OpenCommand) (n left m : ℕ) → first_free sort hs n left ≡ Some m → IsFound sort hs n left m
 found sort hs n zero m is = absurd (cc)
 found sort hs n (suc left) m is = found_by sort hs n left m (is_held (sort n) hs) refl is (found sort hs (suc n) left m)
 
-none_by : (sort : ℕ → Tag) (hs : List Held) (n left i : ℕ) (b : Bool) → is_held (sort n) hs ≡ b
+none_by : (sort : ℕ → Tag) (hs : List OpenCommand) (n left i : ℕ) (b : Bool) → is_held (sort n) hs ≡ b
     → (elim b as (λ x. Option ℕ) [ true ↦ first_free sort hs (suc n) left | false ↦ Some n ]) ≡ None
     → (first_free sort hs (suc n) left ≡ None → suc n ≤ i → i < suc n + left → is_held (sort i) hs ≡ true) → n ≤ i → i < n + suc left
     → is_held (sort i) hs ≡ true
@@ -42,7 +42,7 @@ none_by sort hs n left i true e is deeper from below = go (eqb n i) refl
 none_by sort hs n left i false e is deeper from below = absurd (cc)
 
 -- where none is found, each of these numbers is held
-pub none_free : (sort : ℕ → Tag) (hs : List Held) (n left i : ℕ) → first_free sort hs n left ≡ None → n ≤ i → i < n + left
+pub none_free : (sort : ℕ → Tag) (hs : List OpenCommand) (n left i : ℕ) → first_free sort hs n left ≡ None → n ≤ i → i < n + left
     → is_held (sort i) hs ≡ true
 none_free sort hs n zero i is from below = absurd (go from below)
   where
@@ -54,23 +54,24 @@ none_free sort hs n (suc left) i is from below = none_by sort hs n left i (is_he
 -- ---- so many tags are held by so many commands
 
 -- without the first command of a tag
-abbrev removed : Tag → List Held → List Held
+abbrev removed : Tag → List OpenCommand → List OpenCommand
 removed t [] = []
 removed t (h ∷ hs) = cond (tag_is h.tag t) hs (h ∷ removed t hs)
 
-removed_length : (t : Tag) (hs : List Held) → is_held t hs ≡ true → suc (length (removed t hs)) ≡ length hs
+removed_length : (t : Tag) (hs : List OpenCommand) → is_held t hs ≡ true → suc (length (removed t hs)) ≡ length hs
 removed_length t [] e = absurd (false≢true e)
 removed_length t (h ∷ hs) e = if_cases {A = Bool} (tag_is h.tag t) true (is_held t hs) true
     (suc (length (removed t (h ∷ hs))) ≡ suc (length hs)) e
-    (λ same is. ap (λ (l : List Held). suc (length l)) (if_true {A = List Held} (tag_is h.tag t) hs (h ∷ removed t hs) same))
-    (λ other is. ap (λ (l : List Held). suc (length l)) (if_false {A = List Held} (tag_is h.tag t) hs (h ∷ removed t hs) other)
+    (λ same is. ap (λ (l : List OpenCommand). suc (length l)) (if_true {A = List OpenCommand} (tag_is h.tag t) hs (h ∷ removed t hs) same))
+    (λ other is. ap (λ (l : List OpenCommand). suc (length l))
+    (if_false {A = List OpenCommand} (tag_is h.tag t) hs (h ∷ removed t hs) other)
     ∙ ap suc (removed_length t hs is))
 
-held_cons : (u : Tag) (h : Held) (hs : List Held) (b : Bool) → is_held u hs ≡ true → cond b true (is_held u hs) ≡ true
+held_cons : (u : Tag) (h : OpenCommand) (hs : List OpenCommand) (b : Bool) → is_held u hs ≡ true → cond b true (is_held u hs) ≡ true
 held_cons u h hs true e = refl
 held_cons u h hs false e = e
 
-still_held : (t u : Tag) (hs : List Held) → tag_is t u ≡ false → is_held u hs ≡ true → is_held u (removed t hs) ≡ true
+still_held : (t u : Tag) (hs : List OpenCommand) → tag_is t u ≡ false → is_held u hs ≡ true → is_held u (removed t hs) ≡ true
 still_held t u [] apart e = e
 still_held t u (h ∷ hs) apart e = go (still_held t u hs apart) (tag_is h.tag t) refl (tag_is h.tag u) refl
   where
@@ -89,7 +90,7 @@ still_held t u (h ∷ hs) apart e = go (still_held t u hs apart) (tag_is h.tag t
 abbrev pub AreApart : (ℕ → Tag) → Type 0
 AreApart sort = (i j : ℕ) → (i ≡ j → ⊥) → tag_is (sort i) (sort j) ≡ false
 
-pub many_held : (sort : ℕ → Tag) → AreApart sort → (hs : List Held) (n left : ℕ)
+pub many_held : (sort : ℕ → Tag) → AreApart sort → (hs : List OpenCommand) (n left : ℕ)
     → ((i : ℕ) → n ≤ i → i < n + left → is_held (sort i) hs ≡ true) → left ≤ length hs
 many_held sort apart hs n zero all = omega arith
 many_held sort apart hs n (suc left) all =
@@ -113,7 +114,7 @@ event_apart i j apart = ne_eqb i j apart
 -- ---- the next number
 
 -- a number that was drawn: free, and from 1 on
-pub record IsDrawn (sort : ℕ → Tag) (hs : List Held) (n : ℕ) : Type 0 where
+pub record IsDrawn (sort : ℕ → Tag) (hs : List OpenCommand) (n : ℕ) : Type 0 where
   pub free : is_held (sort n) hs ≡ false
   pub from : 1 ≤ n
 
@@ -127,7 +128,7 @@ or_none None b e = e
 or_none (Some m) b e = absurd (cc)
 
 -- what is drawn in two rounds is such a number
-pub drawn : (sort : ℕ → Tag) (hs : List Held) (last left all n : ℕ)
+pub drawn : (sort : ℕ → Tag) (hs : List OpenCommand) (last left all n : ℕ)
     → or_else (first_free sort hs (suc last) left) (first_free sort hs 1 all) ≡ Some n → IsDrawn sort hs n
 drawn sort hs last left all n e = or_cases _ _ n (IsDrawn sort hs n) e
     (λ first. let f : IsFound sort hs (suc last) left n = found sort hs (suc last) left n first
@@ -135,7 +136,7 @@ drawn sort hs last left all n e = or_cases _ _ n (IsDrawn sort hs n) e
     (λ other. let f : IsFound sort hs 1 all n = found sort hs 1 all n other in record { free = f.free; from = f.from })
 
 -- where none is drawn, as many tags are held as there are
-pub none_drawn : (sort : ℕ → Tag) (hs : List Held) (last left all : ℕ) → AreApart sort
+pub none_drawn : (sort : ℕ → Tag) (hs : List OpenCommand) (last left all : ℕ) → AreApart sort
     → or_else (first_free sort hs (suc last) left) (first_free sort hs 1 all) ≡ None → all ≤ length hs
 none_drawn sort hs last left all apart e = many_held sort apart hs 1 all
     (λ i from below. none_free sort hs 1 all i (or_none _ _ e) from below)
@@ -147,6 +148,6 @@ length_by true t ts n m h = omega arith
 length_by false t ts n m h = omega arith
 
 -- what is held is open or has failed
-pub held_length : (hs : List Held) → length hs ≤ count_open hs + length (failed_tags hs)
+pub held_length : (hs : List OpenCommand) → length hs ≤ count_open hs + length (failed_tags hs)
 held_length [] = omega arith
 held_length (h ∷ hs) = length_by (is_failed h.stage) h.tag (failed_tags hs) (count_open hs) (length hs) (held_length hs)

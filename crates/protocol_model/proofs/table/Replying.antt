@@ -22,10 +22,10 @@ use Rattle.protocol_model.specs.declared.held.Datum.TheVariants as datum
 use Rattle.protocol_model.specs.declared.plans.Planned.{Planned}
 use Rattle.protocol_model.specs.declared.plans.Does.{Does}
 use Rattle.protocol_model.specs.declared.states.Cause.{Cause}
-use Rattle.protocol_model.specs.declared.held.Held.{Held}
+use Rattle.protocol_model.specs.declared.held.OpenCommand.{OpenCommand}
 
 -- a table of these open commands and this tally
-abbrev pub tabled : List Held → List Held → Tally → Table
+abbrev pub tabled : List OpenCommand → List OpenCommand → Tally → Table
 tabled standard event tally = record { standard = standard; event = event; tally = tally }
 
 -- a reply that had its place
@@ -40,21 +40,22 @@ pub same_table : (b c : Table) → fine b ≡ fine c → b ≡ c
 same_table b c e = ap (λ (r : Result Table Cause). table_in r c) e
 
 standard_cases : (ws : List Wanted) (b c : Table) (r : Heard) (P : Type 0) → heard_standard ws b r ≡ fine c
-    → ((hs : List Held) (e : Effect) → r ≡ two hs e → c ≡ tabled hs b.event (tallied ws e b.tally) → P) → P
+    → ((hs : List OpenCommand) (e : Effect) → r ≡ two hs e → c ≡ tabled hs b.event (tallied ws e b.tally) → P) → P
 standard_cases ws b c (Ok (hs, e)) P is k = k hs e refl (sym (same_table _ _ is))
 standard_cases ws b c (Err cause) P is k = absurd (cc)
 
 event_cases : (b c : Table) (r : Heard) (P : Type 0) → heard_event b r ≡ fine c
-    → ((hs : List Held) (e : Effect) → r ≡ two hs e → c ≡ tabled b.standard hs b.tally → P) → P
+    → ((hs : List OpenCommand) (e : Effect) → r ≡ two hs e → c ≡ tabled b.standard hs b.tally → P) → P
 event_cases b c (Ok (hs, e)) P is k = k hs e refl (sym (same_table _ _ is))
 event_cases b c (Err cause) P is k = absurd (cc)
 
 -- what a reply can have done to a table
 pub step_cases : (ws : List Wanted) (b : Table) (t : Tag) (m : Mark) (c : Table) (P : Type 0) → heard ws b t m ≡ fine c
     → (tag_is t (Event 0) ≡ true → b ≡ c → P)
-    → ((n : ℕ) (hs : List Held) (e : Effect) → t ≡ Std n → heard_in (not b.tally.failed) b.standard (Std n) m ≡ two hs e
+    → ((n : ℕ) (hs : List OpenCommand) (e : Effect) → t ≡ Std n → heard_in (not b.tally.failed) b.standard (Std n) m ≡ two hs e
     → c ≡ tabled hs b.event (tallied ws e b.tally) → P)
-    → ((n : ℕ) (hs : List Held) (e : Effect) → t ≡ Event n → tag_is t (Event 0) ≡ false → heard_in true b.event (Event n) m ≡ two hs e
+    → ((n : ℕ) (hs : List OpenCommand) (e : Effect) → t ≡ Event n → tag_is t (Event 0) ≡ false
+    → heard_in true b.event (Event n) m ≡ two hs e
     → c ≡ tabled b.standard hs b.tally → P)
     → P
 step_cases ws b (Std n) m c P is none standard event = standard_cases ws b c (heard_in (not b.tally.failed) b.standard (Std n) m) P is
@@ -66,12 +67,12 @@ step_cases ws b (Event n) m c P is none standard event =
     (λ other later. event_cases b c (heard_in true b.event (Event n) m) P later (λ hs e. event n hs e refl other))
 
 -- and what shows that a reply does it
-pub standard_step : (ws : List Wanted) (b : Table) (n : ℕ) (m : Mark) (hs : List Held) (e : Effect)
+pub standard_step : (ws : List Wanted) (b : Table) (n : ℕ) (m : Mark) (hs : List OpenCommand) (e : Effect)
     → heard_in (not b.tally.failed) b.standard (Std n) m ≡ two hs e → heard ws b (Std n) m ≡ fine (tabled hs b.event (tallied ws e b.tally))
 standard_step ws b n m hs e is = ap (heard_standard ws b) is
 
 -- a reply on an event tag that has its place changes the event commands alone
-pub event_step : (ws : List Wanted) (b : Table) (n : ℕ) (m : Mark) (hs : List Held) (e : Effect) → tag_is (Event n) (Event 0) ≡ false
+pub event_step : (ws : List Wanted) (b : Table) (n : ℕ) (m : Mark) (hs : List OpenCommand) (e : Effect) → tag_is (Event n) (Event 0) ≡ false
     → heard_in true b.event (Event n) m ≡ two hs e → heard ws b (Event n) m ≡ fine (tabled b.standard hs b.tally)
 event_step ws b n m hs e other is = if_false {A = Result Table Cause} (tag_is (Event n) (Event 0)) (fine b)
     (heard_event b (heard_in true b.event (Event n) m)) other ∙ ap (heard_event b) is
@@ -97,14 +98,14 @@ reads_keeps ws P keeps (r ∷ rs) b c reads p = reads_keeps ws P keeps rs reads.
 -- ---- with one open command more
 
 -- a table with one standard command more
-abbrev pub with_standard : Held → Table → Table
+abbrev pub with_standard : OpenCommand → Table → Table
 with_standard x b = tabled (b.standard ++ x ∷ []) b.event b.tally
 
 -- a table with one event command more
-abbrev pub with_event : Held → Table → Table
+abbrev pub with_event : OpenCommand → Table → Table
 with_event x b = tabled b.standard (b.event ++ x ∷ []) b.tally
 
-step_with_standard : (ws : List Wanted) (x : Held) (b : Table) (t : Tag) (m : Mark) (c : Table) → heard ws b t m ≡ fine c
+step_with_standard : (ws : List Wanted) (x : OpenCommand) (b : Table) (t : Tag) (m : Mark) (c : Table) → heard ws b t m ≡ fine c
     → heard ws (with_standard x b) t m ≡ fine (with_standard x c)
 step_with_standard ws x b t m c is =
     step_cases ws b t m c (heard ws (with_standard x b) t m ≡ fine (with_standard x c)) is
@@ -114,7 +115,7 @@ step_with_standard ws x b t m c is =
     (heard_more (not b.tally.failed) b.standard x (Std n) m hs e walk)))
     (λ n hs e tag other walk g. rw (tag, g) (event_step ws (with_standard x b) n m hs e (rw tag at other) walk))
 
-step_with_event : (ws : List Wanted) (x : Held) (b : Table) (t : Tag) (m : Mark) (c : Table) → heard ws b t m ≡ fine c
+step_with_event : (ws : List Wanted) (x : OpenCommand) (b : Table) (t : Tag) (m : Mark) (c : Table) → heard ws b t m ≡ fine c
     → heard ws (with_event x b) t m ≡ fine (with_event x c)
 step_with_event ws x b t m c is =
     step_cases ws b t m c (heard ws (with_event x b) t m ≡ fine (with_event x c)) is
@@ -125,7 +126,7 @@ step_with_event ws x b t m c is =
     (heard_more true b.event x (Event n) m hs e walk)))
 
 -- what is read is read beside one standard command more
-pub reads_with_standard : (ws : List Wanted) (x : Held) (rs : List Reply) (b c : Table) → Reads ws b rs c
+pub reads_with_standard : (ws : List Wanted) (x : OpenCommand) (rs : List Reply) (b c : Table) → Reads ws b rs c
     → Reads ws (with_standard x b) rs (with_standard x c)
 reads_with_standard ws x [] b c reads = ap (with_standard x) reads
 reads_with_standard ws x (r ∷ rs) b c reads = (
@@ -135,7 +136,7 @@ reads_with_standard ws x (r ∷ rs) b c reads = (
 )
 
 -- what is read is read beside one event command more
-pub reads_with_event : (ws : List Wanted) (x : Held) (rs : List Reply) (b c : Table) → Reads ws b rs c
+pub reads_with_event : (ws : List Wanted) (x : OpenCommand) (rs : List Reply) (b c : Table) → Reads ws b rs c
     → Reads ws (with_event x b) rs (with_event x c)
 reads_with_event ws x [] b c reads = ap (with_event x) reads
 reads_with_event ws x (r ∷ rs) b c reads = (
@@ -338,7 +339,7 @@ step_no_event ws b t m c is none =
     (λ no_tag same. subst (λ (x : Table). x.event ≡ []) same none)
     (λ n hs e tag walk g. subst (λ (x : Table). x.event ≡ []) (sym g) none)
     (λ n hs e tag other walk g. let nowhere : heard_in true [] (Event n) m
-    ≡ two hs e = ap (λ (l : List Held). heard_in true l (Event n) m) (sym none) ∙ walk in absurd (cc))
+    ≡ two hs e = ap (λ (l : List OpenCommand). heard_in true l (Event n) m) (sym none) ∙ walk in absurd (cc))
 
 -- where no event command is held, none is behind replies
 pub reads_no_event : (ws : List Wanted) (rs : List Reply) (b c : Table) → Reads ws b rs c → b.event ≡ [] → c.event ≡ []

@@ -31,36 +31,38 @@ use Rattle.protocol_model.proofs.undisturbed_run.Homing.{IsBehind, answer_of, te
 use Rattle.protocol_model.specs.declared.held.Datum.{Datum}
 use Rattle.protocol_model.specs.declared.held.Datum.TheVariants as datum
 use Rattle.protocol_model.specs.declared.held.Stage.{Stage}
-use Rattle.protocol_model.specs.declared.held.Held.{Held}
+use Rattle.protocol_model.specs.declared.held.OpenCommand.{OpenCommand}
 use Rattle.protocol_model.specs.declared.plans.Planned.{Planned}
 use Rattle.protocol_model.specs.declared.plans.Does.{Does}
 
 -- ---- what a reply does to open commands that have not failed
 
 -- nothing to their tags and kinds, or one of them fails
-data Kept (hs gs : List Held) (e : Effect) : Type 0 where
+data Kept (hs gs : List OpenCommand) (e : Effect) : Type 0 where
   Same : e ≡ Effect.Quiet → AreCalm gs → AreFilled gs → ((place : ℕ) → HaveTags place hs → HaveTags place gs)
       → kinds_held gs ≡ kinds_held hs → Kept hs gs e
   Broke : e ≡ Effect.Failure → Kept hs gs e
 
 -- or the first is counted, with the data that it asks for
-data Moved (hs gs : List Held) (e : Effect) : Type 0 where
+data Moved (hs gs : List OpenCommand) (e : Effect) : Type 0 where
   Stays : Kept hs gs e → Moved hs gs e
-  Counted : (h : Held) (given : Option Datum) → hs ≡ h ∷ gs → e ≡ Effect.Count h.kind given → IsGiven h.kind given → Moved hs gs e
+  Counted : (h : OpenCommand) (given : Option Datum) → hs ≡ h ∷ gs → e ≡ Effect.Count h.kind given → IsGiven h.kind given → Moved hs gs e
 
-first_kept : (front : Bool) (h : Held) (hs gs : List Held) (m : Mark) (e : Effect) (s : Stage) → AreCalm (h ∷ hs) → AreFilled (h ∷ hs)
+first_kept : (front : Bool) (h : OpenCommand) (hs gs : List OpenCommand) (m : Mark) (e : Effect) (s : Stage) → AreCalm (h ∷ hs)
+    → AreFilled (h ∷ hs)
     → judged front h.kind h.stage m ≡ Becomes s → gs ≡ staged h s ∷ hs → e ≡ Effect.Quiet → Kept (h ∷ hs) gs e
-first_kept front h hs gs m e s calm filled v g f = subst (λ (l : List Held). Kept (h ∷ hs) l e) (sym g)
+first_kept front h hs gs m e s calm filled v g f = subst (λ (l : List OpenCommand). Kept (h ∷ hs) l e) (sym g)
     (Same f (becomes_calm front h.kind h.stage m s calm.0 v, calm.1) (becomes_filled front h.kind h.stage m s v, filled.1)
     (λ place tags. tags) refl)
 
-kept_behind : (h : Held) (hs rest : List Held) (e : Effect) → is_failed h.stage ≡ false → IsFilled h.kind h.stage → Kept hs rest e
+kept_behind : (h : OpenCommand) (hs rest : List OpenCommand) (e : Effect) → is_failed h.stage ≡ false → IsFilled h.kind h.stage
+    → Kept hs rest e
     → Kept (h ∷ hs) (h ∷ rest) e
 kept_behind h hs rest e calm filled (Same quiet others fill tags kinds) =
     Same quiet (calm, others) (filled, fill) (λ place t. (t.0, tags (suc place) t.1)) (ap (λ (l : List Kind). h.kind ∷ l) kinds)
 kept_behind h hs rest e calm filled (Broke failure) = Broke failure
 
-behind_kept : (hs : List Held) (t : Tag) (m : Mark) (gs : List Held) (e : Effect) → AreCalm hs → AreFilled hs
+behind_kept : (hs : List OpenCommand) (t : Tag) (m : Mark) (gs : List OpenCommand) (e : Effect) → AreCalm hs → AreFilled hs
     → heard_in false hs t m ≡ two gs e → Kept hs gs e
 behind_kept [] t m gs e calm filled is = absurd (cc)
 behind_kept (h ∷ hs) t m gs e calm filled is =
@@ -69,10 +71,10 @@ behind_kept (h ∷ hs) t m gs e calm filled is =
     (λ same v g f. Broke f)
     (λ same v g f. absurd (no_closes false h.kind h.stage m calm.0 v))
     (λ given same v g f. absurd (no_counts h.kind h.stage m given v))
-    (λ rest other later g. subst (λ (l : List Held). Kept (h ∷ hs) l e) (sym g)
+    (λ rest other later g. subst (λ (l : List OpenCommand). Kept (h ∷ hs) l e) (sym g)
     (kept_behind h hs rest e calm.0 filled.0 (behind_kept hs t m rest e calm.1 filled.1 later)))
 
-front_moved : (hs : List Held) (t : Tag) (m : Mark) (gs : List Held) (e : Effect) → AreCalm hs → AreFilled hs
+front_moved : (hs : List OpenCommand) (t : Tag) (m : Mark) (gs : List OpenCommand) (e : Effect) → AreCalm hs → AreFilled hs
     → heard_in true hs t m ≡ two gs e → Moved hs gs e
 front_moved [] t m gs e calm filled is = absurd (cc)
 front_moved (h ∷ hs) t m gs e calm filled is =
@@ -80,8 +82,8 @@ front_moved (h ∷ hs) t m gs e calm filled is =
     (λ s same v g f. Stays (first_kept true h hs gs m e s calm filled v g f))
     (λ same v g f. Stays (Broke f))
     (λ same v g f. absurd (no_closes true h.kind h.stage m calm.0 v))
-    (λ given same v g f. Counted h given (ap (λ (l : List Held). h ∷ l) (sym g)) f (counts_given h.kind h.stage m given filled.0 v))
-    (λ rest other later g. Stays (subst (λ (l : List Held). Kept (h ∷ hs) l e) (sym g)
+    (λ given same v g f. Counted h given (ap (λ (l : List OpenCommand). h ∷ l) (sym g)) f (counts_given h.kind h.stage m given filled.0 v))
+    (λ rest other later g. Stays (subst (λ (l : List OpenCommand). Kept (h ∷ hs) l e) (sym g)
     (kept_behind h hs rest e calm.0 filled.0 (behind_kept hs t m rest e calm.1 filled.1
     (subst (λ (b : Bool). heard_in b hs t m ≡ two rest e) calm.0 later)))))
 
@@ -89,7 +91,7 @@ front_moved (h ∷ hs) t m gs e calm filled is =
 
 -- where nothing has failed: none of the open commands has, their tags are those of their places, with the unsent ones they are what is to
 -- be counted, with the counted ones they are as many as were sent, and the question whether the machine is homed is counted or not
-pub record IsCalm (told : Bool) (sent finished : List Planned) (hs : List Held) (y : Tally) : Type 0 where
+pub record IsCalm (told : Bool) (sent finished : List Planned) (hs : List OpenCommand) (y : Tally) : Type 0 where
   pub calm : AreCalm hs
   pub filled : AreFilled hs
   pub tags : HaveTags (length finished) hs
@@ -98,7 +100,7 @@ pub record IsCalm (told : Bool) (sent finished : List Planned) (hs : List Held) 
   pub phase : IsBefore hs y ⊎ IsBehind told y
 
 -- what was sent, and what is counted, are the first commands of the plan as it is followed
-pub record IsFollowing (told : Bool) (steps sent : List Planned) (hs : List Held) (y : Tally) : Type 0 where
+pub record IsFollowing (told : Bool) (steps sent : List Planned) (hs : List OpenCommand) (y : Tally) : Type 0 where
   pub whole : sent ++ followed told y.unsent ≡ followed told steps
   pub finished : List Planned
   pub parts : finished ++ followed told y.todo ≡ followed told steps
@@ -115,11 +117,11 @@ abbrev other_kinds : List Kind → List Kind
 other_kinds [] = []
 other_kinds (k ∷ ks) = ks
 
-no_kinds : (hs : List Held) → kinds_held hs ≡ [] → hs ≡ []
+no_kinds : (hs : List OpenCommand) → kinds_held hs ≡ [] → hs ≡ []
 no_kinds [] e = refl
 no_kinds (h ∷ hs) e = absurd (cc)
 
-held_long : (hs : List Held) → length (kinds_held hs) ≡ length hs
+held_long : (hs : List OpenCommand) → length (kinds_held hs) ≡ length hs
 held_long [] = refl
 held_long (h ∷ hs) = ap suc (held_long hs)
 
@@ -128,7 +130,7 @@ kinds_long [] = refl
 kinds_long (p ∷ ps) = ap suc (kinds_long ps)
 
 -- what is left behind the first command that is counted: whether the machine is told to be homed, and where the question stands then
-record IsCounted (told : Bool) (h : Held) (gs : List Held) (given : Option Datum) (p : Planned) (todo unsent : List Planned)
+record IsCounted (told : Bool) (h : OpenCommand) (gs : List OpenCommand) (given : Option Datum) (p : Planned) (todo unsent : List Planned)
     (acts : List Act) : Type 0 where
   told_so : tells_homed h.kind given ≡ true → told ≡ true
   no_homing : told ≡ true → is_homing p.command ≡ false
@@ -138,7 +140,8 @@ record IsCounted (told : Bool) (h : Held) (gs : List Held) (given : Option Datum
       → z.counted ≡ acts ++ act_of p.does given → IsBefore gs z ⊎ IsBehind told z
 
 -- a command that tells nothing: what is left is what was
-nothing_told : (told : Bool) (h : Held) (gs : List Held) (given : Option Datum) (p : Planned) (todo unsent : List Planned) (acts : List Act)
+nothing_told : (told : Bool) (h : OpenCommand) (gs : List OpenCommand) (given : Option Datum) (p : Planned) (todo unsent : List Planned)
+    (acts : List Act)
     → asks_homed h.kind ≡ false → (told ≡ true → is_homing p.command ≡ false) → kinds_held gs ++ kinds_of unsent ≡ kinds_of todo
     → ((z : Tally) → z.todo ≡ todo → z.unsent ≡ unsent → z.counted ≡ acts ++ act_of p.does given → IsBefore gs z ⊎ IsBehind told z)
     → IsCounted told h gs given p todo unsent acts
@@ -153,7 +156,8 @@ nothing_told told h gs given p todo unsent acts asks homes kinds phase =
     }
 
 -- the question is counted with its answer
-question_told : (told : Bool) (h : Held) (gs : List Held) (given : Option Datum) (ask home : Planned) (rest unsent : List Planned)
+question_told : (told : Bool) (h : OpenCommand) (gs : List OpenCommand) (given : Option Datum) (ask home : Planned)
+    (rest unsent : List Planned)
     (question : IsQuestion ask home rest) (acts : List Act)
     → h.kind ≡ kind.IsHomed → gs ≡ [] → unsent ≡ home ∷ rest → (homed : Bool) → given ≡ Some (datum.Homed homed) → homed ≡ told
     → IsCounted told h gs given ask (home ∷ rest) unsent acts
@@ -163,7 +167,7 @@ question_told told h gs given ask home rest unsent question acts kind_is none le
     record {
       told_so = λ e. sym tells ∙ e;
       no_homing = λ e. ap is_homing question.asks;
-      kinds = ap (λ (l : List Held). kinds_held l ++ kinds_of (passed_over (tells_homed h.kind given) unsent)) none
+      kinds = ap (λ (l : List OpenCommand). kinds_held l ++ kinds_of (passed_over (tells_homed h.kind given) unsent)) none
           ∙ ap (λ (l : List Planned). kinds_of (passed_over (tells_homed h.kind given) l)) left;
       phase = λ z e f c. inr (record {
         no_question = subst HasNoQuestion (sym (e ∙ ap (λ (t : Bool). passed_over t (home ∷ rest)) tells)) (asks_none told);
@@ -180,7 +184,7 @@ question_told told h gs given ask home rest unsent question acts kind_is none le
     asks_none false = (question.asks_no_more, question.no_question)
     asks_none true = subst HasNoQuestion (sym passed) question.no_question
 
-too_long : (hs : List Held) (gs : List Held) (later rest : List Planned) (ask home : Planned) (k : Kind)
+too_long : (hs : List OpenCommand) (gs : List OpenCommand) (later rest : List Planned) (ask home : Planned) (k : Kind)
     → k ∷ (kinds_held gs ++ kinds_of (later ++ ask ∷ home ∷ rest)) ≡ kinds_of (ask ∷ home ∷ rest) → ⊥
 too_long hs gs later rest ask home k e =
     let a : suc (length (kinds_held gs ++ kinds_of (later ++ ask ∷ home ∷ rest))) ≡ suc (suc (length (kinds_of rest))) = ap length e in
@@ -192,7 +196,7 @@ too_long hs gs later rest ask home k e =
     omega (arith, a, b, c, d, f)
 
 -- the first of the plan's commands that are not counted, where the question is not counted
-counted_before : (told : Bool) (h : Held) (gs : List Held) (given : Option Datum) (p : Planned) (todo unsent : List Planned)
+counted_before : (told : Bool) (h : OpenCommand) (gs : List OpenCommand) (given : Option Datum) (p : Planned) (todo unsent : List Planned)
     (acts : List Act) (quiet : List Planned) (ask home : Planned) (rest : List Planned) (question : IsQuestion ask home rest)
     → AreQuiet quiet → p ∷ todo ≡ quiet ++ ask ∷ home ∷ rest → acts ≡ [] → IsLeft (h ∷ gs) quiet ask home rest unsent
     → kinds_held (h ∷ gs) ++ kinds_of unsent ≡ kinds_of (p ∷ todo) → IsGiven h.kind given → FirstTells told (acts ++ act_of p.does given)
@@ -266,7 +270,7 @@ counted_before told h gs given p todo unsent acts [] ask home rest question q_qu
         (ap (λ (l : List Planned). h.kind ∷ (kinds_held gs ++ kinds_of l)) (sym e) ∙ (kinds ∙ ap kinds_of is)))
 
 -- and where it is
-counted_behind : (told : Bool) (h : Held) (gs : List Held) (given : Option Datum) (p : Planned) (todo unsent : List Planned)
+counted_behind : (told : Bool) (h : OpenCommand) (gs : List OpenCommand) (given : Option Datum) (p : Planned) (todo unsent : List Planned)
     (acts : List Act) → HasNoQuestion (p ∷ todo) → (told ≡ true → HasNoHoming (p ∷ todo)) → (told ≡ true → HasNoHoming unsent)
     → kinds_held (h ∷ gs) ++ kinds_of unsent ≡ kinds_of (p ∷ todo) → IsCounted told h gs given p todo unsent acts
 counted_behind told h gs given p todo unsent acts no_question no_homing left kinds =
@@ -278,7 +282,8 @@ counted_behind told h gs given p todo unsent acts no_question no_homing left kin
       unsent = λ t. subst HasNoHoming (sym f) (left t);
     }))
 
-counted_phase : (told : Bool) (h : Held) (gs : List Held) (given : Option Datum) (p : Planned) (todo : List Planned) (y : Tally)
+counted_phase : (told : Bool) (h : OpenCommand) (gs : List OpenCommand) (given : Option Datum) (p : Planned) (todo : List Planned)
+    (y : Tally)
     → y.todo ≡ p ∷ todo → IsBefore (h ∷ gs) y ⊎ IsBehind told y → kinds_held (h ∷ gs) ++ kinds_of y.unsent ≡ kinds_of (p ∷ todo)
     → IsGiven h.kind given → FirstTells told (y.counted ++ act_of p.does given) → IsCounted told h gs given p todo y.unsent y.counted
 counted_phase told h gs given p todo y is (inl b) kinds fit tells =
@@ -289,7 +294,8 @@ counted_phase told h gs given p todo y is (inr b) kinds fit tells =
     (λ t. subst HasNoHoming is (b.todo t)) b.unsent kinds
 
 -- the first command of a list that is to be counted
-counts : (ws : List Wanted) (told : Bool) (steps sent : List Planned) (h : Held) (gs : List Held) (y : Tally) (given : Option Datum)
+counts : (ws : List Wanted) (told : Bool) (steps sent : List Planned) (h : OpenCommand) (gs : List OpenCommand) (y : Tally)
+    (given : Option Datum)
     (finished todo : List Planned) → y.todo ≡ todo
     → AreAsked (followed told steps) → sent ++ followed told y.unsent ≡ followed told steps
     → finished ++ followed told todo ≡ followed told steps
@@ -351,7 +357,8 @@ IsUncounted Effect.Quiet = Unit {0}
 IsUncounted Effect.Failure = Unit {0}
 IsUncounted (Effect.Count k given) = ⊥
 
-uncounted : (hs : List Held) (t : Tag) (m : Mark) (gs : List Held) (e : Effect) → heard_in false hs t m ≡ two gs e → IsUncounted e
+uncounted : (hs : List OpenCommand) (t : Tag) (m : Mark) (gs : List OpenCommand) (e : Effect) → heard_in false hs t m ≡ two gs e
+    → IsUncounted e
 uncounted [] t m gs e is = absurd (cc)
 uncounted (h ∷ hs) t m gs e is =
     heard_cases false h hs t m gs e (IsUncounted e) is
@@ -361,7 +368,7 @@ uncounted (h ∷ hs) t m gs e is =
     (λ given same v g f. absurd (no_counts h.kind h.stage m given v))
     (λ rest other later g. uncounted hs t m rest e later)
 
-stays_failed : (ws : List Wanted) (told : Bool) (steps sent : List Planned) (hs gs : List Held) (y : Tally) (e : Effect)
+stays_failed : (ws : List Wanted) (told : Bool) (steps sent : List Planned) (hs gs : List OpenCommand) (y : Tally) (e : Effect)
     → IsFollowing told steps sent hs y → y.failed ≡ true → IsUncounted e → IsFollowing told steps sent gs (tallied ws e y)
 stays_failed ws told steps sent hs gs y Effect.Quiet f failed un =
     record { whole = f.whole; finished = f.finished; parts = f.parts; acts = f.acts; calm = λ e. absurd (false≢true (sym e ∙ failed)) }
@@ -369,7 +376,7 @@ stays_failed ws told steps sent hs gs y Effect.Failure f failed un =
     record { whole = f.whole; finished = f.finished; parts = f.parts; acts = f.acts; calm = λ e. absurd (false≢true (sym e)) }
 stays_failed ws told steps sent hs gs y (Effect.Count k given) f failed un = absurd un
 
-same_before : (hs gs : List Held) (y : Tally) → kinds_held gs ≡ kinds_held hs → IsBefore hs y → IsBefore gs y
+same_before : (hs gs : List OpenCommand) (y : Tally) → kinds_held gs ≡ kinds_held hs → IsBefore hs y → IsBefore gs y
 same_before hs gs y kinds b = record {
   quiet = b.quiet;
   are_quiet = b.are_quiet;
@@ -386,12 +393,12 @@ same_before hs gs y kinds b = record {
     go (Asked e k) = Asked e (kinds ∙ k)
     go (Unasked later are e) = Unasked later are e
 
-same_phase : (told : Bool) (hs gs : List Held) (y : Tally) → kinds_held gs ≡ kinds_held hs → IsBefore hs y ⊎ IsBehind told y
+same_phase : (told : Bool) (hs gs : List OpenCommand) (y : Tally) → kinds_held gs ≡ kinds_held hs → IsBefore hs y ⊎ IsBehind told y
     → IsBefore gs y ⊎ IsBehind told y
 same_phase told hs gs y kinds (inl b) = inl (same_before hs gs y kinds b)
 same_phase told hs gs y kinds (inr b) = inr b
 
-moved_follows : (ws : List Wanted) (told : Bool) (steps sent : List Planned) (hs gs : List Held) (y : Tally) (e : Effect)
+moved_follows : (ws : List Wanted) (told : Bool) (steps sent : List Planned) (hs gs : List OpenCommand) (y : Tally) (e : Effect)
     → AreAsked (followed told steps) → (f : IsFollowing told steps sent hs y) → y.failed ≡ false → Moved hs gs e
     → FirstTells told (tallied ws e y).counted → IsFollowing told steps sent gs (tallied ws e y)
 moved_follows ws told steps sent hs gs y e asked f failed (Stays (Same quiet calm filled tags kinds)) tells =
@@ -417,10 +424,10 @@ moved_follows ws told steps sent hs gs y e asked f failed (Stays (Broke failure)
 moved_follows ws told steps sent hs gs y e asked f failed (Counted h given is count fit) tells =
     subst (λ (x : Effect). IsFollowing told steps sent gs (tallied ws x y)) (sym count)
     (counts ws told steps sent h gs y given f.finished y.todo refl asked f.whole f.parts f.acts failed
-    (subst (λ (l : List Held). IsCalm told sent f.finished l y) is (f.calm failed)) fit
+    (subst (λ (l : List OpenCommand). IsCalm told sent f.finished l y) is (f.calm failed)) fit
     (subst (λ (x : Effect). FirstTells told (tallied ws x y).counted) count tells))
 
-standard_follows : (ws : List Wanted) (told : Bool) (steps sent : List Planned) (hs gs : List Held) (y : Tally) (t : Tag) (m : Mark)
+standard_follows : (ws : List Wanted) (told : Bool) (steps sent : List Planned) (hs gs : List OpenCommand) (y : Tally) (t : Tag) (m : Mark)
     (e : Effect)
     → AreAsked (followed told steps) → IsFollowing told steps sent hs y → (b : Bool) → y.failed ≡ b
     → heard_in (not y.failed) hs t m ≡ two gs e → FirstTells told (tallied ws e y).counted → IsFollowing told steps sent gs (tallied ws e y)

@@ -18,7 +18,7 @@ use Rattle.protocol_model.proofs.plan.Fitting.{Know, known_by, FitsMove, FitsTou
 use Rattle.protocol_model.specs.declared.held.Datum.{Datum}
 use Rattle.protocol_model.specs.declared.held.Datum.TheVariants as datum
 use Rattle.protocol_model.specs.declared.held.Stage.{Stage}
-use Rattle.protocol_model.specs.declared.held.Held.{Held}
+use Rattle.protocol_model.specs.declared.held.OpenCommand.{OpenCommand}
 use Rattle.protocol_model.specs.declared.plans.Planned.{Planned}
 use Rattle.protocol_model.specs.declared.plans.Does.{Does}
 
@@ -121,7 +121,7 @@ IsFilled k (Stage.Given d) = fits k d ≡ true
 IsFilled k Stage.Failed = Unit {0}
 
 -- those of each open command are
-abbrev pub AreFilled : List Held → Type 0
+abbrev pub AreFilled : List OpenCommand → Type 0
 AreFilled [] = Unit {0}
 AreFilled (h ∷ hs) = IsFilled h.kind h.stage × AreFilled hs
 
@@ -143,17 +143,17 @@ has_datum (Does.Frames f) k given asked g = tt
 -- ---- open commands that have not failed
 
 -- no open command has failed
-abbrev pub AreCalm : List Held → Type 0
+abbrev pub AreCalm : List OpenCommand → Type 0
 AreCalm [] = Unit {0}
 AreCalm (h ∷ hs) = (is_failed h.stage ≡ false) × AreCalm hs
 
 -- their tags are those of their places in the plan, from this place on
-abbrev pub HaveTags : ℕ → List Held → Type 0
+abbrev pub HaveTags : ℕ → List OpenCommand → Type 0
 HaveTags place [] = Unit {0}
 HaveTags place (h ∷ hs) = (h.tag ≡ tag_at place) × HaveTags (suc place) hs
 
 -- the kinds of open commands
-abbrev pub kinds_held : List Held → List Kind
+abbrev pub kinds_held : List OpenCommand → List Kind
 kinds_held [] = []
 kinds_held (h ∷ hs) = h.kind ∷ kinds_held hs
 

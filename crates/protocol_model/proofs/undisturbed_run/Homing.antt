@@ -34,7 +34,7 @@ use Rattle.protocol_model.proofs.undisturbed_run.Following.{kinds_held, kinds_of
 use Rattle.protocol_model.specs.declared.lines.Line.{Line}
 use Rattle.protocol_model.specs.declared.held.Datum.{Datum}
 use Rattle.protocol_model.specs.declared.held.Datum.TheVariants as datum
-use Rattle.protocol_model.specs.declared.held.Held.{Held}
+use Rattle.protocol_model.specs.declared.held.OpenCommand.{OpenCommand}
 use Rattle.protocol_model.specs.declared.plans.Does.{Does}
 use Rattle.protocol_model.specs.declared.plans.Planned.{Planned}
 
@@ -122,12 +122,12 @@ pub record IsQuestion (ask home : Planned) (rest : List Planned) : Type 0 where
   pub no_question : HasNoQuestion rest
 
 -- what is unsent before the question is counted: the question was sent, and is the last that is open; or it was not
-pub data IsLeft (hs : List Held) (quiet : List Planned) (ask home : Planned) (rest unsent : List Planned) : Type 0 where
+pub data IsLeft (hs : List OpenCommand) (quiet : List Planned) (ask home : Planned) (rest unsent : List Planned) : Type 0 where
   Asked : unsent ≡ home ∷ rest → kinds_held hs ≡ kinds_of quiet ++ kind.IsHomed ∷ [] → IsLeft hs quiet ask home rest unsent
   Unasked : (later : List Planned) → AreQuiet later → unsent ≡ later ++ ask ∷ home ∷ rest → IsLeft hs quiet ask home rest unsent
 
 -- the question is not counted, and so nothing that stands for an act
-pub record IsBefore (hs : List Held) (y : Tally) : Type 0 where
+pub record IsBefore (hs : List OpenCommand) (y : Tally) : Type 0 where
   pub quiet : List Planned
   pub are_quiet : AreQuiet quiet
   pub ask : Planned
@@ -240,17 +240,18 @@ homes_is (command.SetCsyTransformation p) = refl
 homes_is (command.SetCoordSystem system) = refl
 homes_is command.AbortE = refl
 
-abbrev pub HoldsNoHoming : List Held → Type 0
+abbrev pub HoldsNoHoming : List OpenCommand → Type 0
 HoldsNoHoming [] = Unit {0}
 HoldsNoHoming (h ∷ hs) = (homes h.kind ≡ false) × HoldsNoHoming hs
 
 -- one more that does not
-pub holds_more : (hs : List Held) (x : Held) → HoldsNoHoming hs → homes x.kind ≡ false → HoldsNoHoming (hs ++ x ∷ [])
+pub holds_more : (hs : List OpenCommand) (x : OpenCommand) → HoldsNoHoming hs → homes x.kind ≡ false → HoldsNoHoming (hs ++ x ∷ [])
 holds_more [] x h e = (e, tt)
 holds_more (y ∷ hs) x h e = (h.0, holds_more hs x h.1 e)
 
 -- a reply opens none
-pub holds_keeps : (front : Bool) (hs : List Held) (t : Tag) (m : Mark) (gs : List Held) (e : Effect) → heard_in front hs t m ≡ two gs e
+pub holds_keeps : (front : Bool) (hs : List OpenCommand) (t : Tag) (m : Mark) (gs : List OpenCommand) (e : Effect)
+    → heard_in front hs t m ≡ two gs e
     → HoldsNoHoming hs → HoldsNoHoming gs
 holds_keeps front [] t m gs e is d = absurd (cc)
 holds_keeps front (h ∷ hs) t m gs e is d =
@@ -271,7 +272,7 @@ step_holds ws b t m c is d =
     (λ n hs e tag other walk g. subst (λ (x : Table). HoldsNoHoming x.standard) (sym g) d)
 
 -- of what runs and waits, the first that waits does not home
-pub waits_homes_not : (busy : List Line) (x : Line) (queued : List Line) (more : List Held)
+pub waits_homes_not : (busy : List Line) (x : Line) (queued : List Line) (more : List OpenCommand)
     → HoldsNoHoming (all_received (busy ++ x ∷ queued) ++ more) → is_homing x.command ≡ false
 waits_homes_not [] x queued more h = sym (homes_is x.command) ∙ h.0
 waits_homes_not (l ∷ busy) x queued more h = waits_homes_not busy x queued more h.1

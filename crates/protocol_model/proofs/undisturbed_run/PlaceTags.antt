@@ -11,7 +11,7 @@ use Rattle.protocol_model.specs.Undisturbed.{tag_at, lines_from}
 use Rattle.protocol_model.proofs.table.Basics.{if_false}
 use Rattle.protocol_model.proofs.undisturbed_run.Following.{AreCalm, HaveTags}
 use Rattle.protocol_model.specs.declared.lines.Line.{Line}
-use Rattle.protocol_model.specs.declared.held.Held.{Held}
+use Rattle.protocol_model.specs.declared.held.OpenCommand.{OpenCommand}
 use Rattle.protocol_model.specs.declared.plans.Planned.{Planned}
 
 -- the number of the tag at a place of the plan
@@ -27,18 +27,18 @@ far_apart : (i j : ℕ) → i < j → j ≤ i + 16 → number_at i ≡ number_at
 far_apart i j lt le e = omega (arith, e)
 
 -- the tag of the next place is none of the few before it
-pub next_is_free : (hs : List Held) (i j : ℕ) → HaveTags i hs → i + length hs ≡ j → length hs ≤ 16 → is_held (tag_at j) hs ≡ false
+pub next_is_free : (hs : List OpenCommand) (i j : ℕ) → HaveTags i hs → i + length hs ≡ j → length hs ≤ 16 → is_held (tag_at j) hs ≡ false
 next_is_free [] i j h e few = refl
 next_is_free (x ∷ hs) i j h e few =
     if_false {A = Bool} (tag_is x.tag (tag_at j)) true (is_held (tag_at j) hs) (ap (λ (t : Tag). tag_is t (tag_at j)) h.0
     ∙ ne_eqb (number_at i) (number_at j) (far_apart i j (omega (arith, e)) (omega (arith, e, few))))
     ∙ next_is_free hs (suc i) j h.1 (omega (arith, e)) (omega (arith, few))
 
-first_is : (hs : List Held) (n left : ℕ) → is_held (Std n) hs ≡ false → first_free Std hs n (suc left) ≡ Some n
+first_is : (hs : List OpenCommand) (n left : ℕ) → is_held (Std n) hs ≡ false → first_free Std hs n (suc left) ≡ Some n
 first_is hs n left e = ap (λ (b : Bool). elim b as (λ x. Option ℕ) [ true ↦ first_free Std hs (suc n) left | false ↦ Some n ]) e
 
 -- the number behind the one that was drawn last, where it is free
-next_by : (hs : List Held) (d m : ℕ) → is_held (Std m) hs ≡ false → ((d < 9999) × (m ≡ suc d)) ⊎ ((d ≡ 9999) × (m ≡ 1))
+next_by : (hs : List OpenCommand) (d m : ℕ) → is_held (Std m) hs ≡ false → ((d < 9999) × (m ≡ suc d)) ⊎ ((d ≡ 9999) × (m ≡ 1))
     → next_number Std hs d ≡ Some m
 next_by hs d m free (inl h) =
     let left : 9999 - d ≡ suc (9998 - d) = omega (arith, h.0) in
@@ -68,23 +68,24 @@ next_step (suc place) = go (eqb (number_at place) 9999) refl
         above other = omega arith
 
 -- the next number that is drawn is that of the place
-pub next_is : (hs : List Held) (i j d : ℕ) → HaveTags i hs → i + length hs ≡ j → length hs ≤ 16 → d ≡ drawn_at j
+pub next_is : (hs : List OpenCommand) (i j d : ℕ) → HaveTags i hs → i + length hs ≡ j → length hs ≤ 16 → d ≡ drawn_at j
     → next_number Std hs d ≡ Some (number_at j)
 next_is hs i j d h e few drawn = ap (next_number Std hs) drawn
     ∙ next_by hs (drawn_at j) (number_at j) (next_is_free hs i j h e few) (next_step j)
 
 -- with one more at the end
-pub tags_more : (hs : List Held) (i j : ℕ) (x : Held) → HaveTags i hs → i + length hs ≡ j → x.tag ≡ tag_at j → HaveTags i (hs ++ x ∷ [])
+pub tags_more : (hs : List OpenCommand) (i j : ℕ) (x : OpenCommand) → HaveTags i hs → i + length hs ≡ j → x.tag ≡ tag_at j
+    → HaveTags i (hs ++ x ∷ [])
 tags_more [] i j x h e is = (is ∙ ap tag_at (omega (arith, e)), tt)
 tags_more (y ∷ hs) i j x h e is = (h.0, tags_more hs (suc i) j x h.1 (omega (arith, e)) is)
 
 -- a calm table with one command more that has not failed
-pub calm_more : (hs : List Held) (x : Held) → AreCalm hs → is_failed x.stage ≡ false → AreCalm (hs ++ x ∷ [])
+pub calm_more : (hs : List OpenCommand) (x : OpenCommand) → AreCalm hs → is_failed x.stage ≡ false → AreCalm (hs ++ x ∷ [])
 calm_more [] x h e = (e, tt)
 calm_more (y ∷ hs) x h e = (h.0, calm_more hs x h.1 e)
 
 -- in a calm table each command is open
-pub count_calm : (hs : List Held) → AreCalm hs → count_open hs ≡ length hs
+pub count_calm : (hs : List OpenCommand) → AreCalm hs → count_open hs ≡ length hs
 count_calm [] h = refl
 count_calm (x ∷ hs) h = if_false {A = ℕ} (is_failed x.stage) (count_open hs) (suc (count_open hs)) h.0 ∙ ap suc (count_calm hs h.1)
 

@@ -47,7 +47,7 @@ use Rattle.protocol_model.specs.declared.plans.Does.{Does}
 use Rattle.protocol_model.specs.declared.states.State.{State}
 use Rattle.protocol_model.specs.declared.states.Cause.{Cause}
 use Rattle.protocol_model.specs.declared.lines.Line.{Line}
-use Rattle.protocol_model.specs.declared.held.Held.{Held}
+use Rattle.protocol_model.specs.declared.held.OpenCommand.{OpenCommand}
 use Rattle.protocol_model.specs.declared.plans.Planned.{Planned}
 use Rattle.protocol_model.specs.declared.plans.Start.{Start}
 
@@ -273,7 +273,7 @@ read_last c (Err framing.BadByte) = refl
 
 -- ---- a command is sent
 
-kinds_more : (hs : List Held) (x : Held) → kinds_held (hs ++ x ∷ []) ≡ kinds_held hs ++ x.kind ∷ []
+kinds_more : (hs : List OpenCommand) (x : OpenCommand) → kinds_held (hs ++ x ∷ []) ≡ kinds_held hs ++ x.kind ∷ []
 kinds_more [] x = refl
 kinds_more (h ∷ hs) x = ap (λ (l : List Kind). h.kind ∷ l) (kinds_more hs x)
 
@@ -281,12 +281,12 @@ kinds_join : (ps qs : List Planned) → kinds_of (ps ++ qs) ≡ kinds_of ps ++ k
 kinds_join [] qs = refl
 kinds_join (p ∷ ps) qs = ap (λ (l : List Kind). kind_of p.command ∷ l) (kinds_join ps qs)
 
-filled_more : (hs : List Held) (x : Held) → AreFilled hs → IsFilled x.kind x.stage → AreFilled (hs ++ x ∷ [])
+filled_more : (hs : List OpenCommand) (x : OpenCommand) → AreFilled hs → IsFilled x.kind x.stage → AreFilled (hs ++ x ∷ [])
 filled_more [] x h e = (e, tt)
 filled_more (y ∷ hs) x h e = (h.0, filled_more hs x h.1 e)
 
 -- where the question is the last that is open, it is open
-is_asked : (hs : List Held) (ks : List Kind) → AreCalm hs → kinds_held hs ≡ ks ++ kind.IsHomed ∷ [] → is_asking hs ≡ true
+is_asked : (hs : List OpenCommand) (ks : List Kind) → AreCalm hs → kinds_held hs ≡ ks ++ kind.IsHomed ∷ [] → is_asking hs ≡ true
 is_asked [] [] calm e = absurd (cc)
 is_asked [] (k ∷ ks) calm e = absurd (cc)
 is_asked (h ∷ hs) [] calm e =
@@ -309,7 +309,7 @@ is_asked (h ∷ hs) (k ∷ ks) calm e = or_true (asks_homed h.kind && not (is_fa
     or_true false b e = e
 
 -- what the phase says of the command that is sent: it does not home where the machine is told to be homed, and the phase behind it
-record IsSent (told : Bool) (hs : List Held) (y : Tally) (x : Held) (p : Planned) (others : List Planned) : Type 0 where
+record IsSent (told : Bool) (hs : List OpenCommand) (y : Tally) (x : OpenCommand) (p : Planned) (others : List Planned) : Type 0 where
   no_homing : told ≡ true → is_homing p.command ≡ false
   phase : IsBefore (hs ++ x ∷ []) (record y { unsent = others }) ⊎ IsBehind told (record y { unsent = others })
 
@@ -322,7 +322,7 @@ other_planned [] = []
 other_planned (q ∷ qs) = qs
 
 -- before the question is counted, quiet commands go out, and then the question
-sent_before : (told : Bool) (hs : List Held) (y : Tally) (x : Held) (p : Planned) (others : List Planned) (b : IsBefore hs y)
+sent_before : (told : Bool) (hs : List OpenCommand) (y : Tally) (x : OpenCommand) (p : Planned) (others : List Planned) (b : IsBefore hs y)
     (later : List Planned) → AreQuiet later → p ∷ others ≡ later ++ b.ask ∷ b.home ∷ b.rest → x.kind ≡ kind_of p.command
     → kinds_held hs ++ kinds_of (p ∷ others) ≡ kinds_of y.todo → IsSent told hs y x p others
 sent_before told hs y x p others b (q ∷ later) quiet e kind_is kinds = record {
@@ -362,7 +362,7 @@ sent_before told hs y x p others b [] quiet e kind_is kinds =
       });
     }
 
-sent_by : (told : Bool) (hs : List Held) (y : Tally) (x : Held) (p : Planned) (others : List Planned) → y.unsent ≡ p ∷ others
+sent_by : (told : Bool) (hs : List OpenCommand) (y : Tally) (x : OpenCommand) (p : Planned) (others : List Planned) → y.unsent ≡ p ∷ others
     → x.kind ≡ kind_of p.command → kinds_held hs ++ kinds_of (p ∷ others) ≡ kinds_of y.todo → AreCalm hs → is_asking hs ≡ false
     → IsBefore hs y ⊎ IsBehind told y → IsSent told hs y x p others
 sent_by told hs y x p others unsent kind_is kinds calm quiet (inl b) = go b.left
@@ -420,7 +420,7 @@ sends_on n told steps c written p others number h unsent failed quiet is =
           ∙ (sym (command_bytes_more (lines_from 0 h.sent) (line ∷ [])) ∙ ap command_bytes (sym (lines_start h.sent (p ∷ []))));
     })
   where
-    x : Held
+    x : OpenCommand
     x = held_now (tag_at (length h.sent)) (kind_of p.command)
 
     line : Line
@@ -429,7 +429,7 @@ sends_on n told steps c written p others number h unsent failed quiet is =
     longer : (xs : List Planned) (y : Planned) → suc (length xs) ≡ length (xs ++ y ∷ [])
     longer xs y = omega (arith, length-append xs (y ∷ []))
 
-    longer_held : (hs : List Held) → suc (length hs) ≡ length (hs ++ x ∷ [])
+    longer_held : (hs : List OpenCommand) → suc (length hs) ≡ length (hs ++ x ∷ [])
     longer_held hs = omega (arith, length-append hs (x ∷ []))
 
 -- ---- the plan begins

@@ -11,7 +11,7 @@ use Rattle.contact_ledger.specs.declared.features.Origin.{Origin}
 use Rattle.contact_ledger.specs.declared.acts.Act.{Act}
 use Rattle.contact_ledger.specs.declared.acts.Act.TheVariants as act
 use Rattle.dmis_program.specs.declared.features.Touch.{Touch}
-use Rattle.protocol_model.specs.Claims.{Made, IsServed, Serves, AreRuns, Sound, Told}
+use Rattle.protocol_model.specs.Claims.{MadeContact, IsServed, Serves, AreRuns, Sound, Told}
 use Rattle.protocol_model.specs.Examples.{at, along, from_above, tool, part, feature}
 use Rattle.protocol_model.specs.LedgerRows.{contact_of, first_touch, second_touch, one_wanted, two_wanted, first_point, second_point}
 use Rattle.protocol_model.specs.LedgerRows.{first_contact, second_contact, ledger_with, right_ledger, measured_as, two_connections}
@@ -70,7 +70,7 @@ both_are = record {
 -- ---- one run of two contacts
 
 -- a feature of two points beside two contacts has both, one after another, on one connection
-record HasBoth (touches : List Touch) (points : List Point) (one two : Made) : Type 0 where
+record HasBoth (touches : List Touch) (points : List Point) (one two : MadeContact) : Type 0 where
   pub connection : ℕ
   pub serves : Serves connection touches points (one ∷ two ∷ [])
 
@@ -78,26 +78,26 @@ record HasBoth (touches : List Touch) (points : List Point) (one two : Made) : T
 abbrev both : List Touch
 both = first_touch ∷ second_touch ∷ []
 
-both_at : (p q : Point) (one two : Made) (n s : ℕ) → Serves n both (p ∷ q ∷ []) (take 2 (drop s (one ∷ two ∷ [])))
+both_at : (p q : Point) (one two : MadeContact) (n s : ℕ) → Serves n both (p ∷ q ∷ []) (take 2 (drop s (one ∷ two ∷ [])))
     → HasBoth both (p ∷ q ∷ []) one two
 both_at p q one two n zero h = record { connection = n; serves = h }
 both_at p q one two n (suc zero) h = absurd h.1
 both_at p q one two n (suc (suc zero)) h = absurd h
 both_at p q one two n (suc (suc (suc k))) h = absurd h
 
-has_both : (p q : Point) (one two : Made) (starts : List ℕ)
+has_both : (p q : Point) (one two : MadeContact) (starts : List ℕ)
     → AreRuns one_wanted (feature (codes "A") (p ∷ q ∷ []) ∷ []) starts 0 (one ∷ two ∷ []) → HasBoth both (p ∷ q ∷ []) one two
 has_both p q one two [] h = absurd h
 has_both p q one two (s ∷ starts) h = both_at p q one two h.1.connection s h.1.serves
 
 -- the contact of an act
-abbrev made_by : ℕ → Point → Option Direction → List ℕ → Frame → Point → Made
+abbrev made_by : ℕ → Point → Option Direction → List ℕ → Frame → Point → MadeContact
 made_by n target dir name f point = record { connection = n; target = target; dir = dir; tool = name; frame = f; point = point }
 
-abbrev first_made : Made
+abbrev first_made : MadeContact
 first_made = made_by 1 (at (pos 10000) (pos 0) (pos 0)) from_above tool frame.Machine first_point
 
-abbrev second_made : Made
+abbrev second_made : MadeContact
 second_made = made_by 1 (at (pos 20000) (pos 0) (pos 0)) from_above tool frame.Machine second_point
 
 -- what both contacts have where the second is this one

@@ -2,11 +2,11 @@
 use Rattle.std.proofs.Common.{◌≡◌, ℕ, zero, suc, pos, unsigned_abs, ◌+◌, ◌≤◌, List, [], ◌∷◌, take, drop, ap, arith}
 use Rattle.fixed_um.specs.declared.lengths.Point.{Point}
 use Rattle.dmis_program.specs.declared.features.Touch.{Touch}
-use Rattle.protocol_model.specs.Claims.{Made, Serves, AreRuns}
+use Rattle.protocol_model.specs.Claims.{MadeContact, Serves, AreRuns}
 use Rattle.protocol_model.specs.Examples.{made, alike, alike_wanted, alike_features, twice_wanted, twice_features, at}
 
 -- one contact has none behind it
-none_behind : (n k : ℕ) (t : Touch) (p : Point) (m : Made) → Serves n (t ∷ []) (p ∷ []) (take 1 (drop (suc k) (m ∷ []))) → ⊥
+none_behind : (n k : ℕ) (t : Touch) (p : Point) (m : MadeContact) → Serves n (t ∷ []) (p ∷ []) (take 1 (drop (suc k) (m ∷ []))) → ⊥
 none_behind n zero t p m h = h
 none_behind n (suc k) t p m h = h
 

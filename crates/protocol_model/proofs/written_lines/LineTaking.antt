@@ -26,7 +26,7 @@ use Rattle.protocol_model.specs.declared.states.Cause.{Cause}
 use Rattle.protocol_model.specs.declared.states.State.{State}
 use Rattle.protocol_model.specs.declared.held.Datum.{Datum}
 use Rattle.protocol_model.specs.declared.held.Datum.TheVariants as datum
-use Rattle.protocol_model.specs.declared.held.Held.{Held}
+use Rattle.protocol_model.specs.declared.held.OpenCommand.{OpenCommand}
 use Rattle.protocol_model.specs.declared.held.Stage.{Stage}
 
 -- ---- lines at the front
@@ -95,7 +95,8 @@ no_reply_fault rs read more why w e next = no_fault read more (reply_texts rs) w
 -- ---- a data line
 
 -- under a tag that is not held, any mark is refused
-unknown_in : (front : Bool) (hs : List Held) (t : Tag) (m : Mark) → held_kind t hs ≡ None → heard_in front hs t m ≡ Err Cause.UnknownTag
+unknown_in : (front : Bool) (hs : List OpenCommand) (t : Tag) (m : Mark) → held_kind t hs ≡ None
+    → heard_in front hs t m ≡ Err Cause.UnknownTag
 unknown_in front [] t m e = refl
 unknown_in front (h ∷ hs) t m e = if_cases {A = Option Kind} (tag_is h.tag t) (Some h.kind) (held_kind t hs) None
     (heard_in front (h ∷ hs) t m ≡ Err Cause.UnknownTag) e
@@ -108,7 +109,7 @@ unknown_in front (h ∷ hs) t m e = if_cases {A = Option Kind} (tag_is h.tag t) 
 data_out : (b : Bool) (k : Kind) (s : Stage) (d : Datum) → fits k d ≡ false → judged_given (b && fits k d) s d ≡ Refused Cause.OutOfOrder
 data_out b k s d e = ap (λ (x : Bool). judged_given (b && x) s d) e ∙ ap (λ (x : Bool). judged_given x s d) (and_false b)
 
-out_of_order_in : (front : Bool) (hs : List Held) (t : Tag) (k : Kind) (d : Datum) → held_kind t hs ≡ Some k → fits k d ≡ false
+out_of_order_in : (front : Bool) (hs : List OpenCommand) (t : Tag) (k : Kind) (d : Datum) → held_kind t hs ≡ Some k → fits k d ≡ false
     → heard_in front hs t (Mark.Given d) ≡ Err Cause.OutOfOrder
 out_of_order_in front [] t k d e misfit = absurd (cc)
 out_of_order_in front (h ∷ hs) t k d e misfit = if_cases {A = Option Kind} (tag_is h.tag t) (Some h.kind) (held_kind t hs) (Some k)

@@ -33,7 +33,7 @@ use Rattle.protocol_model.proofs.table.Asking.{tallied_leaves}
 use Rattle.protocol_model.proofs.table.Drawing.{IsFound, found, or_cases}
 use Rattle.protocol_model.proofs.written_lines.Writable.{AreWritable, opposite_in_volume}
 use Rattle.protocol_model.specs.declared.states.Cause.{Cause}
-use Rattle.protocol_model.specs.declared.held.Held.{Held}
+use Rattle.protocol_model.specs.declared.held.OpenCommand.{OpenCommand}
 use Rattle.protocol_model.specs.declared.plans.Planned.{Planned}
 use Rattle.protocol_model.specs.declared.plans.Start.{Start}
 use Rattle.protocol_model.specs.declared.plans.Start.TheVariants.{NewConnection}
@@ -165,7 +165,7 @@ passed_arguments told ps h = passes HaveArguments (λ p qs e f. f.1) told ps h
 
 -- ---- numbers that are drawn
 
-number_below : (sort : ℕ → Tag) (hs : List Held) (last all n : ℕ) → last ≤ all
+number_below : (sort : ℕ → Tag) (hs : List OpenCommand) (last all n : ℕ) → last ≤ all
     → or_else (first_free sort hs (suc last) (all - last)) (first_free sort hs 1 all) ≡ Some n → (1 ≤ n) × (n ≤ all)
 number_below sort hs last all n le e = or_cases _ _ n ((1 ≤ n) × (n ≤ all)) e
     (λ first. let f : IsFound sort hs (suc last) (all - last) n = found sort hs (suc last) (all - last) n first

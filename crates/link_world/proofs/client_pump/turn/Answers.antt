@@ -5,9 +5,11 @@ use Rattle.link_world.proofs.client_pump.turn.Goals as goal
 
 pub returns-in_err-written-clause-stopped : goal.returns-in_err-written-clause-stopped
 returns-in_err-written-clause-stopped g c = if_err c.from_residual.result _ _ c.from_residual.ensures.0 c.from_residual.ensures.1
-    (stopped_beside (g.R.Source.calls c.args.ports.now.source) c.args.bound (g.W.Sink.calls c.args.ports.now.sink) (g.W.Sink.calls c.give_out.new.sink)
+    (stopped_beside (g.R.Source.calls c.args.ports.now.source) c.args.bound (g.W.Sink.calls c.args.ports.now.sink)
+    (g.W.Sink.calls c.give_out.new.sink)
     c.args.at_least c.args.client.now (end_left c.give_out.new.client) (g.R.Source.left c.args.ports.now.source)
-    (g.R.Source.left c.args.ports.now.source) (g.W.Sink.taken c.args.ports.now.sink) (g.W.Sink.taken c.give_out.new.sink) c.in_err-written.field-0.0
+    (g.R.Source.left c.args.ports.now.source) (g.W.Sink.taken c.args.ports.now.sink)
+    (g.W.Sink.taken c.give_out.new.sink) c.in_err-written.field-0.0
     (c.in_err-written.ensures.stopped c.args.at_least (g.R.Source.left c.args.ports.now.source)))
 
 pub returns-in_err-feed-clause-stopped : goal.returns-in_err-feed-clause-stopped

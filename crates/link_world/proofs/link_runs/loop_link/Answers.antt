@@ -1,7 +1,7 @@
 use Rattle.std.proofs.Common.{rules, ◌∙◌, refl, ap, arith}
 use Rattle.std.proofs.lemmas.Grind.{common_steps}
 use Rattle.protocol_model.specs.Ends.{ClientEnd}
-use Rattle.server_core.specs.Serving.{Serving}
+use Rattle.server_core.specs.Serving.{ServerValue}
 use Rattle.link_world.specs.LinkRuns.{client_side, server_side}
 use Rattle.link_world.specs.LinkRuns as run
 use Rattle.link_world.proofs.ClientPumps.{if_err}
@@ -29,7 +29,8 @@ loop-pair-preserved g c = (
       (client_side c.loop-pair.client (g.CR.Source.left c.loop-pair.client_ports.source) (g.CW.Sink.taken c.loop-pair.client_ports.sink))
       (client_side c.pair.new.client (g.CR.Source.left c.pair.new.client_ports.source) (g.CW.Sink.taken c.pair.new.client_ports.sink))
       (server_side c.args.server.now.end (g.SR.Source.left c.args.server_ports.now.source) (g.SW.Sink.taken c.args.server_ports.now.sink))
-      (server_side c.loop-pair.server.end (g.SR.Source.left c.loop-pair.server_ports.source) (g.SW.Sink.taken c.loop-pair.server_ports.sink))
+      (server_side c.loop-pair.server.end (g.SR.Source.left c.loop-pair.server_ports.source)
+      (g.SW.Sink.taken c.loop-pair.server_ports.sink))
       (server_side c.pair.new.server.end (g.SR.Source.left c.pair.new.server_ports.source) (g.SW.Sink.taken c.pair.new.server_ports.sink))
       c.in_ok-by_client.by_client c.in_ok-by_client.by_server c.loop-pair.invariant.0 c.loop-pair.invariant.2
       c.in_ok-by_client.ensures.moved (search rules),
@@ -52,7 +53,9 @@ returns-clause-stopped g c = loop_spends (g.M.Machine.answers c.args.machine.now
     (server_side c.loop-pair.server.end (g.SR.Source.left c.loop-pair.server_ports.source) (g.SW.Sink.taken c.loop-pair.server_ports.sink))
     (server_side c.leave-2.new.self.end (g.SR.Source.left c.loop-pair.server_ports.source) (g.SW.Sink.taken c.loop-pair.server_ports.sink))
     c.loop-pair.invariant.0 (grind arith)
-    (ap (λ (e : ClientEnd). client_side e (g.CR.Source.left c.loop-pair.client_ports.source) (g.CW.Sink.taken c.loop-pair.client_ports.sink))
+    (ap (λ (e : ClientEnd). client_side e (g.CR.Source.left c.loop-pair.client_ports.source)
+    (g.CW.Sink.taken c.loop-pair.client_ports.sink))
     c.leave.ensures)
-    (ap (λ (s : Serving). server_side s.end (g.SR.Source.left c.loop-pair.server_ports.source) (g.SW.Sink.taken c.loop-pair.server_ports.sink))
+    (ap (λ (s : ServerValue). server_side s.end (g.SR.Source.left c.loop-pair.server_ports.source)
+    (g.SW.Sink.taken c.loop-pair.server_ports.sink))
     c.leave-2.ensures)

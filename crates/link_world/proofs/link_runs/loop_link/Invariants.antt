@@ -6,7 +6,8 @@ abbrev pub invariant-loop-pair : goal.invariant-loop-pair
 invariant-loop-pair g l =
     LoopRun (g.M.Machine.answers l.initial.machine)
     (client_side l.initial.client (g.CR.Source.left l.initial.client_ports.source) (g.CW.Sink.taken l.initial.client_ports.sink))
-    (server_side l.initial.server.end (g.SR.Source.left l.initial.server_ports.source) (g.SW.Sink.taken l.initial.server_ports.sink)) l._pair l.down
+    (server_side l.initial.server.end (g.SR.Source.left l.initial.server_ports.source) (g.SW.Sink.taken l.initial.server_ports.sink))
+    l._pair l.down
     (client_side l.client (g.CR.Source.left l.client_ports.source) (g.CW.Sink.taken l.client_ports.sink))
     (server_side l.server.end (g.SR.Source.left l.server_ports.source) (g.SW.Sink.taken l.server_ports.sink))
     × (l.server.setup ≡ l.initial.server.setup)

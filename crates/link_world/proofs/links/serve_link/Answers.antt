@@ -1,6 +1,6 @@
 use Rattle.std.proofs.Common.{◌∙◌, refl, ap, arith}
 use Rattle.std.proofs.lemmas.Grind.{common_steps}
-use Rattle.server_core.specs.Serving.{Serving}
+use Rattle.server_core.specs.Serving.{ServerValue}
 use Rattle.server_core.specs.declared.faults.ServerFault.{ServerFault}
 use Rattle.link_world.specs.declared.pumps.PumpFault.{PumpFault}
 use Rattle.link_world.specs.LinkRuns.{ServerRunStopped}
@@ -64,4 +64,4 @@ pub returns-clause-stopped : goal.returns-clause-stopped
 returns-clause-stopped g c = server_spends (g.M.Machine.answers c.args.machine.now) c.loop-turn._turn c.args.server.now.end
     c.loop-turn.server.end c.leave.new.self.end (g.R.Source.left c.args.ports.now.source) (g.R.Source.left c.loop-turn.ports.source)
     (g.W.Sink.taken c.args.ports.now.sink) (g.W.Sink.taken c.loop-turn.ports.sink) c.loop-turn.invariant.0 (grind arith)
-    (ap (λ (s : Serving). s.end) c.leave.ensures)
+    (ap (λ (s : ServerValue). s.end) c.leave.ensures)

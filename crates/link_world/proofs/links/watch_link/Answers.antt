@@ -15,12 +15,14 @@ loop-client-init g c = (
 
 pub returns-then-turns-eq-TURNS_MAX-clause-stopped : goal.returns-then-turns-eq-TURNS_MAX-clause-stopped
 returns-then-turns-eq-TURNS_MAX-clause-stopped g c = client_spends c.loop-client.turns c.args.client.now c.loop-client.client
-    c.leave.new.self (g.R.Source.left c.args.ports.now.source) (g.R.Source.left c.loop-client.ports.source) (g.W.Sink.taken c.args.ports.now.sink)
+    c.leave.new.self (g.R.Source.left c.args.ports.now.source) (g.R.Source.left c.loop-client.ports.source)
+    (g.W.Sink.taken c.args.ports.now.sink)
     (g.W.Sink.taken c.loop-client.ports.sink) c.loop-client.invariant.0 (search rules) (grind arith) c.leave.ensures
 
 pub returns-in_err-watched_turn-clause-stopped : goal.returns-in_err-watched_turn-clause-stopped
 returns-in_err-watched_turn-clause-stopped g c = if_err c.from_residual.result _ _ c.from_residual.ensures.0 c.from_residual.ensures.1
-    (client_stops c.loop-client.turns c.args.client.now c.loop-client.client c.watched_turn.new.client (g.R.Source.left c.args.ports.now.source)
+    (client_stops c.loop-client.turns c.args.client.now c.loop-client.client c.watched_turn.new.client
+    (g.R.Source.left c.args.ports.now.source)
     (g.R.Source.left c.loop-client.ports.source) (g.R.Source.left c.watched_turn.new.ports.source) (g.W.Sink.taken c.args.ports.now.sink)
     (g.W.Sink.taken c.loop-client.ports.sink) (g.W.Sink.taken c.watched_turn.new.ports.sink) c.in_err-watched_turn.field-0.0
     c.loop-client.invariant.0 (search rules) (grind arith) c.in_err-watched_turn.ensures.stopped.front)

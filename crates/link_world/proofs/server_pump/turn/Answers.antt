@@ -1,6 +1,6 @@
 use Rattle.std.proofs.Common.{arith, ap, length, ◌∙◌}
 use Rattle.protocol_model.specs.Ends.{serving_left}
-use Rattle.server_core.specs.Serving.{Serving}
+use Rattle.server_core.specs.Serving.{ServerValue}
 use Rattle.link_world.proofs.ClientPumps.{if_err}
 use Rattle.link_world.proofs.ServerPumps.{serving_stopped_beside, server_stops_working, server_stops_writing, has_served}
 use Rattle.link_world.proofs.server_pump.turn.Goals as goal
@@ -46,7 +46,7 @@ returns-in_err-read-clause-stopped g c = if_err c.from_residual.result _ _ c.fro
     (c.in_err-read.ensures.stopped (g.M.Machine.answers c.args.machine.now) (g.W.Sink.taken c.args.ports.now.sink)))
 
 pub returns-clause-setup : goal.returns-clause-setup
-returns-clause-setup g c = ap (λ (s : Serving). s.setup) c.sent.ensures ∙ (c.work.ensures.goes.setup ∙ c.read_in.ensures.setup)
+returns-clause-setup g c = ap (λ (s : ServerValue). s.setup) c.sent.ensures ∙ (c.work.ensures.goes.setup ∙ c.read_in.ensures.setup)
 
 pub returns-in_err-work-clause-setup : goal.returns-in_err-work-clause-setup
 returns-in_err-work-clause-setup g c = c.work.ensures.goes.setup ∙ c.read_in.ensures.setup

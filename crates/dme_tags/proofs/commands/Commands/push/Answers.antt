@@ -1,6 +1,6 @@
 use Rattle.std.proofs.Common.{ℕ, List, Option, ◌≡◌, ◌+◌, ◌++◌, ◌∷◌, [], length, sym, ◌∙◌, ap, arith, refl}
 use Rattle.slab.specs.Slab.{Slab, slab_len}
-use Rattle.protocol_model.specs.declared.held.Held.{Held}
+use Rattle.protocol_model.specs.declared.held.OpenCommand.{OpenCommand}
 use Rattle.protocol_model.specs.Client.{held_now}
 use Rattle.dme_tags.specs.Kept.{Slots, is_open, is_open_question}
 use Rattle.dme_tags.proofs.Kept.{IsInserted, inserted_at, counted_pushed, one_more}
@@ -11,14 +11,14 @@ behind : (c : goal.After-push_reserved) → IsInserted c.self.inside.slab c.inse
     c.push_reserved.new.self.items (held_now c.args.tag c.args.kind)
 behind c =
     inserted_at _ c.reserve.new.self _ _ c.reserve-2.new.self.items _ c.insert_reserved-key.result _
-    (ap (λ (s : Slab Held). s.slots) c.reserve.ensures.rest_kept) c.reserve-2.ensures.items c.push_reserved.ensures.items
+    (ap (λ (s : Slab OpenCommand). s.slots) c.reserve.ensures.rest_kept) c.reserve-2.ensures.items c.push_reserved.ensures.items
     c.insert_reserved-key.ensures.was_vacant c.insert_reserved-key.ensures.updates c.self.invariant.0
 
 pub invariant_of-self-2 : goal.invariant_of-self-2
 invariant_of-self-2 c = (
   (behind c).keys,
   one_more c.self.inside.slab c.reserve.new.self c.insert_reserved-key.new.self _ _ _ c.insert_reserved-key.result
-      (ap (λ (s : Slab Held). s.slots) c.reserve.ensures.rest_kept) c.reserve-2.ensures.items
+      (ap (λ (s : Slab OpenCommand). s.slots) c.reserve.ensures.rest_kept) c.reserve-2.ensures.items
       c.push_reserved.ensures.items c.insert_reserved-key.ensures.len c.self.invariant.1,
   counted_pushed is_open _ _ _ _ _ c.self.invariant.2 refl (behind c).list,
   counted_pushed is_open_question _ _ _ _ _ c.self.invariant.3 c.question_one.ensures (behind c).list,
@@ -26,4 +26,4 @@ invariant_of-self-2 c = (
 
 pub returns-clause-ok : goal.returns-clause-ok
 returns-clause-ok c =
-    (behind c).list ∙ ap (λ (hs : List Held). hs ++ held_now c.args.tag c.args.kind ∷ []) c.self.view_is
+    (behind c).list ∙ ap (λ (hs : List OpenCommand). hs ++ held_now c.args.tag c.args.kind ∷ []) c.self.view_is

@@ -1,6 +1,6 @@
 use Rattle.std.proofs.Common.{List, ◌∙◌, ap, arith}
 use Rattle.std.specs.List.{remove}
-use Rattle.protocol_model.specs.declared.held.Held.{Held}
+use Rattle.protocol_model.specs.declared.held.OpenCommand.{OpenCommand}
 use Rattle.dme_tags.specs.Kept.{is_open, is_open_question}
 use Rattle.dme_tags.proofs.Kept.{IsRemoved, removed_at, counted_removed, enough_left, key_there, one_fewer, within_keys}
 use Rattle.dme_tags.proofs.commands.Commands.remove.Goals as goal
@@ -42,4 +42,4 @@ invariant_of-self c = (
 )
 
 pub returns : goal.returns
-returns c = (gone c).list ∙ ap (λ (hs : List Held). remove hs c.args.index) c.self.view_is
+returns c = (gone c).list ∙ ap (λ (hs : List OpenCommand). remove hs c.args.index) c.self.view_is

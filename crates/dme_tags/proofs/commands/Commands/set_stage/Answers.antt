@@ -1,5 +1,5 @@
 use Rattle.std.proofs.Common.{List, ◌∙◌, sym, ap, get_or, set, ◌≡◌}
-use Rattle.protocol_model.specs.declared.held.Held.{Held}
+use Rattle.protocol_model.specs.declared.held.OpenCommand.{OpenCommand}
 use Rattle.slab.specs.Slab.{with_value}
 use Rattle.dme_tags.specs.Kept.{is_open, is_open_question}
 use Rattle.dme_tags.proofs.Kept.{IsWritten, written_at, counted_changed, enough_at, key_there, same_stage, within_keys}
@@ -44,6 +44,6 @@ invariant_of-self c = (
 pub returns : goal.returns
 returns c held here =
     (in_place c).list
-    ∙ ap (λ (hs : List Held). set hs c.args.index (record c.index-held.result.now { stage = c.args.stage })) c.self.view_is
+    ∙ ap (λ (hs : List OpenCommand). set hs c.args.index (record c.index-held.result.now { stage = c.args.stage })) c.self.view_is
     ∙ same_stage c.args.self.now c.args.index c.index-held.result.now held c.args.stage c.requires
-    (ap (λ (hs : List Held). get_or hs c.args.index c.index-held.result.now) (sym c.self.view_is) ∙ (in_place c).here) here
+    (ap (λ (hs : List OpenCommand). get_or hs c.args.index c.index-held.result.now) (sym c.self.view_is) ∙ (in_place c).here) here

@@ -1,7 +1,7 @@
 use Rattle.std.proofs.Common.{ap}
 use Rattle.protocol_model.specs.Replies.{Mark}
 use Rattle.protocol_model.specs.Open.{Effect}
-use Rattle.dme_tags.specs.Opened.{Opened}
+use Rattle.dme_tags.specs.Opened.{OpenValue}
 use Rattle.dme_tags.proofs.Dues.{Agrees, agrees_standard, agrees_event, unknown_exactly, data_exactly, second_exactly, data_told}
 use Rattle.dme_tags.proofs.open_commands.Open.data.Goals as goal
 
@@ -9,13 +9,13 @@ use Rattle.dme_tags.proofs.open_commands.Open.data.Goals as goal
 on_standard : (c : goal.After-give) → Agrees c.args.self.now c.args.tag (Mark.Given c.args.datum) c.give.result
 on_standard c =
     agrees_standard c.args.self.now _ _ _ c.args.tag c.in-Std.field-0 (Mark.Given c.args.datum) (λ _. Effect.Quiet) _ c.in-Std.is
-    (ap (λ (o : Opened). o.failed) c.self.view_is) (ap (λ (o : Opened). o.standard) c.self.view_is) c.give.ensures.ok
+    (ap (λ (o : OpenValue). o.failed) c.self.view_is) (ap (λ (o : OpenValue). o.standard) c.self.view_is) c.give.ensures.ok
     c.give.ensures.refused
 
 on_event : (c : goal.After-give-in-Event) → Agrees c.args.self.now c.args.tag (Mark.Given c.args.datum) c.give-in-Event.result
 on_event c =
     agrees_event c.args.self.now _ _ c.args.tag c.in-Event.field-0 (Mark.Given c.args.datum) (λ _. Effect.Quiet) _ c.in-Event.is
-    (ap (λ (o : Opened). o.event) c.self.view_is) c.give-in-Event.ensures.ok c.give-in-Event.ensures.refused
+    (ap (λ (o : OpenValue). o.event) c.self.view_is) c.give-in-Event.ensures.ok c.give-in-Event.ensures.refused
 
 pub returns-in-Std-clause-due : goal.returns-in-Std-clause-due
 returns-in-Std-clause-due c = data_exactly c.args.self.now c.args.tag c.args.datum _ c.requires (on_standard c)

@@ -1,7 +1,7 @@
 use Rattle.std.proofs.Common.{ap, not, true, rules}
 use Rattle.std.proofs.lemmas.Result.{err_from_is_err_and}
 use Rattle.protocol_model.specs.Replies.{Mark}
-use Rattle.dme_tags.specs.Opened.{Opened}
+use Rattle.dme_tags.specs.Opened.{OpenValue}
 use Rattle.dme_tags.proofs.Refusals.{refused_standard, refused_event}
 use Rattle.dme_tags.proofs.Ends.{refused_unknown, refused_error, taken_standard, taken_event}
 use Rattle.dme_tags.proofs.open_commands.Open.failed.Goals as goal
@@ -11,7 +11,7 @@ returns-in_err-fail-in-Std-clause-refused c =
     let p = err_from_is_err_and c.from_residual.result c.from_residual.ensures.1 in
     rw (p.1, p.2) (
       refused_standard c.args.self.now _ c.args.tag c.in-Std.field-0 Mark.Error _ c.in-Std.is
-          (ap (λ (o : Opened). o.standard) c.self.view_is) (c.in_err-fail-in-Std.ensures.refused _),
+          (ap (λ (o : OpenValue). o.standard) c.self.view_is) (c.in_err-fail-in-Std.ensures.refused _),
       search rules,
     )
 
@@ -20,7 +20,7 @@ returns-in_err-fail-in-Event-clause-refused c =
     let p = err_from_is_err_and c.from_residual-in_err-fail-in-Event.result c.from_residual-in_err-fail-in-Event.ensures.1 in
     rw (p.1, p.2) (
       refused_event c.args.self.now _ c.args.tag c.in-Event.field-0 Mark.Error _ c.in-Event.is
-          (ap (λ (o : Opened). o.event) c.self.view_is) (c.in_err-fail-in-Event.ensures.refused _),
+          (ap (λ (o : OpenValue). o.event) c.self.view_is) (c.in_err-fail-in-Event.ensures.refused _),
       search rules,
     )
 
@@ -29,40 +29,42 @@ returns-in_err-fail-in-Std-clause-unknown c =
     let p = err_from_is_err_and c.from_residual.result c.from_residual.ensures.1 in
     rw (p.1, p.2) (refused_unknown _ c.args.self.now c.args.tag Mark.Error _
     (refused_standard c.args.self.now _ c.args.tag c.in-Std.field-0 Mark.Error _ c.in-Std.is
-    (ap (λ (o : Opened). o.standard) c.self.view_is) (c.in_err-fail-in-Std.ensures.refused _)))
+    (ap (λ (o : OpenValue). o.standard) c.self.view_is) (c.in_err-fail-in-Std.ensures.refused _)))
 
 pub returns-in_err-fail-in-Std-clause-named : goal.returns-in_err-fail-in-Std-clause-named
 returns-in_err-fail-in-Std-clause-named c =
     let p = err_from_is_err_and c.from_residual.result c.from_residual.ensures.1 in
     rw (p.1, p.2) (refused_error c.args.self.now c.args.tag _
     (refused_standard c.args.self.now _ c.args.tag c.in-Std.field-0 Mark.Error _ c.in-Std.is
-    (ap (λ (o : Opened). o.standard) c.self.view_is) (c.in_err-fail-in-Std.ensures.refused _)))
+    (ap (λ (o : OpenValue). o.standard) c.self.view_is) (c.in_err-fail-in-Std.ensures.refused _)))
 
 pub returns-in_err-fail-in-Event-clause-unknown : goal.returns-in_err-fail-in-Event-clause-unknown
 returns-in_err-fail-in-Event-clause-unknown c =
     let p = err_from_is_err_and c.from_residual-in_err-fail-in-Event.result c.from_residual-in_err-fail-in-Event.ensures.1 in
     rw (p.1, p.2) (refused_unknown _ c.args.self.now c.args.tag Mark.Error _
-    (refused_event c.args.self.now _ c.args.tag c.in-Event.field-0 Mark.Error _ c.in-Event.is (ap (λ (o : Opened). o.event) c.self.view_is)
+    (refused_event c.args.self.now _ c.args.tag c.in-Event.field-0 Mark.Error _ c.in-Event.is
+    (ap (λ (o : OpenValue). o.event) c.self.view_is)
     (c.in_err-fail-in-Event.ensures.refused _)))
 
 pub returns-in_err-fail-in-Event-clause-named : goal.returns-in_err-fail-in-Event-clause-named
 returns-in_err-fail-in-Event-clause-named c =
     let p = err_from_is_err_and c.from_residual-in_err-fail-in-Event.result c.from_residual-in_err-fail-in-Event.ensures.1 in
     rw (p.1, p.2) (refused_error c.args.self.now c.args.tag _
-    (refused_event c.args.self.now _ c.args.tag c.in-Event.field-0 Mark.Error _ c.in-Event.is (ap (λ (o : Opened). o.event) c.self.view_is)
+    (refused_event c.args.self.now _ c.args.tag c.in-Event.field-0 Mark.Error _ c.in-Event.is
+    (ap (λ (o : OpenValue). o.event) c.self.view_is)
     (c.in_err-fail-in-Event.ensures.refused _)))
 
 pub returns-then-branch-clause-unknown : goal.returns-then-branch-clause-unknown
 returns-then-branch-clause-unknown c =
     taken_standard _ _ c.args.self.now _ _ c.args.tag c.in-Std.field-0 Mark.Error _ c.in-Std.is
-    (ap (λ (o : Opened). o.standard) c.self.view_is) (c.in_ok-fail-in-Std.ensures.ok (not c.args.self.now.failed))
+    (ap (λ (o : OpenValue). o.standard) c.self.view_is) (c.in_ok-fail-in-Std.ensures.ok (not c.args.self.now.failed))
 
 pub returns-else-branch-clause-unknown : goal.returns-else-branch-clause-unknown
 returns-else-branch-clause-unknown c =
     taken_standard _ _ c.args.self.now _ _ c.args.tag c.in-Std.field-0 Mark.Error _ c.in-Std.is
-    (ap (λ (o : Opened). o.standard) c.self.view_is) (c.in_ok-fail-in-Std.ensures.ok (not c.args.self.now.failed))
+    (ap (λ (o : OpenValue). o.standard) c.self.view_is) (c.in_ok-fail-in-Std.ensures.ok (not c.args.self.now.failed))
 
 pub returns-in_ok-fail-in-Event-clause-unknown : goal.returns-in_ok-fail-in-Event-clause-unknown
 returns-in_ok-fail-in-Event-clause-unknown c =
     taken_event _ _ c.args.self.now _ _ c.args.tag c.in-Event.field-0 Mark.Error _ c.in-Event.is
-    (ap (λ (o : Opened). o.event) c.self.view_is) (c.in_ok-fail-in-Event.ensures.ok true)
+    (ap (λ (o : OpenValue). o.event) c.self.view_is) (c.in_ok-fail-in-Event.ensures.ok true)

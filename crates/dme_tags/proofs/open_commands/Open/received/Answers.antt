@@ -2,7 +2,7 @@ use Rattle.std.proofs.Common.{ap, true, not, rules}
 use Rattle.std.proofs.lemmas.Result.{IfOk-weaker, IfErr-weaker}
 use Rattle.protocol_model.specs.Replies.{Mark}
 use Rattle.protocol_model.specs.Open.{Effect}
-use Rattle.dme_tags.specs.Opened.{Opened}
+use Rattle.dme_tags.specs.Opened.{OpenValue}
 use Rattle.dme_tags.proofs.Dues.{Agrees, agrees_standard, agrees_event, unknown_exactly}
 use Rattle.dme_tags.proofs.Ends.{unread_exactly, receipt_named}
 use Rattle.dme_tags.proofs.Refusals.{refused_standard, refused_event}
@@ -12,7 +12,7 @@ pub returns-in-Std-clause-refused : goal.returns-in-Std-clause-refused
 returns-in-Std-clause-refused c = (
   IfErr-weaker c.receive.result _ _
       (λ fault h. refused_standard c.args.self.now _ c.args.tag c.in-Std.field-0 Mark.Ack _ c.in-Std.is
-      (ap (λ (o : Opened). o.standard) c.self.view_is) (h _))
+      (ap (λ (o : OpenValue). o.standard) c.self.view_is) (h _))
       c.receive.ensures.refused,
   search rules,
 )
@@ -21,7 +21,7 @@ pub returns-in-Event-clause-refused : goal.returns-in-Event-clause-refused
 returns-in-Event-clause-refused c = (
   IfErr-weaker c.receive-in-Event.result _ _
       (λ fault h. refused_event c.args.self.now _ c.args.tag c.in-Event.field-0 Mark.Ack _ c.in-Event.is
-      (ap (λ (o : Opened). o.event) c.self.view_is) (h _))
+      (ap (λ (o : OpenValue). o.event) c.self.view_is) (h _))
       c.receive-in-Event.ensures.refused,
   search rules,
 )
@@ -30,14 +30,14 @@ returns-in-Event-clause-refused c = (
 on_standard : (c : goal.After-receive) → Agrees c.args.self.now c.args.tag Mark.Ack c.receive.result
 on_standard c =
     agrees_standard c.args.self.now _ _ _ c.args.tag c.in-Std.field-0 Mark.Ack (λ _. Effect.Quiet) _ c.in-Std.is
-    (ap (λ (o : Opened). o.failed) c.self.view_is) (ap (λ (o : Opened). o.standard) c.self.view_is)
+    (ap (λ (o : OpenValue). o.failed) c.self.view_is) (ap (λ (o : OpenValue). o.standard) c.self.view_is)
     (IfOk-weaker c.receive.result _ _ (λ _ h. h (not c.self.inside.failed)) c.receive.ensures.ok)
     (IfErr-weaker c.receive.result _ _ (λ _ h. h (not c.self.inside.failed)) c.receive.ensures.refused)
 
 on_event : (c : goal.After-receive-in-Event) → Agrees c.args.self.now c.args.tag Mark.Ack c.receive-in-Event.result
 on_event c =
     agrees_event c.args.self.now _ _ c.args.tag c.in-Event.field-0 Mark.Ack (λ _. Effect.Quiet) _ c.in-Event.is
-    (ap (λ (o : Opened). o.event) c.self.view_is)
+    (ap (λ (o : OpenValue). o.event) c.self.view_is)
     (IfOk-weaker c.receive-in-Event.result _ _ (λ _ h. h true) c.receive-in-Event.ensures.ok)
     (IfErr-weaker c.receive-in-Event.result _ _ (λ _ h. h true) c.receive-in-Event.ensures.refused)
 

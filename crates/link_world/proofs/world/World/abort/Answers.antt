@@ -3,7 +3,7 @@ use Rattle.std.specs.Vec.{vec_len}
 use Rattle.protocol_model.specs.Client.{may_abort}
 use Rattle.protocol_model.specs.Ends.{end_aborted}
 use Rattle.protocol_model.specs.declared.events.Event.TheVariants as event
-use Rattle.link_world.specs.Links.{Linked}
+use Rattle.link_world.specs.Links.{WorldValue}
 use Rattle.link_world.proofs.Events.{not_now, writes}
 use Rattle.link_world.proofs.Reached.{client_quiet}
 use Rattle.link_world.proofs.ClientWriting.{none_aborts, awake, abort_fine}
@@ -18,7 +18,7 @@ abort-requires c = record {
 }
 
 pub returns-in_default-clause-can : goal.returns-in_default-clause-can
-returns-in_default-clause-can c = not_now _ (subst (λ (l : Linked). may_abort l.world.client.client.state ≡ false) c.self.view_is
+returns-in_default-clause-can c = not_now _ (subst (λ (l : WorldValue). may_abort l.world.client.client.state ≡ false) c.self.view_is
     (none_aborts c.self.inside.client c.self.inside.server c.self.inside.connections.items c.self.inside.written.items c.self.invariant
     (λ some. search rules)))
 

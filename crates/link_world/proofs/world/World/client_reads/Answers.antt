@@ -1,24 +1,24 @@
 use Rattle.std.proofs.Common.{rules, ◌≡◌, true, false, sym, ◌∙◌, ap, subst}
 use Rattle.protocol_model.specs.Ends.{ClientEnd}
-use Rattle.link_world.specs.Links.{Linked, seen, IsReached}
+use Rattle.link_world.specs.Links.{WorldValue, seen, IsReached}
 use Rattle.link_world.proofs.ClientReading.{reads_any, read_reached, no_line, line_can, not_read}
 use Rattle.link_world.proofs.Events.{not_now, refused_if, unchanged}
 use Rattle.link_world.proofs.world.World.client_reads.Goals as goal
 
 pub returns-then-not-has_line-clause-can : goal.returns-then-not-has_line-clause-can
 returns-then-not-has_line-clause-can c =
-    not_now _ (subst (λ (l : Linked). reads_any l.world.client ≡ false) c.self.view_is
+    not_now _ (subst (λ (l : WorldValue). reads_any l.world.client ≡ false) c.self.view_is
     (no_line c.self.inside.client c.self.inside.server c.self.inside.connections.items c.self.inside.written.items c.self.invariant
     (search rules) (λ due. search rules)))
 
 pub returns-in_err-read_one-clause-can : goal.returns-in_err-read_one-clause-can
 returns-in_err-read_one-clause-can c =
     refused_if _ _ _ c.from_residual.ensures.1
-    (λ e. subst (λ (l : Linked). reads_any l.world.client ≡ false) c.self.view_is ((
+    (λ e. subst (λ (l : WorldValue). reads_any l.world.client ≡ false) c.self.view_is ((
     not_read c.self.inside.client c.read_one.new.self c.self.inside.server c.self.inside.connections.items c.self.inside.written.items
     c.in_err-read_one.field-0.0 c.self.invariant c.in_err-read_one.ensures.refused c.in_err-read_one.ensures.met
     c.in_err-read_one.ensures.before).none e))
-    (λ e. subst (λ (l : Linked). reads_any l.world.client ≡ true) c.self.view_is
+    (λ e. subst (λ (l : WorldValue). reads_any l.world.client ≡ true) c.self.view_is
     (line_can c.self.inside.client c.self.inside.server c.self.inside.connections.items c.self.inside.written.items c.self.invariant
     (search rules) (search rules)))
 
@@ -46,7 +46,7 @@ invariant_of-self-2 c =
 
 pub returns-clause-can : goal.returns-clause-can
 returns-clause-can c = (
-  subst (λ (l : Linked). reads_any l.world.client ≡ true) c.self.view_is
+  subst (λ (l : WorldValue). reads_any l.world.client ≡ true) c.self.view_is
       (line_can c.self.inside.client c.self.inside.server c.self.inside.connections.items c.self.inside.written.items c.self.invariant
       (search rules) (search rules)),
   (λ e. absurd (cc)),

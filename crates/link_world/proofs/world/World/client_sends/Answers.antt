@@ -3,7 +3,7 @@ use Rattle.std.specs.Vec.{vec_len}
 use Rattle.protocol_model.specs.Client.{due}
 use Rattle.protocol_model.specs.Ends.{end_sent}
 use Rattle.protocol_model.specs.declared.events.Event.TheVariants as event
-use Rattle.link_world.specs.Links.{Linked}
+use Rattle.link_world.specs.Links.{WorldValue}
 use Rattle.link_world.proofs.Events.{not_now, writes}
 use Rattle.link_world.proofs.Reached.{client_quiet}
 use Rattle.link_world.proofs.ClientWriting.{none_due, awake, send_fine}
@@ -18,7 +18,7 @@ send-requires c = record {
 }
 
 pub returns-in_default-clause-can : goal.returns-in_default-clause-can
-returns-in_default-clause-can c = not_now _ (subst (λ (l : Linked). is_some (due l.world.client.client) ≡ false) c.self.view_is
+returns-in_default-clause-can c = not_now _ (subst (λ (l : WorldValue). is_some (due l.world.client.client) ≡ false) c.self.view_is
     (none_due c.self.inside.client c.self.inside.server c.self.inside.connections.items c.self.inside.written.items c.self.invariant
     (λ some. search rules)))
 

@@ -1,5 +1,5 @@
 use Rattle.std.proofs.Common.{rules, ◌+◌, [], refl, sym, ◌∙◌, ap, subst, arith, take}
-use Rattle.link_world.specs.Links.{Linked, seen, IsReached}
+use Rattle.link_world.specs.Links.{WorldValue, seen, IsReached}
 use Rattle.link_world.specs.Runs.{HasRun}
 use Rattle.link_world.specs.declared.world.RunCount.{RunCount}
 use Rattle.link_world.proofs.Reached.{headline_seen}
@@ -11,7 +11,7 @@ use Rattle.link_world.proofs.world.World.run.Goals.{in-Ok, in-Err-NotNow, in-Err
 
 pub loop-event-init : goal.loop-event-init
 loop-event-init c =
-    let l : Linked = seen c.self.inside.client c.self.inside.server c.self.inside.connections.items c.self.inside.written.items in (
+    let l : WorldValue = seen c.self.inside.client c.self.inside.server c.self.inside.connections.items c.self.inside.written.items in (
       record { answers = []; leads = refl; done_are = refl; not_now_are = refl; memory_are = refl },
       record { setup = refl; program = refl; window = refl },
       refl,
@@ -28,7 +28,7 @@ loop-event-preserved c = (
         c.event-item.result
         c.loop-event.count.done c.loop-event.count.not_now c.loop-event.count.memory c.loop-event-test.true c.event-item.is
         (c.loop-event.invariant.0)
-        w.in-Ok.ensures.answer (ap (λ (k : Linked). k.world) w.in-Ok.ensures.leads.0))
+        w.in-Ok.ensures.answer (ap (λ (k : WorldValue). k.world) w.in-Ok.ensures.leads.0))
     | in-Err-NotNow w ↦
         subst (λ (n : RunCount). HasRun c.args.self.now.world (take (c.loop-event.event-index + 1) c.args.events.now)
         c.step.new.self.world n.done n.not_now n.memory) (sym w.count-is)
@@ -36,7 +36,8 @@ loop-event-preserved c = (
         c.event-item.result
         c.loop-event.count.done c.loop-event.count.not_now c.loop-event.count.memory c.loop-event-test.true c.event-item.is
         (c.loop-event.invariant.0)
-        (answer_refused c.event-item.result c.loop-event.self.world c.step.result c.step.ensures.answer (search rules)) (ap (λ (k : Linked). k.world) w.in-Err-NotNow.ensures.leads.1))
+        (answer_refused c.event-item.result c.loop-event.self.world c.step.result c.step.ensures.answer (search rules))
+        (ap (λ (k : WorldValue). k.world) w.in-Err-NotNow.ensures.leads.1))
     | in-Err-Memory w ↦
         subst (λ (n : RunCount). HasRun c.args.self.now.world (take (c.loop-event.event-index + 1) c.args.events.now)
         c.step.new.self.world n.done n.not_now n.memory) (sym w.count-is)
@@ -46,7 +47,7 @@ loop-event-preserved c = (
         (c.loop-event.invariant.0)
         (answer_wanting c.event-item.result c.loop-event.self.world c.step.result c.step.ensures.answer (search rules)).1
         (answer_wanting c.event-item.result c.loop-event.self.world c.step.result c.step.ensures.answer (search rules)).0
-        (ap (λ (k : Linked). k.world) w.in-Err-Memory.ensures.leads.1))
+        (ap (λ (k : WorldValue). k.world) w.in-Err-Memory.ensures.leads.1))
   ],
   same_then c.args.self.now c.loop-event.self c.step.new.self c.loop-event.invariant.1 c.step.ensures.fixed,
   elim c.match-step.branch [ in-Ok w ↦ grind arith | in-Err-NotNow w ↦ grind arith | in-Err-Memory w ↦ grind arith ],
