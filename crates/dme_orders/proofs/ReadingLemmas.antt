@@ -5,7 +5,7 @@ use Rattle.dmis_program.specs.Meaning.{Meaning}
 use Rattle.protocol_model.specs.World.{World}
 use Rattle.protocol_model.specs.declared.states.State.{State}
 use Rattle.link_world.specs.Reports.{report_text}
-use Rattle.link_world.specs.declared.schedules.Instruction.{Instruction}
+use Rattle.link_world.specs.declared.texts.schedules.Instruction.{Instruction}
 use Rattle.dme_orders.specs.Simulating.{IsPlayed, LeavesReport, shown_of}
 
 -- the report of a world to which the instructions lead

@@ -4,9 +4,9 @@ use Rattle.client_core.specs.declared.faults.ClientFault.{ClientFault}
 use Rattle.client_core.specs.declared.faults.ClientFault.TheVariants as client_fault
 use Rattle.server_core.specs.declared.faults.ServerFault.{ServerFault}
 use Rattle.server_core.specs.declared.faults.ServerFault.TheVariants as server_fault
-use Rattle.link_world.specs.declared.pumps.PumpFault.TheVariants as pump
-use Rattle.link_world.specs.declared.links.LoopFault.{LoopFault}
-use Rattle.link_world.specs.declared.links.LoopFault.TheVariants as link
+use Rattle.link_world.specs.declared.connections.pumps.PumpFault.TheVariants as pump
+use Rattle.link_world.specs.declared.connections.links.LoopFault.{LoopFault}
+use Rattle.link_world.specs.declared.connections.links.LoopFault.TheVariants as link
 use Rattle.dme_orders.specs.declared.faults.OrderFault.{OrderFault}
 use Rattle.dme_orders.specs.declared.faults.OrderFault.TheVariants as fault
 

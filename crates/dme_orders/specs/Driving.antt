@@ -5,8 +5,8 @@ use Rattle.contact_ledger.specs.declared.features.Feature.{Feature}
 use Rattle.protocol_model.specs.Ends.{ClientEnd, end_connected}
 use Rattle.link_world.specs.LinkRuns.{ClientRan, ClientRunStopped}
 use Rattle.link_world.specs.Reports.{report_text}
-use Rattle.link_world.specs.declared.links.LoopFault.{LoopFault}
-use Rattle.link_world.specs.declared.links.LoopFault.TheVariants as link
+use Rattle.link_world.specs.declared.connections.links.LoopFault.{LoopFault}
+use Rattle.link_world.specs.declared.connections.links.LoopFault.TheVariants as link
 use Rattle.dme_orders.specs.Ends.{end_shown}
 use Rattle.dme_orders.specs.declared.driving.RunEnd.{RunEnd}
 

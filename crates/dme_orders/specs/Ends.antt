@@ -6,7 +6,7 @@ use Rattle.tool_rack.specs.Setups.{SetupValue}
 use Rattle.dmis_program.specs.Meaning.{Meaning}
 use Rattle.protocol_model.specs.Ends.{ClientEnd, ServerEnd, new_client_end, new_server_end, end_connected, serving_accepted}
 use Rattle.link_world.specs.Reports.{reported}
-use Rattle.link_world.specs.declared.reports.Report.{Report}
+use Rattle.link_world.specs.declared.texts.reports.Report.{Report}
 
 -- the client of a program of which these features are kept, on connection 1
 abbrev pub first_client : Meaning → List Feature → ℕ → ClientEnd

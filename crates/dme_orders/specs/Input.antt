@@ -4,7 +4,7 @@ use Rattle.fixed_um.specs.declared.lengths.Point.{Point}
 use Rattle.contact_ledger.specs.declared.acts.Act.{Act}
 use Rattle.contact_ledger.specs.declared.features.Feature.{Feature}
 use Rattle.dmis_program.specs.Meaning.{Meaning}
-use Rattle.link_world.specs.declared.schedules.Instruction.{Instruction}
+use Rattle.link_world.specs.declared.texts.schedules.Instruction.{Instruction}
 use Rattle.tool_rack.specs.Setups.{SetupValue}
 use Rattle.dme_orders.specs.declared.reading.FilesFault.{FilesFault}
 use Rattle.dme_orders.specs.Reading.{Came, came, IsUntouched, ReadsSetup, WhyNoSetup, ReadsSchedule, WhyNoSchedule, ReadsFeatures}

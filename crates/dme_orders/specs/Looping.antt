@@ -8,7 +8,7 @@ use Rattle.protocol_model.specs.declared.machine.Outcome.{Outcome}
 use Rattle.link_world.specs.LinkRuns.{ClientSide, ServerSide, client_side, server_side, LoopRan, LoopStopped}
 use Rattle.link_world.specs.Machines.{simulated}
 use Rattle.link_world.specs.Reports.{report_text}
-use Rattle.link_world.specs.declared.links.LoopFault.{LoopFault}
+use Rattle.link_world.specs.declared.connections.links.LoopFault.{LoopFault}
 use Rattle.dme_orders.specs.Ends.{first_client, first_server, ends_shown}
 use Rattle.dme_orders.specs.declared.ended.ConnectionEnd.{ConnectionEnd}
 

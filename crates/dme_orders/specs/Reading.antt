@@ -11,8 +11,8 @@ use Rattle.deviations.specs.declared.faults.RowsFault.TheVariants as rows
 use Rattle.tool_rack.specs.Setups.{SetupValue, setup_of}
 use Rattle.tool_rack.specs.declared.faults.SetupFault.TheVariants as setup
 use Rattle.link_world.specs.ScheduleTexts.{schedule_of}
-use Rattle.link_world.specs.declared.schedules.Instruction.{Instruction}
-use Rattle.link_world.specs.declared.schedule_faults.ScheduleFault.TheVariants as schedule
+use Rattle.link_world.specs.declared.texts.schedules.Instruction.{Instruction}
+use Rattle.link_world.specs.declared.texts.schedule_faults.ScheduleFault.TheVariants as schedule
 use Rattle.dmis_program.specs.Meaning.{Meaning, program_of}
 use Rattle.dmis_program.specs.declared.faults.ProgramFault.TheVariants as program
 use Rattle.dme_orders.specs.Checked.{IsUnread}

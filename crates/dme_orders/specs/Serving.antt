@@ -8,8 +8,8 @@ use Rattle.protocol_model.specs.declared.machine.Outcome.{Outcome}
 use Rattle.server_core.specs.declared.faults.ServerFault.{ServerFault}
 use Rattle.link_world.specs.LinkRuns.{ServerRunStopped}
 use Rattle.link_world.specs.Reports.{reported, contact_rows}
-use Rattle.link_world.specs.declared.pumps.PumpFault.{PumpFault}
-use Rattle.link_world.specs.declared.pumps.PumpFault.TheVariants as pump
+use Rattle.link_world.specs.declared.connections.pumps.PumpFault.{PumpFault}
+use Rattle.link_world.specs.declared.connections.pumps.PumpFault.TheVariants as pump
 use Rattle.dme_orders.specs.Driving.{FileTold, Keeps}
 
 -- turns of a server up to the end of its input, or up to the fault that broke them off; the server has left in either case

@@ -7,8 +7,8 @@ use Rattle.protocol_model.specs.declared.states.State.{State}
 use Rattle.link_world.specs.Machines.{simulated}
 use Rattle.link_world.specs.Reports.{reported, report_text}
 use Rattle.link_world.specs.Schedules.{Plays}
-use Rattle.link_world.specs.declared.reports.Report.{Report}
-use Rattle.link_world.specs.declared.schedules.Instruction.{Instruction}
+use Rattle.link_world.specs.declared.texts.reports.Report.{Report}
+use Rattle.link_world.specs.declared.texts.schedules.Instruction.{Instruction}
 use Rattle.dme_orders.specs.Input.{ReadsSimulation, WhyNoSimulation}
 use Rattle.dme_orders.specs.Orders.{Went, Carries}
 use Rattle.dme_orders.specs.Reading.{Came}

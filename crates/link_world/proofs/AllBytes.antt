@@ -8,7 +8,7 @@ use Rattle.protocol_model.specs.declared.events.Event.{Event}
 use Rattle.protocol_model.specs.declared.events.Event.TheVariants as event
 use Rattle.protocol_model.specs.Ends.{ClientEnd}
 use Rattle.server_core.specs.Serving.{ServerValue}
-use Rattle.link_world.specs.declared.connection.Connection.{Connection}
+use Rattle.link_world.specs.declared.worlds.connection.Connection.{Connection}
 use Rattle.link_world.specs.Links.{WorldValue, with_world, seen, links_of, IsReached}
 use Rattle.protocol_model.specs.Rounds.{IsOne, possible, all_up, all_down}
 use Rattle.link_world.specs.Parts.{Makes, Tells}

@@ -8,7 +8,7 @@ use Rattle.protocol_model.specs.World as world
 use Rattle.protocol_model.specs.declared.events.Event.TheVariants as event
 use Rattle.client_core.specs.Clients.{may_read}
 use Rattle.server_core.specs.Serving.{ServerValue}
-use Rattle.link_world.specs.declared.connection.Connection.{Connection}
+use Rattle.link_world.specs.declared.worlds.connection.Connection.{Connection}
 use Rattle.link_world.specs.Links.{WorldValue, link_of_connection, links_of, fewer_down, seen, with_world, IsReached}
 use Rattle.link_world.proofs.Linking.{links_get, link_put}
 use Rattle.link_world.proofs.Reached.{made}

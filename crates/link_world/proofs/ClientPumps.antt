@@ -19,8 +19,8 @@ use Rattle.client_core.specs.Clients.{is_faulted, may_read}
 use Rattle.client_core.specs.Refusals.{IsRefused, IsSendRefused, IsReadRefused}
 use Rattle.client_core.specs.declared.faults.ClientFault.{ClientFault}
 use Rattle.client_core.specs.declared.faults.ClientFault.TheVariants as client_fault
-use Rattle.link_world.specs.declared.pumps.PumpFault.{PumpFault}
-use Rattle.link_world.specs.declared.pumps.PumpFault.TheVariants as fault
+use Rattle.link_world.specs.declared.connections.pumps.PumpFault.{PumpFault}
+use Rattle.link_world.specs.declared.connections.pumps.PumpFault.TheVariants as fault
 use Rattle.link_world.specs.Pumps.{Stage, Sending, Writing, Taking, Reading, ClientTurn, begins, sends, writes, takes, has, reads}
 use Rattle.link_world.specs.Pumps.{ClientMoved, ClientStopped, ClientMovedWithin, ClientStoppedWithin, lines_read, next_lines}
 use Rattle.link_world.specs.Pumps.{HasRefused, IsLost, of_client}

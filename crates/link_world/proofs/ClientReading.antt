@@ -16,8 +16,8 @@ use Rattle.client_core.specs.Refusals.{IsReadRefused}
 use Rattle.client_core.specs.declared.faults.ClientFault.{ClientFault}
 use Rattle.client_core.specs.declared.faults.ClientFault.TheVariants as client_fault
 use Rattle.server_core.specs.Serving.{ServerValue}
-use Rattle.link_world.specs.declared.connection.Connection.{Connection}
-use Rattle.link_world.specs.declared.faults.WorldFault.TheVariants as world_fault
+use Rattle.link_world.specs.declared.worlds.connection.Connection.{Connection}
+use Rattle.link_world.specs.declared.worlds.faults.WorldFault.TheVariants as world_fault
 use Rattle.link_world.specs.Claims.{refused_by}
 use Rattle.link_world.specs.Links.{seen, IsReached}
 use Rattle.link_world.proofs.Reached.{carried, reached_more}

@@ -7,9 +7,9 @@ use Rattle.line_framing.specs.Next.{Front, next_of}
 use Rattle.line_framing.specs.Framing.{Framing, left_by}
 use Rattle.protocol_model.specs.Ends.{ClientEnd, end_left}
 use Rattle.client_core.specs.declared.faults.ClientFault.{ClientFault}
-use Rattle.link_world.specs.declared.pumps.Moved.{Moved}
-use Rattle.link_world.specs.declared.pumps.PumpFault.{PumpFault}
-use Rattle.link_world.specs.declared.pumps.PumpFault.TheVariants as fault
+use Rattle.link_world.specs.declared.connections.pumps.Moved.{Moved}
+use Rattle.link_world.specs.declared.connections.pumps.PumpFault.{PumpFault}
+use Rattle.link_world.specs.declared.connections.pumps.PumpFault.TheVariants as fault
 use Rattle.link_world.specs.Pumps.{Stage, Sending, Writing, Taking, Reading, Working, ClientTurn, begins, sends, writes, takes, has, reads}
 use Rattle.link_world.specs.Pumps.{ClientMoved, ClientStopped, ClientWhy}
 use Rattle.link_world.specs.LinkRuns.{turns_most, steps_most, is_over, ClientRun, ClientRan, ClientEnds, ClientRunStopped, ClientRunWhy}

@@ -10,7 +10,7 @@ use Rattle.protocol_model.proofs.whole_run.Carrying.{lined, IsCarried}
 use Rattle.protocol_model.proofs.whole_run.CarryingClient.{due_on, abort_on}
 use Rattle.client_core.specs.Clients.{is_faulted}
 use Rattle.server_core.specs.Serving.{ServerValue}
-use Rattle.link_world.specs.declared.connection.Connection.{Connection}
+use Rattle.link_world.specs.declared.worlds.connection.Connection.{Connection}
 use Rattle.link_world.specs.Links.{WorldValue, link_of_connection, links_of, quiet_client, with_up, seen, with_world, IsReached}
 use Rattle.link_world.proofs.Linking.{links_same, link_put}
 use Rattle.link_world.proofs.Reached.{carried, made, headline, never_faulted_behind}

@@ -11,8 +11,8 @@ use Rattle.protocol_model.specs.declared.machine.Outcome.{Outcome}
 use Rattle.protocol_model.specs.declared.states.State.{State}
 use Rattle.client_core.specs.Always.{FitsState}
 use Rattle.link_world.specs.Finishing.{commands_most, IsSameKind, AreFirstOfJoining, AreTurns, Finishes, Stops, IsFinish}
-use Rattle.link_world.specs.declared.faults.WorldFault.{WorldFault}
-use Rattle.link_world.specs.declared.faults.WorldFault.TheVariants as fault
+use Rattle.link_world.specs.declared.worlds.faults.WorldFault.{WorldFault}
+use Rattle.link_world.specs.declared.worlds.faults.WorldFault.TheVariants as fault
 use Rattle.link_world.specs.Links.{WorldValue, with_world, IsReached}
 use Rattle.link_world.specs.Parts.{Makes}
 use Rattle.link_world.proofs.EventLists.{run_append}

@@ -28,10 +28,10 @@ use Rattle.protocol_model.specs.declared.events.Event.{Event}
 use Rattle.protocol_model.specs.declared.events.Event.TheVariants as event
 use Rattle.line_framing.specs.Next.{next_of}
 use Rattle.server_core.specs.Serving.{ServerValue, with_end}
-use Rattle.link_world.specs.declared.connection.Connection.{Connection}
-use Rattle.link_world.specs.declared.faults.WorldFault.{WorldFault}
-use Rattle.link_world.specs.declared.faults.WorldFault.TheVariants as fault
-use Rattle.link_world.specs.declared.world.World.TheInside.{Inside}
+use Rattle.link_world.specs.declared.worlds.connection.Connection.{Connection}
+use Rattle.link_world.specs.declared.worlds.faults.WorldFault.{WorldFault}
+use Rattle.link_world.specs.declared.worlds.faults.WorldFault.TheVariants as fault
+use Rattle.link_world.specs.declared.worlds.world.World.TheInside.{Inside}
 use Rattle.link_world.specs.Events.{HappensIf, HappensIff}
 use Rattle.link_world.specs.Links.{WorldValue, StandsOn, link_of_connection, with_up, with_down, fewer_up, fewer_down}
 use Rattle.link_world.specs.Links.{quiet_client, quiet_server, seen, with_world, IsReached}

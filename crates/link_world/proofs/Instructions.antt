@@ -14,8 +14,8 @@ use Rattle.link_world.specs.Links.{WorldValue, with_world, IsReached}
 use Rattle.protocol_model.specs.Rounds.{IsOne, Then, IsRound}
 use Rattle.link_world.specs.Schedules.{AreMade, ArePlayed, Plays}
 use Rattle.link_world.specs.Parts.{Makes, PlaysPart}
-use Rattle.link_world.specs.declared.schedules.Instruction.{Instruction}
-use Rattle.link_world.specs.declared.schedules.Instruction.TheVariants as instruction
+use Rattle.link_world.specs.declared.texts.schedules.Instruction.{Instruction}
+use Rattle.link_world.specs.declared.texts.schedules.Instruction.TheVariants as instruction
 use Rattle.link_world.proofs.AllBytes.{one_cut}
 use Rattle.link_world.proofs.EventLists.{run_append, leads_more}
 use Rattle.link_world.proofs.Reached.{headline}

@@ -2,10 +2,10 @@
 use Rattle.std.proofs.Common.{◌≡◌, ℕ, ◌+◌, ◌<◌, true, false, subst}
 use Rattle.protocol_model.specs.declared.machine.Job.{Job}
 use Rattle.protocol_model.specs.declared.machine.Outcome.{Outcome}
-use Rattle.link_world.specs.declared.pumps.Moved.{Moved}
-use Rattle.link_world.specs.declared.pumps.PumpFault.TheVariants as fault
-use Rattle.link_world.specs.declared.links.LoopFault.{LoopFault}
-use Rattle.link_world.specs.declared.links.LoopFault.TheVariants as loop_fault
+use Rattle.link_world.specs.declared.connections.pumps.Moved.{Moved}
+use Rattle.link_world.specs.declared.connections.pumps.PumpFault.TheVariants as fault
+use Rattle.link_world.specs.declared.connections.links.LoopFault.{LoopFault}
+use Rattle.link_world.specs.declared.connections.links.LoopFault.TheVariants as loop_fault
 use Rattle.link_world.specs.LinkRuns.{turns_most, ClientSide, ServerSide, are_still, client_leaves, server_leaves}
 use Rattle.link_world.specs.LinkRuns.{PairMoved, PairStopped, LoopRun, LoopRan, LoopStopped}
 use Rattle.link_world.specs.LinkRuns as run

@@ -12,7 +12,7 @@ use Rattle.protocol_model.specs.Claims.{MadeContact, contacts}
 use Rattle.protocol_model.proofs.invariant.Served.{contacts_more}
 use Rattle.link_world.specs.Reports.{shown, numbered_from, reported}
 use Rattle.link_world.specs.ReportRows.{contact}
-use Rattle.link_world.specs.declared.reports.Reported.{Reported}
+use Rattle.link_world.specs.declared.texts.reports.Reported.{Reported}
 
 -- how many contacts are counted
 counted_more : (entry : ℕ × Act) (acts : List (ℕ × Act)) → length (contacts (entry ∷ acts))

@@ -3,7 +3,7 @@ use Rattle.std.proofs.Common.{ℕ, ◌≤◌, List, [], length, take, sym, Optio
 use Rattle.std.specs.Io.KnownBytes.{Appends, Consumes, Keeps}
 use Rattle.std.proofs.KnownBytes.{Consumes-nil, Appends-kept}
 use Rattle.byte_ports.proofs.Moved.{Appends-more}
-use Rattle.link_world.specs.declared.pumps.PumpFault.{PumpFault}
+use Rattle.link_world.specs.declared.connections.pumps.PumpFault.{PumpFault}
 use Rattle.link_world.specs.PumpParts.{Pushed, IsPushFault}
 
 -- nothing was pulled

@@ -20,7 +20,7 @@ use Rattle.protocol_model.proofs.whole_run.Wires.{IsWhole}
 use Rattle.protocol_model.proofs.written_lines.Writable.{command_lines}
 use Rattle.protocol_model.proofs.whole_run.WholeRun.{run_carried, start_carried}
 use Rattle.server_core.specs.Serving.{ServerValue, new_serving}
-use Rattle.link_world.specs.declared.connection.Connection.{Connection}
+use Rattle.link_world.specs.declared.worlds.connection.Connection.{Connection}
 use Rattle.protocol_model.specs.Claims.{Sound, Told}
 use Rattle.link_world.specs.Claims.{Headline}
 use Rattle.link_world.specs.Links.{WorldValue, links_of, seen, with_world, IsReached}

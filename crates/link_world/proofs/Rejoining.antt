@@ -25,7 +25,7 @@ use Rattle.protocol_model.specs.declared.plans.Start.{Start}
 use Rattle.protocol_model.specs.declared.states.State.{State}
 use Rattle.client_core.specs.Always.{FitsState}
 use Rattle.server_core.specs.Serving.{ServerValue}
-use Rattle.link_world.specs.declared.connection.Connection.{Connection}
+use Rattle.link_world.specs.declared.worlds.connection.Connection.{Connection}
 use Rattle.link_world.specs.Finishing.{commands_most, AreFirstOfJoining}
 use Rattle.link_world.specs.Links.{WorldValue, seen, with_world, IsReached}
 use Rattle.link_world.specs.Parts.{Makes}

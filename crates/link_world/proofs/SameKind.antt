@@ -9,8 +9,8 @@ use Rattle.link_world.specs.Claims.{IsAnswer, takes_memory}
 use Rattle.link_world.specs.Events.{HappensIf}
 use Rattle.link_world.specs.Finishing.{IsSameKind}
 use Rattle.link_world.specs.Links.{WorldValue, with_world}
-use Rattle.link_world.specs.declared.faults.WorldFault.{WorldFault}
-use Rattle.link_world.specs.declared.faults.WorldFault.TheVariants as fault
+use Rattle.link_world.specs.declared.worlds.faults.WorldFault.{WorldFault}
+use Rattle.link_world.specs.declared.worlds.faults.WorldFault.TheVariants as fault
 use Rattle.link_world.proofs.Undisturbed.{after_can}
 
 pub answered : (e : Event) (w : World) (r : Result (Unit {0}) WorldFault) → HappensIf r (can e w)

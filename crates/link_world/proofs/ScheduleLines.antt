@@ -6,9 +6,9 @@ use Rattle.std.specs.Str.Lines.{lines}
 use Rattle.tool_rack.specs.Fields.{is_dropped}
 use Rattle.link_world.specs.ScheduleTexts.{instruction_on, is_refused, instructions_on, schedule_on, schedule_of}
 use Rattle.link_world.proofs.ScheduleRuns.{read_behind}
-use Rattle.link_world.specs.declared.schedules.Instruction.{Instruction}
-use Rattle.link_world.specs.declared.schedule_faults.ScheduleFault.{ScheduleFault}
-use Rattle.link_world.specs.declared.schedule_faults.ScheduleFault.TheVariants.{BadLine}
+use Rattle.link_world.specs.declared.texts.schedules.Instruction.{Instruction}
+use Rattle.link_world.specs.declared.texts.schedule_faults.ScheduleFault.{ScheduleFault}
+use Rattle.link_world.specs.declared.texts.schedule_faults.ScheduleFault.TheVariants.{BadLine}
 
 -- instructions, and then those of lines, or the refusal of the line of this number
 abbrev below : List Instruction → Option ℕ → List (List ℕ) → Result (List Instruction) ScheduleFault

@@ -14,7 +14,7 @@ use Rattle.protocol_model.specs.declared.lines.Waiting.{Waiting}
 use Rattle.protocol_model.specs.declared.machine.Outcome.{Outcome}
 use Rattle.protocol_model.proofs.invariant.Holding.{IsIdle}
 use Rattle.server_core.specs.Serving.{ServerValue, with_end, may_turn}
-use Rattle.link_world.specs.declared.connection.Connection.{Connection}
+use Rattle.link_world.specs.declared.worlds.connection.Connection.{Connection}
 use Rattle.link_world.specs.Links.{WorldValue, link_of_connection, links_of, with_down, fewer_up, quiet_server, seen, with_world, IsReached}
 use Rattle.link_world.proofs.Linking.{links_get, links_same, link_put}
 use Rattle.link_world.proofs.Reached.{carried, headline}

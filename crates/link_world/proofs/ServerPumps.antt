@@ -21,8 +21,8 @@ use Rattle.server_core.specs.Serving.{ServerValue, with_end, may_feed, may_turn,
 use Rattle.server_core.specs.Steady.{IsRunnable}
 use Rattle.server_core.specs.declared.faults.ServerFault.{ServerFault}
 use Rattle.server_core.specs.declared.faults.ServerFault.TheVariants as server_fault
-use Rattle.link_world.specs.declared.pumps.PumpFault.{PumpFault}
-use Rattle.link_world.specs.declared.pumps.PumpFault.TheVariants as fault
+use Rattle.link_world.specs.declared.connections.pumps.PumpFault.{PumpFault}
+use Rattle.link_world.specs.declared.connections.pumps.PumpFault.TheVariants as fault
 use Rattle.link_world.specs.Pumps.{Stage, Writing, Taking, Reading, Working}
 use Rattle.link_world.specs.PumpParts.{Pushed, IsPushFault, IsPullFault, IsTakeFault}
 use Rattle.link_world.specs.ServerPumps.{ServerTurn, begins, takes, has, reads, knows, turns, ends, writes}

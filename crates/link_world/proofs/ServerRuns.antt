@@ -9,9 +9,9 @@ use Rattle.protocol_model.specs.Ends.{ServerEnd, front_served, serving_left}
 use Rattle.protocol_model.specs.declared.machine.Job.{Job}
 use Rattle.protocol_model.specs.declared.machine.Outcome.{Outcome}
 use Rattle.server_core.specs.declared.faults.ServerFault.{ServerFault}
-use Rattle.link_world.specs.declared.pumps.Moved.{Moved}
-use Rattle.link_world.specs.declared.pumps.PumpFault.{PumpFault}
-use Rattle.link_world.specs.declared.pumps.PumpFault.TheVariants as fault
+use Rattle.link_world.specs.declared.connections.pumps.Moved.{Moved}
+use Rattle.link_world.specs.declared.connections.pumps.PumpFault.{PumpFault}
+use Rattle.link_world.specs.declared.connections.pumps.PumpFault.TheVariants as fault
 use Rattle.link_world.specs.Pumps.{Stage, Sending, Writing, Taking, Reading, Working}
 use Rattle.link_world.specs.ServerPumps.{ServerTurn, begins, takes, has, reads, knows, turns, ends, writes}
 use Rattle.link_world.specs.ServerPumps.{ServerMoved, ServerStopped, ServerWhy}

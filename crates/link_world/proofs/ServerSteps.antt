@@ -11,7 +11,7 @@ use Rattle.protocol_model.proofs.whole_run.Links.{link_long}
 use Rattle.protocol_model.proofs.whole_run.Carrying.{IsCarried}
 use Rattle.protocol_model.proofs.whole_run.WholeRun.{happens_carried, start_carried}
 use Rattle.server_core.specs.Serving.{ServerValue, with_end, may_accept}
-use Rattle.link_world.specs.declared.connection.Connection.{Connection}
+use Rattle.link_world.specs.declared.worlds.connection.Connection.{Connection}
 use Rattle.link_world.specs.Links.{WorldValue, links_of, seen, with_world, IsReached}
 use Rattle.link_world.proofs.Reached.{reached_more, links_long}
 

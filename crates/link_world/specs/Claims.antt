@@ -13,10 +13,10 @@ use Rattle.client_core.specs.declared.faults.ClientFault.{ClientFault}
 use Rattle.client_core.specs.declared.faults.ClientFault.TheVariants as client_fault
 use Rattle.server_core.specs.declared.faults.ServerFault.{ServerFault}
 use Rattle.server_core.specs.declared.faults.ServerFault.TheVariants as server_fault
-use Rattle.link_world.specs.declared.faults.WorldFault.{WorldFault}
-use Rattle.link_world.specs.declared.faults.WorldFault.TheVariants as world_fault
-use Rattle.link_world.specs.declared.faults.NewFault.{NewFault}
-use Rattle.link_world.specs.declared.faults.NewFault.TheVariants as fault
+use Rattle.link_world.specs.declared.worlds.faults.WorldFault.{WorldFault}
+use Rattle.link_world.specs.declared.worlds.faults.WorldFault.TheVariants as world_fault
+use Rattle.link_world.specs.declared.worlds.faults.NewFault.{NewFault}
+use Rattle.link_world.specs.declared.worlds.faults.NewFault.TheVariants as fault
 
 -- the headline, of a world after any events
 pub record Headline (w : World) : Type 0 where

@@ -1,8 +1,8 @@
 -- Words for what an event answers (this profile).
 use Rattle.std.specs.Prelude.{◌≡◌, Bool, true, false, Result, OnOk, OnErr, IfErr}
 use Rattle.std.specs.Result.{IsErrOf}
-use Rattle.link_world.specs.declared.faults.WorldFault.{WorldFault}
-use Rattle.link_world.specs.declared.faults.WorldFault.TheVariants as fault
+use Rattle.link_world.specs.declared.worlds.faults.WorldFault.{WorldFault}
+use Rattle.link_world.specs.declared.worlds.faults.WorldFault.TheVariants as fault
 
 -- it happens only where it can, is refused only where it cannot, and wants memory only where it can
 abbrev pub HappensIf : Result (Unit {0}) WorldFault → Bool → Type 0

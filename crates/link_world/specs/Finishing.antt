@@ -10,9 +10,9 @@ use Rattle.protocol_model.specs.declared.machine.Outcome.{Outcome}
 use Rattle.protocol_model.specs.declared.states.State.{State}
 use Rattle.link_world.specs.Claims.{Headline}
 use Rattle.link_world.specs.Links.{WorldValue}
-use Rattle.link_world.specs.declared.faults.WorldFault.{WorldFault}
-use Rattle.link_world.specs.declared.faults.WorldFault.TheVariants as fault
-use Rattle.link_world.specs.declared.finishing.Quiet.{Quiet}
+use Rattle.link_world.specs.declared.worlds.faults.WorldFault.{WorldFault}
+use Rattle.link_world.specs.declared.worlds.faults.WorldFault.TheVariants as fault
+use Rattle.link_world.specs.declared.worlds.finishing.Quiet.{Quiet}
 
 -- what no event changes is the same
 pub record IsSameKind (old new : WorldValue) : Type 0 where

@@ -11,8 +11,8 @@ use Rattle.protocol_model.specs.Rounds.{Then, AreWhile, IsOne, possible, AreWork
 use Rattle.client_core.specs.Calls.{Call, behind_call, behind_calls}
 use Rattle.client_core.specs.declared.faults.ClientFault.{ClientFault}
 use Rattle.server_core.specs.declared.faults.ServerFault.{ServerFault}
-use Rattle.link_world.specs.declared.pumps.Moved.{Moved}
-use Rattle.link_world.specs.declared.pumps.PumpFault.{PumpFault}
+use Rattle.link_world.specs.declared.connections.pumps.Moved.{Moved}
+use Rattle.link_world.specs.declared.connections.pumps.PumpFault.{PumpFault}
 use Rattle.link_world.specs.Pumps.{ClientMoved, ClientStopped}
 use Rattle.link_world.specs.ServerPumps.{ServerMoved, ServerStopped}
 

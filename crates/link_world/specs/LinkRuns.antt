@@ -7,11 +7,11 @@ use Rattle.protocol_model.specs.declared.machine.Outcome.{Outcome}
 use Rattle.protocol_model.specs.declared.states.State.{State}
 use Rattle.client_core.specs.declared.faults.ClientFault.{ClientFault}
 use Rattle.server_core.specs.declared.faults.ServerFault.{ServerFault}
-use Rattle.link_world.specs.declared.pumps.Moved.{Moved}
-use Rattle.link_world.specs.declared.pumps.PumpFault.{PumpFault}
-use Rattle.link_world.specs.declared.pumps.PumpFault.TheVariants as fault
-use Rattle.link_world.specs.declared.links.LoopFault.{LoopFault}
-use Rattle.link_world.specs.declared.links.LoopFault.TheVariants as loop_fault
+use Rattle.link_world.specs.declared.connections.pumps.Moved.{Moved}
+use Rattle.link_world.specs.declared.connections.pumps.PumpFault.{PumpFault}
+use Rattle.link_world.specs.declared.connections.pumps.PumpFault.TheVariants as fault
+use Rattle.link_world.specs.declared.connections.links.LoopFault.{LoopFault}
+use Rattle.link_world.specs.declared.connections.links.LoopFault.TheVariants as loop_fault
 use Rattle.link_world.specs.Pumps.{ClientMoved, ClientStopped, HasRefused, IsLost}
 use Rattle.link_world.specs.ServerPumps.{ServerMoved, ServerStopped, IsServerRefusal}
 

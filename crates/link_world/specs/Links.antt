@@ -8,7 +8,7 @@ use Rattle.protocol_model.specs.World.{World, Link, start, run_of}
 use Rattle.protocol_model.specs.declared.events.Event.{Event}
 use Rattle.client_core.specs.Clients.{window_most}
 use Rattle.server_core.specs.Serving.{ServerValue}
-use Rattle.link_world.specs.declared.connection.Connection.{Connection}
+use Rattle.link_world.specs.declared.worlds.connection.Connection.{Connection}
 
 -- the bytes of a connection, without the room for more
 abbrev pub link_of_connection : Connection → Link

@@ -3,8 +3,8 @@ use Rattle.std.specs.Prelude.{◌≡◌, ℕ, ◌+◌, ◌*◌, ◌<◌, ◌≤�
 use Rattle.std.specs.Io.KnownBytes.{Appends, Consumes, IsAtEnd}
 use Rattle.protocol_model.specs.Ends.{ClientEnd, end_fed}
 use Rattle.client_core.specs.declared.faults.ClientFault.{ClientFault}
-use Rattle.link_world.specs.declared.pumps.PumpFault.{PumpFault}
-use Rattle.link_world.specs.declared.pumps.PumpFault.TheVariants as fault
+use Rattle.link_world.specs.declared.connections.pumps.PumpFault.{PumpFault}
+use Rattle.link_world.specs.declared.connections.pumps.PumpFault.TheVariants as fault
 use Rattle.link_world.specs.Pumps.{Stage, Writing, Reading, ClientTurn, lines_read, HasRefused, IsLost}
 
 -- why no more was pushed than so many bytes: the budget is spent, of which each took a step at most

@@ -11,9 +11,9 @@ use Rattle.client_core.specs.Clients.{may_read}
 use Rattle.client_core.specs.Refusals.{IsRefused}
 use Rattle.client_core.specs.declared.faults.ClientFault.{ClientFault}
 use Rattle.client_core.specs.declared.faults.ClientFault.TheVariants as client_fault
-use Rattle.link_world.specs.declared.pumps.Moved.{Moved}
-use Rattle.link_world.specs.declared.pumps.PumpFault.{PumpFault}
-use Rattle.link_world.specs.declared.pumps.PumpFault.TheVariants as fault
+use Rattle.link_world.specs.declared.connections.pumps.Moved.{Moved}
+use Rattle.link_world.specs.declared.connections.pumps.PumpFault.{PumpFault}
+use Rattle.link_world.specs.declared.connections.pumps.PumpFault.TheVariants as fault
 
 -- this fault blames a port: it comes only where the port has failed, and always where one that worked has failed
 abbrev pub Blames : {A E : Type 0} → E → Result A E → (before after : Bool) → Type 0

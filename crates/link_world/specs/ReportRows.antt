@@ -10,8 +10,8 @@ use Rattle.protocol_model.specs.Examples.{at, neg, part, tool, from_above, featu
 use Rattle.protocol_model.specs.LedgerRows.{contact_of}
 use Rattle.protocol_model.specs.declared.states.State.{State}
 use Rattle.link_world.specs.Reports.{reported}
-use Rattle.link_world.specs.declared.reports.Report.{Report}
-use Rattle.link_world.specs.declared.reports.Reported.{Reported}
+use Rattle.link_world.specs.declared.texts.reports.Report.{Report}
+use Rattle.link_world.specs.declared.texts.reports.Reported.{Reported}
 
 -- a contact as it is reported: its number, its connection and its point
 abbrev pub contact : ℕ → ℕ → Point → Reported

@@ -7,8 +7,8 @@ use Rattle.contact_ledger.specs.declared.acts.Act.{Act}
 use Rattle.contact_ledger.specs.declared.features.Feature.{Feature}
 use Rattle.protocol_model.specs.Claims.{MadeContact, contacts}
 use Rattle.protocol_model.specs.declared.states.State.{State}
-use Rattle.link_world.specs.declared.reports.Report.{Report}
-use Rattle.link_world.specs.declared.reports.Reported.{Reported}
+use Rattle.link_world.specs.declared.texts.reports.Report.{Report}
+use Rattle.link_world.specs.declared.texts.reports.Reported.{Reported}
 
 -- what is shown of a contact with this number
 abbrev pub shown : ℕ → MadeContact → Reported

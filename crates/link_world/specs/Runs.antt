@@ -4,7 +4,7 @@ use Rattle.protocol_model.specs.Undisturbed.{AreFirstLines, acts_planned, AreFir
 use Rattle.protocol_model.specs.World.{World, can, happens, run_of}
 use Rattle.protocol_model.specs.declared.events.Event.{Event}
 use Rattle.protocol_model.specs.declared.plans.Planned.{Planned}
-use Rattle.link_world.specs.declared.world.RunCount.{RunCount}
+use Rattle.link_world.specs.declared.worlds.world.RunCount.{RunCount}
 use Rattle.link_world.specs.Claims.{takes_memory}
 
 -- an event happened, could not happen, or wanted memory

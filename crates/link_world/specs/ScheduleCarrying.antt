@@ -2,9 +2,9 @@
 use Rattle.std.specs.Prelude.{ℕ, ◌+◌, List, [], ◌∷◌, ◌++◌, Option, Some, None, Result, Ok, Err, if◌then◌else◌}
 use Rattle.tool_rack.specs.Fields.{is_dropped}
 use Rattle.link_world.specs.ScheduleTexts.{instruction_on}
-use Rattle.link_world.specs.declared.schedules.Instruction.{Instruction}
-use Rattle.link_world.specs.declared.schedule_faults.ScheduleFault.{ScheduleFault}
-use Rattle.link_world.specs.declared.schedule_faults.ScheduleFault.TheVariants.{BadLine}
+use Rattle.link_world.specs.declared.texts.schedules.Instruction.{Instruction}
+use Rattle.link_world.specs.declared.texts.schedule_faults.ScheduleFault.{ScheduleFault}
+use Rattle.link_world.specs.declared.texts.schedule_faults.ScheduleFault.TheVariants.{BadLine}
 
 -- the instructions above, and what line n asks for; its refusal where it asks for nothing that there is
 abbrev pub read_more : ℕ → List Instruction → Option Instruction → Result (List Instruction) ScheduleFault

@@ -2,8 +2,8 @@
 use Rattle.std.specs.Prelude.{◌≡◌, ℕ, List, [], ◌∷◌, ◌++◌, Ok, Err}
 use Rattle.std.specs.List.{flat_map}
 use Rattle.link_world.specs.ScheduleTexts.{schedule_of}
-use Rattle.link_world.specs.declared.schedules.Instruction.{Instruction}
-use Rattle.link_world.specs.declared.schedule_faults.ScheduleFault.TheVariants.{BadLine}
+use Rattle.link_world.specs.declared.texts.schedules.Instruction.{Instruction}
+use Rattle.link_world.specs.declared.texts.schedule_faults.ScheduleFault.TheVariants.{BadLine}
 
 -- a text asks for one thing, and for nothing else
 abbrev pub Asks : List ℕ → Instruction → Type 0

@@ -12,11 +12,11 @@ use Rattle.protocol_model.specs.declared.machine.Outcome.TheVariants as outcome
 use Rattle.tool_rack.specs.Fields.{fields_of, is_dropped, has_outer_space, is_word}
 use Rattle.tool_rack.specs.Entries.{point_of}
 use Rattle.link_world.specs.Schedules.{rounds_most}
-use Rattle.link_world.specs.declared.schedules.Instruction.{Instruction}
-use Rattle.link_world.specs.declared.schedules.Instruction.TheVariants.{Once, Auto, UpAll, DownAll, ServerReadsAll}
-use Rattle.link_world.specs.declared.schedules.Instruction.TheVariants.{ClientReadsAll, Rounds, Quiet}
-use Rattle.link_world.specs.declared.schedule_faults.ScheduleFault.{ScheduleFault}
-use Rattle.link_world.specs.declared.schedule_faults.ScheduleFault.TheVariants.{BadLine, Memory}
+use Rattle.link_world.specs.declared.texts.schedules.Instruction.{Instruction}
+use Rattle.link_world.specs.declared.texts.schedules.Instruction.TheVariants.{Once, Auto, UpAll, DownAll, ServerReadsAll}
+use Rattle.link_world.specs.declared.texts.schedules.Instruction.TheVariants.{ClientReadsAll, Rounds, Quiet}
+use Rattle.link_world.specs.declared.texts.schedule_faults.ScheduleFault.{ScheduleFault}
+use Rattle.link_world.specs.declared.texts.schedule_faults.ScheduleFault.TheVariants.{BadLine, Memory}
 
 -- a whole number is written by one to ten digits, zeros in front counted
 abbrev pub is_number : List ℕ → Bool

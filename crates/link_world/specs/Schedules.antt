@@ -7,8 +7,8 @@ use Rattle.protocol_model.specs.declared.events.Event.{Event}
 use Rattle.protocol_model.specs.declared.events.Event.TheVariants as event
 use Rattle.protocol_model.specs.declared.machine.Job.{Job}
 use Rattle.protocol_model.specs.declared.machine.Outcome.{Outcome}
-use Rattle.link_world.specs.declared.schedules.Instruction.{Instruction}
-use Rattle.link_world.specs.declared.schedules.Instruction.TheVariants as instruction
+use Rattle.link_world.specs.declared.texts.schedules.Instruction.{Instruction}
+use Rattle.link_world.specs.declared.texts.schedules.Instruction.TheVariants as instruction
 
 -- so many rounds; where they are cut, fewer, and what there was of the next
 pub record AreCounted (answer : Job → ℕ → Outcome) (n : ℕ) (cut : Bool) (w : World) (events : List Event) : Type 0

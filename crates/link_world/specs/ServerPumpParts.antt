@@ -10,8 +10,8 @@ use Rattle.protocol_model.specs.declared.machine.Job.{Job}
 use Rattle.protocol_model.specs.declared.machine.Outcome.{Outcome}
 use Rattle.server_core.specs.Serving.{ServerValue, with_end, may_turn}
 use Rattle.server_core.specs.declared.faults.ServerFault.{ServerFault}
-use Rattle.link_world.specs.declared.pumps.PumpFault.{PumpFault}
-use Rattle.link_world.specs.declared.pumps.PumpFault.TheVariants as fault
+use Rattle.link_world.specs.declared.connections.pumps.PumpFault.{PumpFault}
+use Rattle.link_world.specs.declared.connections.pumps.PumpFault.TheVariants as fault
 use Rattle.link_world.specs.Pumps.{Stage, Reading, IsLost}
 use Rattle.link_world.specs.PumpParts.{IsTakeFault}
 use Rattle.link_world.specs.ServerPumps.{ServerTurn, steps_made, IsServerRefusal}

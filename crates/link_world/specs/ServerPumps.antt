@@ -11,9 +11,9 @@ use Rattle.protocol_model.specs.declared.machine.Outcome.{Outcome}
 use Rattle.server_core.specs.Serving.{may_feed, may_turn}
 use Rattle.server_core.specs.declared.faults.ServerFault.{ServerFault}
 use Rattle.server_core.specs.declared.faults.ServerFault.TheVariants as server_fault
-use Rattle.link_world.specs.declared.pumps.Moved.{Moved}
-use Rattle.link_world.specs.declared.pumps.PumpFault.{PumpFault}
-use Rattle.link_world.specs.declared.pumps.PumpFault.TheVariants as fault
+use Rattle.link_world.specs.declared.connections.pumps.Moved.{Moved}
+use Rattle.link_world.specs.declared.connections.pumps.PumpFault.{PumpFault}
+use Rattle.link_world.specs.declared.connections.pumps.PumpFault.TheVariants as fault
 use Rattle.link_world.specs.Pumps.{Stage, Writing, Taking, Reading, Working, IsLost}
 
 -- a server's turn that has come so far, with the bytes that came in and those that went out, in this order: bytes come in, at least so many;

@@ -7,7 +7,7 @@ ghost use Rattle.dmis_program.specs.declared.faults.ProgramFault.TheVariants as 
 ghost use Rattle.tool_rack.specs.Messages.{fault_text as setup_text};
 ghost use Rattle.tool_rack.specs.declared.faults.SetupFault.TheVariants as setup;
 ghost use Rattle.link_world.specs.ScheduleTexts.{fault_text as schedule_text};
-ghost use Rattle.link_world.specs.declared.schedule_faults.ScheduleFault.TheVariants as schedule;
+ghost use Rattle.link_world.specs.declared.texts.schedule_faults.ScheduleFault.TheVariants as schedule;
 ghost use Rattle.contact_ledger.specs.Messages.{fault_text as ledger_text};
 ghost use Rattle.contact_ledger.specs.declared.faults.TextFault.TheVariants as text;
 ghost use Rattle.dme_line.specs.Tags.{four_digits};

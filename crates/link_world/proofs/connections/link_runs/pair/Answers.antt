@@ -1,0 +1,40 @@
+use Rattle.std.proofs.Common.{ap, arith}
+use Rattle.protocol_model.specs.Ends.{ClientEnd}
+use Rattle.server_core.specs.Serving.{ServerValue}
+use Rattle.link_world.specs.LinkRuns.{client_side, server_side, client_stops, server_stops}
+use Rattle.link_world.proofs.connections.link_runs.pair.Goals as goal
+
+pub returns-in-Err-clause-stopped : goal.returns-in-Err-clause-stopped
+returns-in-Err-clause-stopped g c = client_stops c.in-Err.fault c.in-Err.ensures.stopped.front
+    (ap (λ (s : ServerValue). server_side s.end (g.SR.Source.left c.args.server_ports.now.source)
+    (g.SW.Sink.taken c.args.server_ports.now.sink))
+    c.leave.ensures)
+
+pub returns-in-Err-serve_turns-clause-stopped : goal.returns-in-Err-serve_turns-clause-stopped
+returns-in-Err-serve_turns-clause-stopped g c = server_stops
+    (client_side c.watched_turn.new.client (g.CR.Source.left c.watched_turn.new.ports.source)
+    (g.CW.Sink.taken c.watched_turn.new.ports.sink))
+    c.in-Ok.moved c.in-Err-serve_turns.fault c.in-Ok.ensures.moved.whole c.in-Err-serve_turns.ensures.stopped.front
+    (ap (λ (e : ClientEnd). client_side e (g.CR.Source.left c.watched_turn.new.ports.source)
+    (g.CW.Sink.taken c.watched_turn.new.ports.sink))
+    c.leave-in-Err-serve_turns.ensures)
+
+pub returns-in-Err-clause-client_bounded : goal.returns-in-Err-clause-client_bounded
+returns-in-Err-clause-client_bounded g c =
+    let most = c.in-Err.ensures.stopped.within in omega (arith, most)
+
+pub returns-in-Ok-serve_turns-clause-client_bounded : goal.returns-in-Ok-serve_turns-clause-client_bounded
+returns-in-Ok-serve_turns-clause-client_bounded g c =
+    let most = c.in-Ok.ensures.moved.within in omega (arith, most)
+
+pub returns-in-Ok-serve_turns-clause-server_bounded : goal.returns-in-Ok-serve_turns-clause-server_bounded
+returns-in-Ok-serve_turns-clause-server_bounded g c =
+    let most = c.in-Ok-serve_turns.ensures.moved.within in omega (arith, most)
+
+pub returns-in-Err-serve_turns-clause-client_bounded : goal.returns-in-Err-serve_turns-clause-client_bounded
+returns-in-Err-serve_turns-clause-client_bounded g c =
+    let most = c.in-Ok.ensures.moved.within in omega (arith, most)
+
+pub returns-in-Err-serve_turns-clause-server_bounded : goal.returns-in-Err-serve_turns-clause-server_bounded
+returns-in-Err-serve_turns-clause-server_bounded g c =
+    let most = c.in-Err-serve_turns.ensures.stopped.within in omega (arith, most)

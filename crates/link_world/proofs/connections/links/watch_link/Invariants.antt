@@ -1,0 +1,16 @@
+use Rattle.std.proofs.Common.{◌≡◌, ◌≤◌, ◌+◌, ◌*◌, ◌-◌, false}
+use Rattle.link_world.proofs.ClientRuns.{ClientSoFar}
+use Rattle.link_world.proofs.connections.links.watch_link.Given as goal
+
+abbrev pub invariant-loop-client : goal.invariant-loop-client
+invariant-loop-client g l =
+    ClientSoFar l.turns l.initial.client l.client (g.R.Source.left l.initial.ports.source) (g.R.Source.left l.ports.source)
+    (g.W.Sink.taken l.initial.ports.sink) (g.W.Sink.taken l.ports.sink)
+    × (l.turns ≤ 1000000)
+    × (g.R.Source.calls l.ports.source + g.W.Sink.calls l.ports.sink
+    ≤ g.R.Source.calls l.initial.ports.source + g.W.Sink.calls l.initial.ports.sink + l.turns * 1000000)
+    × (g.R.Source.has_failed l.initial.ports.source ≡ false → g.R.Source.has_failed l.ports.source ≡ false)
+    × (g.W.Sink.has_failed l.initial.ports.sink ≡ false → g.W.Sink.has_failed l.ports.sink ≡ false)
+
+abbrev pub decreases-loop-client : goal.decreases-loop-client
+decreases-loop-client g l = 1000000 - l.turns

@@ -1,0 +1,26 @@
+use Rattle.std.proofs.Common.{arith, take}
+use Rattle.std.proofs.lemmas.Grind.{common_steps}
+use Rattle.link_world.proofs.ClientPumps.{if_err}
+use Rattle.link_world.proofs.ServerPumps.{server_came_more, server_feeds_none}
+use Rattle.link_world.proofs.connections.server_pump.take_in.Goals as goal
+
+pub returns-in_err-feed-clause-short : goal.returns-in_err-feed-clause-short
+returns-in_err-feed-clause-short g c = if_err c.from_residual-in_err-feed.result _ _ c.from_residual-in_err-feed.ensures.0
+    c.from_residual-in_err-feed.ensures.1
+    (server_feeds_none c.args.server.now c.loop-read.server c.feed.new.self (g.R.Source.left c.args.source.now) (g.R.Source.left c.loop-read.source)
+    (g.R.Source.left c.pull_counted.new.source) c.args.at_least c.args.budget.now.left c.loop-read.budget.left c.loop-read.read
+    (take c.in_ok-count.count c.pull_counted.new.piece) c.in_err-feed.field-0.0 c.loop-read.invariant.0 c.in_ok-count.ensures.came
+    c.requires c.in_err-feed.ensures.leads.1 c.in_err-feed.ensures.others)
+
+pub loop-read-preserved : goal.loop-read-preserved
+loop-read-preserved g c = (
+  server_came_more c.args.server.now c.loop-read.server c.feed.new.self (g.R.Source.left c.args.source.now) (g.R.Source.left c.loop-read.source)
+      (g.R.Source.left c.pull_counted.new.source) c.args.budget.now.left c.loop-read.budget.left c.pull_counted.new.budget.left
+      c.loop-read.read c.in_ok-count.count c.pull_counted.new.piece _ c.loop-read.invariant.0 c.in_ok-count.ensures.came
+      c.in_ok-feed.ensures.leads.0 c.in_ok-count.ensures.counted c.in_ok-count.ensures.some c.in_ok-count.ensures.within,
+  grind (arith, common_steps),
+  grind (arith, common_steps),
+  grind (arith, common_steps),
+  grind (arith, common_steps),
+  grind (arith, common_steps),
+)

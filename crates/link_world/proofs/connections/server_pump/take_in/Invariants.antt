@@ -1,0 +1,14 @@
+use Rattle.std.proofs.Common.{◌≡◌, ◌<◌, ◌≤◌, ◌+◌, ◌-◌, false, length}
+use Rattle.link_world.specs.ServerPumpParts.{ServerCame}
+use Rattle.link_world.proofs.connections.server_pump.take_in.Given as goal
+
+abbrev pub invariant-loop-read : goal.invariant-loop-read
+invariant-loop-read g l =
+    ServerCame l.initial.server l.server (g.R.Source.left l.initial.source) (g.R.Source.left l.source) l.initial.budget.left l.budget.left
+    l.read
+    × (length l.piece ≡ 4096) × (l.read < l.at_least + 4096) × (l.at_least ≡ 0 → l.source ≡ l.initial.source)
+    × (g.R.Source.calls l.source + l.budget.left ≤ g.R.Source.calls l.initial.source + l.initial.budget.left)
+    × (g.R.Source.has_failed l.initial.source ≡ false → g.R.Source.has_failed l.source ≡ false)
+
+abbrev pub decreases-loop-read : goal.decreases-loop-read
+decreases-loop-read g l = l.at_least - l.read

@@ -1,0 +1,14 @@
+use Rattle.link_world.proofs.Reached.{headline_seen}
+use Rattle.link_world.proofs.SameKind.{answered, same_behind}
+use Rattle.link_world.proofs.worlds.world.World.step.Goals as goal
+
+pub returns-clause-always : goal.returns-clause-always
+returns-clause-always c = headline_seen _ _ c.self.view_is c.self.invariant
+
+pub returns-clause-answer : goal.returns-clause-answer
+returns-clause-answer c = answered c.args.event c.args.self.now.world c.happen_traced-done.result c.happen_traced-done.ensures.can
+    c.happen_traced-done.ensures.takes
+
+pub returns-clause-fixed : goal.returns-clause-fixed
+returns-clause-fixed c = same_behind c.args.self.now c.happen_traced-done.new.self c.args.event c.happen_traced-done.result
+    c.happen_traced-done.ensures.can c.happen_traced-done.ensures.world

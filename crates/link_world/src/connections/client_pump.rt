@@ -1,0 +1,164 @@
+// A client over the ports of its connection.
+
+ghost use Rattle.std.specs.Prelude.{◌≡◌, ℕ, ◌<◌, ◌≤◌, ◌+◌, true, false, Option, List, length, None, [], Ok, IfOk, OnOk, IfErr};
+ghost use Rattle.std.specs.Result.{IsErrOf};
+ghost use Rattle.line_framing.specs.Next.{next_of};
+ghost use Rattle.protocol_model.specs.Client.{due};
+ghost use Rattle.client_core.specs.Clients.{may_read};
+ghost use Rattle.link_world.specs.Pumps.{Sending, Blames, BlamesPorts, ClientMovedWithin, ClientStoppedWithin, HasRefused};
+ghost use Rattle.link_world.specs.PumpParts.{GoesOn, ReadsOn, AllOut, Came, CameShort, IsReadFault};
+ghost use Rattle.protocol_model.specs.Ends.{end_left};
+
+use crate::connections::pumps::{Budget, Moved, PIECE, PumpFault, pull_counted, push_counted};
+use byte_ports::{Ports, Sink, Source};
+use client_core::{Client, ClientFault};
+
+/// The client sends each command that is due.
+fn send_due(client: &mut Client) -> Result<(), PumpFault<ClientFault>>
+    ensures sent { GoesOn Sending [] [] client.old client.new }
+    ensures all { OnOk result (due client.new.client ≡ None) }
+    ensures refused { IfErr result (λ fault. HasRefused client.new fault) }
+    ensures held { client.new.input ≡ client.old.input }
+{
+    while client.due().is_some() {
+        client.send()?;
+    }
+    Ok(())
+}
+
+/// The client sends each command that is due, and all that it has written goes out. A front of it may have gone where this stops.
+fn give_out<W: Sink>(
+    client: &mut Client,
+    sink: &mut W,
+    budget: &mut Budget,
+) -> Result<usize, PumpFault<ClientFault>>
+    ensures out { IfOk result (λ count. AllOut client.old client.new (W.taken sink.old)
+        (W.taken sink.new) budget.old.left budget.new.left count) }
+    ensures stopped { IfErr result (λ fault. (least : ℕ) (left : Option (List ℕ))
+        → ClientStoppedWithin budget.old.left (W.calls sink.old) (W.calls sink.new) least
+        client.old (end_left client.new) left left (W.taken sink.old) (W.taken sink.new) fault) }
+    ensures bounded { W.calls sink.new + budget.new.left ≤ W.calls sink.old + budget.old.left }
+    ensures blamed { Blames PumpFault.WriteFailed result (W.has_failed sink.old)
+        (W.has_failed sink.new) }
+    ensures unread { IsErrOf result PumpFault.ReadFailed → ⊥ }
+{
+    send_due(client)?;
+    let count = client.out().len();
+    push_counted(sink, client.out(), budget)?;
+    client.sent(count);
+    Ok(count)
+}
+
+/// Bytes come in and are fed to the client, until there are so many.
+fn take_in<R: Source>(
+    client: &mut Client,
+    source: &mut R,
+    at_least: usize,
+    budget: &mut Budget,
+) -> Result<usize, PumpFault<ClientFault>>
+    requires { may_read client.old.client ≡ true }
+    ensures came { IfOk result (λ count. Came client.old client.new (R.left source.old)
+        (R.left source.new) budget.old.left budget.new.left count) }
+    ensures enough { IfOk result (λ count. at_least ≤ count) }
+    ensures few { IfOk result (λ count. count < at_least + PIECE) }
+    ensures unasked { at_least ≡ 0 → source.new ≡ source.old }
+    ensures bounded { R.calls source.new + budget.new.left
+        ≤ R.calls source.old + budget.old.left }
+    ensures short { IfErr result (λ fault. CameShort at_least client.old client.new
+        (R.left source.old) (R.left source.new) budget.old.left fault) }
+    ensures blamed { Blames PumpFault.ReadFailed result (R.has_failed source.old)
+        (R.has_failed source.new) }
+{
+    let mut piece = [0u8; PIECE];
+    let mut read = 0;
+    while read < at_least {
+        // So many bytes and no more, that their count fits.
+        let room = PIECE.min(usize::MAX - read);
+        let count = pull_counted(source, &mut piece[..room], budget)?;
+        client.feed(&piece[..count])?;
+        read += count;
+    }
+    Ok(read)
+}
+
+/// The client reads each whole line.
+fn read_lines(client: &mut Client, budget: &mut Budget) -> Result<(), PumpFault<ClientFault>>
+    ensures reads { ReadsOn budget.old.left budget.new.left client.old client.new }
+    ensures all { OnOk result (next_of client.new.input.rest ≡ Ok None) }
+    ensures may { OnOk result (may_read client.new.client ≡ true) }
+    ensures faults { IfErr result (λ fault.
+        IsReadFault budget.old.left (length client.old.input.rest) client.new fault) }
+{
+    loop {
+        if client.has_line() {
+            budget.count()?;
+        }
+        if !client.read_one()? {
+            return Ok(());
+        }
+    }
+}
+
+/// The client's turn, which does not leave.
+fn turn<R: Source, W: Sink>(
+    client: &mut Client,
+    ports: &mut Ports<R, W>,
+    at_least: usize,
+    bound: u64,
+) -> Result<Moved, PumpFault<ClientFault>>
+    ensures moved { IfOk result (λ moved. ClientMovedWithin bound
+        (R.calls ports.old.source + W.calls ports.old.sink) (R.calls ports.new.source + W.calls ports.new.sink)
+        at_least client.old client.new (R.left ports.old.source) (R.left ports.new.source)
+        (W.taken ports.old.sink) (W.taken ports.new.sink) moved) }
+    ensures stopped { IfErr result (λ fault. ClientStoppedWithin bound
+        (R.calls ports.old.source + W.calls ports.old.sink) (R.calls ports.new.source + W.calls ports.new.sink)
+        at_least client.old (end_left client.new) (R.left ports.old.source) (R.left ports.new.source)
+        (W.taken ports.old.sink) (W.taken ports.new.sink) fault) }
+    ensures few { IfOk result (λ moved. moved.read < at_least + PIECE) }
+    ensures unasked { at_least ≡ 0 → ports.new.source ≡ ports.old.source }
+    ensures blamed { BlamesPorts PumpFault.ReadFailed PumpFault.WriteFailed result
+        (R.has_failed ports.old.source) (R.has_failed ports.new.source)
+        (W.has_failed ports.old.sink) (W.has_failed ports.new.sink) }
+{
+    let mut budget = Budget { left: bound };
+    let written = give_out(client, &mut ports.sink, &mut budget)?;
+    client.feed(&[])?;
+    let read = take_in(client, &mut ports.source, at_least, &mut budget)?;
+    read_lines(client, &mut budget)?;
+    Ok(Moved { read, written })
+}
+
+/// One turn of a client over the ports of its connection (this profile): it sends each command that is due; all that it has written goes
+/// out; bytes come in, in pieces of at most `PIECE`, until there are `at_least`, and none where that is 0; and it reads each whole line.
+/// What comes behind the last whole line is kept.
+///
+/// Each push, each pull and each line is a step, and there are at most `bound`, whatever the answer. A fault stops the turn, and the client
+/// has then left its connection: `ReadFailed` and `WriteFailed` where that port has failed; `Ended` where the input has ended before
+/// `at_least` bytes had come; `TurnsSpent`; `Core` where the client itself refuses, as one on no connection does (`NotNow`), and one that
+/// was or is now Faulted; `Memory`, and only then may bytes that had come be lost.
+pub fn client_turns<R: Source, W: Sink>(
+    client: &mut Client,
+    ports: &mut Ports<R, W>,
+    at_least: usize,
+    bound: u64,
+) -> Result<Moved, PumpFault<ClientFault>>
+    ensures moved { IfOk result (λ moved. ClientMovedWithin bound
+        (R.calls ports.old.source + W.calls ports.old.sink) (R.calls ports.new.source + W.calls ports.new.sink)
+        at_least client.old client.new (R.left ports.old.source) (R.left ports.new.source)
+        (W.taken ports.old.sink) (W.taken ports.new.sink) moved) }
+    ensures stopped { IfErr result (λ fault. ClientStoppedWithin bound
+        (R.calls ports.old.source + W.calls ports.old.sink) (R.calls ports.new.source + W.calls ports.new.sink)
+        at_least client.old client.new (R.left ports.old.source) (R.left ports.new.source)
+        (W.taken ports.old.sink) (W.taken ports.new.sink) fault) }
+    ensures few { IfOk result (λ moved. moved.read < at_least + PIECE) }
+    ensures unasked { at_least ≡ 0 → ports.new.source ≡ ports.old.source }
+    ensures blamed { BlamesPorts PumpFault.ReadFailed PumpFault.WriteFailed result
+        (R.has_failed ports.old.source) (R.has_failed ports.new.source)
+        (W.has_failed ports.old.sink) (W.has_failed ports.new.sink) }
+{
+    let result = turn(client, ports, at_least, bound);
+    if result.is_err() {
+        client.leave();
+    }
+    result
+}

@@ -1,0 +1,189 @@
+// Whole connections over their ports: the turns of one side, one behind another.
+
+ghost use Rattle.std.specs.Prelude.{◌≡◌, ◌↔◌, ◌<◌, ◌≤◌, ◌+◌, true, false, IsOk, IfOk, OnOk, OnErr, IfErr};
+ghost use Rattle.std.specs.Result.{IsErrOf};
+ghost use Rattle.link_world.specs.Pumps.{BlamesPorts, ClientMovedWithin, ClientStoppedWithin};
+ghost use Rattle.link_world.specs.LinkRuns.{calls_most, is_over, ClientRan, ClientRunStopped, ServerRunStopped};
+
+use crate::connections::client_pump::client_turns;
+use crate::connections::machines::Machine;
+use crate::connections::pumps::{Moved, PIECE, PumpFault};
+use crate::connections::server_pump::serve_turns;
+use byte_ports::{Ports, Sink, Source};
+use client_core::{Client, ClientFault, State};
+use contact_ledger::Feature;
+use server_core::{Server, ServerFault};
+
+/// How many turns a run may have (this profile): `turns_most` of the definitions.
+pub(crate) const TURNS_MAX: u32 = 1_000_000;
+
+/// How many steps each of them may make (this profile): `steps_most` of the definitions.
+pub(crate) const STEPS_MAX: u64 = 1_000_000;
+
+/// Who is told of each feature that a run has completed.
+pub trait Watcher {
+    /// A feature is completed, the one with this number among those of the program, counted from 1.
+    fn completed(&mut self, number: usize, feature: &Feature);
+}
+
+/// A watcher that nobody hears of.
+#[derive(Clone, Copy, Debug)]
+pub struct Silent;
+
+impl Watcher for Silent {
+    fn completed(&mut self, _number: usize, _feature: &Feature) {}
+}
+
+/// Why a client and a server that have their turns by turns stop: the fault of one side's turn.
+#[derive(Clone, Copy, Debug, PartialEq, Eq)]
+pub enum LoopFault {
+    /// A turn of the client has stopped, or as many turns were made as may be.
+    Client(PumpFault<ClientFault>),
+    /// A turn of the server has stopped.
+    Server(PumpFault<ServerFault>),
+}
+
+/// Whether a run of a client is over: its plan is counted, or nothing is open behind a failure or an abort.
+fn is_over(state: State) -> bool
+    ensures { result ≡ is_over state }
+{
+    matches!(state, State::Done | State::Halted)
+}
+
+/// Tells of the features behind the first `told`, in order.
+fn tell<N: Watcher>(client: &Client, told: usize, watcher: &mut N) {
+    let features = client.features();
+    for at in told..features.len() {
+        watcher.completed(at + 1, &features[at]);
+    }
+}
+
+/// One turn of a client, of whose features the watcher is told, whether it stops or not.
+pub(crate) fn watched_turn<R: Source, W: Sink, N: Watcher>(
+    client: &mut Client,
+    ports: &mut Ports<R, W>,
+    at_least: usize,
+    watcher: &mut N,
+) -> Result<Moved, PumpFault<ClientFault>>
+    ensures moved { IfOk result (λ moved. ClientMovedWithin STEPS_MAX
+        (R.calls ports.old.source + W.calls ports.old.sink) (R.calls ports.new.source + W.calls ports.new.sink)
+        at_least client.old client.new (R.left ports.old.source) (R.left ports.new.source)
+        (W.taken ports.old.sink) (W.taken ports.new.sink) moved) }
+    ensures stopped { IfErr result (λ fault. ClientStoppedWithin STEPS_MAX
+        (R.calls ports.old.source + W.calls ports.old.sink) (R.calls ports.new.source + W.calls ports.new.sink)
+        at_least client.old client.new (R.left ports.old.source) (R.left ports.new.source)
+        (W.taken ports.old.sink) (W.taken ports.new.sink) fault) }
+    ensures few { IfOk result (λ moved. moved.read < at_least + PIECE) }
+    ensures unasked { at_least ≡ 0 → ports.new.source ≡ ports.old.source }
+    ensures blamed { BlamesPorts PumpFault.ReadFailed PumpFault.WriteFailed result
+        (R.has_failed ports.old.source) (R.has_failed ports.new.source)
+        (W.has_failed ports.old.sink) (W.has_failed ports.new.sink) }
+{
+    let told = client.features().len();
+    let result = client_turns(client, ports, at_least, STEPS_MAX);
+    tell(client, told, watcher);
+    result
+}
+
+/// A whole run of a client over the ports of its connection (this profile): turns in which at least one byte comes in, until it is Done or
+/// Halted. It makes none where it is so at first. The watcher is told of each feature that a turn has completed, in order and behind that
+/// turn, be it one that stops; whatever it does, the run is the same.
+///
+/// A fault of a turn is the answer, and the client has then left its connection. A turn may make 1,000,000 steps, and a run may have
+/// 1,000,000 turns; where the client is neither Done nor Halted behind them, it leaves, and the answer is `TurnsSpent`. That comes only
+/// where 1,000,000 is at most the count of the bytes that went out and of twice those that came in or were held unread at first.
+pub fn watch_link<R: Source, W: Sink, N: Watcher>(
+    client: &mut Client,
+    ports: &mut Ports<R, W>,
+    watcher: &mut N,
+) -> Result<(), PumpFault<ClientFault>>
+    ensures ran { OnOk result (ClientRan client.old client.new (R.left ports.old.source)
+        (R.left ports.new.source) (W.taken ports.old.sink) (W.taken ports.new.sink)) }
+    ensures done { OnOk result (is_over client.new.client.state ≡ true) }
+    ensures stopped { IfErr result (λ fault. ClientRunStopped client.old client.new
+        (R.left ports.old.source) (R.left ports.new.source) (W.taken ports.old.sink) (W.taken ports.new.sink) fault) }
+    ensures left { OnErr result (client.new.client.on ≡ false) }
+    ensures bounded { R.calls ports.new.source + W.calls ports.new.sink
+        ≤ R.calls ports.old.source + W.calls ports.old.sink + calls_most }
+    ensures blamed { BlamesPorts PumpFault.ReadFailed PumpFault.WriteFailed result
+        (R.has_failed ports.old.source) (R.has_failed ports.new.source)
+        (W.has_failed ports.old.sink) (W.has_failed ports.new.sink) }
+{
+    let mut turns = 0;
+    while !is_over(client.state()) {
+        if turns == TURNS_MAX {
+            client.leave();
+            return Err(PumpFault::TurnsSpent);
+        }
+        watched_turn(client, ports, 1, watcher)?;
+        turns += 1;
+    }
+    Ok(())
+}
+
+/// A whole run of a client over the ports of its connection, as `watch_link`, with nobody to be told.
+pub fn run_link<R: Source, W: Sink>(
+    client: &mut Client,
+    ports: &mut Ports<R, W>,
+) -> Result<(), PumpFault<ClientFault>>
+    ensures ran { OnOk result (ClientRan client.old client.new (R.left ports.old.source)
+        (R.left ports.new.source) (W.taken ports.old.sink) (W.taken ports.new.sink)) }
+    ensures done { OnOk result (is_over client.new.client.state ≡ true) }
+    ensures stopped { IfErr result (λ fault. ClientRunStopped client.old client.new
+        (R.left ports.old.source) (R.left ports.new.source) (W.taken ports.old.sink) (W.taken ports.new.sink) fault) }
+    ensures left { OnErr result (client.new.client.on ≡ false) }
+    ensures bounded { R.calls ports.new.source + W.calls ports.new.sink
+        ≤ R.calls ports.old.source + W.calls ports.old.sink + calls_most }
+    ensures blamed { BlamesPorts PumpFault.ReadFailed PumpFault.WriteFailed result
+        (R.has_failed ports.old.source) (R.has_failed ports.new.source)
+        (W.has_failed ports.old.sink) (W.has_failed ports.new.sink) }
+{
+    watch_link(client, ports, &mut Silent)
+}
+
+/// How a run of a server ends by the fault of a turn: the end of the input is none of the run.
+fn end_of(fault: PumpFault<ServerFault>) -> Result<(), PumpFault<ServerFault>>
+    ensures ended { IsOk result ↔ (fault ≡ PumpFault.Ended) }
+    ensures same { IfErr result (λ why. why ≡ fault) }
+{
+    match fault {
+        PumpFault::Ended => Ok(()),
+        _ => Err(fault),
+    }
+}
+
+/// A whole run of a server and its machine over the ports of a connection (this profile): turns in which at least one byte comes in, until
+/// the input has ended. That end is the normal one of a connection: the answer is Ok, and the server has left.
+///
+/// Any other fault of a turn is the answer, and the server has then left its connection. A turn may make 1,000,000 steps, and a run may
+/// have 1,000,000 turns; behind them the server leaves, and the answer is `TurnsSpent`. That comes only where 1,000,000 is at most 129 more
+/// than the count of the bytes that went out and of four times those that came in or were held unread at first.
+pub fn serve_link<M: Machine, R: Source, W: Sink>(
+    server: &mut Server,
+    machine: &mut M,
+    ports: &mut Ports<R, W>,
+) -> Result<(), PumpFault<ServerFault>>
+    ensures ended { OnOk result (ServerRunStopped (M.answers machine.old) server.old.end
+        server.new.end (R.left ports.old.source) (R.left ports.new.source) (W.taken ports.old.sink)
+        (W.taken ports.new.sink) PumpFault.Ended) }
+    ensures stopped { IfErr result (λ fault. ServerRunStopped (M.answers machine.old)
+        server.old.end server.new.end (R.left ports.old.source) (R.left ports.new.source) (W.taken ports.old.sink)
+        (W.taken ports.new.sink) fault) }
+    ensures normal { IsErrOf result PumpFault.Ended → ⊥ }
+    ensures left { server.new.end.server.on ≡ false }
+    ensures bounded { R.calls ports.new.source + W.calls ports.new.sink
+        ≤ R.calls ports.old.source + W.calls ports.old.sink + calls_most }
+    ensures setup { server.new.setup ≡ server.old.setup }
+    ensures keeps { M.answers machine.new ≡ M.answers machine.old }
+    ensures blamed { BlamesPorts PumpFault.ReadFailed PumpFault.WriteFailed result
+        (R.has_failed ports.old.source) (R.has_failed ports.new.source)
+        (W.has_failed ports.old.sink) (W.has_failed ports.new.sink) }
+{
+    for _turn in 0..TURNS_MAX {
+        if let Err(fault) = serve_turns(server, machine, ports, 1, STEPS_MAX) {
+            return end_of(fault);
+        }
+    }
+    server.leave();
+    Err(PumpFault::TurnsSpent)
+}

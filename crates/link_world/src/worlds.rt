@@ -1,0 +1,20 @@
+//! A world: a client, a server and the connections between them, where one event happens after the other.
+//!
+//! - `world`: `World`, its events one by one, several, and its end
+//! - `client_events`, `server_events`: what each event does to its side
+//! - `connection`: the bytes that are on their way, both ways
+//! - `finishing`, `playing`, `rounds`: events that a world chooses itself, to its end or by a schedule
+//! - `traces`: the lines that both sides write, as text
+//! - `faults`: why an event does not happen
+//! - `laws`: what follows for every list of events
+
+pub(crate) mod client_events;
+pub(crate) mod connection;
+pub(crate) mod faults;
+pub(crate) mod finishing;
+pub mod laws;
+pub(crate) mod playing;
+pub(crate) mod rounds;
+pub(crate) mod server_events;
+pub(crate) mod traces;
+pub(crate) mod world;

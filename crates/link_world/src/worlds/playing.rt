@@ -1,0 +1,189 @@
+// Parts of schedules, each as one call of a world.
+
+ghost use Rattle.std.specs.Prelude.{◌≡◌, true, false, length, Some, OnOk, OnErr, IfOk, IfSome, is_ok};
+ghost use Rattle.protocol_model.specs.World.{can, after, client_link, server_link};
+ghost use Rattle.link_world.specs.Links.{with_world};
+ghost use Rattle.protocol_model.specs.Rounds.{AreWhile, IsOne, all_up, all_down, ending};
+ghost use Rattle.link_world.specs.Schedules.{AreMade, ArePlayed, Plays};
+ghost use Rattle.link_world.specs.Parts.{repeats, Tells, PlaysPart};
+ghost use Rattle.link_world.specs.Claims.{Headline};
+ghost use Rattle.link_world.specs.Finishing.{IsSameKind};
+ghost use Rattle.link_world.specs.Machines.{simulated};
+
+use crate::connections::machines::{Machine, Simulated};
+use crate::texts::schedules::{Instruction, Schedule};
+use crate::worlds::faults::WorldFault;
+use crate::worlds::server_events::server_place;
+use crate::worlds::world::World;
+use protocol_model::Event;
+use std::alloc::AllocError;
+
+impl World {
+    /// An event happens, if it can, and it is told whether it did. Only want of memory is an `Err`, and then nothing has changed.
+    pub(crate) fn attempt(&mut self, event: Event) -> Result<bool, AllocError>
+        ensures told { IfOk result (λ happened. happened ≡ can event self.old.world) }
+        ensures ok { OnOk result (self.new ≡ with_world self.old (after event self.old.world)) }
+        ensures err { OnErr result (self.new ≡ self.old) }
+    {
+        match self.step(event) {
+            Ok(()) => Ok(true),
+            Err(WorldFault::NotNow) => Ok(false),
+            Err(WorldFault::Memory) => Err(AllocError),
+        }
+    }
+
+    /// An event that is repeated happens while it can: a client sends, a server reads, or a client reads.
+    pub(crate) fn repeat(&mut self, event: Event) -> Result<bool, AllocError>
+        requires { repeats event ≡ true }
+        ensures { Tells result (AreWhile event) self.old self.new }
+    {
+        let mut busy = false;
+        loop {
+            if !self.attempt(event)? {
+                return Ok(busy);
+            }
+            busy = true;
+        }
+    }
+
+    /// How many bytes wait for the server on its connection; none where it stands on none.
+    fn waiting_up(&self) -> usize
+        ensures { self.now.world.server.server.on ≡ true
+            → result ≡ length (server_link self.now.world).up }
+    {
+        match server_place(&self.server, &self.connections) {
+            Some(at) => self.connections[at].up.waiting().len(),
+            None => 0,
+        }
+    }
+
+    /// How many bytes wait for the client on its connection; none where it has made none.
+    fn waiting_down(&self) -> usize
+        ensures { result ≡ length (client_link self.now.world).down }
+    {
+        match self.connections.last() {
+            Some(connection) => connection.down.waiting().len(),
+            None => 0,
+        }
+    }
+
+    /// All bytes that wait for the server move up to it.
+    pub(crate) fn up_all(&mut self) -> Result<bool, AllocError>
+        ensures { Tells result (λ cut world. IsOne (all_up world) cut)
+            self.old self.new }
+    {
+        let count = self.waiting_up();
+        self.attempt(Event::Up(count))
+    }
+
+    /// All bytes that wait for the client move down to it.
+    pub(crate) fn down_all(&mut self) -> Result<bool, AllocError>
+        ensures { Tells result (λ cut world. IsOne (all_down world) cut)
+            self.old self.new }
+    {
+        let count = self.waiting_down();
+        self.attempt(Event::Down(count))
+    }
+
+    /// How what runs ends, where something runs: as the machine answers its job, at the number of the next contact.
+    pub(crate) fn ending<M: Machine>(&self, machine: &mut M) -> Option<Event>
+        ensures value { result ≡ ending (M.answers machine.old) self.now.world }
+        ensures possible { IfSome result (λ event. can event self.now.world ≡ true) }
+        ensures keeps { M.answers machine.new ≡ M.answers machine.old }
+    {
+        let job = self.running()?;
+        let number = self.ledger().contacts();
+        Some(Event::Machine(machine.answer(job, number)))
+    }
+
+    /// An event happens, if it can.
+    fn once(&mut self, event: Event) -> Result<(), AllocError>
+        ensures { PlaysPart result (λ cut world. IsOne (Some event) cut)
+            self.old self.new }
+    {
+        self.attempt(event)?;
+        Ok(())
+    }
+
+    /// What runs ends as the machine answers, where something runs.
+    fn auto<M: Machine>(&mut self, machine: &mut M) -> Result<(), AllocError>
+        ensures made { PlaysPart result (λ cut world.
+            IsOne (ending (M.answers machine.old) world) cut) self.old self.new }
+        ensures keeps { M.answers machine.new ≡ M.answers machine.old }
+    {
+        match self.ending(machine) {
+            Some(event) => self.once(event),
+            None => Ok(()),
+        }
+    }
+
+    /// One instruction is played. Only want of memory is an `Err`.
+    fn follow<M: Machine>(
+        &mut self,
+        instruction: Instruction,
+        machine: &mut M,
+    ) -> Result<(), AllocError>
+        ensures made { PlaysPart result (AreMade (M.answers machine.old) instruction)
+            self.old self.new }
+        ensures keeps { M.answers machine.new ≡ M.answers machine.old }
+    {
+        match instruction {
+            Instruction::Once(event) => self.once(event),
+            Instruction::Auto => self.auto(machine),
+            Instruction::UpAll => untold(self.up_all()),
+            Instruction::DownAll => untold(self.down_all()),
+            Instruction::ServerReadsAll => untold(self.repeat(Event::ServerReads)),
+            Instruction::ClientReadsAll => untold(self.repeat(Event::ClientReads)),
+            Instruction::Rounds(count) => self.quiet_rounds(count, machine),
+            Instruction::Quiet => self.quiet(machine),
+        }
+    }
+
+    /// Instructions are played, one behind another; want of memory ends them, and is the only `Err`.
+    pub(crate) fn follow_all<M: Machine>(
+        &mut self,
+        instructions: &[Instruction],
+        machine: &mut M,
+    ) -> Result<(), AllocError>
+        ensures made { PlaysPart result (ArePlayed (M.answers machine.old) instructions.now)
+            self.old self.new }
+        ensures keeps { M.answers machine.new ≡ M.answers machine.old }
+    {
+        for instruction in instructions {
+            self.follow(*instruction, machine)?;
+        }
+        Ok(())
+    }
+}
+
+/// What a call played, whatever it tells.
+fn untold(told: Result<bool, AllocError>) -> Result<(), AllocError>
+    ensures { is_ok result ≡ is_ok told }
+{
+    match told {
+        Ok(_) => Ok(()),
+        Err(fault) => Err(fault),
+    }
+}
+
+impl Schedule {
+    /// Plays the instructions in order, as events of a world. What runs ends where an instruction says so as the simulated machine of the
+    /// world's own setup answers. An event that cannot happen changes nothing, and the next is played. Only want of memory is an `Err`: it
+    /// ends the playing with the world as the events before have left it.
+    #[tactic(auto, using(crate::proofs::Instructions::played_behind))]
+    pub fn play(&self, world: &mut World) -> Result<(), AllocError>
+        // What the instructions made of the world.
+        ensures ok { OnOk result (Plays (simulated world.old.setup.shifts) self.now false
+            world.old.world world.new.world) }
+        ensures memory { OnErr result (Plays (simulated world.old.setup.shifts) self.now true
+            world.old.world world.new.world) }
+
+        // What no event changes, and what holds after any events.
+        ensures fixed { IsSameKind world.old world.new }
+        ensures always { Headline world.new.world }
+    {
+        let _known = &world.alloc;
+        let mut machine = Simulated::new(world.alloc, world.setup())?;
+        world.follow_all(self.instructions.as_slice(), &mut machine)
+    }
+}
