@@ -37,7 +37,8 @@ CALL_ROWS = {
 }
 
 # Rows of `test_calls` that stand by themselves, which it makes again where memory is wanting: what it prints has to be what it prints with all
-# memory, or, where the refusal of a text has its own words, that memory was wanting.
+# memory, with or without the note that a call was refused and all is as before, or, where the refusal of a text has its own words, that memory
+# was wanting.
 RETRIED_ROWS = {
     "setup": ("setups", "TOOL P1;TOOL P2;FRAME PART 100 0 0;SHIFT 0.002 0 0;SHIFT 0 0 0.004;SHIFT -0.001 0.001 0;"),
     "schedule": ("schedules", "connect;accept 1;machine touched 1 2 3;up all;down 5;quiet 3;quiet"),
@@ -256,9 +257,10 @@ def retried_row(refusing, head, row):
     shown = whole[1].splitlines()[-1].removeprefix(f"{row} => ")
     must(whole[0] == 0 and shown and "changed" not in shown and "Memory" not in shown, "with all memory", shown)
     wanting = (0, whole[1].replace(f"{row} => {shown}\n", f"{row} => out of memory\n"), "")
+    again = (0, whole[1].replace(f"{row} => {shown}\n", f"{row} => refused, as before; {shown}\n"), "")
     for run in runs:
-        must(run in (whole, wanting) or (run[0] in (1, 4) and run[1:] == ("", "")), "another end", run[0], run[1].splitlines()[-1:])
-    of_the_row = sum(run in (whole, wanting) for run in runs)
+        must(run in (whole, wanting, again) or (run[0] in (1, 4) and run[1:] == ("", "")), "another end", run[0], run[1].splitlines()[-1:])
+    of_the_row = sum(run in (whole, wanting, again) for run in runs)
     must(of_the_row > 3, "of the row", of_the_row, "of", len(runs))
     return of_the_row
 
