@@ -8,7 +8,7 @@ _dme()
         return
     fi
     case $before in
-        --setup | --schedule | --features | --contacts)
+        --setup | --schedule | --features | --contacts | --record)
             mapfile -t COMPREPLY < <(compgen -f -- "$word")
             return ;;
         --as)
@@ -17,7 +17,7 @@ _dme()
         --host)
             mapfile -t COMPREPLY < <(compgen -A hostname -- "$word")
             return ;;
-        --port | --window | --connections)
+        --port | --window | --connections | --part)
             return ;;
     esac
     case ${COMP_WORDS[1]} in
@@ -26,7 +26,7 @@ _dme()
         audit) options="--setup --features --contacts --explain" ;;
         loop) options="--setup --window --progress --trace --explain" ;;
         serve) options="--setup --port --connections --contacts --progress --explain" ;;
-        run) options="--setup --host --port --window --features --progress --explain" ;;
+        run) options="--setup --host --port --window --features --record --part --progress --explain" ;;
         export) options="--as --setup --features --explain" ;;
         explain)
             options="P1 P2 P3 P4 P5 P6 P7 P8 P9 P10 P11 P12 P13 P14 P15 P16 N1 N2 N3 S1 S2 S3 H1 K1 C4"

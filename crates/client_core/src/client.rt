@@ -299,6 +299,13 @@ impl Client {
         self.input.rest()
     }
 
+    /// The program whose features it measures.
+    pub fn program(&self) -> &Program
+        ensures { result.now ≡ self.now.client.program }
+    {
+        &self.executor.program
+    }
+
     /// The first bytes of `out` were sent. The caller owes that there are so many. Takes no memory.
     #[tactic(auto, using(crate::proofs::Reached::taken_reached))]
     pub fn sent(&mut self, count: usize)

@@ -2,7 +2,7 @@
 use Rattle.std.specs.Prelude.{◌≡◌, ◌⊎◌, ℕ, Bool, true, false, List, codes, Option, None, Some, IfSome}
 use Rattle.contact_ledger.specs.FeatureTexts.{features_text, header}
 use Rattle.contact_ledger.specs.declared.features.Feature.{Feature}
-use Rattle.protocol_model.specs.Ends.{ClientEnd, end_connected}
+use Rattle.protocol_model.specs.Ends.{ClientEnd}
 use Rattle.link_world.specs.LinkRuns.{ClientRan, ClientRunStopped}
 use Rattle.link_world.specs.Reports.{report_text}
 use Rattle.link_world.specs.Watching.{Note, TellsRun}
@@ -44,23 +44,23 @@ pub record RunTold : Type 0 where
 abbrev pub run_told : (left taken : Option (List ℕ)) → Option (List Note) → FileTold → RunTold
 run_told left taken told file = record { left = left; taken = taken; told = told; file = file }
 
--- a client that has come to connection 1 has had its turns, and its watcher was told of what they completed; this is how that has ended,
+-- a client has had its turns on its connection, and its watcher was told of what they completed; this is how that has ended,
 -- this the report of what it then is, and the file keeps the features that it then holds, each of them
 pub record LeavesRun (first : ClientEnd) (old new : RunTold) (driven : RunEnd) (text : List ℕ) : Type 0 where
   pub last : ClientEnd
-  pub came : RunCame (end_connected 1 first) last old.left new.left old.taken new.taken driven.ended.broken
-  pub watched : TellsRun (end_connected 1 first) last old.told new.told
+  pub came : RunCame first last old.left new.left old.taken new.taken driven.ended.broken
+  pub watched : TellsRun first last old.told new.told
   pub stands : driven.ended.state ≡ last.client.state
   pub kept : Keeps driven.is_kept old.file new.file (IsFeaturesText last.client.table.tally.features)
   pub told : text ≡ report_text (end_shown last)
 
--- a client that has come to connection 1 has had its turns, as far as it came, and its watcher was told of what they completed; the file is
+-- a client has had its turns on its connection, as far as it came, and its watcher was told of what they completed; the file is
 -- as it was, or keeps the features that the client then holds
 pub record LeavesFile (first : ClientEnd) (old new : RunTold) : Type 0 where
   pub last : ClientEnd
   pub broken : Option LoopFault
-  pub came : RunCame (end_connected 1 first) last old.left new.left old.taken new.taken broken
-  pub watched : TellsRun (end_connected 1 first) last old.told new.told
+  pub came : RunCame first last old.left new.left old.taken new.taken broken
+  pub watched : TellsRun first last old.told new.told
   pub kept : (new.file ≡ old.file)
       ⊎ ((is_kept : Bool) × Keeps is_kept old.file new.file (IsFeaturesText last.client.table.tally.features))
 

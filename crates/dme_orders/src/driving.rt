@@ -1,8 +1,6 @@
 // A program is run on a server over a connection, over ports.
 
-ghost use Rattle.std.specs.Prelude.{◌≡◌, ◌<◌, length, true, Some, OnOk, OnErr, IfOk, IsErrOf};
-ghost use Rattle.protocol_model.specs.Ends.{end_connected};
-ghost use Rattle.client_core.specs.Clients.{may_connect};
+ghost use Rattle.std.specs.Prelude.{◌≡◌, ◌<◌, length, Some, OnOk, OnErr, IfOk, IsErrOf};
 ghost use Rattle.dme_orders.specs.Broken.{BlamesClient};
 ghost use Rattle.dme_orders.specs.Driving.{file_told, run_told, IsFeaturesText, RunCame, Keeps, LeavesRun, StopsRun};
 ghost use Rattle.dme_orders.specs.Orders.{went, Prints};
@@ -13,7 +11,7 @@ use crate::reading::FilesFault;
 use crate::simulating::write_text;
 use crate::text_files::TextFile;
 use byte_ports::{Failed, Ports, Sink, Source};
-use client_core::{Client, ClientFault};
+use client_core::Client;
 use contact_ledger::write_features;
 use link_world::{LoopFault, Watcher, watch_link};
 use std::alloc::{AllocError, Global};
@@ -34,18 +32,6 @@ pub struct RunOutputs<F, O> {
     pub features: F,
     /// Where the report is written.
     pub report: O,
-}
-
-/// The client comes to connection 1. Only want of memory is an `Err`.
-fn come(client: &mut Client) -> Result<(), AllocError>
-    requires { may_connect 1 client.old.client ≡ true }
-    ensures { OnOk result (client.new ≡ end_connected 1 client.old) }
-{
-    match client.connected(1) {
-        Ok(()) => Ok(()),
-        Err(ClientFault::Memory) => Err(AllocError),
-        Err(_) => unreachable!(),
-    }
 }
 
 /// The text of the features that a client holds. Fails only if out of memory.
@@ -86,7 +72,6 @@ fn turned<R: Source, W: Sink, N: Watcher, F: TextFile>(
     watcher: &mut N,
     file: &mut F,
 ) -> Result<(RunEnd, Vec<u8>), AllocError>
-    requires { may_connect 1 client.old.client ≡ true }
     ensures leaves { IfOk result (λ end. LeavesRun client.old
         (run_told (R.left ports.old.source) (W.taken ports.old.sink) (N.told watcher.old)
         (file_told (F.kept file.old) (F.has_failed file.old)))
@@ -103,7 +88,6 @@ fn turned<R: Source, W: Sink, N: Watcher, F: TextFile>(
         (R.has_failed ports.old.source) (R.has_failed ports.new.source)
         (W.has_failed ports.old.sink) (W.has_failed ports.new.sink)) }
 {
-    come(client)?;
     let broken = match watch_link(client, ports, watcher) {
         Ok(()) => None,
         Err(fault) => Some(LoopFault::Client(fault)),
@@ -115,8 +99,8 @@ fn turned<R: Source, W: Sink, N: Watcher, F: TextFile>(
     Ok((RunEnd { ended, is_kept }, text))
 }
 
-/// Runs a program on a server: a client that may come to connection 1 comes to it and has its turns, its features are put in their file,
-/// and its report is written, without contacts. It answers how that has ended; both are done as well where a fault has broken the turns
+/// Runs a program on a server: a client that has come to its connection has its turns, its features are put in their file, and its report
+/// is written, without contacts. It answers how that has ended; both are done as well where a fault has broken the turns
 /// off, and the report is written as well where the file could not be. `Memory` and `Write` are the only `Err`s.
 pub fn drive<R: Source, W: Sink, N: Watcher, F: TextFile, O: Sink>(
     alloc: Global,
@@ -125,8 +109,6 @@ pub fn drive<R: Source, W: Sink, N: Watcher, F: TextFile, O: Sink>(
     watcher: &mut N,
     outputs: &mut RunOutputs<F, O>,
 ) -> Result<RunEnd, FilesFault>
-    requires { may_connect 1 client.client ≡ true }
-
     // The report of what the client has become was written, its file keeps what it then holds, and the watcher was told of what was
     // completed; or there was no memory for that, or the output has failed.
     ensures prints { Prints (LeavesRun client

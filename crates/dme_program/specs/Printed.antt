@@ -4,6 +4,8 @@ use Rattle.dme_words.specs.declared.words.WordsFault.{WordsFault}
 use Rattle.dme_words.specs.declared.words.WordsFault.TheVariants as words
 use Rattle.dme_orders.specs.Printed.{status_of}
 use Rattle.dme_orders.specs.declared.faults.OrderFault.TheVariants as order
+use Rattle.record_keeping.specs.declared.opening.RecordRefusal.{RecordRefusal}
+use Rattle.record_keeping.specs.declared.opening.RecordRefusal.TheVariants as record
 use Rattle.dme_program.specs.declared.faults.Fault.{Fault}
 use Rattle.dme_program.specs.declared.faults.Fault.TheVariants as fault
 
@@ -18,11 +20,20 @@ words_shown (words.NoCode code) = fault.NoCode code
 words_shown (words.NoForm word) = fault.NoForm word
 words_shown words.Memory = short
 
--- 2 for the command line, else the status of the order's fault
+-- what is shown for a record that a run may not continue
+abbrev pub record_shown : RecordRefusal → Fault
+record_shown record.Memory = short
+record_shown refusal = fault.Record refusal
+
+-- 2 for the command line, 1 for a record, else the status of the order's fault
 abbrev pub exit_status : Fault → ℕ
 exit_status (fault.Words error) = 2
 exit_status fault.NotUtf8 = 2
 exit_status (fault.NoCode code) = 2
 exit_status (fault.NoForm word) = 2
+exit_status (fault.NoPart part) = 2
+exit_status fault.PartAlone = 2
+exit_status (fault.OneFile name) = 2
+exit_status (fault.Record refusal) = 1
 exit_status (fault.Order cause) = status_of cause
 exit_status (fault.Explained cause place) = status_of cause

@@ -1,44 +1,40 @@
 // The order `run`, on files, a socket and the standard streams.
 
 ghost use Rattle.std.specs.Prelude.{◌≡◌, true};
-ghost use Rattle.client_core.specs.Clients.{is_window};
+ghost use Rattle.client_core.specs.Clients.{is_window, may_connect};
 
 use crate::connecting::{no_connection, of_output};
 use crate::explaining::refused;
 use crate::faults::Fault;
 use crate::files::Sources;
 use crate::progress::Progress;
+use crate::recording::{Follower, OpenRecord, open_record, record_words};
 use crate::text_files::NamedFile;
 use byte_ports::{Ports, Reading, Writing};
+use client_core::Client;
 use contact_ledger::FeatureLedger;
-use dme_orders::{
-    InputFiles, OrderFault, RunEnd, RunOutputs, drive, features_and_program, kept_client,
-};
+use dme_orders::{InputFiles, OrderFault, RunOutputs, drive, features_and_program, kept_client};
 use dme_words::Run;
 use dmis_program::Program;
+use record_keeping::{Beginning, Recorder};
+use std::fs::File;
 use std::io;
 use std::net::{Net, TcpListener, TcpStream};
 use std::rt::Files;
 
-/// What is shown of a run: where its file could not be written, that too, and behind it what broke its connection off.
-fn run_verdict<R: Eprint>(
+/// What is shown where a file could not be written: that, and then why the order was not carried out, if it was not.
+fn with_unwritten<R: Eprint>(
     rt: &R,
-    driven: RunEnd,
-    features: Option<String>,
-    is_told: bool,
+    verdict: Result<u8, OrderFault>,
+    name: Option<String>,
 ) -> Result<u8, OrderFault> {
-    let verdict = driven.ended.verdict(is_told);
-    match features {
-        Some(name) if !driven.is_kept => {
-            let unwritten = OrderFault::CannotWrite(name);
-            if verdict.is_err() {
-                let _ = eprint!(rt; "{unwritten}");
-                return verdict;
-            }
-            Err(unwritten)
-        }
-        _ => verdict,
+    let Some(name) = name else { return verdict };
+    let unwritten = OrderFault::CannotWrite(name);
+    if verdict.is_err() {
+        let _ = eprint!(rt; "{unwritten}");
+        return verdict;
     }
+    Err(unwritten)
 }
 
 /// How a run calls its server, and what it keeps and shows.
@@ -52,38 +48,77 @@ struct Call {
     progress: bool,
 }
 
-/// A program on a server, and its report on standard output.
-fn drive_program<
+/// A client that has its turns over a connection to the server that is called.
+fn drive_client<
     R: Files + Print + Eprint + Net<Listener = TcpListener, Stream = TcpStream> + AllocGlobal,
->(rt: &R, kept: FeatureLedger, program: Program, call: Call) -> Result<u8, OrderFault>
-    requires { is_window call.window ≡ true }
+>(
+    rt: &R,
+    client: Client,
+    number: u64,
+    call: Call,
+    follower: &mut Follower<'_, R>,
+) -> Result<u8, OrderFault>
+    requires { may_connect number client.client ≡ true }
 {
     let features = NamedFile::new(rt, call.features.as_deref())?;
     let mut outputs = RunOutputs {
         features,
         report: Writing::new(io::writer(rt)),
     };
-    let mut watcher = Progress::new(rt, call.progress, program.features().len());
-    let client = kept_client(rt.alloc(), program, kept, call.window)?;
     let stream = match TcpStream::connect(rt, (call.host.as_str(), call.port)) {
         Ok(stream) => stream,
         Err(error) => return Err(no_connection(&error, call.progress)),
     };
+    let mut client = client;
+    if client.connected(number).is_err() {
+        return Err(OrderFault::Memory);
+    }
     let mut ports = Ports {
         source: Reading::new(&stream),
         sink: Writing::new(&stream),
     };
-    let result = drive(rt.alloc(), client, &mut ports, &mut watcher, &mut outputs);
+    let result = drive(rt.alloc(), client, &mut ports, follower, &mut outputs);
     drop(outputs);
     match result {
-        Ok(driven) => run_verdict(rt, driven, call.features, call.progress),
+        Ok(driven) => {
+            let unwritten = if driven.is_kept { None } else { call.features };
+            with_unwritten(rt, driven.ended.verdict(call.progress), unwritten)
+        }
         Err(fault) => Err(of_output(rt, fault)),
     }
 }
 
-/// The order `run`: its exit status. Its features file is read if there is one, and never from standard input.
+/// A program on a server, and its report on standard output.
+fn drive_program<
+    R: Files + Print + Eprint + Net<Listener = TcpListener, Stream = TcpStream> + AllocGlobal,
+>(rt: &R, kept: FeatureLedger, program: Program, call: Call) -> Result<u8, OrderFault>
+    requires { is_window call.window ≡ true }
+{
+    let progress = Progress::new(rt, call.progress, program.features().len());
+    let client = kept_client(rt.alloc(), program, kept, call.window)?;
+    drive_client(rt, client, 1, call, &mut Follower::new(rt, progress, None))
+}
+
+/// Likewise, where a record is kept of it.
+fn drive_recorded<
+    R: Files + Print + Eprint + Net<Listener = TcpListener, Stream = TcpStream> + AllocGlobal,
+>(rt: &R, open: OpenRecord, program: Program, call: Call) -> Result<u8, OrderFault>
+    requires { is_window call.window ≡ true }
+{
+    let progress = Progress::new(rt, call.progress, program.features().len());
+    let OpenRecord { name, beginning, file } = open;
+    let Beginning { features, connection, text, .. } = beginning;
+    let recorder = Recorder::new(connection, features.list().len(), text, file);
+    let client = kept_client(rt.alloc(), program, features, call.window)?;
+    let mut follower = Follower::new(rt, progress, Some((name, recorder)));
+    let verdict = drive_client(rt, client, connection, call, &mut follower);
+    let unwritten = follower.finish()?;
+    with_unwritten(rt, verdict, unwritten)
+}
+
+/// The order `run`: its exit status. Its features file and its record are read if there are such files, and never from standard input.
 pub fn run_program<
-    R: Files
+    R: Files<File = File>
         + Input
         + Print
         + Eprint
@@ -92,6 +127,7 @@ pub fn run_program<
 >(rt: &R, order: Run) -> Result<u8, Fault>
     requires { is_window order.window ≡ true }
 {
+    let words = record_words(order.record, order.part, order.features.as_deref())?;
     let is_kept = order.features.is_some();
     let mut sources = Sources::new(rt, order.explain);
     let mut setup = sources.file(order.setup);
@@ -114,5 +150,9 @@ pub fn run_program<
         features: if is_kept { Some(features.name) } else { None },
         progress: order.progress,
     };
-    Ok(drive_program(rt, kept, program, call)?)
+    let Some(words) = words else {
+        return Ok(drive_program(rt, kept, program, call)?);
+    };
+    let open = open_record(rt, &mut sources, words, &program, &kept)?;
+    Ok(drive_recorded(rt, open, program, call)?)
 }

@@ -6,6 +6,7 @@ ghost use Rattle.dme_program.specs.Printed.{exit_status, short};
 use clap::Error as WordsError;
 use dme_orders::OrderFault;
 use dme_words::WordsFault;
+use record_keeping::RecordRefusal;
 use std::alloc::AllocError;
 use std::io::ErrorKind;
 use thiserror::Error;
@@ -25,6 +26,18 @@ pub enum Fault {
     /// A form that is none.
     #[error("error: invalid value '{0}' for '--as <FORM>'\n  [possible values: csv, json, svg]\n\nFor more information, try '--help'.\n")]
     NoForm(String),
+    /// A part that is none.
+    #[error("error: invalid value '{0}' for '--part <TEXT>': 1 to 64 printable bytes\n\nFor more information, try '--help'.\n")]
+    NoPart(String),
+    /// A part without a record.
+    #[error("error: the argument '--part <TEXT>' requires '--record <FILE>'\n\nFor more information, try '--help'.\n")]
+    PartAlone,
+    /// The same file for features and for a record.
+    #[error("error: '--features' and '--record' name one file, '{0}'\n\nFor more information, try '--help'.\n")]
+    OneFile(String),
+    /// A record that the run may not continue; never for want of memory.
+    #[error("dme: {0} in record\n")]
+    Record(RecordRefusal),
     /// An order that was not carried out.
     #[error("{0}")]
     Order(OrderFault),
@@ -60,6 +73,20 @@ impl From<AllocError> for Fault {
     }
 }
 
+impl From<RecordRefusal> for Fault {
+    ghost use Rattle.std.specs.Prelude.{◌≡◌};
+    ghost use Rattle.dme_program.specs.Printed.{record_shown};
+
+    ghost from_gives = { λ refusal e. e ≡ record_shown refusal };
+
+    fn from(refusal: RecordRefusal) -> Fault {
+        match refusal {
+            RecordRefusal::Memory => Fault::Order(OrderFault::Memory),
+            _ => Fault::Record(refusal),
+        }
+    }
+}
+
 impl From<OrderFault> for Fault {
     ghost use Rattle.std.specs.Prelude.{◌≡◌};
     ghost use Rattle.dme_program.specs.declared.faults.Fault.TheVariants as fault;
@@ -89,6 +116,8 @@ impl Fault {
     {
         match self {
             Fault::Words(_) | Fault::NotUtf8 | Fault::NoCode(_) | Fault::NoForm(_) => 2,
+            Fault::NoPart(_) | Fault::PartAlone | Fault::OneFile(_) => 2,
+            Fault::Record(_) => 1,
             Fault::Order(cause) | Fault::Explained(cause, _) => cause.status(),
         }
     }

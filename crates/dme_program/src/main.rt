@@ -6,6 +6,7 @@
 //! - `running`: an order is carried out on files and the standard streams; `connecting`, `driving_connection`, `serving_connections`: one
 //!   that needs a connection, on sockets too; `exporting`: what was measured is printed, and what a refusal means
 //! - `files`: the files of an order as ports; `text_files`: files that are replaced as a whole
+//! - `recording`: the record of a run, as a file that grows
 //! - `progress`: lines that tell how far an order is; `tracing`: the lines of a connection
 //! - `explaining`: what is shown for an order whose files are refused
 //! - `faults`: what is printed on standard error, and the exit status
@@ -18,6 +19,7 @@ mod exporting;
 mod faults;
 mod files;
 mod progress;
+mod recording;
 mod running;
 mod serving_connections;
 mod text_files;

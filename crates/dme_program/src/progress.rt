@@ -2,6 +2,7 @@
 
 ghost use Rattle.std.specs.Prelude.{None};
 
+use client_core::Client;
 use contact_ledger::Feature;
 use link_world::Watcher;
 
@@ -30,4 +31,6 @@ impl<'a, R: Eprint> Watcher for Progress<'a, R> {
             let _ = eprintln!(self.rt; "feature {number} of {total}: {label}");
         }
     }
+
+    fn turned(&mut self, _client: &Client) {}
 }

@@ -23,6 +23,7 @@ use std::alloc::{AllocError, Global};
 use std::env::{self, Env};
 use std::io;
 use std::net::{Net, TcpListener, TcpStream};
+use std::fs::File;
 use std::rt::Files;
 
 /// The words of the command line; the first names the program in `clap`'s texts, whatever file it runs from.
@@ -147,7 +148,7 @@ fn audit<R: Files + Input + Print + AllocGlobal>(rt: &R, order: Audit) -> Result
 
 /// Carries out an order: its exit status.
 fn carry_out<
-    R: Files
+    R: Files<File = File>
         + Input
         + Print
         + Eprint
@@ -171,7 +172,7 @@ fn carry_out<
 /// Reads the command line and does what it asks for. The exit status of an order that was carried out.
 pub fn run<
     R: Env
-        + Files
+        + Files<File = File>
         + Input
         + Print
         + Eprint

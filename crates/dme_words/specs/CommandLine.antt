@@ -64,10 +64,11 @@ abbrev pub serve_line : App
 serve_line = line_of (codes "serve") (needed_rule (codes "setup") ∷ port_rule ∷ connections_rule ∷ text_rule (codes "contacts")
     ∷ flag_rule (codes "progress") ∷ flag_rule (codes "explain") ∷ [])
 
--- `run --setup FILE --host H --port N [--window W] [--features FILE] [--progress] [--explain] [PROGRAM]`
+-- `run --setup FILE --host H --port N [--window W] [--features FILE] [--record FILE] [--part TEXT] [--progress] [--explain] [PROGRAM]`
 abbrev pub run_line : App
 run_line = line_of (codes "run") (needed_rule (codes "setup") ∷ needed_rule (codes "host") ∷ port_rule ∷ window_rule
-    ∷ text_rule (codes "features") ∷ flag_rule (codes "progress") ∷ flag_rule (codes "explain") ∷ program_rule ∷ [])
+    ∷ text_rule (codes "features") ∷ text_rule (codes "record") ∷ text_rule (codes "part") ∷ flag_rule (codes "progress")
+    ∷ flag_rule (codes "explain") ∷ program_rule ∷ [])
 
 -- the positional `CODE`, which must be named
 abbrev pub code_rule : Rule

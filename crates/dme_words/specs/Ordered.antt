@@ -98,11 +98,12 @@ IsServeOf rows o =
     × IsExplainedOf rows o.explain
 
 -- a run of the program against the server at the named host and port, with the named setup and window, and the named file of features,
--- if any
+-- record and part, if any
 abbrev pub IsRunOf : List Row → Run → Type 0
 IsRunOf rows o =
     IsValueOf (codes "setup") rows (string_bytes o.setup) × IsValueOf (codes "host") rows (string_bytes o.host) × IsPortOf rows o.port
     × IsWindowOf rows o.window × IsMaybeOf (codes "features") rows (option_map string_bytes o.features)
+    × IsMaybeOf (codes "record") rows (option_map string_bytes o.record) × IsMaybeOf (codes "part") rows (option_map string_bytes o.part)
     × IsFlagOf (codes "progress") rows o.progress × IsExplainedOf rows o.explain × IsProgramOf rows (string_bytes o.program)
 
 -- a code that a refusal is called by, its letters in any case

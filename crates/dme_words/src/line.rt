@@ -33,6 +33,10 @@ enum Argument {
     WrittenFeatures,
     /// `--contacts FILE`, to which they are written.
     WrittenContacts,
+    /// `--record FILE`.
+    WrittenRecord,
+    /// `--part TEXT`.
+    Part,
     /// `--window W`.
     Window,
     /// `--host H`.
@@ -87,6 +91,16 @@ fn file_option<'a>(alloc: Global, name: &'a str, help: &'a str) -> Arg<'a>
         .long(name)
         .value_name("FILE")
         .help(help)
+}
+
+/// `--part TEXT`.
+fn part_option<'a>(alloc: Global) -> Arg<'a>
+    ensures rule { rule_of result ≡ text_rule (codes "part") }
+    ensures local { result.global ≡ false }
+{
+    Arg::new(alloc, "part").long("part").value_name("TEXT").help(
+        "Which part is measured: 1 to 64 printable bytes, kept in the record",
+    )
 }
 
 /// `--setup FILE`.
@@ -266,6 +280,11 @@ fn made_argument<'a>(alloc: Global, argument: Argument) -> Arg<'a>
             let written = "The file that the contacts are written to";
             file_option(alloc, "contacts", written)
         }
+        Argument::WrittenRecord => {
+            let record = "The record of the run: begun, or continued from what it holds";
+            file_option(alloc, "record", record)
+        }
+        Argument::Part => part_option(alloc),
         Argument::Window => window_option(alloc),
         Argument::Host => host_option(alloc),
         Argument::OwnPort => {
@@ -438,7 +457,7 @@ fn serve_command<'a>(alloc: Global) -> Result<Command<'a>, AllocError>
     )
 }
 
-/// `run --setup FILE --host H --port N [--window W] [--features FILE] [--progress] [--explain] [PROGRAM]`.
+/// `run --setup FILE --host H --port N [--window W] [--features FILE] [--record FILE] [--part TEXT] [--progress] [--explain] [PROGRAM]`.
 fn run_command<'a>(alloc: Global) -> Result<Command<'a>, AllocError>
     ensures shape { IfOk result (λ command. app_of command ≡ run_line) }
     ensures local { IfOk result (λ command. (out-Command command).has_globals ≡ false) }
@@ -455,6 +474,8 @@ fn run_command<'a>(alloc: Global) -> Result<Command<'a>, AllocError>
             Argument::ServersPort,
             Argument::Window,
             Argument::WrittenFeatures,
+            Argument::WrittenRecord,
+            Argument::Part,
             Argument::Progress,
             Argument::Explain,
             Argument::Program,

@@ -114,6 +114,10 @@ pub struct Run {
     pub window: u8,
     /// The file of the features that are there already, to which they are written in the end; `-` is a file of that name.
     pub features: Option<String>,
+    /// The file of the run's record; `-` is a file of that name.
+    pub record: Option<String>,
+    /// Which part is measured, as the record has it.
+    pub part: Option<String>,
     /// Whether it reports how far it is.
     pub progress: bool,
     /// Whether a line that is refused is shown, with what is wrong with it.

@@ -248,6 +248,8 @@ fn run_order(alloc: Global, values: &ArgMatches) -> Result<Run, AllocError>
     let port = port_of(values);
     let window = window_of(values);
     let features = copied_maybe(alloc, values, "features")?;
+    let record = copied_maybe(alloc, values, "record")?;
+    let part = copied_maybe(alloc, values, "part")?;
     let progress = flag_of(values, "progress");
     let explain = flag_of(values, "explain");
     let program = copied_program(alloc, values)?;
@@ -257,6 +259,8 @@ fn run_order(alloc: Global, values: &ArgMatches) -> Result<Run, AllocError>
         port,
         window,
         features,
+        record,
+        part,
         progress,
         explain,
         program,

@@ -200,6 +200,8 @@ impl Watcher for Told {
             self.is_short = true;
         }
     }
+
+    fn turned(&mut self, _client: &Client) {}
 }
 
 // ---- a client

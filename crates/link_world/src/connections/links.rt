@@ -62,6 +62,7 @@ pub(crate) fn watched_turn<R: Source, W: Sink, N: Watcher>(
     let held = client.features().len();
     let result = client_turns(client, ports, at_least, STEPS_MAX);
     tell(client.features(), held, watcher);
+    watcher.turned(client);
     result
 }
 

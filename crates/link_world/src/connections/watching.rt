@@ -1,8 +1,9 @@
 // Who is told of a run of a client while it lasts, and what.
 
-ghost use Rattle.std.specs.Prelude.{Option, List, None, [], ◌∷◌, ◌+◌, drop};
+ghost use Rattle.std.specs.Prelude.{◌≡◌, Option, List, None, [], ◌∷◌, ◌+◌, drop};
 ghost use Rattle.link_world.specs.Watching.{Note, Completed, Hears, notes_from};
 
+use client_core::Client;
 use contact_ledger::Feature;
 
 /// Who is told of each feature that a run has completed.
@@ -15,6 +16,10 @@ pub trait Watcher {
     /// A feature is completed, the one with this number among those of the program, counted from 1.
     fn completed(&mut self, number: usize, feature: &Feature)
         ensures { Hears (told self.old) (told self.new) (Completed number feature.now ∷ []) };
+
+    /// A turn of the client has ended, in which it may have counted acts. Nothing is told by this.
+    fn turned(&mut self, client: &Client)
+        ensures { told self.new ≡ told self.old };
 }
 
 /// A watcher that nobody hears of.
@@ -25,6 +30,8 @@ impl Watcher for Silent {
     ghost told = { λ _. None };
 
     fn completed(&mut self, _number: usize, _feature: &Feature) {}
+
+    fn turned(&mut self, _client: &Client) {}
 }
 
 /// Tells of the features behind the first `held`, in order.

@@ -1,0 +1,15 @@
+//! The record of a run, kept while the run goes on (this profile): what a file holds of it is understood before the run, and what the server
+//! reports is appended as the client counts it.
+//!
+//! - `opening`: what a record's text gives a run to continue from, or why the run may not continue it
+//! - `growing`: files that grow
+//! - `recorder`: appends what a client has counted
+#![tactic(auto)]
+
+mod growing;
+mod opening;
+mod recorder;
+
+pub use growing::GrowingFile;
+pub use opening::{Beginning, RecordRefusal, begin_record};
+pub use recorder::Recorder;

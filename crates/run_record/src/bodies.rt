@@ -1,0 +1,160 @@
+// What the entries of a record leave.
+
+ghost use Rattle.std.specs.Prelude.{◌≡◌, ◌≤◌, ◌+◌, ◌++◌, ◌∷◌, [], ℕ, length, drop, OnOk, Ok, Err, IfOk};
+ghost use Rattle.fixed_um.specs.Calls.{Finds};
+ghost use Rattle.contact_ledger.specs.Ledgers.{IsConnection};
+ghost use Rattle.run_record.specs.Heads.{AreAsked};
+ghost use Rattle.run_record.specs.Entries.{IsWrittenEntry};
+ghost use Rattle.run_record.specs.Records.{Kept, nothing_kept, IsLastRun, Completes, Follows};
+ghost use Rattle.run_record.specs.declared.entries.Entry.TheVariants.{Told, Refused, Completed};
+ghost use Rattle.run_record.specs.declared.faults.RecordFault.TheVariants.{Damaged};
+
+use crate::asked::Asked;
+use crate::comparing::same_name;
+use crate::entries::Entry;
+use crate::faults::RecordFault;
+use crate::runs::{behind_contacts, last_frame, served_points};
+use contact_ledger::{Act, Feature, FeatureLedger, Origin, Points, ServerLedger};
+use fixed_um::Name;
+use std::alloc::{AllocError, Global};
+use std::marker::Model;
+
+/// What the entries that were read leave. The contacts from the act numbered `from` on are those that are not used up, so that no act is
+/// looked at for two features.
+#[derive(Drop)]
+pub(crate) struct Body {
+    pub(crate) features: FeatureLedger,
+    pub(crate) told: ServerLedger,
+    pub(crate) last: u64,
+    used: u64,
+    from: usize,
+}
+
+impl Model for Body {
+    ghost use Rattle.std.specs.Prelude.{◌≡◌, ◌≤◌, length, drop};
+    ghost use Rattle.protocol_model.specs.Claims.{contacts};
+    ghost use Rattle.run_record.specs.Records.{Kept};
+
+    ghost Value = { Kept };
+
+    ghost view = { λ b. record { features = b.features; told = b.told; used = b.used; last = b.last } };
+
+    ghost invariant = { λ b. (b.from ≤ length b.told) × (b.used ≤ length (contacts b.told))
+        × (contacts (drop b.from b.told) ≡ drop b.used (contacts b.told)) };
+}
+
+impl Body {
+    /// No entry was read.
+    pub(crate) fn new(alloc: Global) -> Body
+        ensures { result ≡ nothing_kept }
+    {
+        Body {
+            features: FeatureLedger::new(alloc),
+            told: ServerLedger::new(alloc),
+            last: 0,
+            used: 0,
+            from: 0,
+        }
+    }
+
+    /// The points of the last contacts, where they complete this feature on this connection. Fails only if out of memory.
+    fn last_points(
+        &self,
+        alloc: Global,
+        wanted: &Asked,
+        connection: u64,
+    ) -> Result<Option<Points>, AllocError>
+        ensures { IfOk result (λ found. Finds found (IsLastRun self.now wanted.now connection)) }
+    {
+        let count = wanted.touches().len() as u64;
+        let unused = self.told.contacts() - self.used;
+        if unused < count {
+            return Ok(None);
+        }
+        let acts = behind_contacts(&self.told.acts()[self.from..], unused - count);
+        served_points(alloc, connection, wanted.touches(), acts)
+    }
+
+    /// Appends an act.
+    fn tell(&mut self, connection: u64, act: Act) -> Result<(), AllocError>
+        requires { IsConnection connection }
+        ensures { OnOk result (self.new ≡ record {
+          features = self.old.features;
+          told = self.old.told ++ (connection, act) ∷ [];
+          used = self.old.used;
+          last = connection;
+        }) }
+    {
+        self.told.push(connection, act)?;
+        self.last = connection;
+        Ok(())
+    }
+
+    /// Appends the next wanted feature, where the last contacts complete it.
+    fn complete(
+        &mut self,
+        alloc: Global,
+        asked: &[Asked],
+        connection: u64,
+        label: Name,
+        number: u64,
+    ) -> Result<(), RecordFault>
+        requires { IsConnection connection }
+        ensures next { OnOk result (Completes asked.now self.old connection label self.new) }
+        ensures damaged { (n : ℕ) → result ≡ Err (Damaged n) → (n ≡ number) × ((new : Kept)
+            → Completes asked.now self.old connection label new → ⊥) }
+    {
+        let Some(wanted) = asked.get(self.features.list().len()) else {
+            return Err(RecordFault::Damaged(number));
+        };
+        if !same_name(&label, wanted.label()) || connection != self.last {
+            return Err(RecordFault::Damaged(number));
+        }
+        let Some(points) = self.last_points(alloc, wanted, connection)? else {
+            return Err(RecordFault::Damaged(number));
+        };
+        let frame = last_frame(wanted.touches());
+        self.features.push(Feature {
+            label,
+            points,
+            origin: Some(Origin { connection, frame }),
+        })?;
+        self.used = self.told.contacts();
+        self.from = self.told.acts().len();
+        Ok(())
+    }
+
+    /// Reads the entry of the line of this number. An `Err` discards the text.
+    pub(crate) fn follow(
+        &mut self,
+        alloc: Global,
+        asked: &[Asked],
+        entry: Entry,
+        number: u64,
+    ) -> Result<(), RecordFault>
+        requires { IsWrittenEntry entry }
+        ensures next { OnOk result (Follows asked.now self.old entry self.new) }
+        ensures damaged { (n : ℕ) → result ≡ Err (Damaged n) → (n ≡ number) × ((new : Kept)
+            → Follows asked.now self.old entry new → ⊥) }
+    {
+        match entry {
+            Entry::Told(connection, act) => {
+                if connection < self.last {
+                    return Err(RecordFault::Damaged(number));
+                }
+                self.tell(connection, act)?;
+                Ok(())
+            }
+            Entry::Refused(connection, _) => {
+                if connection < self.last {
+                    return Err(RecordFault::Damaged(number));
+                }
+                self.last = connection;
+                Ok(())
+            }
+            Entry::Completed(connection, label) => {
+                self.complete(alloc, asked, connection, label, number)
+            }
+        }
+    }
+}

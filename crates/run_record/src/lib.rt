@@ -1,0 +1,42 @@
+//! The record of a run: what was asked, what the server told, and which features were completed, as one text that only grows. It is
+//! written line by line while a run goes, and read back by the next run, which takes nothing of it on trust.
+//!
+//! - `entries`: `Entry`, what a line below the head says, and `Refusal`
+//! - `parts`, `asked`: the part and the wanted features of a head
+//! - `heads`, `head_reading`, `touch_reading`: the head, line by line
+//! - `entry_reading`, `bodies`, `runs`: the entries, line by line, and what they leave
+//! - `records`, `record_reading`: `Record`, and reading it
+//! - `strangers`: whether a record is that of a part and a program
+//! - `head_writing`, `telling`: writing
+//! - `faults`: why a record is refused
+//! - `laws`, `rows`: what follows from the definitions, and worked rows of them
+#![tactic(auto)]
+
+pub mod asked;
+mod bodies;
+mod comparing;
+pub mod entries;
+mod entry_reading;
+mod faults;
+mod head_reading;
+mod head_writing;
+mod heads;
+pub mod laws;
+mod parts;
+mod record_reading;
+mod records;
+pub mod rows;
+mod runs;
+mod strangers;
+pub mod telling;
+mod touch_reading;
+
+pub use asked::Asked;
+pub use entries::{Entry, Refusal};
+pub use faults::RecordFault;
+pub use head_writing::write_head;
+pub use parts::is_part;
+pub use record_reading::read_record;
+pub use records::Record;
+pub use strangers::{Stranger, find_stranger};
+pub use telling::Telling;

@@ -1,0 +1,199 @@
+"""Runs that are killed at any moment and begun again over their record.
+
+A program of 40 features is run against `dme serve` with windows of 1, 4 and 16. The run is killed (SIGKILL) twice, at moments of a fixed
+sequence spread over the time that an undisturbed run takes, and is begun again over its record until it is Done. After each kill the
+record, as far as its lines are whole, is read here, in a second reading of docs/FILES.md; then:
+
+- no feature whose COMPLETED line was whole is lost, and none is measured twice;
+- the features of the record are those of the program, each with the points of its last contacts;
+- the audit of the record's features over the record's contacts answers RUNS, and over the server's contacts too;
+- what the server reported is a prefix of what it did on that connection, for each connection.
+
+`run` calls this with a few moments; by itself: tests/killed.py [MOMENTS], which spreads so many over each window.
+"""
+
+import pathlib
+import socket
+import subprocess
+import sys
+import tempfile
+import time
+
+from growths import PROGRAM, Wrong, must
+from hostile import Fixed
+from listening import free_port, wait_for_listener
+
+SECONDS = 60
+WINDOWS = (1, 4, 16)
+FEATURES, TOUCHES = 40, 3
+MOMENTS = 10
+SETUP = "TOOL P1\nTOOL P2\nFRAME PART 100 50 10\nSHIFT 0.002 0 0\nSHIFT 0 0 0.001\n"
+
+
+def program():
+    """40 features of three touches, in two frames, with two tools."""
+    lines = ["DMISMN/'KILLED',05.2", "UNITS/MM", "MODE/PROG,MAN", "SNSLCT/S(P1)"]
+    for number in range(FEATURES):
+        if number == FEATURES // 2:
+            lines += ["SNSLCT/S(P2)", "RECALL/D(PART)"]
+        lines += [f"MEAS/POINT,F(F{number}),{TOUCHES}"]
+        for touch in range(TOUCHES):
+            lines += [f"GOTO/{number},{touch},5", f"PTMEAS/CART,{number},{touch},0,0,0,1"]
+        lines += ["ENDMES"]
+    return "\n".join([*lines, "ENDFIL"]) + "\n"
+
+
+def dme(folder, *words):
+    return subprocess.Popen([str(PROGRAM), *words], cwd=folder, stdout=subprocess.PIPE, stderr=subprocess.PIPE, text=True)
+
+
+def run_words(port, window):
+    return ["run", "--setup", "machine.setup", "--host", "127.0.0.1", "--port", str(port), "--window", str(window),
+            "--record", "part.record", "--part", "0042/7", "part.dmis"]
+
+
+class Record:
+    """What the whole lines of a record say."""
+
+    def __init__(self, text):
+        lines = text.split("\n")[:-1]
+        self.asked, self.told, self.features = [], [], []
+        if "END" not in lines:
+            return
+        end = lines.index("END")
+        must(lines[:2] == ["DME-RECORD 1", "PART 0042/7"], "head", lines[:2])
+        for line in lines[2:end]:
+            word, *fields = line.split(" ")
+            if word == "FEATURE":
+                self.asked.append((fields[0], []))
+            else:
+                self.asked[-1][1].append(" ".join(fields))
+        for line in lines[end + 1:]:
+            self.take(*line.split(" ", 2))
+
+    def take(self, number, word, rest=""):
+        if word == "COMPLETED":
+            label, touches = self.asked[len(self.features)]
+            run = [it for it in self.told if it[1] == "CONTACT"][-len(touches):]
+            must(rest == label, "label", rest)
+            for (at, _, fields), touch in zip(run, touches):
+                must(at == number and fields.startswith(touch + " "), "contact", at, fields, "not", touch)
+            self.features.append((label, number, run, touches))
+        else:
+            must(word != "REFUSED", "refused", rest)
+            self.told.append((number, word, rest))
+
+    def contacts_text(self):
+        return "DME-CONTACTS 1\n" + "".join(" ".join(it).rstrip() + "\n" for it in self.told)
+
+    def features_text(self):
+        text = "DME-FEATURES 2\n"
+        for label, number, run, touches in self.features:
+            frame = touches[-1].split(" ")
+            frame = " ".join(frame[frame.index("P") if "P" in frame else -1:])
+            text += f"FEATURE {label} {len(run)} {number} {frame}\n"
+            text += "".join(" ".join(fields.split(" ")[-3:]) + "\n" for _, _, fields in run) + "END\n"
+        return text
+
+
+def read(folder):
+    file = folder / "part.record"
+    return Record(file.read_text() if file.exists() else "")
+
+
+def audited(folder, contacts):
+    """The verdict on the record's features over a file of contacts."""
+    (folder / "record.features").write_text(read(folder).features_text())
+    words = ["audit", "--setup", "machine.setup", "--features", "record.features", "--contacts", contacts, "part.dmis"]
+    return dme(folder, *words).communicate(timeout=SECONDS)[0]
+
+
+def killed_run(folder, port, window, moment):
+    """A run that is killed after so many seconds, if it has not ended by then."""
+    process = dme(folder, *run_words(port, window))
+    try:
+        process.communicate(timeout=moment)
+    except subprocess.TimeoutExpired:
+        process.kill()
+        process.communicate()
+
+
+def ended_server(server, port):
+    """Until the server has had all its connections: a run may be killed before it makes one."""
+    while server.poll() is None:
+        try:
+            socket.create_connection(("127.0.0.1", port), 1).close()
+        except OSError:
+            pass
+        time.sleep(0.01)
+    server.communicate()
+
+
+def must_be_prefix(folder):
+    """On each connection of the record, what was told is a prefix of what the server did on one of its connections."""
+    server = {}
+    for line in (folder / "server.contacts").read_text().splitlines()[1:]:
+        number, rest = line.split(" ", 1)
+        server.setdefault(int(number), []).append(rest)
+    mine = {}
+    for number, word, rest in read(folder).told:
+        mine.setdefault(int(number), []).append(f"{word} {rest}".rstrip())
+    for number, told in mine.items():
+        must(any(did[:len(told)] == told for did in server.values()), "connection", number, "is no prefix")
+
+
+def kill_twice(folder, window, moments):
+    (folder / "machine.setup").write_text(SETUP)
+    (folder / "part.dmis").write_text(program())
+    port = free_port()
+    server = dme(folder, "serve", "--setup", "machine.setup", "--port", str(port), "--connections", str(len(moments) + 1),
+                 "--contacts", "server.contacts")
+    wait_for_listener(port, lambda: server.poll() is not None, SECONDS)
+    held = 0
+    for moment in moments:
+        killed_run(folder, port, window, moment)
+        now = len(read(folder).features)
+        must(now >= held, "features are lost", held, now)
+        held = now
+    last = dme(folder, *run_words(port, window))
+    output, errors = last.communicate(timeout=SECONDS)
+    must(last.returncode == 0 and output.startswith("STATE Done\n"), "the last run", last.returncode, output[:100], errors)
+    ended_server(server, port)
+    record = read(folder)
+    must([it[0] for it in record.features] == [f"F{it}" for it in range(FEATURES)], "features", len(record.features))
+    (folder / "record.contacts").write_text(record.contacts_text())
+    for contacts in ("record.contacts", "server.contacts"):
+        verdict = audited(folder, contacts)
+        must(verdict.startswith("RUNS"), "audit over", contacts, verdict)
+    must_be_prefix(folder)
+    return held
+
+
+def whole_time(window):
+    """How long a run takes that nothing disturbs."""
+    begin = time.monotonic()
+    with tempfile.TemporaryDirectory() as folder:
+        kill_twice(pathlib.Path(folder), window, [])
+    return time.monotonic() - begin
+
+
+def check_killed(moments=MOMENTS):
+    """How many windows were run whole at each moment, and how many were not."""
+    chance, wrong, kept = Fixed(7), 0, 0
+    for window in WINDOWS:
+        try:
+            must(PROGRAM.exists(), "no executable")
+            span = whole_time(window)
+            for at in range(moments):
+                with tempfile.TemporaryDirectory() as folder:
+                    first = span * (at + 1) / (moments + 1)
+                    kept += kill_twice(pathlib.Path(folder), window, [first, span * chance.below(1000) / 1000])
+        except (Wrong, OSError, subprocess.SubprocessError, IndexError, ValueError) as why:
+            print(f"killed, window {window}: {str(why)[:500]}")
+            wrong += 1
+    print(f"killed runs: {len(WINDOWS) - wrong} of {len(WINDOWS)} windows, {moments} moments each, {kept} features held after kills", flush=True)
+    return len(WINDOWS) - wrong, wrong
+
+
+if __name__ == "__main__":
+    sys.exit(1 if check_killed(int(sys.argv[1]) if sys.argv[1:] else MOMENTS)[1] else 0)
