@@ -106,8 +106,17 @@ fn drive_recorded<
     requires { is_window call.window ≡ true }
 {
     let progress = Progress::new(rt, call.progress, program.features().len());
-    let OpenRecord { name, beginning, file } = open;
-    let Beginning { features, connection, text, .. } = beginning;
+    let OpenRecord {
+        name,
+        beginning,
+        file,
+    } = open;
+    let Beginning {
+        features,
+        connection,
+        text,
+        ..
+    } = beginning;
     let recorder = Recorder::new(connection, features.list().len(), text, file);
     let client = kept_client(rt.alloc(), program, features, call.window)?;
     let mut follower = Follower::new(rt, progress, Some((name, recorder)));

@@ -182,7 +182,10 @@ pub fn open_record<R: Files<File = File> + Input + Eprint + AllocGlobal>(
     let Ok(mut file) = LockedFile::open(rt, words.name.as_str(), length) else {
         return Err(Fault::Order(OrderFault::CannotWrite(words.name)));
     };
-    if file.begin(beginning.text.as_slice(), beginning.held, length).is_err() {
+    if file
+        .begin(beginning.text.as_slice(), beginning.held, length)
+        .is_err()
+    {
         return Err(Fault::Order(OrderFault::CannotWrite(words.name)));
     }
     let kept = beginning.features.list().len();

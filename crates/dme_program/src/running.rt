@@ -21,9 +21,9 @@ use dme_orders::{
 use dme_words::{Audit, Check, Order, Simulation, read_words};
 use std::alloc::{AllocError, Global};
 use std::env::{self, Env};
+use std::fs::File;
 use std::io;
 use std::net::{Net, TcpListener, TcpStream};
-use std::fs::File;
 use std::rt::Files;
 
 /// The words of the command line; the first names the program in `clap`'s texts, whatever file it runs from.

@@ -57,7 +57,12 @@ fn whole_length(bytes: &[u8]) -> usize {
 }
 
 /// The label of the feature with this number in the program, or else in the record.
-fn label_of(alloc: Global, record: &Record, program: &Program, at: usize) -> Result<Name, AllocError> {
+fn label_of(
+    alloc: Global,
+    record: &Record,
+    program: &Program,
+    at: usize,
+) -> Result<Name, AllocError> {
     match program.features().get(at) {
         Some(wanted) => wanted.label.copy(alloc),
         None => record.asked()[at].label().copy(alloc),

@@ -47,7 +47,8 @@ impl<F: GrowingFile> Recorder<F> {
         if self.told >= acts.len() {
             return Ok(());
         }
-        self.telling.tell(&mut self.text, client.program(), &acts[self.told..])?;
+        self.telling
+            .tell(&mut self.text, client.program(), &acts[self.told..])?;
         self.told = acts.len();
         Ok(())
     }
@@ -57,7 +58,10 @@ impl<F: GrowingFile> Recorder<F> {
         if self.has_failed || self.filed >= self.text.len() {
             return;
         }
-        match self.file.append(&self.text.as_slice()[self.filed..], settled) {
+        match self
+            .file
+            .append(&self.text.as_slice()[self.filed..], settled)
+        {
             Ok(()) => self.filed = self.text.len(),
             Err(_) => self.has_failed = true,
         }
