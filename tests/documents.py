@@ -1,3 +1,4 @@
+#!/usr/bin/env python3
 """Runs each line of README and of the pages in docs/ that calls `dme`, as it stands there but for its port, in a folder with the files of
 examples/. Each has to end with status 0 and with nothing said of a fault; where what it prints stands below it, it prints just that.
 

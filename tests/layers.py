@@ -1,0 +1,83 @@
+#!/usr/bin/env python3
+"""The layers of the crates, and what stands on what: holds crates.txt against the rule of the layers, and the table in docs/ARCHITECTURE.md
+against crates.txt.
+
+`run` calls this; by itself: tests/layers.py, and tests/layers.py --write to write the table.
+"""
+
+import pathlib
+import sys
+
+from generated import ROOT, is_present
+
+PAGE = ROOT / "docs" / "ARCHITECTURE.md"
+
+# The lowest first. A crate uses crates of its own layer and of those before it here, and no crate uses one of USED_BY_NONE.
+LAYERS = {
+    "values and texts": "fixed_um dmis_text dmis_program dme_line line_framing byte_ports contact_ledger tool_rack",
+    "the model": "protocol_model protocol_examples",
+    "the two ends": "command_queue dme_tags resume_plan server_core client_core",
+    "both ends together, and results": "link_world ledger_audit deviations drawings refusal_guide",
+    "orders": "dme_words dme_orders",
+    "the edge": "dme_program dme_c",
+    "tests and measuring": "test_texts test_calls test_units bench_world",
+}
+USED_BY_NONE = {"protocol_examples"} | {it for name in ("the edge", "tests and measuring") for it in LAYERS[name].split()}
+
+
+def read(text):
+    """What each crate uses, by its name."""
+    lines = [it.partition("#")[0].partition(":") for it in text.splitlines()]
+    return {name.split()[0]: below.split() for name, colon, below in lines if colon}
+
+
+def faults_of(crates):
+    """What breaks the rule of the layers."""
+    level = {it: at for at, names in enumerate(LAYERS.values()) for it in names.split()}
+    faults = [f"{it} has no layer" for it in sorted(crates.keys() - level)] + [f"{it} is no crate" for it in sorted(level.keys() - crates)]
+    for name in sorted(crates.keys() & level):
+        for below in crates[name]:
+            if below in USED_BY_NONE:
+                faults.append(f"{name} uses {below}, which nothing may use")
+            elif below in level and level[below] > level[name]:
+                faults.append(f"{name} uses {below}, which is of a higher layer")
+    return faults
+
+
+def row(name, crates):
+    def joined(names):
+        return " ".join(f"`{it}`" for it in names)
+
+    own = [it for it in crates if it in crates[name]]
+    users = [it for it in crates if name in crates[it]]
+    return f"| [`{name}`](../crates/{name}/) | {joined(own)} | {joined(it for it in crates[name] if it not in crates)} | {joined(users)} |\n"
+
+
+def table(crates):
+    """What stands on what, a layer after another."""
+    text = "| Crate | Stands on | Of the toolchain | Used by |\n|---|---|---|---|\n"
+    ordered = {it: crates[it] for names in LAYERS.values() for it in names.split() if it in crates}
+    for layer, names in LAYERS.items():
+        text += f"| **{layer}** | | | |\n" + "".join(row(it, ordered) for it in names.split() if it in ordered)
+    return text
+
+
+def check_layers():
+    """Whether the layers are kept and the table is the present one; and whether planted mistakes are found."""
+    crates = read((ROOT / "crates.txt").read_text())
+    faults = faults_of(crates)
+    if not is_present(PAGE, pathlib.Path(__file__).name, table(crates)):
+        faults.append(f"{PAGE.relative_to(ROOT)}: the table is not that of crates.txt: tests/layers.py --write")
+    upward = crates | {"fixed_um": ["link_world"]}
+    on_a_program = crates | {"test_units": ["dme_program"]}
+    without_a_layer = crates | {"no_such_crate": []}
+    if not all(faults_of(it) for it in (upward, on_a_program, without_a_layer)) or table(upward) == table(crates):
+        faults.append("a planted mistake is not found")
+    for fault in faults:
+        print(f"layers: {fault}")
+    print(f"layers of crates: {'kept' if not faults else 'not kept'}", flush=True)
+    return (0, 1) if faults else (1, 0)
+
+
+if __name__ == "__main__":
+    sys.exit(1 if check_layers()[1] else 0)

@@ -1,0 +1,265 @@
+#!/usr/bin/env python3
+"""Checks how the documents are written: their length, their links, the crates, files and names that they cite, and their language.
+
+Each check reads one document and answers what is wrong with it. Mistakes are planted in each run: a check that passes one of them fails.
+`run` calls this; by itself: tests/pages.py
+"""
+
+import functools
+import os
+import pathlib
+import re
+import sys
+
+ROOT = pathlib.Path(__file__).resolve().parent.parent
+DOCUMENTS = ("README.md", "docs/*.md", "crates/*/README.md")
+# Where PHRASES must not occur. In a source only comments and texts count, so sources can be added: "crates/*/src/**/*.rt".
+SPOKEN = (*DOCUMENTS, "docs/dme.1")
+MOST_WORDS = {"README.md": 1500, "docs/PROOFS.md": 3000, "docs/DECISIONS.md": 4000, "crates/*/README.md": 450}
+TOGETHER = ("README.md", "docs/*.md")
+MOST_WORDS_TOGETHER = 24_000
+
+# What a document must not say, and what it may say instead.
+PHRASES = {
+    r"behind": "after, following",
+    r"wants? of memory": "out of memory",
+    r"takes? no memory": "does not allocate",
+    r"(?<!in )(?<!the )fronts? of": "a prefix of",
+    r"st(?:ands?|ood|anding) (?:in|at)": "is in, is defined in",
+    r"so many": "that many, n",
+    r"the same of": "likewise for",
+    r"(?:is|are|was|were|be|been|being) told|tells": "is reported, reports",
+    r"owes?|owed": "must ensure, requires",
+    r"(?:is|are|was|were) none": "is not a .., does not exist",
+    r"go(?:es)? on": "continues",
+    r"ha(?:s|ve) (?:its|their) turn": "is processed",
+    r"where (?:one|it) is(?! ?[.,;:)])": "if",
+    r"ha(?:s|ve|d) no place": "is unexpected",
+    r"given up": "discarded, closed",
+    r"worked rows?": "examples",
+    r"sa(?:ys|id) of": "specifies",
+    r"beside": "next to, alongside",
+    r"co(?:mes?|me|ming) about": "fails (for: does not come about)",
+    r"by hand": "manually",
+}
+ONCE = {r"this profile": "say it once a document"}
+
+DEFINING = ("crates/*/src/**/*.rt", "crates/*/specs/**/*.antt", "crates/*/proofs/**/*.antt")
+OTHER_SOURCES = ("crates/*/must-fail*/*.edit", "crates/*/include/*", "crates/*/std*", "crates.txt", "tests/**/*.py", "tests/run", "tests/*.c", "tools/*", "bench/**/*.py", "bench/**/*.rs", "examples/**/*")
+OUTSIDE = {"std", "core", "io", "libc", "alloc"}  # next to the kit's crates that crates.txt names
+FOREIGN = {"serde_json"}  # names of other projects
+RT_DEFINES = re.compile(r"\b(?:fn|struct|enum|trait|const|static|type|mod|union)\s+(\w+)|^    (?:pub(?:\(\w+\))? )?(\w+)(?:: .*,|,|\(.*\),| \{)$", re.MULTILINE)
+ANTT_DEFINES = re.compile(r"^\s*(?:abbrev |unfoldable |pub |record |data |mod )*([^\s:()]+)", re.MULTILINE)
+PATH = re.compile(r"(?<![\w./-])((?:docs|crates|tests|tools|bench|examples|specs|src|proofs|include|must-fail[a-z-]*|\.ci)/[\w.*/-]*)")
+FILE = re.compile(r"^[\w*-]+\.(?:md|py|rt|antt|edit|dmis|schedule|bash)$")
+NAME = re.compile(r"^(?:[A-Za-z]\w*_\w+|[A-Z][a-z]+\w*)$")
+QUALIFIED = re.compile(r"^([A-Za-z]\w*)((?:::\w+)+)$")
+
+
+def without_code(text):
+    """A document without its blocks and spans of code."""
+    text = re.sub(r"^```.*?^```", "", text, flags=re.MULTILINE | re.DOTALL)
+    text = "\n".join("" if it.startswith("    ") else it for it in text.splitlines())
+    return re.sub(r"``.*?``|`[^`]*`", "``", text)
+
+
+def spoken(name, text):
+    """What a file says in words, its line breaks as spaces."""
+    if name.endswith(".rt"):
+        said = [it[0] or it[1] for it in re.findall(r'//[/!]?(.*)|"((?:[^"\\]|\\.)*)"', text)]
+        text = without_code("\n".join(it.strip() for it in said))
+    elif name.endswith(".md"):
+        text = without_code(text)
+    return re.sub(r"\s+", " ", text)
+
+
+def faults_of_length(name, text):
+    """A document has at most as many words as one of its kind may have."""
+    most = next((it for glob, it in MOST_WORDS.items() if pattern_of(glob).fullmatch(name)), None)
+    count = len(text.split())
+    return [f"{count} words, where there may be {most}"] if most is not None and count > most else []
+
+
+def faults_of_language(name, text):
+    """No phrase of PHRASES occurs, and one of ONCE at most once."""
+    words, faults = spoken(name, text), []
+    for phrases, most in ((PHRASES, 0), (ONCE, 1)):
+        for phrase, instead in phrases.items():
+            found = list(re.finditer(rf"\b(?:{phrase})\b", words, re.IGNORECASE))
+            faults += [f"'..{words[max(it.start() - 30, 0) : it.end() + 15]}..': {instead}" for it in found[most:]]
+    return faults
+
+
+def slug(heading):
+    """The anchor of a heading."""
+    return re.sub(r"[^\w\- ]", "", heading.lower().replace("`", "")).strip().replace(" ", "-")
+
+
+@functools.cache
+def headings(path):
+    return {slug(it) for it in re.findall(r"^#+ (.*)$", path.read_text(), re.MULTILINE)}
+
+
+def faults_of_links(name, text):
+    """Each link leads to a file or a folder, and to a heading of it where it names one."""
+    faults = []
+    for target in re.findall(r"\]\(([^)\s]+)\)", re.sub(r"`[^`]*`", "", text)):
+        if re.match(r"\w+://", target):
+            continue
+        to, _, anchor = target.partition("#")
+        path = (ROOT / name).parent / to if to else ROOT / name
+        if not path.exists():
+            faults.append(f"link to {target}: there is no such file")
+        elif anchor and anchor not in (headings(path) if to else {slug(it) for it in re.findall(r"^#+ (.*)$", text, re.MULTILINE)}):
+            faults.append(f"link to {target}: there is no such heading")
+    return faults
+
+
+@functools.cache
+def tree():
+    """The paths of the repository's files and folders, from its top, without what is built."""
+    paths = set()
+    for folder, names, files in os.walk(ROOT):
+        names[:] = [it for it in names if it not in (".git", "out", "__pycache__")]
+        paths |= {os.path.relpath(os.path.join(folder, it), ROOT) for it in names + files}
+    return sorted(paths)
+
+
+@functools.cache
+def pattern_of(glob):
+    """A glob as a pattern: `*` is any part of a name, and `**` any folders or none."""
+    parts = {"**/": "(?:.*/)?", "*": "[^/]*"}
+    return re.compile("".join(parts.get(it, re.escape(it)) for it in re.split(r"(\*\*/|\*)", glob)))
+
+
+@functools.cache
+def matching(glob):
+    if "*" not in glob:
+        return [glob] if (ROOT / glob).exists() else []
+    return [it for it in tree() if pattern_of(glob).fullmatch(it)]
+
+
+def files_of(globs):
+    return [ROOT / it for glob in globs for it in matching(glob) if (ROOT / it).is_file()]
+
+
+@functools.cache
+def crates():
+    """The crates of the repository, and the libraries of the kit that they use."""
+    lines = [it.partition(":")[::2] for it in (ROOT / "crates.txt").read_text().splitlines() if ":" in it]
+    own = {it.split()[0] for it, _ in lines}
+    return own, {it for _, names in lines for it in names.split()} - own
+
+
+@functools.cache
+def defined(crate):
+    """The names that the sources and the definitions of a crate define."""
+    names = set()
+    for path in files_of(it.replace("*", crate, 1) for it in DEFINING):
+        defines = RT_DEFINES if path.suffix == ".rt" else ANTT_DEFINES
+        names |= {it for found in defines.finditer(path.read_text()) for it in found.groups() if it}
+    return names
+
+
+@functools.cache
+def known_words():
+    """The words of all sources, and the names of their files and folders."""
+    words = {pathlib.PurePath(it).stem for it in tree()} | {pathlib.PurePath(it).name for it in tree()}
+    for path in files_of(DEFINING + OTHER_SOURCES):
+        if path != pathlib.Path(__file__).resolve():
+            words |= set(re.findall(r"\w+", path.read_text(errors="replace")))
+    return words
+
+
+@functools.cache
+def path_exists(cited, name):
+    """Whether a path is there: from the top, from the document's folder, or in a crate. `*` and a folder in capitals are any name."""
+    cited = re.sub(r"(?<![^/])[A-Z]+(?![^/])|NAME", "*", cited.rstrip("./"))
+    if "out" in cited.split("/"):
+        return True
+    tops = ["", f"{pathlib.PurePath(name).parent}/"] + ([] if name.startswith("crates/") else ["crates/*/"])
+    return any(matching(f"{top}{cited}{suffix}") for top in tops for suffix in ("", ".antt"))
+
+
+def is_named(path):
+    """Whether the crate, or else some crate, defines all parts of a qualified name."""
+    first, *others = path.split("::")
+    own, kit = crates()
+    if first in kit | OUTSIDE:
+        return True
+    if first in own:
+        return all(it in defined(first) for it in others)
+    return any({first, *others} <= defined(it) for it in own)
+
+
+def faults_of_citing(name, text):
+    """Each path, file, crate, function and definition that is cited exists."""
+    faults = [f"{it}: there is no such path" for it in PATH.findall(text) if not path_exists(it, name)]
+    for span in re.findall(r"`([^`\n]+)`", text):
+        span = re.sub(r"\(\)$", "", span)
+        if FILE.match(span) and "*" not in span and "NAME" not in span and span not in known_words():
+            faults.append(f"{span}: there is no such file")
+        elif QUALIFIED.match(span) and not is_named(span):
+            faults.append(f"{span}: nothing has this name")
+        elif NAME.match(span) and span not in known_words() | FOREIGN:
+            faults.append(f"{span}: no source has this word")
+    return faults
+
+
+def faults_of_order(name, text):
+    """The words of the glossary are in the order of the alphabet."""
+    words = [it.replace("`", "").lower() for it in re.findall(r"^\| (?!Word )([^|-][^|]*?) \|", text, re.MULTILINE)]
+    return [f"{later} after {word}" for word, later in zip(words, words[1:]) if later < word] if name == "docs/GLOSSARY.md" else []
+
+
+def is_refused(check, name, text):
+    """Whether a planted mistake is found, and nothing is where it is put right."""
+    wrong, right = text
+    return bool(check(name, wrong)) and not check(name, right)
+
+
+PLANTED = [
+    (faults_of_length, "README.md", ("word " * 1501, "word " * 1500)),
+    (faults_of_length, "crates/fixed_um/README.md", ("word " * 451, "word " * 450)),
+    (faults_of_language, "README.md", ("it runs\nbehind that", "it runs after `behind`")),
+    (faults_of_language, "docs/FILES.md", ("He is told this.", "He is shown this.")),
+    (faults_of_language, "docs/FILES.md", ("this profile, this profile", "this profile, once")),
+    (faults_of_language, "crates/fixed_um/src/lib.rt", ("/// for want of memory\nfn behind()", "/// out of memory\nfn behind()")),
+    (faults_of_language, "crates/fixed_um/src/lib.rt", ('"it goes on"', '"it continues"')),
+    (faults_of_links, "docs/FILES.md", ("[a](../README.markdown)", "[a](../README.md)")),
+    (faults_of_links, "docs/FILES.md", ("# One\n[a](#two)", "# Two\n[a](#two)")),
+    (faults_of_language, "docs/FILES.md", ("A CR, where it is written, ends it.", "A CR is shown where it is.")),
+    (faults_of_citing, "README.md", ("see examples/circle.dmiss", "see examples/circle.dmis.")),
+    (faults_of_citing, "README.md", ("see crates/NAME/spec/Lib.antt", "see crates/NAME/specs/Lib.antt")),
+    (faults_of_citing, "docs/FILES.md", ("see `specs/Claim.antt`", "see `specs/Claims.antt`")),
+    (faults_of_citing, "README.md", ("`Claim.antt`", "`Claims.antt`")),
+    (faults_of_citing, "README.md", ("`link_world::step_once`", "`link_world::World::step`")),
+    (faults_of_citing, "README.md", ("`linkworld::World`", "`link_world::World`")),
+    (faults_of_citing, "README.md", ("`World::step_again`", "`World::step`")),
+    (faults_of_citing, "README.md", ("`read_umm`", "`read_um`")),
+    (faults_of_citing, "README.md", ("`Headlines`", "`Headline`")),
+    (faults_of_order, "docs/GLOSSARY.md", ("| tag | |\n| `act` | |", "| `act` | |\n| tag | |")),
+]
+
+
+def texts_of(globs):
+    return [(it.relative_to(ROOT).as_posix(), it.read_text()) for it in files_of(globs)]
+
+
+def check_pages():
+    """How many documents pass each check, and how many do not."""
+    tried = [(f"planted in {name}: {wrong[:40]!r}", [] if is_refused(check, name, (wrong, right)) else ["it is not refused"]) for check, name, (wrong, right) in PLANTED]
+    for globs, checks in ((DOCUMENTS, (faults_of_length, faults_of_links, faults_of_citing, faults_of_order)), (SPOKEN, (faults_of_language,))):
+        tried += [(name, check(name, text)) for name, text in texts_of(globs) for check in checks]
+    count = sum(len(text.split()) for _, text in texts_of(TOGETHER))
+    tried.append(("README.md and docs/", [] if count <= MOST_WORDS_TOGETHER else [f"{count} words, where there may be {MOST_WORDS_TOGETHER}"]))
+    for name, faults in tried:
+        for fault in faults:
+            print(f"{name}: {fault}")
+    failed = sum(1 for _, faults in tried if faults)
+    print(f"checks of documents: {len(tried) - failed} of {len(tried)}; {count} words together", flush=True)
+    return len(tried) - failed, failed
+
+
+if __name__ == "__main__":
+    sys.exit(1 if check_pages()[1] else 0)
