@@ -1,6 +1,7 @@
 -- What a client has counted and holds only grows in its turns, and its watcher is told of the features by which it grew.
-use Rattle.std.proofs.Common.{◌≡◌, ℕ, suc, ◌+◌, ◌<◌, ◌≤◌, List, [], ◌∷◌, ◌++◌, length, drop, refl, sym, ◌∙◌, ap, subst, arith}
-use Rattle.std.proofs.Common.{append_assoc, append-nil, length-append, Option, Some, None, Result, Ok, get_or}
+use Rattle.std.proofs.Common.{◌≡◌, ℕ, ◌+◌, ◌<◌, ◌≤◌, List, [], ◌∷◌, ◌++◌, length, drop, refl, sym, ◌∙◌, ap, subst, arith}
+use Rattle.std.proofs.Common.{append_assoc, append-nil, length-append, Option, Some, None, Result, Ok, Err, IfOk, get_or}
+use Rattle.std.specs.Prelude.{IfErr}
 use Rattle.std.proofs.Math.Seq.{drop-append_seam}
 use Rattle.std.proofs.Math.ListN.{drop_of_length-le}
 use Rattle.std.proofs.lemmas.List.{drop_more}
@@ -19,7 +20,7 @@ use Rattle.client_core.specs.declared.faults.ClientFault.{ClientFault}
 use Rattle.link_world.specs.declared.connections.pumps.Moved.{Moved}
 use Rattle.link_world.specs.declared.connections.pumps.PumpFault.{PumpFault}
 use Rattle.link_world.specs.Pumps.{Stage, Sending, Writing, Taking, Reading, ClientTurn, begins, sends, writes, takes, has, reads}
-use Rattle.link_world.specs.Pumps.{ClientMoved, ClientStopped}
+use Rattle.link_world.specs.Pumps.{ClientMoved, ClientStopped, ClientMovedWithin, ClientStoppedWithin}
 use Rattle.link_world.specs.Watching.{Note, Completed, notes_from, Hears, TellsRun}
 
 -- ---- a client's turn
@@ -68,16 +69,27 @@ turn_grows least start _ _ _ _ (reads e read written t may is) =
     grows_trans start.client.table.tally e.client.table.tally _ (turn_grows least start Reading read written e t)
     (read_grows e.client (next_of e.input.rest))
 
-pub moved_grows : (least : ℕ) (old new : ClientEnd) (left left_now taken taken_now : Option (List ℕ)) (moved : Moved)
+moved_grows : (least : ℕ) (old new : ClientEnd) (left left_now taken taken_now : Option (List ℕ)) (moved : Moved)
     → ClientMoved least old new left left_now taken taken_now moved → ClientGrows old new
 moved_grows least old new left left_now taken taken_now moved h = turn_grows least old Reading h.read h.written new h.turn
 
-pub stopped_grows : (least bound : ℕ) (old new : ClientEnd) (left left_now taken taken_now : Option (List ℕ))
+stopped_grows : (least bound : ℕ) (old new : ClientEnd) (left left_now taken taken_now : Option (List ℕ))
     (fault : PumpFault ClientFault) → ClientStopped least bound old new left left_now taken taken_now fault → ClientGrows old new
 stopped_grows least bound old new left left_now taken taken_now fault h =
     subst (ClientGrows old) (sym h.leaves)
     (grows_trans old.client.table.tally h.last.client.table.tally (end_left h.last).client.table.tally
     (turn_grows least old h.stage h.read h.written h.last h.turn) (left_grows h.last))
+
+-- be it whole or stopped
+pub turned_grows : (bound calls calls_now least : ℕ) (old new : ClientEnd) (left left_now taken taken_now : Option (List ℕ))
+    (r : Result Moved (PumpFault ClientFault))
+    → IfOk r (λ moved. ClientMovedWithin bound calls calls_now least old new left left_now taken taken_now moved)
+    → IfErr r (λ fault. ClientStoppedWithin bound calls calls_now least old new left left_now taken taken_now fault)
+    → ClientGrows old new
+turned_grows bound calls calls_now least old new left left_now taken taken_now (Ok moved) m s =
+    moved_grows least old new left left_now taken taken_now moved m.whole
+turned_grows bound calls calls_now least old new left left_now taken taken_now (Err fault) m s =
+    stopped_grows least bound old new left left_now taken taken_now fault s.front
 
 -- ---- what is told
 
@@ -97,7 +109,7 @@ hears_more (Some before) (Some mid) (Some now) first then h g =
 pub record ToldSoFar (fs : List Feature) (first at : ℕ) (told told_now : Option (List Note)) : Type 0 where
   pub notes : List Note
   pub heard : Hears told told_now notes
-  pub whole : notes ++ notes_from (suc at) (drop at fs) ≡ notes_from (suc first) (drop first fs)
+  pub whole : notes ++ notes_from (at + 1) (drop at fs) ≡ notes_from (first + 1) (drop first fs)
 
 pub told_none : (fs : List Feature) (first : ℕ) (told : Option (List Note)) → ToldSoFar fs first first told told
 told_none fs first told = record { notes = []; heard = hears_none told; whole = refl }
@@ -108,40 +120,38 @@ pub told_one : (fs : List Feature) (first at : ℕ) (f : Feature) (told mid now 
 told_one fs first at f told mid now short is h one = record {
   notes = h.notes ++ Completed (at + 1) f ∷ [];
   heard = hears_more told mid now h.notes (Completed (at + 1) f ∷ []) h.heard one;
-  whole = append_assoc h.notes (Completed (at + 1) f ∷ []) (notes_from (suc (at + 1)) (drop (at + 1) fs))
+  whole = append_assoc h.notes (Completed (at + 1) f ∷ []) (notes_from (at + 1 + 1) (drop (at + 1) fs))
       ∙ ap (λ (l : List Note). h.notes ++ l) (sym next) ∙ h.whole;
 }
   where
-    next : notes_from (suc at) (drop at fs) ≡ Completed (at + 1) f ∷ notes_from (suc (at + 1)) (drop (at + 1) fs)
-    next = ap (notes_from (suc at)) (drop_more fs at f short ∙ ap (λ (x : Feature). x ∷ drop (at + 1) fs) (sym is))
+    next : notes_from (at + 1) (drop at fs) ≡ Completed (at + 1) f ∷ notes_from (at + 1 + 1) (drop (at + 1) fs)
+    next = ap (notes_from (at + 1)) (drop_more fs at f short ∙ ap (λ (x : Feature). x ∷ drop (at + 1) fs) (sym is))
 
 pub told_all : (fs : List Feature) (first at : ℕ) (told now : Option (List Note)) → length fs ≤ at
-    → ToldSoFar fs first at told now → Hears told now (notes_from (suc first) (drop first fs))
+    → ToldSoFar fs first at told now → Hears told now (notes_from (first + 1) (drop first fs))
 told_all fs first at told now past h =
     subst (Hears told now)
-    (sym (append-nil h.notes) ∙ ap (λ (l : List Feature). h.notes ++ notes_from (suc at) l) (sym (drop_of_length-le fs past)) ∙ h.whole)
+    (sym (append-nil h.notes) ∙ ap (λ (l : List Feature). h.notes ++ notes_from (at + 1) l) (sym (drop_of_length-le fs past)) ∙ h.whole)
     h.heard
 
 -- ---- a call of a run
 
-pub turn_tells : (old new : ClientEnd) (held : ℕ) (told now : Option (List Note)) → ClientGrows old new
-    → held ≡ length old.client.table.tally.features
-    → Hears told now (notes_from (held + 1) (drop held new.client.table.tally.features)) → TellsRun old new told now
-turn_tells old new held told now grows is heard = record {
+pub turn_tells : (old new : ClientEnd) (before behind : List Feature) (told now : Option (List Note)) → ClientGrows old new
+    → before ≡ old.client.table.tally.features → behind ≡ new.client.table.tally.features
+    → Hears told now (notes_from (length before + 1) (drop (length before) behind)) → TellsRun old new told now
+turn_tells old new before behind told now grows was is notes = record {
   completed = more;
   joined = sym grows.features.1;
-  heard = subst (λ (l : List Feature). Hears told now (notes_from (suc (length before)) l)) behind
-      (subst (λ (n : ℕ). Hears told now (notes_from (suc n) (drop n new.client.table.tally.features))) is heard);
+  heard = subst (λ (fs : List Feature). Hears told now (notes_from (length fs + 1) more)) was
+      (subst (λ (fs : List Feature). Hears told now (notes_from (length before + 1) fs)) rest notes);
 }
   where
-    before : List Feature
-    before = old.client.table.tally.features
-
     more : List Feature
     more = grows.features.0
 
-    behind : drop (length before) new.client.table.tally.features ≡ more
-    behind = ap (drop (length before)) (sym grows.features.1) ∙ drop-append_seam before more
+    rest : drop (length before) behind ≡ more
+    rest = ap (drop (length before)) (is ∙ sym grows.features.1 ∙ ap (λ (fs : List Feature). fs ++ more) (sym was))
+        ∙ drop-append_seam before more
 
 pub tells_none : (e : ClientEnd) (told : Option (List Note)) → TellsRun e e told told
 tells_none e told = record {
@@ -153,8 +163,8 @@ tells_none e told = record {
 notes_more : (n : ℕ) (fs gs : List Feature) → notes_from n (fs ++ gs) ≡ notes_from n fs ++ notes_from (n + length fs) gs
 notes_more n [] gs = ap (λ (m : ℕ). notes_from m gs) (omega arith)
 notes_more n (f ∷ fs) gs =
-    ap (λ (l : List Note). Completed n f ∷ l) (notes_more (suc n) fs gs
-    ∙ ap (λ (m : ℕ). notes_from (suc n) fs ++ notes_from m gs) (omega arith))
+    ap (λ (l : List Note). Completed n f ∷ l) (notes_more (n + 1) fs gs
+    ∙ ap (λ (m : ℕ). notes_from (n + 1) fs ++ notes_from m gs) (omega arith))
 
 pub tells_more : (old mid new : ClientEnd) (told told_mid now : Option (List Note)) → TellsRun old mid told told_mid
     → TellsRun mid new told_mid now → TellsRun old new told now
@@ -167,13 +177,13 @@ tells_more old mid new told told_mid now h g = record {
     before : List Feature
     before = old.client.table.tally.features
 
-    count : suc (length before) + length h.completed ≡ suc (length mid.client.table.tally.features)
+    count : length before + 1 + length h.completed ≡ length mid.client.table.tally.features + 1
     count = let one = ap length h.joined in let two = length-append before h.completed in omega (arith, one, two)
 
-    all : notes_from (suc (length before)) (h.completed ++ g.completed)
-        ≡ notes_from (suc (length before)) h.completed ++ notes_from (suc (length mid.client.table.tally.features)) g.completed
-    all = notes_more (suc (length before)) h.completed g.completed
-        ∙ ap (λ (n : ℕ). notes_from (suc (length before)) h.completed ++ notes_from n g.completed) count
+    all : notes_from (length before + 1) (h.completed ++ g.completed)
+        ≡ notes_from (length before + 1) h.completed ++ notes_from (length mid.client.table.tally.features + 1) g.completed
+    all = notes_more (length before + 1) h.completed g.completed
+        ∙ ap (λ (n : ℕ). notes_from (length before + 1) h.completed ++ notes_from n g.completed) count
 
 -- a client that leaves completes nothing
 pub tells_left : (old mid new : ClientEnd) (told now : Option (List Note)) → new ≡ end_left mid → TellsRun old mid told now
@@ -188,9 +198,9 @@ tells_left old mid new told now left h =
 -- a watcher that says what it was told was told these notes and no others
 pub only_these : (old new : ClientEnd) (more : List Feature) (told now : List Note)
     → new.client.table.tally.features ≡ old.client.table.tally.features ++ more → TellsRun old new (Some told) (Some now)
-    → now ≡ told ++ notes_from (suc (length old.client.table.tally.features)) more
+    → now ≡ told ++ notes_from (length old.client.table.tally.features + 1) more
 only_these old new more told now is h =
-    h.heard ∙ ap (λ (l : List Feature). told ++ notes_from (suc (length before)) l)
+    h.heard ∙ ap (λ (l : List Feature). told ++ notes_from (length before + 1) l)
     (sym (drop-append_seam before h.completed) ∙ ap (drop (length before)) (sym h.joined ∙ is) ∙ drop-append_seam before more)
   where
     before : List Feature

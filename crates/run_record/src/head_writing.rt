@@ -90,7 +90,7 @@ pub fn write_head(
     part: Option<&[u8]>,
     program: &Program,
 ) -> Result<(), AllocError>
-    requires { IsPartGiven (option_map (λ p. p.now) part.entry) }
+    requires { IsPartGiven (option_map (λ p. p.now) part) }
     ensures writes { Writes result out.old out.new
         (text_of (head_lines (option_map (λ p. p.now) part.entry) program.now.features)) }
     ensures asked { OnOk result (AreAsked program.now.features) }

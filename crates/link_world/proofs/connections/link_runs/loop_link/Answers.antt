@@ -63,6 +63,11 @@ returns-in_err-by_client-clause-told g c = tells_more c.args.client.now c.loop-p
     (g.N.Watcher.told c.args.watcher.now) (g.N.Watcher.told c.loop-pair.watcher) (g.N.Watcher.told c.pair.new.watcher)
     c.loop-pair.invariant.9 c.pair.ensures.told
 
+pub returns-then-are_still-clause-told : goal.returns-then-are_still-clause-told
+returns-then-are_still-clause-told g c = tells_more c.args.client.now c.loop-pair.client c.pair.new.client
+    (g.N.Watcher.told c.args.watcher.now) (g.N.Watcher.told c.loop-pair.watcher) (g.N.Watcher.told c.pair.new.watcher)
+    c.loop-pair.invariant.9 c.pair.ensures.told
+
 pub returns-clause-told : goal.returns-clause-told
 returns-clause-told g c = tells_left c.args.client.now c.loop-pair.client c.leave.new.self
     (g.N.Watcher.told c.args.watcher.now) (g.N.Watcher.told c.loop-pair.watcher) c.leave.ensures c.loop-pair.invariant.9
