@@ -291,6 +291,14 @@ impl Client {
         self.out.waiting()
     }
 
+    /// The bytes that were fed and not read. The first line among them, if one is there, is the one that `read_one` reads next. Does not
+    /// allocate.
+    pub fn unread(&self) -> &[u8]
+        ensures { result.now ≡ self.now.input.rest }
+    {
+        self.input.rest()
+    }
+
     /// The first bytes of `out` were sent. The caller owes that there are so many. Takes no memory.
     #[tactic(auto, using(crate::proofs::Reached::taken_reached))]
     pub fn sent(&mut self, count: usize)

@@ -147,7 +147,7 @@ fn read_act(alloc: Global, forms: &mut Forms, rest: &[u8]) -> Result<Option<Act>
 }
 
 /// The act that a line is, and the number of its connection. Only want of memory is an `Err`.
-pub(crate) fn read_entry(
+pub fn read_entry(
     alloc: Global,
     forms: &mut Forms,
     line: &[u8],

@@ -92,8 +92,8 @@ fn add_act(text: &mut Vec<u8>, act: &Act) -> Result<(), AllocError>
     }
 }
 
-/// Adds the line of an act.
-fn add_entry(text: &mut Vec<u8>, connection: u64, act: &Act) -> Result<(), AllocError>
+/// Adds the line of an act and its LF. Only want of memory is an `Err`, and then a prefix of the line may be added.
+pub fn add_entry(text: &mut Vec<u8>, connection: u64, act: &Act) -> Result<(), AllocError>
     ensures text { OnOk result (text.new.items
         ≡ text.old.items ++ text_of (act_line (connection, act.now) ∷ [])) }
     ensures act { OnOk result (IsWrittenAct act.now) }

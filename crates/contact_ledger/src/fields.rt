@@ -11,7 +11,7 @@ use itoa::Buffer;
 use std::alloc::AllocError;
 
 /// Adds a number in decimal.
-pub(crate) fn add_number(text: &mut Vec<u8>, number: u64) -> Result<(), AllocError>
+pub fn add_number(text: &mut Vec<u8>, number: u64) -> Result<(), AllocError>
     ensures { OnOk result (text.new.items ≡ text.old.items ++ spaced (decimal number ∷ [])) }
 {
     let mut buffer = Buffer::new();
@@ -20,7 +20,7 @@ pub(crate) fn add_number(text: &mut Vec<u8>, number: u64) -> Result<(), AllocErr
 }
 
 /// Adds a name.
-pub(crate) fn add_name(text: &mut Vec<u8>, name: &Name) -> Result<(), AllocError>
+pub fn add_name(text: &mut Vec<u8>, name: &Name) -> Result<(), AllocError>
     ensures text { OnOk result (text.new.items ≡ text.old.items ++ spaced (name.now ∷ [])) }
     ensures name { OnOk result (IsName name.now) }
 {
@@ -29,7 +29,7 @@ pub(crate) fn add_name(text: &mut Vec<u8>, name: &Name) -> Result<(), AllocError
 }
 
 /// Adds a length in millimetres at the start of a line.
-pub(crate) fn add_first_length(text: &mut Vec<u8>, length: Um) -> Result<(), AllocError>
+pub fn add_first_length(text: &mut Vec<u8>, length: Um) -> Result<(), AllocError>
     ensures text { OnOk result (text.new.items ≡ text.old.items ++ written length) }
     ensures length { IsLength length }
 {
@@ -38,7 +38,7 @@ pub(crate) fn add_first_length(text: &mut Vec<u8>, length: Um) -> Result<(), All
 }
 
 /// Adds a length in millimetres.
-pub(crate) fn add_length(text: &mut Vec<u8>, length: Um) -> Result<(), AllocError>
+pub fn add_length(text: &mut Vec<u8>, length: Um) -> Result<(), AllocError>
     ensures text { OnOk result (text.new.items ≡ text.old.items ++ spaced (written length ∷ [])) }
     ensures length { IsLength length }
 {
@@ -47,7 +47,7 @@ pub(crate) fn add_length(text: &mut Vec<u8>, length: Um) -> Result<(), AllocErro
 }
 
 /// Adds the three lengths of a point.
-pub(crate) fn add_point(text: &mut Vec<u8>, point: Point) -> Result<(), AllocError>
+pub fn add_point(text: &mut Vec<u8>, point: Point) -> Result<(), AllocError>
     ensures text { OnOk result (text.new.items ≡ text.old.items ++ spaced (point_fields point)) }
     ensures point { OnOk result (IsOnWire point) }
 {
@@ -57,7 +57,7 @@ pub(crate) fn add_point(text: &mut Vec<u8>, point: Point) -> Result<(), AllocErr
 }
 
 /// Adds a frame.
-pub(crate) fn add_frame(text: &mut Vec<u8>, frame: Frame) -> Result<(), AllocError>
+pub fn add_frame(text: &mut Vec<u8>, frame: Frame) -> Result<(), AllocError>
     ensures text { OnOk result (text.new.items ≡ text.old.items ++ spaced (frame_fields frame)) }
     ensures frame { OnOk result (IsFrame frame) }
 {
@@ -71,7 +71,7 @@ pub(crate) fn add_frame(text: &mut Vec<u8>, frame: Frame) -> Result<(), AllocErr
 }
 
 /// Adds a direction, or that there is none.
-pub(crate) fn add_direction(text: &mut Vec<u8>, direction: Option<Dir>) -> Result<(), AllocError>
+pub fn add_direction(text: &mut Vec<u8>, direction: Option<Dir>) -> Result<(), AllocError>
     ensures text { OnOk result (text.new.items ≡ text.old.items
         ++ spaced (direction_fields direction)) }
     ensures direction { OnOk result (IsTouch direction) }

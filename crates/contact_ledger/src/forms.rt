@@ -23,7 +23,7 @@ use itoa::Buffer;
 use std::alloc::{AllocError, Global};
 
 /// The number from 1 to `most` that a field is in decimal, without leading zeros.
-pub(crate) fn read_number(field: &[u8], most: u64) -> Option<u64>
+pub fn read_number(field: &[u8], most: u64) -> Option<u64>
     ensures { Finds result (λ n. (1 ≤ n) × (n ≤ most) × (field.now ≡ decimal n)) }
 {
     let Ok(text) = std::str::from_utf8(field) else {
@@ -40,7 +40,7 @@ pub(crate) fn read_number(field: &[u8], most: u64) -> Option<u64>
 }
 
 /// The name that a field is, without small letters.
-pub(crate) fn read_name(alloc: Global, field: &[u8]) -> Result<Option<Name>, AllocError>
+pub fn read_name(alloc: Global, field: &[u8]) -> Result<Option<Name>, AllocError>
     ensures { IfOk result (λ found. Finds found (λ name. IsName name × (field.now ≡ name))) }
 {
     let Some(name) = Name::new(alloc, field)? else {
@@ -78,14 +78,14 @@ fn are_fields(line: &[u8], i: &[u8], j: &[u8], k: &[u8]) -> bool
 
 /// Reads fields whose numerals stand in their written form: each is written again, and compared.
 #[derive(Drop)]
-pub(crate) struct Forms {
+pub struct Forms {
     form: Vec<u8>,
     ghost room: { 47 ≤ vec_capacity form },
 }
 
 impl Forms {
     /// The room in which numerals are written. Only want of memory is an `Err`.
-    pub(crate) fn new(alloc: Global) -> Result<Forms, AllocError> {
+    pub fn new(alloc: Global) -> Result<Forms, AllocError> {
         let form = Vec::with_capacity(alloc, 47)?;
         Ok(Forms { form })
     }
@@ -123,7 +123,7 @@ impl Forms {
     }
 
     /// The point of the next three fields, and what stands behind them.
-    pub(crate) fn point<'a>(&mut self, rest: &'a [u8]) -> Option<(Point, &'a [u8])>
+    pub fn point<'a>(&mut self, rest: &'a [u8]) -> Option<(Point, &'a [u8])>
         ensures { MatchOption result
             ((p : Point) (more : List (List ℕ)) → IsOnWire p
             → fields_behind rest.now ≡ point_fields p ++ more → ⊥)
@@ -140,7 +140,7 @@ impl Forms {
     }
 
     /// The frame of the next fields, and what stands behind them.
-    pub(crate) fn frame<'a>(&mut self, rest: &'a [u8]) -> Option<(Frame, &'a [u8])>
+    pub fn frame<'a>(&mut self, rest: &'a [u8]) -> Option<(Frame, &'a [u8])>
         ensures { MatchOption result
             ((f : Frame) (more : List (List ℕ)) → IsFrame f
             → fields_behind rest.now ≡ frame_fields f ++ more → ⊥)
@@ -220,7 +220,7 @@ impl Forms {
     }
 
     /// The direction of the next fields, or that there is none, and what stands behind them.
-    pub(crate) fn direction<'a>(&mut self, rest: &'a [u8]) -> Option<(Option<Dir>, &'a [u8])>
+    pub fn direction<'a>(&mut self, rest: &'a [u8]) -> Option<(Option<Dir>, &'a [u8])>
         ensures { MatchOption result
             ((d : Option Direction) (more : List (List ℕ)) → IsTouch d
             → fields_behind rest.now ≡ direction_fields d ++ more → ⊥)

@@ -14,7 +14,7 @@ fn place_of(bytes: &[u8], mark: u8) -> Option<usize>
 
 /// The first line without its LF, and the bytes behind that LF; none where there is no LF.
 #[tactic(auto, using(crate::proofs::LineCuts::line_cuts))]
-pub(crate) fn cut_line(bytes: &[u8]) -> Option<(&[u8], &[u8])>
+pub fn cut_line(bytes: &[u8]) -> Option<(&[u8], &[u8])>
     ensures cut { MatchOption result (whole_lines bytes.now ≡ [])
         (λ p. whole_lines bytes.now ≡ p.0.now ∷ whole_lines p.1.now) }
     ensures shorter { IfSome result (λ p. length p.1.now < length bytes.now) }
@@ -27,7 +27,7 @@ pub(crate) fn cut_line(bytes: &[u8]) -> Option<(&[u8], &[u8])>
 
 /// The first field, and what stands behind it: nothing, or a space and the other fields.
 #[tactic(auto, using(crate::proofs::LineCuts::field_cuts))]
-pub(crate) fn first_field(bytes: &[u8]) -> (&[u8], &[u8])
+pub fn first_field(bytes: &[u8]) -> (&[u8], &[u8])
     ensures { fields_of bytes.now ≡ result.0.now ∷ fields_behind result.1.now }
 {
     match place_of(bytes, b' ') {
@@ -38,7 +38,7 @@ pub(crate) fn first_field(bytes: &[u8]) -> (&[u8], &[u8])
 
 /// The field behind the first space, and what stands behind it; none where there is no space.
 #[tactic(auto, using(crate::proofs::LineCuts::field_cuts))]
-pub(crate) fn next_field(rest: &[u8]) -> Option<(&[u8], &[u8])>
+pub fn next_field(rest: &[u8]) -> Option<(&[u8], &[u8])>
     ensures { MatchOption result (fields_behind rest.now ≡ [])
         (λ p. fields_behind rest.now ≡ p.0.now ∷ fields_behind p.1.now) }
 {
