@@ -1,9 +1,13 @@
 // What a record's text gives a run to continue from.
 
-use contact_ledger::FeatureLedger;
+ghost use Rattle.std.specs.Prelude.{◌≤◌, length, IfOk, IsTrue};
+ghost use Rattle.protocol_model.specs.Claims.{Sound};
+
+use contact_ledger::{Feature, FeatureLedger, ServerLedger};
 use dmis_program::Program;
 use fixed_um::Name;
-use run_record::{Record, RecordFault, Stranger, read_record, stranger, write_head};
+use ledger_audit::{Verdict, audit};
+use run_record::{Record, RecordFault, is_of_part, other_feature, read_record, write_head};
 use std::alloc::{AllocError, Global};
 use thiserror::Error;
 
@@ -40,6 +44,8 @@ impl From<AllocError> for RecordRefusal {
 pub struct Beginning {
     /// The features that the record completes.
     pub features: FeatureLedger,
+    /// The acts that it says a server reported.
+    pub told: ServerLedger,
     /// The number of the run's connection: one above the greatest in the record.
     pub connection: u64,
     /// The record as the run finds it: its whole lines, or the head of a new one.
@@ -49,23 +55,12 @@ pub struct Beginning {
 }
 
 /// The number of bytes up to the last line feed, with it.
-fn whole_length(bytes: &[u8]) -> usize {
+fn whole_length(bytes: &[u8]) -> usize
+    ensures { result ≤ length bytes.now }
+{
     match bytes.iter().rposition(|byte| *byte == b'\n') {
         Some(at) => at + 1,
         None => 0,
-    }
-}
-
-/// The label of the feature with this number in the program, or else in the record.
-fn label_of(
-    alloc: Global,
-    record: &Record,
-    program: &Program,
-    at: usize,
-) -> Result<Name, AllocError> {
-    match program.features().get(at) {
-        Some(wanted) => wanted.label.copy(alloc),
-        None => record.asked()[at].label().copy(alloc),
     }
 }
 
@@ -76,48 +71,86 @@ fn is_same(
     program: &Program,
     part: Option<&[u8]>,
 ) -> Result<(), RecordRefusal> {
-    match stranger(record, program, part) {
+    if !is_of_part(record, part) {
+        return Err(RecordRefusal::OtherPart);
+    }
+    match other_feature(record, program) {
         None => Ok(()),
-        Some(Stranger::OtherPart) => Err(RecordRefusal::OtherPart),
-        Some(Stranger::OtherProgram(at)) => Err(RecordRefusal::OtherProgram(label_of(
-            alloc, record, program, at,
-        )?)),
+        Some(label) => Err(RecordRefusal::OtherProgram(label.copy(alloc)?)),
     }
 }
 
-/// What a run of a program on a part continues from, where its record's file holds these bytes: a new record where they hold none yet.
+/// Whether each feature is an unbroken run of the reported contacts, as the program asks for it.
+fn is_sound(
+    alloc: Global,
+    program: &Program,
+    features: &[Feature],
+    told: &ServerLedger,
+) -> Result<bool, AllocError>
+    ensures { IfOk result (λ sound. IsTrue sound
+        → Sound program.now.features features.now told.now) }
+{
+    let verdict = audit(alloc, program, features, told)?;
+    Ok(matches!(verdict, Verdict::Starts(_)))
+}
+
+/// What a run begins with where the file holds no record yet.
+fn begin_new(
+    alloc: Global,
+    program: &Program,
+    part: Option<&[u8]>,
+) -> Result<Beginning, RecordRefusal> {
+    let mut text = Vec::new(alloc);
+    write_head(&mut text, part, program)?;
+    Ok(Beginning {
+        features: FeatureLedger::new(alloc),
+        told: ServerLedger::new(alloc),
+        connection: 1,
+        text,
+        held: 0,
+    })
+}
+
+/// What a run continues from a record: the whole lines of its text.
+fn continued(alloc: Global, bytes: &[u8], record: Record) -> Result<Beginning, RecordRefusal> {
+    let connection = record.last().saturating_add(1);
+    let held = whole_length(bytes);
+    let (whole, _) = bytes.split_at(held);
+    let mut text = Vec::new(alloc);
+    text.extend_from_slice(whole)?;
+    let (features, told) = record.into_parts();
+    Ok(Beginning {
+        features,
+        told,
+        connection,
+        text,
+        held,
+    })
+}
+
+/// What a run of a program on a part continues from, where its record's file holds these bytes: a new record where they hold none yet. The
+/// features are sound for the reported acts, whatever the bytes are: they are audited before they are given back.
 ///
-/// `Damaged`, `OtherPart`, `OtherProgram`: then the file is left as it is.
+/// `Damaged`, `OtherPart`, `OtherProgram`: then the file is left as it is. A part that is given must be one (`is_part`).
 pub fn begin_record(
     alloc: Global,
     bytes: &[u8],
     program: &Program,
     part: Option<&[u8]>,
-) -> Result<Beginning, RecordRefusal> {
-    let mut text = Vec::new(alloc);
-    let record = match read_record(alloc, bytes) {
-        Ok(Some(record)) => record,
-        Ok(None) => {
-            write_head(&mut text, part, program)?;
-            return Ok(Beginning {
-                features: FeatureLedger::new(alloc),
-                connection: 1,
-                text,
-                held: 0,
-            });
+) -> Result<Beginning, RecordRefusal>
+    ensures { IfOk result (λ begun. Sound program.now.features begun.features begun.told) }
+{
+    let begun = match read_record(alloc, bytes) {
+        Ok(Some(record)) => {
+            is_same(alloc, &record, program, part)?;
+            continued(alloc, bytes, record)?
         }
+        Ok(None) => begin_new(alloc, program, part)?,
         Err(RecordFault::Damaged(line)) => return Err(RecordRefusal::Damaged(line)),
         Err(RecordFault::Memory) => return Err(RecordRefusal::Memory),
     };
-    is_same(alloc, &record, program, part)?;
-    let connection = record.last() + 1;
-    let held = whole_length(bytes);
-    text.extend_from_slice(&bytes[..held])?;
-    let (features, _) = record.into_parts();
-    Ok(Beginning {
-        features,
-        connection,
-        text,
-        held,
-    })
+    if !is_sound(alloc, program, begun.features.list(), &begun.told)? {
+        return Err(RecordRefusal::Damaged(1));
+    }
+    Ok(begun)
 }

@@ -30,3 +30,9 @@ abbrev pub entry_line : Entry → List ℕ
 entry_line (Told n act) = act_line (n, act)
 entry_line (Refused n text) = refused_line n text
 entry_line (Completed n label) = completed_line n label
+
+-- an entry is on a connection with a number that a connection may have
+abbrev pub IsOnConnection : Entry → Type 0
+IsOnConnection (Told n act) = IsConnection n
+IsOnConnection (Refused n text) = IsConnection n
+IsOnConnection (Completed n label) = IsConnection n

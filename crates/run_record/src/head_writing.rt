@@ -28,11 +28,7 @@ fn add_part(text: &mut Vec<u8>, part: Option<&[u8]>) -> Result<(), AllocError>
 }
 
 /// Adds the line of a touch.
-fn add_touch(text: &mut Vec<u8>, touch: &Touch) -> Result<(), AllocError>
-    ensures text { OnOk result (text.new.items ≡ text.old.items
-        ++ text_of (touch_line touch.now ∷ [])) }
-    ensures touch { OnOk result (IsAskedTouch touch.now) }
-{
+fn add_touch(text: &mut Vec<u8>, touch: &Touch) -> Result<(), AllocError> {
     text.extend_from_slice(b"TOUCH")?;
     add_point(text, touch.target)?;
     add_direction(text, touch.dir)?;
@@ -43,11 +39,7 @@ fn add_touch(text: &mut Vec<u8>, touch: &Touch) -> Result<(), AllocError>
 }
 
 /// Adds the lines of touches.
-fn add_touches(text: &mut Vec<u8>, touches: &[Touch]) -> Result<(), AllocError>
-    ensures text { OnOk result (text.new.items ≡ text.old.items
-        ++ text_of (map touch_line touches.now)) }
-    ensures touches { OnOk result (AllByRecursion IsAskedTouch touches.now) }
-{
+fn add_touches(text: &mut Vec<u8>, touches: &[Touch]) -> Result<(), AllocError> {
     for touch in touches {
         add_touch(text, touch)?;
     }
@@ -55,12 +47,7 @@ fn add_touches(text: &mut Vec<u8>, touches: &[Touch]) -> Result<(), AllocError>
 }
 
 /// Adds the lines of a wanted feature.
-fn add_wanted(text: &mut Vec<u8>, wanted: &Wanted) -> Result<(), AllocError>
-    requires { IsFeature wanted.now }
-    ensures text { OnOk result (text.new.items ≡ text.old.items
-        ++ text_of (wanted_lines wanted.now)) }
-    ensures asked { OnOk result (IsAsked wanted.now) }
-{
+fn add_wanted(text: &mut Vec<u8>, wanted: &Wanted) -> Result<(), AllocError> {
     text.extend_from_slice(b"FEATURE")?;
     add_name(text, &wanted.label)?;
     add_number(text, wanted.touches.as_slice().len() as u64)?;
@@ -69,12 +56,7 @@ fn add_wanted(text: &mut Vec<u8>, wanted: &Wanted) -> Result<(), AllocError>
 }
 
 /// Adds the lines of wanted features.
-fn add_asked(text: &mut Vec<u8>, wanted: &[Wanted]) -> Result<(), AllocError>
-    requires { AllByRecursion IsFeature wanted.now }
-    ensures text { OnOk result (text.new.items ≡ text.old.items
-        ++ text_of (asked_lines wanted.now)) }
-    ensures asked { OnOk result (AreAsked wanted.now) }
-{
+fn add_asked(text: &mut Vec<u8>, wanted: &[Wanted]) -> Result<(), AllocError> {
     for feature in wanted {
         add_wanted(text, feature)?;
     }
@@ -89,12 +71,7 @@ pub fn write_head(
     out: &mut Vec<u8>,
     part: Option<&[u8]>,
     program: &Program,
-) -> Result<(), AllocError>
-    requires { IsPartGiven (option_map (λ p. p.now) part) }
-    ensures writes { Writes result out.old out.new
-        (text_of (head_lines (option_map (λ p. p.now) part.entry) program.now.features)) }
-    ensures asked { OnOk result (AreAsked program.now.features) }
-{
+) -> Result<(), AllocError> {
     let mut text = Vec::new(*out.allocator());
     text.extend_from_slice(b"DME-RECORD 1\n")?;
     add_part(&mut text, part)?;

@@ -38,5 +38,5 @@ pub use head_writing::write_head;
 pub use parts::is_part;
 pub use record_reading::read_record;
 pub use records::Record;
-pub use strangers::{Stranger, find_stranger};
+pub use strangers::{is_of_part, other_feature};
 pub use telling::Telling;

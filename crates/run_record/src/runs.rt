@@ -1,9 +1,6 @@
 // The contacts that complete a feature.
 
-ghost use Rattle.std.specs.Prelude.{◌≡◌, ◌↔◌, ℕ, List, IsTrue, IfOk, drop};
-ghost use Rattle.fixed_um.specs.Calls.{Finds};
-ghost use Rattle.protocol_model.specs.Claims.{contacts, Serves};
-ghost use Rattle.run_record.specs.Records.{last_frame};
+ghost use Rattle.std.specs.Prelude.{◌≡◌, ◌↔◌, IsTrue};
 
 use crate::comparing::{same_dir, same_frame, same_name, same_point};
 use contact_ledger::{Act, Points};
@@ -12,9 +9,7 @@ use fixed_um::{Dir, Frame, Name, Point};
 use std::alloc::{AllocError, Global};
 
 /// The frame of the last of touches.
-pub(crate) fn last_frame(touches: &[Touch]) -> Frame
-    ensures { result ≡ last_frame touches.now }
-{
+pub(crate) fn last_frame(touches: &[Touch]) -> Frame {
     let mut frame = Frame::Machine;
     for touch in touches {
         frame = touch.frame;
@@ -23,21 +18,17 @@ pub(crate) fn last_frame(touches: &[Touch]) -> Frame
 }
 
 /// The acts that follow so many contacts.
-pub(crate) fn behind_contacts(acts: &[(u64, Act)], count: u64) -> &[(u64, Act)]
-    ensures { contacts result.now ≡ drop count (contacts acts.now) }
-{
+pub(crate) fn behind_contacts(acts: &[(u64, Act)], count: u64) -> &[(u64, Act)] {
     let mut left = count;
-    let mut rest = acts;
-    while let [(_, act), later @ ..] = rest {
+    for at in 0..acts.len() {
         if left == 0 {
-            return rest;
+            return &acts[at..];
         }
-        if let Act::Contact { .. } = act {
+        if let (_, Act::Contact { .. }) = &acts[at] {
             left -= 1;
         }
-        rest = later;
     }
-    rest
+    &[]
 }
 
 /// Whether a contact was asked for by a touch: its target, direction, tool and frame.
@@ -58,14 +49,10 @@ pub(crate) fn served_points(
     connection: u64,
     touches: &[Touch],
     acts: &[(u64, Act)],
-) -> Result<Option<Points>, AllocError>
-    ensures { IfOk result (λ found. Finds found
-        (λ points. Serves connection touches.now points (contacts acts.now))) }
-{
+) -> Result<Option<Points>, AllocError> {
     let mut points = Points::new(alloc);
-    let mut touches = touches;
-    let mut acts = acts;
-    while let [(on, act), later @ ..] = acts {
+    let mut at = 0;
+    for (on, act) in acts {
         if let Act::Contact {
             target,
             dir,
@@ -74,18 +61,17 @@ pub(crate) fn served_points(
             point,
         } = act
         {
-            let [touch, others @ ..] = touches else {
+            let Some(touch) = touches.get(at) else {
                 return Ok(None);
             };
             if *on != connection || !is_asked(touch, *target, *dir, tool, *frame) {
                 return Ok(None);
             }
             points.push(*point)?;
-            touches = others;
+            at += 1;
         }
-        acts = later;
     }
-    if !touches.is_empty() {
+    if at < touches.len() {
         return Ok(None);
     }
     Ok(Some(points))

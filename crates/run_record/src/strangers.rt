@@ -1,22 +1,12 @@
 // Whether a record is that of a part and of a program.
 
 ghost use Rattle.std.specs.Prelude.{◌≡◌, ◌↔◌, IsTrue, MatchOption, option_map};
-ghost use Rattle.dmis_program.specs.declared.features.Wanted.{Wanted};
-ghost use Rattle.run_record.specs.Strangers.{IsFirstOther, IsStranger};
 
 use crate::asked::Asked;
 use crate::comparing::{same_dir, same_frame, same_name, same_point};
 use crate::records::Record;
 use dmis_program::{Program, Touch, Wanted};
-
-/// Why a record is not that of a run (this profile).
-#[derive(Clone, Copy, Debug, PartialEq, Eq)]
-pub enum Stranger {
-    /// It was written for another part, or one of the two names none.
-    OtherPart,
-    /// What was asked is not what this program wants: the number, from 0 on, of the first feature that differs, or that only one has.
-    OtherProgram(usize),
-}
+use fixed_um::Name;
 
 fn same_part(one: Option<&[u8]>, other: Option<&[u8]>) -> bool
     ensures { IsTrue result ↔ (option_map (λ p. p.now) one.entry
@@ -38,57 +28,45 @@ fn same_touch(one: &Touch, other: &Touch) -> bool
         && same_frame(one.frame, other.frame)
 }
 
-fn same_touches(one: &[Touch], other: &[Touch]) -> bool
-    ensures { IsTrue result ↔ (one.now ≡ other.now) }
-{
-    let mut one = one;
-    let mut other = other;
-    while let [touch, touches @ ..] = one {
-        let [other_touch, others @ ..] = other else {
-            return false;
-        };
-        if !same_touch(touch, other_touch) {
+fn same_touches(one: &[Touch], other: &[Touch]) -> bool {
+    if one.len() != other.len() {
+        return false;
+    }
+    for at in 0..one.len() {
+        if !same_touch(&one[at], &other[at]) {
             return false;
         }
-        one = touches;
-        other = others;
     }
-    other.is_empty()
+    true
 }
 
-fn same_feature(one: &Asked, other: &Wanted) -> bool
-    ensures { IsTrue result ↔ (one.now ≡ other.now) }
-{
+fn same_feature(one: &Asked, other: &Wanted) -> bool {
     same_name(one.label(), &other.label) && same_touches(one.touches(), other.touches.as_slice())
 }
 
-/// The first place at which what was asked is not what is wanted.
-fn first_other(asked: &[Asked], wanted: &[Wanted]) -> Option<usize>
-    ensures { MatchOption result (asked.now ≡ wanted.now)
-        (λ k. IsFirstOther k asked.now wanted.now) }
-{
-    for index in 0..asked.len() {
-        if index >= wanted.len() || !same_feature(&asked[index], &wanted[index]) {
-            return Some(index);
+/// The label of the first feature that differs, of the program where it has one at that place; none where all are the same.
+fn first_other<'a>(asked: &'a [Asked], wanted: &'a [Wanted]) -> Option<&'a Name> {
+    for (index, feature) in asked.iter().enumerate() {
+        let Some(other) = wanted.get(index) else {
+            return Some(feature.label());
+        };
+        if !same_feature(feature, other) {
+            return Some(&other.label);
         }
     }
-    if asked.len() < wanted.len() {
-        return Some(asked.len());
-    }
-    None
+    let next = wanted.get(asked.len())?;
+    Some(&next.label)
 }
 
-/// Whether a record was written for another part or another program; none where it was written for this run. Another part is answered
-/// first. Features are the same where their labels are, and their touches in order: target, direction, tool and frame.
-pub fn find_stranger(record: &Record, program: &Program, part: Option<&[u8]>) -> Option<Stranger>
-    ensures { IsStranger «record».now (option_map (λ p. p.now) part.entry) program.now.features
-        result }
+/// Whether a record was written for this part, or for none where none is given.
+pub fn is_of_part(record: &Record, part: Option<&[u8]>) -> bool
+    ensures { IsTrue result ↔ (record.now.part ≡ option_map (λ p. p.now) part.entry) }
 {
-    if !same_part(record.part(), part) {
-        return Some(Stranger::OtherPart);
-    }
-    match first_other(record.asked(), program.features()) {
-        Some(place) => Some(Stranger::OtherProgram(place)),
-        None => None,
-    }
+    same_part(record.part(), part)
+}
+
+/// The label of the first feature in which what a record asked is not what a program wants; none where it was written for that program.
+/// Features are the same if their labels are, and their touches in order: target, direction, tool and frame.
+pub fn other_feature<'a>(record: &'a Record, program: &'a Program) -> Option<&'a Name> {
+    first_other(record.asked(), program.features())
 }

