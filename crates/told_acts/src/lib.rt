@@ -3,8 +3,10 @@
 //!
 //! - `specs/Told.antt`: the acts that calls of a client count, in order
 //! - `laws`: what holds after every list of calls
+//! - `examples`: what calls tell of clients that are written out
 #![tactic(auto)]
 
+pub mod examples;
 mod laws;
 
 pub use laws::held_features_are_true_of_what_was_told;
