@@ -1,0 +1,4 @@
+pub mod Sounds
+pub mod Views
+pub mod Counts
+pub mod Tells
