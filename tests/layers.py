@@ -1,11 +1,12 @@
 #!/usr/bin/env python3
-"""The layers of the crates, and what stands on what: holds crates.txt against the rule of the layers, and the table in docs/ARCHITECTURE.md
-against crates.txt.
+"""The layers of the crates, what stands on what, and where a change begins: holds crates.txt against the rule of the layers, the table of
+docs/ARCHITECTURE.md against crates.txt, and the definitions and modules of its other table against the crates' files.
 
 `run` calls this; by itself: tests/layers.py, and tests/layers.py --write to write the table.
 """
 
 import pathlib
+import re
 import sys
 
 from generated import ROOT, is_present
@@ -62,15 +63,32 @@ def table(crates):
     return text
 
 
+def faults_of_directions(page):
+    """The files that the table of where a change begins names, and that their crate has not: `specs/` in one column, `src/` in the next."""
+    faults = []
+    for definitions, code in re.findall(r"^\| [^|`]* \| ([^|]*) \| ([^|]*) \|$", page, re.MULTILINE):
+        for cell, glob in ((definitions, "specs/**/{}.antt"), (code, "src/**/{}.rt")):
+            crate = None
+            for name in re.findall(r"`(\w+)`", cell):
+                if (ROOT / "crates" / name).is_dir():
+                    crate = ROOT / "crates" / name
+                elif crate is None or not any(crate.glob(glob.format(name))):
+                    faults.append(f"{PAGE.relative_to(ROOT)}: `{name}` is no file of its crate")
+    return faults
+
+
 def check_layers():
     """Whether the layers are kept and the table is the present one; and whether planted mistakes are found."""
     crates = read((ROOT / "crates.txt").read_text())
-    faults = faults_of(crates)
+    faults = faults_of(crates) + faults_of_directions(PAGE.read_text())
     if not is_present(PAGE, pathlib.Path(__file__).name, table(crates)):
         faults.append(f"{PAGE.relative_to(ROOT)}: the table is not that of crates.txt: tests/layers.py --write")
     upward = crates | {"fixed_um": ["link_world"]}
     on_a_program = crates | {"test_units": ["dme_program"]}
     without_a_layer = crates | {"no_such_crate": []}
+    moved = ["| a | `tool_rack`: `Setup` | none |\n", "| a | none | `tool_rack`: `entries`, `Entries` |\n", "| a | `Entries` | none |\n"]
+    if not all(faults_of_directions(it) for it in moved) or faults_of_directions("| a | `tool_rack`: `Setups` | `tool_rack`: `entries` |\n"):
+        faults.append("a planted file is not found")
     if not all(faults_of(it) for it in (upward, on_a_program, without_a_layer)) or table(upward) == table(crates):
         faults.append("a planted mistake is not found")
     for fault in faults:
