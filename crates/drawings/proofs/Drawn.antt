@@ -1,38 +1,51 @@
 -- The parts of a drawing, one after another.
-use Rattle.std.proofs.Common.{◌≡◌, ◌++◌, refl, subst, codes, append_assoc, ℕ, List}
-use Rattle.drawings.specs.Drawing.{head_text, IsDrawing}
+use Rattle.std.proofs.Common.{◌≡◌, ◌∙◌, ◌++◌, refl, codes, append_assoc, ℕ, List}
+use Rattle.dmis_program.specs.declared.features.Wanted.{Wanted}
+use Rattle.drawings.specs.Drawing.{head_text, IsDrawingOf}
+use Rattle.drawings.specs.Extents.{AreFilled}
 use Rattle.drawings.specs.Footer.{IsFooter}
+use Rattle.drawings.specs.Labels.{AreLabels}
 use Rattle.drawings.specs.Pictures.{picture_text}
-use Rattle.drawings.specs.Texts.{markup, IsLonger}
-use Rattle.drawings.specs.declared.sides.Side.TheVariants.{Plan, Front}
-use Rattle.drawings.specs.declared.views.Views.{Views}
+use Rattle.drawings.specs.Texts.{markup, Adds}
+use Rattle.drawings.specs.Placing.{AreViews}
+use Rattle.drawings.specs.Whiskers.{AreWhiskers}
+use Rattle.drawings.specs.declared.extents.Extents.{Extents}
+use Rattle.drawings.specs.declared.marks.Mark.{Mark}
+use Rattle.drawings.specs.declared.placing.Views.{Views}
 use Rattle.drawings.specs.declared.walk.Stop.{Stop}
 use Rattle.drawings.specs.declared.whiskers.Whiskers.{Whiskers}
 
-four : (a b c d e : List ℕ) → a ++ b ++ c ++ d ++ e ≡ a ++ (b ++ (c ++ (d ++ e)))
-four a b c d e = simp append_assoc
+six : (old head labels plan front footer end : List ℕ) → (((((old ++ head) ++ labels) ++ plan) ++ front) ++ footer) ++ end
+    ≡ old ++ (head ++ (labels ++ (plan ++ (front ++ (footer ++ end)))))
+six old head labels plan front footer end = simp append_assoc
 
-body : (old head more plan front headed labelled planned pictured : List ℕ) → headed ≡ old ++ head → labelled ≡ headed ++ more
-    → planned ≡ labelled ++ plan → pictured ≡ planned ++ front → pictured ≡ old ++ (head ++ (more ++ (plan ++ front)))
-body old head more plan front headed labelled planned pictured h l p f = rw f (rw p (rw l (rw h (four old head more plan front))))
+joined : (old head labels plan front footer end headed labelled planned pictured footed new : List ℕ) → headed ≡ old ++ head
+    → labelled ≡ headed ++ labels → planned ≡ labelled ++ plan → pictured ≡ planned ++ front → footed ≡ pictured ++ footer
+    → new ≡ footed ++ end → new ≡ old ++ (head ++ (labels ++ (plan ++ (front ++ (footer ++ end)))))
+joined old head labels plan front footer end headed labelled planned pictured footed new h l p f t e =
+    rw e (rw t (rw f (rw p (rw l (rw h (six old head labels plan front footer end))))))
 
-pub drawn : (stops : List Stop) (views : Views) (w : Whiskers) (old headed labelled planned pictured footed new : List ℕ)
-    → views.plan.side ≡ Plan → views.front.side ≡ Front → views.front.scale ≡ views.plan.scale → headed ≡ old ++ head_text
-    → IsLonger headed labelled → planned ≡ labelled ++ picture_text views.plan w stops
-    → pictured ≡ planned ++ picture_text views.front w stops → IsFooter views.plan.scale w pictured footed
-    → new ≡ footed ++ markup (codes "</svg>\n") → IsDrawing stops old new
-drawn stops views w old headed labelled planned pictured footed new plan front one h l p f footer e = record {
-  views = views;
-  whiskers = w;
-  plan_side = plan;
-  front_side = front;
-  one_scale = one;
-  labels = l.more;
-  pictures = picture_text views.plan w stops ++ picture_text views.front w stops;
-  pictures_are = refl;
-  footed = footed;
-  footer = subst (λ (t : List ℕ). IsFooter views.plan.scale w t footed)
-      (body old head_text l.more (picture_text views.plan w stops) (picture_text views.front w stops) headed labelled planned pictured
-      h l.is p f) footer;
-  text = e;
+pub drawn : (stops : List Stop) (marks : List Mark) (wanted : List Wanted) (extents : Extents) (views : Views) (w : Whiskers)
+    (old headed labelled planned pictured footed new : List ℕ) → AreFilled stops extents → AreViews extents views → AreWhiskers stops w
+    → headed ≡ old ++ head_text → Adds (AreLabels views.plan marks wanted) headed labelled
+    → planned ≡ labelled ++ picture_text views.plan w stops → pictured ≡ planned ++ picture_text views.front w stops
+    → Adds (IsFooter views.plan.scale w stops) pictured footed → new ≡ footed ++ markup (codes "</svg>\n")
+    → Adds (IsDrawingOf stops marks wanted) old new
+drawn stops marks wanted extents views w old headed labelled planned pictured footed new filled viewed whiskered h l p f t e = record {
+  text = head_text ++ (l.text ++ (picture_text views.plan w stops ++ (picture_text views.front w stops ++ (t.text ++ markup (codes "</svg>\n")))));
+  is = record {
+    extents = extents;
+    filled = filled;
+    views = views;
+    views_are = viewed;
+    whiskers = w;
+    whiskers_are = whiskered;
+    labels = l.text;
+    labels_are = l.is;
+    footer = t.text;
+    footer_is = t.is;
+    is = refl;
+  };
+  added = joined old head_text l.text (picture_text views.plan w stops) (picture_text views.front w stops) t.text (markup (codes "</svg>\n"))
+      headed labelled planned pictured footed new h l.added p f t.added e;
 }

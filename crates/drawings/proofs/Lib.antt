@@ -1,3 +1,8 @@
 pub mod Paper
-pub mod Longer
+pub mod Items
+pub mod Walked
+pub mod Reached
+pub mod Longest
+pub mod Farthest
+pub mod Lines
 pub mod Drawn

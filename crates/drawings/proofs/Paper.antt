@@ -1,7 +1,7 @@
 -- Lengths on paper.
-use Rattle.std.proofs.Common.{◌≡◌, ◌∙◌, ap, mul-le-mul, ℕ, zero, suc, ◌/◌, ◌*◌, ◌≤◌, ◌<◌, arith, mul-le-mul_right, div-mul-le_self}
+use Rattle.std.proofs.Common.{◌+◌, ◌≡◌, ◌∙◌, ap, mul-le-mul, ℕ, zero, suc, ◌/◌, ◌*◌, ◌≤◌, ◌<◌, arith, mul-le-mul_right, div-mul-le_self}
 use Rattle.std.proofs.Math.Nat.{div-zero, zero-div, div-le_self}
-use Rattle.std.proofs.lemmas.Nat.{le-div}
+use Rattle.std.proofs.lemmas.Nat.{le-div, mul-lt}
 use Rattle.drawings.specs.Scales.{on_paper, numerator, denominator, Fits, AreShort}
 use Rattle.drawings.specs.declared.scales.Lengths.{Lengths}
 
@@ -46,3 +46,10 @@ unfolding on_paper
 shortest_fits scale room le enough = let e : 1 * numerator scale ≡ numerator scale = omega arith in
     let f = div-le_self (numerator scale) (denominator scale) in
     rw e (omega (arith, f, le, enough))
+
+-- the root, up, is the least number whose square is as large
+pub root_above : (root square most : ℕ) → root * root < square → square ≤ most * most → root + 1 ≤ most
+root_above root square most less le = let f : most ≤ root → ⊥ = λ h. let b = mul-le-mul h h in omega (arith, b, less, le) in grind (arith, f)
+
+pub root_exact : (root square most : ℕ) → root * root ≤ square → square ≤ most * most → root ≤ most
+root_exact root square most less le = let f : most < root → ⊥ = λ h. let b = mul-lt most most root root h h in omega (arith, b, less, le) in grind (arith, f)

@@ -5,6 +5,7 @@ use Rattle.drawings.specs.Texts.{markup, line_text, text_start, text_end, millim
 
 -- of the round lengths, which reach up to 10 km, the longest that has room on paper at a scale: the one of this number
 pub record IsLongest (scale room number : ℕ) : Type 0 where
+  pub known : number ≤ 30
   pub fits : on_paper scale (round number) ≤ room
   pub longest : (longer : ℕ) → number < longer → longer ≤ 30 → on_paper scale (round longer) ≤ room → ⊥
 
@@ -18,11 +19,11 @@ bar_text left right length unit = line_text (record { across = left; down = 1953
 abbrev pub bar_at : ℕ → ℕ → ℕ → List ℕ → List ℕ
 bar_at scale left number unit = bar_text left (left + on_paper scale (round number)) (round number) unit
 
--- a bar at a scale that fills most of some room, where a text begins
-pub record IsBar (scale room left : ℕ) (unit old new : List ℕ) : Type 0 where
+-- the bar of the longest length that has room at a scale
+pub record IsBar (scale room left : ℕ) (unit text : List ℕ) : Type 0 where
   pub number : ℕ
   pub longest : IsLongest scale room number
-  pub text : new ≡ old ++ bar_at scale left number unit
+  pub is : text ≡ bar_at scale left number unit
 
 -- the black bar at the views' scale and the red one at that of the whiskers
 unfoldable pub bars_text : ℕ → ℕ → ℕ → ℕ → List ℕ
@@ -31,10 +32,10 @@ bars_text scale magnification bar magnified = markup (codes "<g stroke=\"#000\" 
     ++ (markup (codes "</g>\n<g stroke=\"#d00000\" stroke-width=\"0.5\">\n")
     ++ (bar_at magnification 85000 magnified (codes " mm of deviation") ++ markup (codes "</g>\n"))))
 
--- both bars are appended to a text, each the longest that has room
-pub record AreBars (scale magnification : ℕ) (old new : List ℕ) : Type 0 where
+-- both bars, each the longest that has room
+pub record AreBars (scale magnification : ℕ) (text : List ℕ) : Type 0 where
   pub bar : ℕ
   pub magnified : ℕ
   pub bar_is : IsLongest scale 50000 bar
   pub magnified_is : IsLongest magnification 15000 magnified
-  pub text : new ≡ old ++ bars_text scale magnification bar magnified
+  pub are : text ≡ bars_text scale magnification bar magnified

@@ -1,10 +1,20 @@
 -- The whole drawing.
 use Rattle.std.specs.Prelude.{◌≡◌, ℕ, List, ◌++◌, codes}
+use Rattle.contact_ledger.specs.declared.features.Feature.{Feature}
+use Rattle.dmis_program.specs.Meaning.{Meaning}
+use Rattle.dmis_program.specs.declared.features.Wanted.{Wanted}
+use Rattle.drawings.specs.Extents.{AreFilled}
 use Rattle.drawings.specs.Footer.{IsFooter}
+use Rattle.drawings.specs.Labels.{AreLabels}
+use Rattle.drawings.specs.Named.{marks_of}
 use Rattle.drawings.specs.Pictures.{spot, picture_text}
+use Rattle.drawings.specs.Stops.{stops_of}
 use Rattle.drawings.specs.Texts.{markup, text_element}
-use Rattle.drawings.specs.declared.sides.Side.TheVariants.{Plan, Front}
-use Rattle.drawings.specs.declared.views.Views.{Views}
+use Rattle.drawings.specs.Placing.{AreViews}
+use Rattle.drawings.specs.Whiskers.{AreWhiskers}
+use Rattle.drawings.specs.declared.extents.Extents.{Extents}
+use Rattle.drawings.specs.declared.marks.Mark.{Mark}
+use Rattle.drawings.specs.declared.placing.Views.{Views}
 use Rattle.drawings.specs.declared.walk.Stop.{Stop}
 use Rattle.drawings.specs.declared.whiskers.Whiskers.{Whiskers}
 
@@ -15,17 +25,23 @@ head_text = markup (codes "<svg xmlns=\"http://www.w3.org/2000/svg\" width=\"297
     ++ (markup (codes "<rect width=\"297\" height=\"210\" fill=\"#fff\"/>\n<g font-size=\"5\">\n")
     ++ (text_element (spot 10000 12000) (codes "Measured points and their deviations") ++ markup (codes "</g>\n"))))
 
--- to a text a drawing of stops is appended: the head, labels, a plan and a front view at one scale, both with the same whiskers, and
--- the footer with the bars of these scales
-pub record IsDrawing (stops : List Stop) (old new : List ℕ) : Type 0 where
+-- A drawing of stops, with labels of marks, which have the names of features: the head, the labels, a plan and a front view, and the footer.
+-- The views are those of what the stops fill, at one scale and with the same whiskers, and the bars are of these scales
+pub record IsDrawingOf (stops : List Stop) (marks : List Mark) (wanted : List Wanted) (text : List ℕ) : Type 0 where
+  pub extents : Extents
+  pub filled : AreFilled stops extents
   pub views : Views
+  pub views_are : AreViews extents views
   pub whiskers : Whiskers
-  pub plan_side : views.plan.side ≡ Plan
-  pub front_side : views.front.side ≡ Front
-  pub one_scale : views.front.scale ≡ views.plan.scale
+  pub whiskers_are : AreWhiskers stops whiskers
   pub labels : List ℕ
-  pub pictures : List ℕ
-  pub pictures_are : pictures ≡ picture_text views.plan whiskers stops ++ picture_text views.front whiskers stops
-  pub footed : List ℕ
-  pub footer : IsFooter views.plan.scale whiskers (old ++ (head_text ++ (labels ++ pictures))) footed
-  pub text : new ≡ footed ++ markup (codes "</svg>\n")
+  pub labels_are : AreLabels views.plan marks wanted labels
+  pub footer : List ℕ
+  pub footer_is : IsFooter views.plan.scale whiskers stops footer
+  pub is : text ≡ head_text ++ (labels ++ (picture_text views.plan whiskers stops
+      ++ (picture_text views.front whiskers stops ++ (footer ++ markup (codes "</svg>\n")))))
+
+-- the drawing of a program, with the features that were measured first
+abbrev pub IsDrawing : Meaning → List Feature → List ℕ → Type 0
+IsDrawing program features text =
+    IsDrawingOf (stops_of program.steps features) (marks_of program.features features) program.features text

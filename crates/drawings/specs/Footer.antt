@@ -1,9 +1,12 @@
 -- What is written below the views: the bars, what the marks mean, the scales in words, and how much is measured.
-use Rattle.std.specs.Prelude.{◌≡◌, ℕ, List, ◌++◌, codes, decimal, ◌==◌, if◌then◌else◌}
+use Rattle.std.specs.Prelude.{◌≡◌, ℕ, List, ◌++◌, codes, decimal, Bool, true, false, length, filter, ◌==◌, if◌then◌else◌}
 use Rattle.drawings.specs.Bars.{AreBars}
 use Rattle.drawings.specs.Pictures.{spot}
 use Rattle.drawings.specs.Scales.{numerator, denominator}
 use Rattle.drawings.specs.Texts.{markup, disc_text, line_text, text_start, text_end, text_element}
+use Rattle.drawings.specs.declared.walk.Act.{Act}
+use Rattle.drawings.specs.declared.walk.Act.TheVariants as act
+use Rattle.drawings.specs.declared.walk.Stop.{Stop}
 use Rattle.drawings.specs.declared.whiskers.Whiskers.{Whiskers}
 
 -- a scale: how much of the paper stands for how much of the thing
@@ -23,6 +26,23 @@ legend_words = text_element (spot 162500 196500) (codes "measured")
     ++ (text_element (spot 188500 196500) (codes "not measured yet")
     ++ text_element (spot 236500 196500) (codes "way of the machine"))
 
+-- how many points of stops are measured, and how many are asked for
+abbrev pub is_measured : Act → Bool
+is_measured (act.Measured away) = true
+is_measured act.Move = false
+is_measured act.Touch = false
+
+abbrev pub is_asked : Act → Bool
+is_asked (act.Measured away) = true
+is_asked act.Move = false
+is_asked act.Touch = true
+
+abbrev pub measured_count : List Stop → ℕ
+measured_count stops = length (filter (λ (s : Stop). is_measured s.act) stops)
+
+abbrev pub asked_count : List Stop → ℕ
+asked_count stops = length (filter (λ (s : Stop). is_asked s.act) stops)
+
 -- how many of how many points are measured
 unfoldable pub counts_text : ℕ → ℕ → List ℕ
 counts_text measured asked = decimal measured ++ (markup (codes " of ") ++ (decimal asked ++ markup (codes " points measured.")))
@@ -37,10 +57,8 @@ caption_text scale w measured asked = text_start (spot 10000 204000) ++ (markup 
     ++ (ratio_text scale ++ (magnified_words w.longest ++ (ratio_text w.scale ++ (markup (codes ". ")
     ++ (counts_text measured asked ++ text_end))))))
 
--- to a text the bars are appended, the legend, and the caption with two counts
-pub record IsFooter (scale : ℕ) (w : Whiskers) (old new : List ℕ) : Type 0 where
-  pub barred : List ℕ
-  pub bars : AreBars scale w.scale old barred
-  pub measured : ℕ
-  pub asked : ℕ
-  pub text : new ≡ barred ++ (legend_marks ++ (legend_words ++ caption_text scale w measured asked))
+-- the bars, the legend, and the caption with the counts of stops
+pub record IsFooter (scale : ℕ) (w : Whiskers) (stops : List Stop) (text : List ℕ) : Type 0 where
+  pub bars : List ℕ
+  pub bars_are : AreBars scale w.scale bars
+  pub is : text ≡ bars ++ (legend_marks ++ (legend_words ++ caption_text scale w (measured_count stops) (asked_count stops)))

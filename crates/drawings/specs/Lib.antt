@@ -2,10 +2,15 @@ pub mod Scales
 pub mod Places
 pub mod Sheet
 pub mod Texts
+pub mod Stops
+pub mod Extents
 pub mod Views
+pub mod Placing
+pub mod Whiskers
 pub mod Marks
 pub mod Pictures
 pub mod Bars
+pub mod Named
 pub mod Labels
 pub mod Footer
 pub mod Drawing

@@ -1,9 +1,11 @@
 -- Positions in machine axes, and the spans that they fill along one axis.
 use Rattle.std.specs.Prelude.{ℕ, ℤ, ◌+ℤ◌, ◌-ℤ◌, ◌≤ℤ◌, unsigned_abs, int_lt, if◌then◌else◌}
 use Rattle.fixed_um.specs.declared.lengths.Point.{Point}
+use Rattle.drawings.specs.declared.away.Away.{Away}
 use Rattle.drawings.specs.declared.places.Place.{Place}
 
--- a coordinate in machine axes, in micrometres: one on the wire, and a zero point of a frame that is one
+-- a coordinate in machine axes, in micrometres: one on the wire, and a zero point of a frame that is one. Nor do two points on the wire lie
+-- farther apart
 abbrev pub machine_limit : ℕ
 machine_limit = 8000000000
 
@@ -11,9 +13,24 @@ machine_limit = 8000000000
 abbrev pub place_of : Point → Point → Place
 place_of p origin = record { x = p.x +ℤ origin.x; y = p.y +ℤ origin.y; z = p.z +ℤ origin.z }
 
+-- how far a measured point lies from its nominal one
+abbrev pub away_of : Point → Point → Away
+away_of measured nominal = record {
+  x = measured.x -ℤ nominal.x;
+  y = measured.y -ℤ nominal.y;
+  z = measured.z -ℤ nominal.z;
+}
+
 -- what lies between two coordinates
 abbrev pub IsBetween : ℤ → ℤ → ℤ → Type 0
 IsBetween low high c = (low ≤ℤ c) × (c ≤ℤ high)
+
+-- a span that is wider than another by a coordinate, and no wider
+pub record IsWider (low high c : ℤ) (low' high' : ℤ) : Type 0 where
+  pub holds : IsBetween low' high' c
+  pub low_is : low' ≤ℤ low
+  pub high_is : high ≤ℤ high'
+  pub nearest : (lower higher : ℤ) → IsBetween lower higher c → lower ≤ℤ low → high ≤ℤ higher → (lower ≤ℤ low') × (high' ≤ℤ higher)
 
 -- the coordinate between a lowest and a highest one that is nearest to a coordinate: itself where it lies between them
 abbrev pub nearest : ℤ → ℤ → ℤ → ℤ

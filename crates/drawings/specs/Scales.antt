@@ -1,5 +1,5 @@
 -- Round scales, as drawings have them (ISO 5455): 1, 2 or 5 times a power of ten to one, or one to that.
-use Rattle.std.specs.Prelude.{ℕ, zero, suc, ◌+◌, ◌-◌, ◌*◌, ◌/◌, ◌%◌, ◌^◌, ◌≤◌}
+use Rattle.std.specs.Prelude.{◌≡◌, ℕ, zero, suc, ◌+◌, ◌-◌, ◌*◌, ◌/◌, ◌%◌, ◌^◌, ◌≤◌, ◌<◌}
 use Rattle.drawings.specs.declared.scales.Lengths.{Lengths}
 use Rattle.drawings.specs.declared.scales.Room.{Room}
 
@@ -28,6 +28,18 @@ on_paper scale length = length * numerator scale / denominator scale
 pub record Fits (scale : ℕ) (lengths : Lengths) (room : Room) : Type 0 where
   pub across : on_paper scale lengths.across ≤ room.across
   pub upright : on_paper scale lengths.first + on_paper scale lengths.second ≤ room.upright
+
+-- nothing is to be drawn
+pub record AreNothing (lengths : Lengths) : Type 0 where
+  pub across : lengths.across ≡ 0
+  pub first : lengths.first ≡ 0
+  pub second : lengths.second ≡ 0
+
+-- the largest scale at which there is room; 1:1 where nothing is to be drawn
+pub record IsScaleFor (lengths : Lengths) (room : Room) (scale : ℕ) : Type 0 where
+  pub full : AreNothing lengths → scale ≡ 12
+  pub fits : Fits scale lengths room
+  pub largest : (larger : ℕ) → larger < scale → Fits larger lengths room → AreNothing lengths
 
 -- a length that is drawn, in micrometres: no span of the machine is longer
 abbrev pub length_limit : ℕ

@@ -22,10 +22,11 @@ shown_name name = if nat_le (length name) 26 then escaped name else escaped (tak
 abbrev pub spot_text : Spot → List ℕ
 spot_text p = written (pos p.across) ++ (codes "," ++ written (pos p.down))
 
--- something is appended to a text
-pub record IsLonger (old new : List ℕ) : Type 0 where
-  pub more : List ℕ
-  pub is : new ≡ old ++ more
+-- a text of which something is true is appended to another
+pub record Adds (Is : List ℕ → Type 0) (old new : List ℕ) : Type 0 where
+  pub text : List ℕ
+  pub is : Is text
+  pub added : new ≡ old ++ text
 
 -- markup, which is written as it is: a word of its own, so that no proof looks into long constants
 unfoldable pub markup : List ℕ → List ℕ

@@ -2,11 +2,11 @@
 use Rattle.std.specs.Prelude.{ℕ, ℤ, pos, negsuc, ◌+◌, ◌-◌, ◌≤◌, min, neg_ℤ, unsigned_abs}
 use Rattle.drawings.specs.Scales.{on_paper}
 use Rattle.drawings.specs.Sheet.{Spot, margin, sheet_width, sheet_height}
-use Rattle.drawings.specs.declared.places.Place.{Place}
 use Rattle.drawings.specs.declared.away.Away.{Away}
-use Rattle.drawings.specs.declared.whiskers.Whiskers.{Whiskers}
+use Rattle.drawings.specs.declared.places.Place.{Place}
 use Rattle.drawings.specs.declared.sides.Side.{Side}
 use Rattle.drawings.specs.declared.sides.Side.TheVariants.{Plan, Front}
+use Rattle.drawings.specs.declared.whiskers.Whiskers.{Whiskers}
 
 -- the coordinate that is up
 abbrev pub upright_of : Side → Place → ℤ

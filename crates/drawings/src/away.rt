@@ -1,31 +1,28 @@
 // Deviations.
 
-ghost use Rattle.std.specs.Prelude.{◌≡◌, ◌≤◌, ◌-ℤ◌, unsigned_abs};
+ghost use Rattle.std.specs.Prelude.{◌≡◌};
+ghost use Rattle.drawings.specs.Places.{away_of};
 
+use crate::places::Coordinate;
 use fixed_um::Point;
 
-/// How far a measured point lies from its nominal point along each axis, in micrometres.
+/// How far a measured point lies from its nominal point along each axis.
 #[derive(Clone, Copy)]
 pub(crate) struct Away {
-    pub x: i64,
-    pub y: i64,
-    pub z: i64,
-    ghost x_within: { unsigned_abs x ≤ 8000000000 },
-    ghost y_within: { unsigned_abs y ≤ 8000000000 },
-    ghost z_within: { unsigned_abs z ≤ 8000000000 },
+    pub x: Coordinate,
+    pub y: Coordinate,
+    pub z: Coordinate,
 }
 
 impl Away {
     /// The measured point less the nominal one.
     pub fn of(measured: Point, nominal: Point) -> Away
-        ensures x { result.x ≡ measured.x -ℤ nominal.x }
-        ensures y { result.y ≡ measured.y -ℤ nominal.y }
-        ensures z { result.z ≡ measured.z -ℤ nominal.z }
+        ensures { result ≡ away_of measured nominal }
     {
         Away {
-            x: measured.x.get() - nominal.x.get(),
-            y: measured.y.get() - nominal.y.get(),
-            z: measured.z.get() - nominal.z.get(),
+            x: Coordinate::between(measured.x, nominal.x),
+            y: Coordinate::between(measured.y, nominal.y),
+            z: Coordinate::between(measured.z, nominal.z),
         }
     }
 }

@@ -1,19 +1,21 @@
 // The whole drawing.
 
-ghost use Rattle.std.specs.Prelude.{◌≡◌, ◌++◌, ℕ, List, OnOk, OnErr};
-ghost use Rattle.drawings.specs.Drawing.{head_text, IsDrawing};
+ghost use Rattle.std.specs.Prelude.{◌≡◌, ◌++◌, OnOk, OnErr};
+ghost use Rattle.drawings.specs.Drawing.{head_text, IsDrawingOf, IsDrawing};
+ghost use Rattle.drawings.specs.Texts.{Adds};
 
 use crate::extents::Extents;
 use crate::footer::put_footer;
 use crate::labels::put_labels;
+use crate::magnifying::whiskers_of;
+use crate::marks::{Mark, marks_of};
 use crate::pictures::put_picture;
+use crate::placing::Views;
 use crate::sheet::Position;
 use crate::texts::{put_markup, put_text};
-use crate::views::Views;
-use crate::walk::Walk;
-use crate::whiskers::Whiskers;
+use crate::walk::{Stop, stops_of};
 use contact_ledger::Feature;
-use dmis_program::Program;
+use dmis_program::{Program, Wanted};
 use std::alloc::{AllocError, Global};
 
 /// The sheet and its title.
@@ -41,24 +43,44 @@ fn put_head(out: &mut Vec<u8>) -> Result<(), AllocError>
     put_markup(out, b"</g>\n")
 }
 
-fn put_drawing(
+/// A drawing of stops, with labels of marks, which have the names of features.
+fn put_parts(
     alloc: Global,
     out: &mut Vec<u8>,
-    program: &Program,
-    walk: &Walk<'_>,
+    stops: &[Stop],
+    marks: &[Mark],
+    wanted: &[Wanted],
 ) -> Result<(), AllocError>
-    ensures { OnOk result (IsDrawing walk.now.stops.items out.old.items out.new.items) }
+    ensures { OnOk result (Adds (IsDrawingOf stops.now marks.now wanted.now)
+        out.old.items out.new.items) }
 {
-    let stops = walk.stops.as_slice();
-    let marks = walk.marks.as_slice();
     let views = Views::of(&Extents::of(stops));
-    let whiskers = Whiskers::of(stops);
+    let whiskers = whiskers_of(stops);
     put_head(out)?;
-    put_labels(alloc, out, marks, program.features(), &views.plan)?;
+    put_labels(alloc, out, marks, wanted, &views.plan)?;
     put_picture(out, &views.plan, stops, &whiskers)?;
     put_picture(out, &views.front, stops, &whiskers)?;
     put_footer(out, views.plan.scale, stops, &whiskers)?;
     put_markup(out, b"</svg>\n")
+}
+
+fn put_drawing(
+    alloc: Global,
+    out: &mut Vec<u8>,
+    program: &Program,
+    features: &[Feature],
+) -> Result<(), AllocError>
+    ensures { OnOk result (Adds (IsDrawing program.now features.now) out.old.items out.new.items) }
+{
+    let stops = stops_of(alloc, program.statements(), features)?;
+    let marks = marks_of(alloc, program, features)?;
+    put_parts(
+        alloc,
+        out,
+        stops.as_slice(),
+        marks.as_slice(),
+        program.features(),
+    )
 }
 
 /// Appends a drawing (SVG 1.1) of a program and of the features that were measured first, in their order, on one sheet A4: plan and front
@@ -73,11 +95,11 @@ pub fn write_drawing(
     program: &Program,
     features: &[Feature],
 ) -> Result<(), AllocError>
-    ensures ok { OnOk result ((text : List ℕ) × (out.new.items ≡ out.old.items ++ text)) }
+    ensures ok { OnOk result (Adds (IsDrawing program.now features.now)
+        out.old.items out.new.items) }
     ensures err { OnErr result (out.new.items ≡ out.old.items) }
 {
-    let walk = Walk::of(alloc, program, features)?;
     let mut text = Vec::new(alloc);
-    put_drawing(alloc, &mut text, program, &walk)?;
+    put_drawing(alloc, &mut text, program, features)?;
     out.extend_from_slice(text.as_slice())
 }

@@ -1,5 +1,8 @@
 // What stops fill.
 
+ghost use Rattle.std.specs.Prelude.{◌∷◌};
+ghost use Rattle.drawings.specs.Extents.{AreFilled, IsAlone, TakesIn};
+
 use crate::places::Place;
 use crate::spans::Span;
 use crate::walk::Stop;
@@ -13,7 +16,9 @@ pub(crate) struct Extents {
 }
 
 impl Extents {
-    fn at(place: Place) -> Extents {
+    fn at(place: Place) -> Extents
+        ensures { IsAlone place result }
+    {
         Extents {
             x: Span::at(place.x),
             y: Span::at(place.y),
@@ -21,7 +26,9 @@ impl Extents {
         }
     }
 
-    fn with(&self, place: Place) -> Extents {
+    fn with(&self, place: Place) -> Extents
+        ensures { TakesIn self.now place result }
+    {
         Extents {
             x: self.x.with(place.x),
             y: self.y.with(place.y),
@@ -29,21 +36,28 @@ impl Extents {
         }
     }
 
+    /// The extents of a stop and others.
+    fn reaching(first: &Stop, others: &[Stop]) -> Extents
+        ensures { AreFilled (first.now ∷ others.now) result }
+    {
+        let mut extents = Extents::at(first.place);
+        for stop in others {
+            extents = extents.with(stop.place);
+        }
+        extents
+    }
+
     /// The extents of stops; of none, the zero point.
-    pub fn of(stops: &[Stop]) -> Extents {
-        let [first, others @ ..] = stops else {
-            return Extents {
+    pub fn of(stops: &[Stop]) -> Extents
+        ensures { AreFilled stops.now result }
+    {
+        match stops {
+            [first, others @ ..] => Extents::reaching(first, others),
+            [] => Extents {
                 x: Span::zero(),
                 y: Span::zero(),
                 z: Span::zero(),
-            };
-        };
-        let mut extents = Extents::at(first.place);
-        let mut left = others;
-        while let [stop, later @ ..] = left {
-            extents = extents.with(stop.place);
-            left = later;
+            },
         }
-        extents
     }
 }

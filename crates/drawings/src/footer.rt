@@ -1,8 +1,9 @@
 // What stands below the views: the scales, what the marks mean, and how much was measured.
 
-ghost use Rattle.std.specs.Prelude.{◌≡◌, ◌≤◌, ◌+◌, ◌++◌, ℕ, OnOk};
+ghost use Rattle.std.specs.Prelude.{◌≡◌, ◌≤◌, ◌+◌, ◌++◌, OnOk};
 ghost use Rattle.drawings.specs.Bars.{bar_text, IsBar, AreBars};
-ghost use Rattle.drawings.specs.Footer.{ratio_text, legend_marks, legend_words, counts_text, magnified_words, caption_text, IsFooter};
+ghost use Rattle.drawings.specs.Texts.{Adds};
+ghost use Rattle.drawings.specs.Footer.{ratio_text, legend_marks, legend_words, measured_count, asked_count, is_measured, is_asked, counts_text, magnified_words, caption_text, IsFooter};
 
 use crate::scales::{Scale, round};
 use crate::sheet::Position;
@@ -65,7 +66,7 @@ fn put_bar(
     requires left { left ≤ 100000 }
     requires room { room ≤ 60000 }
     ensures { 10000 ≤ room
-        → OnOk result (IsBar scale room left unit.now out.old.items out.new.items) }
+        → OnOk result (Adds (IsBar scale room left unit.now) out.old.items out.new.items) }
 {
     let length = round(scale.bar(room));
     let right = left + scale.on_paper(length).min(room);
@@ -73,7 +74,7 @@ fn put_bar(
 }
 
 fn put_bars(out: &mut Vec<u8>, scale: Scale, whiskers: &Whiskers) -> Result<(), AllocError>
-    ensures { OnOk result (AreBars scale whiskers.now.scale out.old.items out.new.items) }
+    ensures { OnOk result (Adds (AreBars scale whiskers.now.scale) out.old.items out.new.items) }
 {
     put_markup(out, b"<g stroke=\"#000\" stroke-width=\"0.8\">\n")?;
     put_bar(out, scale, 10_000, 50_000, b" mm")?;
@@ -115,12 +116,22 @@ fn put_legend_words(out: &mut Vec<u8>) -> Result<(), AllocError>
     )
 }
 
-fn is_measured(stop: &Stop) -> bool {
-    matches!(stop.act, Act::Measured(_))
+fn is_measured(stop: &Stop) -> bool
+    ensures { result ≡ is_measured stop.now.act }
+{
+    match stop.act {
+        Act::Measured(_) => true,
+        Act::Move | Act::Touch => false,
+    }
 }
 
-fn is_asked(stop: &Stop) -> bool {
-    !matches!(stop.act, Act::Move)
+fn is_asked(stop: &Stop) -> bool
+    ensures { result ≡ is_asked stop.now.act }
+{
+    match stop.act {
+        Act::Measured(_) | Act::Touch => true,
+        Act::Move => false,
+    }
 }
 
 #[tactic(auto, unfolding(crate::specs::Footer::counts_text))]
@@ -133,14 +144,24 @@ fn put_two_counts(out: &mut Vec<u8>, measured: u64, asked: u64) -> Result<(), Al
     put_markup(out, b" points measured.")
 }
 
+fn measured_count(stops: &[Stop]) -> u64
+    ensures { result ≡ measured_count stops.now }
+{
+    stops.iter().filter(|stop| is_measured(*stop)).count() as u64
+}
+
+fn asked_count(stops: &[Stop]) -> u64
+    ensures { result ≡ asked_count stops.now }
+{
+    stops.iter().filter(|stop| is_asked(*stop)).count() as u64
+}
+
 /// How much was measured of what is asked for.
 fn put_counts(out: &mut Vec<u8>, stops: &[Stop]) -> Result<(), AllocError>
-    ensures { OnOk result ((measured : ℕ) × (asked : ℕ)
-        × (out.new.items ≡ out.old.items ++ counts_text measured asked)) }
+    ensures { OnOk result (out.new.items
+        ≡ out.old.items ++ counts_text (measured_count stops.now) (asked_count stops.now)) }
 {
-    let measured = stops.iter().filter(|stop| is_measured(*stop)).count();
-    let asked = stops.iter().filter(|stop| is_asked(*stop)).count();
-    put_two_counts(out, measured as u64, asked as u64)
+    put_two_counts(out, measured_count(stops), asked_count(stops))
 }
 
 fn put_magnified(out: &mut Vec<u8>, longest: u64) -> Result<(), AllocError>
@@ -161,8 +182,8 @@ fn put_caption(
     stops: &[Stop],
     whiskers: &Whiskers,
 ) -> Result<(), AllocError>
-    ensures { OnOk result ((measured : ℕ) × (asked : ℕ) × (out.new.items
-        ≡ out.old.items ++ caption_text scale whiskers.now measured asked)) }
+    ensures { OnOk result (out.new.items ≡ out.old.items
+        ++ caption_text scale whiskers.now (measured_count stops.now) (asked_count stops.now)) }
 {
     begin_text(out, Position::new(10_000, 204_000))?;
     put_markup(out, b"Lengths in mm, machine axes. Scale ")?;
@@ -181,7 +202,8 @@ pub(crate) fn put_footer(
     stops: &[Stop],
     whiskers: &Whiskers,
 ) -> Result<(), AllocError>
-    ensures { OnOk result (IsFooter scale whiskers.now out.old.items out.new.items) }
+    ensures { OnOk result (Adds (IsFooter scale whiskers.now stops.now)
+        out.old.items out.new.items) }
 {
     put_bars(out, scale, whiskers)?;
     put_legend_marks(out)?;

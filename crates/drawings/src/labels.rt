@@ -1,13 +1,13 @@
 // The column of the features' names.
 
-ghost use Rattle.std.specs.Prelude.{◌≡◌, ◌≤◌, ◌+◌, ◌-◌, ◌*◌, ◌++◌, vec_len, IfOk, OnOk};
-ghost use Rattle.drawings.specs.Texts.{shown_name, IsLonger};
-ghost use Rattle.drawings.specs.Labels.{bullet_start, bullet_text, name_text, label_text};
+ghost use Rattle.std.specs.Prelude.{◌≡◌, ◌≤◌, ◌+◌, ◌-◌, ◌*◌, ◌++◌, length, take, slice_get, IfOk, OnOk};
+ghost use Rattle.drawings.specs.Texts.{shown_name, Adds};
+ghost use Rattle.drawings.specs.Labels.{bullet_start, bullet_text, name_text, label_text, most_labels, line_for, anchors_from, AreOrdered, AreOnLines, label_at, more_text, more_if_any, AreLabels};
 
+use crate::marks::Mark;
 use crate::sheet::Position;
 use crate::texts::{begin_text, end_text, put_disc, put_escaped, put_line, put_markup, put_number};
 use crate::views::View;
-use crate::walk::Mark;
 use dmis_program::Wanted;
 use std::alloc::{AllocError, Global};
 
@@ -31,23 +31,48 @@ const NAME_BYTES: usize = 26;
 fn line_at(highest: u64, wanted: u64, later: u64) -> u64
     requires later { later ≤ 32 }
     requires room { highest + later * 4800 ≤ 186000 }
+    ensures value { result ≡ line_for highest wanted later }
     ensures below { highest ≤ result }
     ensures room { result + later * 4800 ≤ 186000 }
 {
     wanted.min(LAST_LINE - later * PITCH).max(highest)
 }
 
-/// What is named where, from top to bottom: the position of each of the first features and its number.
-fn ordered(alloc: Global, marks: &[Mark], plan: &View) -> Result<Vec<(u64, u64, usize)>, AllocError>
-    ensures { IfOk result (λ order. vec_len order ≤ 33) }
+/// The marks that get a label.
+fn labelled(marks: &[Mark]) -> &[Mark]
+    ensures first { result.now ≡ take most_labels marks.now }
+    ensures few { length result.now ≤ 33 }
 {
-    let mut order = Vec::new(alloc);
-    for (number, mark) in marks.iter().enumerate() {
-        if number < MOST {
-            let anchor = plan.position(mark.place);
-            order.push((anchor.down() + HALF_LETTER, anchor.across(), number))?;
-        }
+    if marks.len() <= MOST {
+        marks
+    } else {
+        &marks[..MOST]
     }
+}
+
+/// Where labels are wanted: for each mark its line, how far across it is, and its number.
+fn anchors(alloc: Global, marks: &[Mark], plan: &View) -> Result<Vec<(u64, u64, usize)>, AllocError>
+    requires { length marks.now ≤ 33 }
+    ensures { IfOk result (λ anchors. anchors.items ≡ anchors_from plan.now 0 marks.now) }
+{
+    let mut anchors = Vec::new(alloc);
+    let mut number = 0;
+    let mut left = marks;
+    while let [mark, later @ ..] = left {
+        let position = plan.position(mark.place);
+        anchors.push((position.down() + HALF_LETTER, position.across(), number))?;
+        number += 1;
+        left = later;
+    }
+    Ok(anchors)
+}
+
+/// What is named where, from top to bottom.
+fn ordered(alloc: Global, marks: &[Mark], plan: &View) -> Result<Vec<(u64, u64, usize)>, AllocError>
+    ensures ordered { IfOk result (λ order. AreOrdered plan.now marks.now order.items) }
+    ensures few { IfOk result (λ order. length order.items ≤ 33) }
+{
+    let mut order = anchors(alloc, labelled(marks), plan)?;
     order.sort()?;
     Ok(order)
 }
@@ -123,18 +148,76 @@ fn put_label(
     put_name_at(out, name, line)
 }
 
+/// The label of the feature of a number.
+fn put_label_at(
+    out: &mut Vec<u8>,
+    marks: &[Mark],
+    wanted: &[Wanted],
+    number: usize,
+    plan: &View,
+    line: u64,
+) -> Result<(), AllocError>
+    requires low { 26000 ≤ line }
+    requires high { line ≤ 186000 }
+    ensures { OnOk result (out.new.items ≡ out.old.items
+        ++ label_at plan.now (slice_get marks.now number) (slice_get wanted.now number) line) }
+{
+    if let Some(mark) = marks.get(number)
+        && let Some(feature) = wanted.get(number)
+    {
+        return put_label(out, mark, feature.label.as_bytes(), plan, line);
+    }
+    Ok(())
+}
+
+/// The labels from top to bottom, each on a line of its own.
+fn put_each_label(
+    out: &mut Vec<u8>,
+    marks: &[Mark],
+    wanted: &[Wanted],
+    plan: &View,
+    order: &[(u64, u64, usize)],
+) -> Result<(), AllocError>
+    requires { length order.now ≤ 33 }
+    ensures { OnOk result (Adds (AreOnLines plan.now marks.now wanted.now order.now)
+        out.old.items out.new.items) }
+{
+    let mut highest = FIRST_LINE;
+    let mut left = order;
+    while let [anchor, below @ ..] = left {
+        let line = line_at(highest, anchor.0, below.len() as u64);
+        put_label_at(out, marks, wanted, anchor.2, plan, line)?;
+        highest = line + PITCH;
+        left = below;
+    }
+    Ok(())
+}
+
 /// Tells how many features have no line.
-fn put_more(out: &mut Vec<u8>, more: usize) -> Result<(), AllocError>
-    ensures { OnOk result (IsLonger out.old.items out.new.items) }
+#[tactic(auto, unfolding(crate::specs::Labels::more_text))]
+fn put_more(out: &mut Vec<u8>, more: u64) -> Result<(), AllocError>
+    ensures { OnOk result (out.new.items ≡ out.old.items ++ more_text more) }
 {
     begin_text(out, Position::new(227_000, 190_800))?;
     out.extend_from_slice(b"and ")?;
-    put_number(out, more as u64)?;
+    put_number(out, more)?;
     out.extend_from_slice(b" more")?;
     end_text(out)
 }
 
+/// Tells how many features have no line, where there are any.
+fn put_more_if_any(out: &mut Vec<u8>, more: usize) -> Result<(), AllocError>
+    ensures { OnOk result (out.new.items ≡ out.old.items ++ more_if_any more) }
+{
+    if more == 0 {
+        Ok(())
+    } else {
+        put_more(out, more as u64)
+    }
+}
+
 /// Appends the names of the first features, each on a line of its own, from top to bottom as what they name, and how many there are more.
+#[tactic(auto, unfolding(crate::specs::Labels::labels_text))]
 pub(crate) fn put_labels(
     alloc: Global,
     out: &mut Vec<u8>,
@@ -142,29 +225,15 @@ pub(crate) fn put_labels(
     wanted: &[Wanted],
     plan: &View,
 ) -> Result<(), AllocError>
-    ensures { OnOk result (IsLonger out.old.items out.new.items) }
+    ensures { OnOk result (Adds (AreLabels plan.now marks.now wanted.now)
+        out.old.items out.new.items) }
 {
     let order = ordered(alloc, marks, plan)?;
-    let mut highest = FIRST_LINE;
-    let lines = order.as_slice();
-    let mut later = lines.len();
     put_markup(
         out,
         b"<g stroke=\"#999\" stroke-width=\"0.15\" stroke-dasharray=\"1 0.7\">\n",
     )?;
-    for (down, _, number) in lines {
-        later -= 1;
-        let line = line_at(highest, *down, later as u64);
-        if let Some(mark) = marks.get(*number)
-            && let Some(feature) = wanted.get(*number)
-        {
-            put_label(out, mark, feature.label.as_bytes(), plan, line)?;
-        }
-        highest = line + PITCH;
-    }
+    put_each_label(out, marks, wanted, plan, order.as_slice())?;
     put_markup(out, b"</g>\n")?;
-    if marks.len() > order.len() {
-        put_more(out, marks.len() - order.len())?;
-    }
-    Ok(())
+    put_more_if_any(out, marks.len().saturating_sub(MOST))
 }

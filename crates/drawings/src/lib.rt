@@ -7,7 +7,8 @@
 //! - `walk`: a program as stops of the machine in machine axes, each with what was measured there
 //! - `sides`, `views`: the two views, where they stand on the sheet, and where a place is in them
 //! - `whiskers`: how long deviations are drawn
-//! - `pictures`: what is drawn in a view; `labels`: the column of the features' names; `footer`: what stands below
+//! - `pictures`: what is drawn in a view; `marks`: what labels name; `labels`: the column of the features' names; `footer`: what stands
+//!   below
 //! - `texts`: the elements of SVG; `drawing`: the whole
 #![tactic(auto)]
 
@@ -16,8 +17,11 @@ mod drawing;
 mod extents;
 mod footer;
 mod labels;
+mod magnifying;
+mod marks;
 mod pictures;
 mod places;
+mod placing;
 mod scales;
 mod sheet;
 mod sides;

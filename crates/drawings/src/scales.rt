@@ -1,7 +1,7 @@
 // Scales, and the largest at which there is room.
 
 ghost use Rattle.std.specs.Prelude.{◌≡◌, ◌≤◌, ◌<◌, ◌*◌, ◌^◌, ℕ, IsTrue, ◌↔◌};
-ghost use Rattle.drawings.specs.Scales.{round, numerator, denominator, on_paper, Fits, AreShort, length_limit};
+ghost use Rattle.drawings.specs.Scales.{round, numerator, denominator, on_paper, Fits, AreShort, IsScaleFor, length_limit};
 ghost use Rattle.drawings.specs.Bars.{IsLongest};
 
 use std::marker::Model;
@@ -78,13 +78,14 @@ pub(crate) fn round(index: usize) -> u64
         27 => 1_000_000_000,
         28 => 2_000_000_000,
         29 => 5_000_000_000,
-        _ => 10_000_000_000,
+        30 => 10_000_000_000,
+        _ => unreachable!(),
     }
 }
 
 impl Scale {
     /// 1:1.
-    pub fn full() -> Scale
+    fn full() -> Scale
         ensures { result ≡ 12 }
     {
         Scale { number: 12 }
@@ -129,7 +130,7 @@ impl Scale {
     }
 
     /// The largest scale at which there is room. The caller owes that there is at the smallest.
-    pub fn largest(lengths: Lengths, room: Room) -> Scale
+    fn largest(lengths: Lengths, room: Room) -> Scale
         requires lengths { AreShort lengths }
         requires smallest { Fits 30 lengths room }
         ensures fits { Fits result lengths room }
@@ -142,6 +143,20 @@ impl Scale {
             }
         }
         Scale { number: 30 }
+    }
+
+    /// The largest scale at which there is room; 1:1 where nothing is to be drawn. The caller owes that there is room at the smallest.
+    #[tactic(auto, using(crate::proofs::Paper::nothing))]
+    pub fn for_room(lengths: Lengths, room: Room) -> Scale
+        requires lengths { AreShort lengths }
+        requires smallest { Fits 30 lengths room }
+        ensures { IsScaleFor lengths room result }
+    {
+        if lengths.across == 0 && lengths.first == 0 && lengths.second == 0 {
+            Scale::full()
+        } else {
+            Scale::largest(lengths, room)
+        }
     }
 
     /// The number of the longest round length that is at most so long on paper; that of the shortest where none is.

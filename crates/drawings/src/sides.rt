@@ -32,8 +32,8 @@ impl Side {
         ensures within { unsigned_abs result ≤ 8000000000 }
     {
         match self {
-            Side::Plan => away.y,
-            Side::Front => away.z,
+            Side::Plan => away.y.get(),
+            Side::Front => away.z.get(),
         }
     }
 }

@@ -1,8 +1,8 @@
 // What coordinates fill along an axis.
 
-ghost use Rattle.std.specs.Prelude.{◌≡◌, ◌≤◌, ◌≤ℤ◌, ◌-ℤ◌, ℤ, unsigned_abs};
+ghost use Rattle.std.specs.Prelude.{◌≡◌, ◌≤◌, ◌≤ℤ◌, ◌-ℤ◌, ℤ, pos, unsigned_abs};
 ghost use Rattle.drawings.specs.Scales.{length_limit};
-ghost use Rattle.drawings.specs.Places.{machine_limit, height_in, IsBetween};
+ghost use Rattle.drawings.specs.Places.{machine_limit, height_in, IsBetween, IsWider};
 
 use crate::places::Coordinate;
 
@@ -19,7 +19,8 @@ pub(crate) struct Span {
 impl Span {
     /// One coordinate alone.
     pub fn at(coordinate: Coordinate) -> Span
-        ensures { IsBetween result.low result.high coordinate }
+        ensures low { result.low ≡ coordinate }
+        ensures high { result.high ≡ coordinate }
     {
         let only = coordinate.get();
         Span {
@@ -29,15 +30,16 @@ impl Span {
     }
 
     /// The zero point alone.
-    pub fn zero() -> Span {
+    pub fn zero() -> Span
+        ensures low { result.low ≡ pos 0 }
+        ensures high { result.high ≡ pos 0 }
+    {
         Span { low: 0, high: 0 }
     }
 
     /// The span that has this coordinate too.
     pub fn with(self, coordinate: Coordinate) -> Span
-        ensures holds { IsBetween result.low result.high coordinate }
-        ensures keeps { (other : ℤ) → IsBetween self.low self.high other
-            → IsBetween result.low result.high other }
+        ensures { IsWider self.low self.high coordinate result.low result.high }
     {
         let more = coordinate.get();
         if more < self.low {

@@ -1,9 +1,13 @@
 // A program as stops of the machine.
 
+ghost use Rattle.std.specs.Prelude.{◌≡◌, ◌++◌, ◌∷◌, [], drop, IfOk, OnOk};
+ghost use Rattle.drawings.specs.Places.{place_of};
+ghost use Rattle.drawings.specs.Stops.{zero_of, zero_with, later_with, next_points, points_with, act_by, stops_at, stops_of};
+
 use crate::away::Away;
 use crate::places::Place;
 use contact_ledger::Feature;
-use dmis_program::{Program, Step, Touch};
+use dmis_program::{Step, Touch};
 use fixed_um::{Frame, Point};
 use std::alloc::{AllocError, Global};
 
@@ -25,130 +29,143 @@ pub(crate) struct Stop {
     pub act: Act,
 }
 
-/// A feature: the touch of it that is farthest to the right, and whether its first was measured.
-#[derive(Clone, Copy)]
-pub(crate) struct Mark {
-    pub place: Place,
-    pub is_measured: bool,
-}
-
-impl Mark {
-    /// The same at another place, where that is farther to the right.
-    fn or_farther(&self, place: Place) -> Mark {
-        let before = self.place.x.get();
-        let here = place.x.get();
-        let farther = if before < here { place } else { self.place };
-        let is_measured = self.is_measured;
-        Mark {
-            place: farther,
-            is_measured,
-        }
-    }
-}
-
-/// What is carried from step to step.
+/// What is carried from step to step: the stops so far, the zero point of the selected frame, the features of later blocks, and the points
+/// that are left for touches.
 #[derive(Drop)]
-pub(crate) struct Walk<'a> {
-    pub stops: Vec<Stop>,
-    pub marks: Vec<Mark>,
+struct Walk<'a> {
+    stops: Vec<Stop>,
     origin: Point,
-    mark: Option<Mark>,
     features: &'a [Feature],
     points: &'a [Point],
 }
 
-fn origin_of(frame: Frame) -> Point {
+/// The zero point of a frame, in machine axes.
+pub(crate) fn zero_of(frame: Frame) -> Point
+    ensures { result ≡ zero_of frame }
+{
     match frame {
         Frame::Machine => Point::zero(),
         Frame::Part(offset) => offset,
     }
 }
 
-impl<'a> Walk<'a> {
-    /// The stops of a program, with the features measured first.
-    pub fn of(
-        alloc: Global,
-        program: &'a Program,
-        features: &'a [Feature],
-    ) -> Result<Walk<'a>, AllocError> {
-        let mut walk = Walk {
-            stops: Vec::new(alloc),
-            marks: Vec::new(alloc),
-            origin: Point::zero(),
-            mark: None,
-            features,
-            points: &[],
-        };
-        for step in program.statements() {
-            walk.take(step)?;
-        }
-        Ok(walk)
+/// The points of the next feature.
+pub(crate) fn next_points<'a>(features: &'a [Feature]) -> &'a [Point]
+    ensures { result.now ≡ next_points features.now }
+{
+    match features {
+        [feature, ..] => feature.points.as_slice(),
+        [] => &[],
     }
+}
 
-    fn take(&mut self, step: &Step) -> Result<(), AllocError> {
+/// All features but the next one.
+pub(crate) fn later_features<'a>(features: &'a [Feature]) -> &'a [Feature]
+    ensures { result.now ≡ drop 1 features.now }
+{
+    match features {
+        [_, later @ ..] => later,
+        [] => &[],
+    }
+}
+
+/// All points but the next one.
+fn later_points<'a>(points: &'a [Point]) -> &'a [Point]
+    ensures { result.now ≡ drop 1 points.now }
+{
+    match points {
+        [_, later @ ..] => later,
+        [] => &[],
+    }
+}
+
+/// What the next of the points that are left says of a nominal point.
+fn act_by(points: &[Point], nominal: Point) -> Act
+    ensures { result ≡ act_by points.now nominal }
+{
+    match points {
+        [point, ..] => Act::Measured(Away::of(*point, nominal)),
+        [] => Act::Touch,
+    }
+}
+
+impl<'a> Walk<'a> {
+    fn take(&mut self, step: &Step) -> Result<(), AllocError>
+        ensures origin { OnOk result (self.new.origin ≡ zero_with step.now self.old.origin) }
+        ensures later { OnOk result (self.new.features.now
+            ≡ later_with step.now self.old.features.now) }
+        ensures points { OnOk result (self.new.points.now
+            ≡ points_with step.now self.old.features.now self.old.points.now) }
+        ensures stops { OnOk result (self.new.stops.items ≡ self.old.stops.items
+            ++ stops_at self.old.origin self.old.points.now step.now) }
+    {
         match step {
             Step::Goto(target) => self.stop(*target, Act::Move)?,
             Step::Begin(_) => self.begin(),
             Step::Touch(touch) => self.touch(touch)?,
             Step::Recall(offset) => self.origin = *offset,
-            Step::End => self.end()?,
+            Step::End => self.points = &[],
             Step::Tool(_) => {}
         }
         Ok(())
     }
 
-    fn stop(&mut self, target: Point, act: Act) -> Result<(), AllocError> {
+    fn stop(&mut self, target: Point, act: Act) -> Result<(), AllocError>
+        ensures stops { OnOk result (self.new.stops.items ≡ self.old.stops.items
+            ++ record { place = place_of target self.old.origin; act = act } ∷ []) }
+        ensures origin { self.new.origin ≡ self.old.origin }
+        ensures later { self.new.features.now ≡ self.old.features.now }
+        ensures points { self.new.points.now ≡ self.old.points.now }
+    {
         let place = Place::of(target, self.origin);
         self.stops.push(Stop { place, act })?;
         Ok(())
     }
 
-    fn begin(&mut self) {
-        self.mark = None;
-        match self.features {
-            [feature, later @ ..] => {
-                self.points = feature.points.as_slice();
-                self.features = later;
-            }
-            [] => self.points = &[],
-        }
+    fn begin(&mut self)
+        ensures points { self.new.points.now ≡ next_points self.old.features.now }
+        ensures later { self.new.features.now ≡ drop 1 self.old.features.now }
+        ensures origin { self.new.origin ≡ self.old.origin }
+        ensures stops { self.new.stops.items ≡ self.old.stops.items }
+    {
+        self.points = next_points(self.features);
+        self.features = later_features(self.features);
     }
 
-    fn touch(&mut self, touch: &Touch) -> Result<(), AllocError> {
-        self.origin = origin_of(touch.frame);
-        let act = self.measured(touch.target);
-        self.mark(touch.target, act);
+    fn touch(&mut self, touch: &Touch) -> Result<(), AllocError>
+        ensures stops { OnOk result (self.new.stops.items ≡ self.old.stops.items
+            ++ record {
+              place = place_of touch.now.target (zero_of touch.now.frame);
+              act = act_by self.old.points.now touch.now.target;
+            } ∷ []) }
+        ensures origin { self.new.origin ≡ zero_of touch.now.frame }
+        ensures later { self.new.features.now ≡ self.old.features.now }
+        ensures points { self.new.points.now ≡ drop 1 self.old.points.now }
+    {
+        let act = act_by(self.points, touch.target);
+        self.origin = zero_of(touch.frame);
+        self.points = later_points(self.points);
         self.stop(touch.target, act)
     }
+}
 
-    /// What the next measured point says of its nominal point.
-    fn measured(&mut self, nominal: Point) -> Act {
-        match self.points {
-            [point, later @ ..] => {
-                self.points = later;
-                Act::Measured(Away::of(*point, nominal))
-            }
-            [] => Act::Touch,
-        }
+/// The stops of the steps of a program, with the features measured first.
+pub(crate) fn stops_of(
+    alloc: Global,
+    steps: &[Step],
+    features: &[Feature],
+) -> Result<Vec<Stop>, AllocError>
+    ensures { IfOk result (λ stops. stops.items ≡ stops_of steps.now features.now) }
+{
+    let mut walk = Walk {
+        stops: Vec::new(alloc),
+        origin: Point::zero(),
+        features,
+        points: &[],
+    };
+    for step in steps {
+        walk.take(step)?;
     }
-
-    /// Marks the feature where it is touched farthest to the right.
-    fn mark(&mut self, target: Point, act: Act) {
-        let place = Place::of(target, self.origin);
-        let is_measured = matches!(act, Act::Measured(_));
-        self.mark = Some(match self.mark {
-            Some(mark) => mark.or_farther(place),
-            None => Mark { place, is_measured },
-        });
-    }
-
-    /// Keeps the mark of the feature that ends.
-    fn end(&mut self) -> Result<(), AllocError> {
-        if let Some(mark) = self.mark {
-            self.marks.push(mark)?;
-        }
-        self.mark = None;
-        self.points = &[];
-        Ok(())
-    }
+    let Walk { stops, .. } = walk;
+    Ok(stops)
 }

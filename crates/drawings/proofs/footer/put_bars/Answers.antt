@@ -1,4 +1,4 @@
-use Rattle.std.proofs.Common.{◌∙◌, append_assoc, arith}
+use Rattle.std.proofs.Common.{◌∙◌, append_assoc, refl, arith}
 use Rattle.std.proofs.lemmas.Result.{on_ok_weaker}
 use Rattle.drawings.specs.Bars.{bars_text}
 use Rattle.drawings.proofs.footer.put_bars.Goals as goal
@@ -10,10 +10,22 @@ returns c =
     let magnified = c.in_ok-put_bar-2.ensures (omega arith) in
     on_ok_weaker c.put_markup-3.result
     (λ e. record {
-      bar = bar.number;
-      magnified = magnified.number;
-      bar_is = bar.longest;
-      magnified_is = magnified.longest;
-      text = e ∙ simp (magnified.text, c.in_ok-put_markup-2.ensures, bar.text, c.in_ok-put_markup.ensures, append_assoc);
+      text = bars_text c.args.scale c.args.whiskers.now.scale bar.is.number magnified.is.number;
+      is = record {
+        bar = bar.is.number;
+        magnified = magnified.is.number;
+        bar_is = bar.is.longest;
+        magnified_is = magnified.is.longest;
+        are = refl;
+      };
+      added = e ∙ simp (
+        magnified.added,
+        magnified.is.is,
+        c.in_ok-put_markup-2.ensures,
+        bar.added,
+        bar.is.is,
+        c.in_ok-put_markup.ensures,
+        append_assoc,
+      );
     })
     c.put_markup-3.ensures

@@ -5,22 +5,16 @@ use Rattle.drawings.proofs.footer.put_caption.Goals as goal
 
 pub returns : goal.returns
 unfolding caption_text
-returns c =
-    let counts = c.in_ok-put_counts.ensures in
-    on_ok_weaker c.end_text.result
-    (λ e. (
-      counts.0,
-      counts.1,
-      e ∙ simp (
-        counts.2,
-        c.in_ok-put_markup-2.ensures,
-        c.in_ok-put_ratio-2.ensures,
-        c.in_ok-put_magnified.ensures,
-        c.in_ok-put_ratio.ensures,
-        c.in_ok-put_markup.ensures,
-        c.in_ok-begin_text.ensures,
-        c.new.ensures,
-        append_assoc,
-      ),
+returns c = on_ok_weaker c.end_text.result
+    (λ e. e ∙ simp (
+      c.in_ok-put_counts.ensures,
+      c.in_ok-put_markup-2.ensures,
+      c.in_ok-put_ratio-2.ensures,
+      c.in_ok-put_magnified.ensures,
+      c.in_ok-put_ratio.ensures,
+      c.in_ok-put_markup.ensures,
+      c.in_ok-begin_text.ensures,
+      c.new.ensures,
+      append_assoc,
     ))
     c.end_text.ensures

@@ -1,14 +1,16 @@
-use Rattle.std.proofs.Common.{◌∙◌, append_assoc}
+use Rattle.std.proofs.Common.{◌∙◌, ◌++◌, append_assoc, refl}
 use Rattle.std.proofs.lemmas.Result.{on_ok_weaker}
+use Rattle.drawings.specs.Footer.{legend_marks, legend_words, caption_text, measured_count, asked_count}
 use Rattle.drawings.proofs.footer.put_footer.Goals as goal
 
 pub returns : goal.returns
-returns c = on_ok_weaker c.put_caption.result
+returns c =
+    let bars = c.in_ok-put_bars.ensures in
+    on_ok_weaker c.put_caption.result
     (λ e. record {
-      barred = c.put_bars.new.out.items;
-      bars = c.in_ok-put_bars.ensures;
-      measured = e.0;
-      asked = e.1;
-      text = e.2 ∙ simp (c.in_ok-put_legend_words.ensures, c.in_ok-put_legend_marks.ensures, append_assoc);
+      text = bars.text ++ (legend_marks ++ (legend_words ++ caption_text c.args.scale c.args.whiskers.now
+          (measured_count c.args.stops.now) (asked_count c.args.stops.now)));
+      is = record { bars = bars.text; bars_are = bars.is; is = refl };
+      added = e ∙ simp (c.in_ok-put_legend_words.ensures, c.in_ok-put_legend_marks.ensures, bars.added, append_assoc);
     })
     c.put_caption.ensures

@@ -1,0 +1,16 @@
+-- The place that is farthest to the right, of several the first, as a walk over places finds it.
+use Rattle.std.proofs.Common.{◌≡◌, refl, List, [], ◌∷◌, arith}
+use Rattle.std.proofs.lemmas.Int.{ints}
+use Rattle.dmis_program.specs.declared.features.Touch.{Touch}
+use Rattle.drawings.specs.Named.{touch_place, farther, farthest}
+use Rattle.drawings.specs.declared.places.Place.{Place}
+
+-- the farthest of three, whichever two are taken first
+farther_twice : (a b c : Place) → farther (farther a b) c ≡ farther a (farther b c)
+farther_twice a b c = grind (arith, ints)
+
+-- the farther of two, and those behind
+pub farthest_more : (p : Place) (t : Touch) (touches : List Touch) → farthest (farther p (touch_place t)) touches
+    ≡ farthest p (t ∷ touches)
+farthest_more p t [] = refl
+farthest_more p t (u ∷ touches) = farther_twice p (touch_place t) (farthest (touch_place u) touches)

@@ -1,0 +1,50 @@
+-- The lines of labels, as they are found from top to bottom.
+use Rattle.std.proofs.Common.{◌++◌, append_assoc, ◌≡◌, refl, ap, suc, ℕ, ◌+◌, ◌≤◌, List, [], ◌∷◌, length, min, arith}
+use Rattle.std.proofs.Math.Nat.{le-max_left, le-max_right, max-le}
+use Rattle.std.specs.List.{AllZip}
+use Rattle.drawings.specs.declared.marks.Mark.{Mark}
+use Rattle.drawings.specs.declared.views.View.{View}
+use Rattle.drawings.specs.Labels.{Anchor, anchors_from, more_if_any, lowest_line, line_for, MayStand, AreHighest}
+
+-- each label as high as it may stand
+abbrev pub lines_for : ℕ → List Anchor → List ℕ
+lines_for highest [] = []
+lines_for highest (a ∷ order) = line_for highest a.0 (length order) ∷ lines_for (line_for highest a.0 (length order) + 4800) order
+
+may_stand : (highest : ℕ) (order : List Anchor) → MayStand highest order (lines_for highest order)
+may_stand highest [] = tt
+may_stand highest (a ∷ order) = (
+  le-max_right (min a.0 (lowest_line (length order))) highest,
+  le-max_left (min a.0 (lowest_line (length order))) highest,
+  may_stand (line_for highest a.0 (length order) + 4800) order,
+)
+
+none_higher : (highest other : ℕ) (order : List Anchor) (others : List ℕ) → highest ≤ other → MayStand other order others
+    → AllZip (λ line other. line ≤ other) (lines_for highest order) others
+none_higher highest other [] [] le may = tt
+none_higher highest other [] (o ∷ others) le may = absurd may
+none_higher highest other (a ∷ order) [] le may = absurd may
+none_higher highest other (a ∷ order) (o ∷ others) le may =
+    let first : line_for highest a.0 (length order) ≤ o = max-le may.1 (let l = may.0 in omega (arith, le, l)) in
+    (first, none_higher (line_for highest a.0 (length order) + 4800) (o + 4800) order others (omega (arith, first)) may.2)
+
+pub lines_are_highest : (order : List Anchor) → AreHighest order (lines_for 26000 order)
+lines_are_highest order = record {
+  may = may_stand 26000 order;
+  highest = λ others may. none_higher 26000 26000 order others (omega arith) may;
+}
+
+-- there is an anchor for each mark
+pub anchors_length : (plan : View) (number : ℕ) (marks : List Mark) → length (anchors_from plan number marks) ≡ length marks
+anchors_length plan number [] = refl
+anchors_length plan number (mark ∷ marks) = ap suc (anchors_length plan (number + 1) marks)
+
+four : (old start labels end more : List ℕ) → (((old ++ start) ++ labels) ++ end) ++ more ≡ old ++ (start ++ (labels ++ (end ++ more)))
+four old start labels end more = simp append_assoc
+
+-- the parts of labels, one after another
+pub labels_joined : (old start labels end opened each closed new : List ℕ) (more count : ℕ) → opened ≡ old ++ start → each ≡ opened ++ labels
+    → closed ≡ each ++ end → new ≡ closed ++ more_if_any more → more ≡ count
+    → new ≡ old ++ (start ++ (labels ++ (end ++ more_if_any count)))
+labels_joined old start labels end opened each closed new more count o l c n m =
+    rw n (rw c (rw l (rw o (rw m (four old start labels end (more_if_any count))))))

@@ -1,0 +1,13 @@
+use Rattle.std.proofs.Common.{◌≡◌, ◌+◌, ◌++◌, length}
+use Rattle.drawings.specs.Labels.{anchors_from}
+use Rattle.drawings.proofs.labels.anchors.Given as goal
+
+-- what is there, and the anchors of the marks that are left, are all
+abbrev pub invariant-loop-left : goal.invariant-loop-left
+invariant-loop-left l = record {
+  all : l.anchors.items ++ anchors_from l.plan l.number l.left ≡ anchors_from l.plan 0 l.marks;
+  numbers : l.number + length l.left ≡ length l.marks;
+}
+
+abbrev pub decreases-loop-left : goal.decreases-loop-left
+decreases-loop-left l = length l.left

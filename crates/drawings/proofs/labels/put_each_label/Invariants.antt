@@ -1,0 +1,17 @@
+use Rattle.std.proofs.Common.{◌≡◌, ◌+◌, ◌*◌, ◌≤◌, ◌++◌, length}
+use Rattle.drawings.specs.Labels.{labels_at}
+use Rattle.drawings.proofs.Lines.{lines_for}
+use Rattle.drawings.proofs.labels.put_each_label.Given as goal
+
+-- what is written, and the labels that are left, are all; there is room for these below the highest line that is free
+abbrev pub invariant-loop-left : goal.invariant-loop-left
+invariant-loop-left l = record {
+  all : l.out.items ++ labels_at l.plan l.marks l.wanted l.left (lines_for l.highest l.left)
+      ≡ l.initial.out.items ++ labels_at l.plan l.marks l.wanted l.order (lines_for 26000 l.order);
+  few : length l.left ≤ 33;
+  low : 26000 ≤ l.highest;
+  room : l.highest + length l.left * 4800 ≤ 190800;
+}
+
+abbrev pub decreases-loop-left : goal.decreases-loop-left
+decreases-loop-left l = length l.left

@@ -1,0 +1,15 @@
+use Rattle.std.proofs.Common.{◌≡◌, ◌++◌, length}
+use Rattle.std.specs.List.{AllByRecursion}
+use Rattle.dmis_program.specs.Programs.{IsFeature}
+use Rattle.drawings.specs.Named.{marks_of}
+use Rattle.drawings.proofs.marks.marks_of.Given as goal
+
+-- what is there, and the marks of the features that are left, are all
+abbrev pub invariant-loop-wanted : goal.invariant-loop-wanted
+invariant-loop-wanted l = record {
+  all : l.marks.items ++ marks_of l.wanted l.measured ≡ marks_of l.program.features l.features;
+  features : AllByRecursion IsFeature l.wanted;
+}
+
+abbrev pub decreases-loop-wanted : goal.decreases-loop-wanted
+decreases-loop-wanted l = length l.wanted

@@ -1,0 +1,87 @@
+// What labels name.
+
+ghost use Rattle.std.specs.Prelude.{◌≡◌, ◌<◌, length, IfOk};
+ghost use Rattle.drawings.specs.Named.{touch_place, farther, farthest, farthest_of, is_begun, marks_of};
+
+use crate::places::Place;
+use crate::walk::{later_features, next_points, zero_of};
+use contact_ledger::Feature;
+use dmis_program::{Program, Touch, Wanted};
+use fixed_um::Point;
+use std::alloc::{AllocError, Global};
+
+/// A feature: the touch of it that is farthest to the right, and whether its first was measured.
+#[derive(Clone, Copy)]
+pub(crate) struct Mark {
+    pub place: Place,
+    pub is_measured: bool,
+}
+
+fn touch_place(touch: &Touch) -> Place
+    ensures { result ≡ touch_place touch.now }
+{
+    Place::of(touch.target, zero_of(touch.frame))
+}
+
+/// Of two places the later one only where it is farther to the right.
+fn farther(first: Place, later: Place) -> Place
+    ensures { result ≡ farther first later }
+{
+    if first.x.get() < later.x.get() {
+        later
+    } else {
+        first
+    }
+}
+
+/// Where a place and touches lie farthest to the right.
+fn farthest(first: Place, touches: &[Touch]) -> Place
+    ensures { result ≡ farthest first touches.now }
+{
+    let mut place = first;
+    for touch in touches {
+        place = farther(place, touch_place(touch));
+    }
+    place
+}
+
+/// Where touches, of which there is one at least, lie farthest to the right.
+fn farthest_of(touches: &[Touch]) -> Place
+    requires { 0 < length touches.now }
+    ensures { result ≡ farthest_of touches.now }
+{
+    match touches {
+        [first, others @ ..] => farthest(touch_place(first), others),
+        [] => unreachable!(),
+    }
+}
+
+fn is_begun(points: &[Point]) -> bool
+    ensures { result ≡ is_begun points.now }
+{
+    match points {
+        [_, ..] => true,
+        [] => false,
+    }
+}
+
+/// What is named of each feature of a program, beside those that were measured first.
+pub(crate) fn marks_of(
+    alloc: Global,
+    program: &Program,
+    features: &[Feature],
+) -> Result<Vec<Mark>, AllocError>
+    ensures { IfOk result (λ marks. marks.items ≡ marks_of program.now.features features.now) }
+{
+    let mut marks = Vec::new(alloc);
+    let mut wanted = program.features();
+    let mut measured = features;
+    while let [feature, later @ ..] = wanted {
+        let place = farthest_of(feature.touches.as_slice());
+        let is_measured = is_begun(next_points(measured));
+        marks.push(Mark { place, is_measured })?;
+        wanted = later;
+        measured = later_features(measured);
+    }
+    Ok(marks)
+}
