@@ -5,6 +5,7 @@ use Rattle.contact_ledger.specs.declared.features.Feature.{Feature}
 use Rattle.protocol_model.specs.Ends.{ClientEnd, end_connected}
 use Rattle.link_world.specs.LinkRuns.{ClientRan, ClientRunStopped}
 use Rattle.link_world.specs.Reports.{report_text}
+use Rattle.link_world.specs.Watching.{Note, TellsRun}
 use Rattle.link_world.specs.declared.connections.links.LoopFault.{LoopFault}
 use Rattle.link_world.specs.declared.connections.links.LoopFault.TheVariants as link
 use Rattle.dme_orders.specs.Ends.{end_shown}
@@ -33,33 +34,36 @@ Keeps false old new Holds = (new.failed ≡ true) × (new.text ≡ old.text)
 abbrev pub IsFeaturesText : List Feature → List ℕ → Type 0
 IsFeaturesText features text = (version : _) × (header version ≡ codes "DME-FEATURES 2") × (text ≡ features_text version features)
 
--- what the ports of a client and its features file tell
+-- what the ports of a client, its watcher and its features file tell
 pub record RunTold : Type 0 where
   pub left : Option (List ℕ)
   pub taken : Option (List ℕ)
+  pub told : Option (List Note)
   pub file : FileTold
 
-abbrev pub run_told : (left taken : Option (List ℕ)) → FileTold → RunTold
-run_told left taken file = record { left = left; taken = taken; file = file }
+abbrev pub run_told : (left taken : Option (List ℕ)) → Option (List Note) → FileTold → RunTold
+run_told left taken told file = record { left = left; taken = taken; told = told; file = file }
 
--- a client that has come to connection 1 has had its turns; this is how that has ended, this the report of what it then is, and the file
--- keeps the features that it then holds, each of them
+-- a client that has come to connection 1 has had its turns, and its watcher was told of what they completed; this is how that has ended,
+-- this the report of what it then is, and the file keeps the features that it then holds, each of them
 pub record LeavesRun (first : ClientEnd) (old new : RunTold) (driven : RunEnd) (text : List ℕ) : Type 0 where
   pub last : ClientEnd
   pub came : RunCame (end_connected 1 first) last old.left new.left old.taken new.taken driven.ended.broken
+  pub watched : TellsRun (end_connected 1 first) last old.told new.told
   pub stands : driven.ended.state ≡ last.client.state
   pub kept : Keeps driven.is_kept old.file new.file (IsFeaturesText last.client.table.tally.features)
   pub told : text ≡ report_text (end_shown last)
 
--- a client that has come to connection 1 has had its turns, as far as it came, and the file has the text that it had, or keeps the features
--- that the client then holds
+-- a client that has come to connection 1 has had its turns, as far as it came, and its watcher was told of what they completed; the file is
+-- as it was, or keeps the features that the client then holds
 pub record LeavesFile (first : ClientEnd) (old new : RunTold) : Type 0 where
   pub last : ClientEnd
   pub broken : Option LoopFault
   pub came : RunCame (end_connected 1 first) last old.left new.left old.taken new.taken broken
-  pub is_kept : Bool
-  pub kept : Keeps is_kept old.file new.file (IsFeaturesText last.client.table.tally.features)
+  pub watched : TellsRun (end_connected 1 first) last old.told new.told
+  pub kept : (new.file ≡ old.file)
+      ⊎ ((is_kept : Bool) × Keeps is_kept old.file new.file (IsFeaturesText last.client.table.tally.features))
 
--- where there is no memory for the report, nothing has moved but the client's turns
+-- where there is no memory, nothing has moved, or the client has had its turns
 abbrev pub StopsRun : ClientEnd → (old new : RunTold) → Type 0
-StopsRun first old new = (new.file ≡ old.file) ⊎ LeavesFile first old new
+StopsRun first old new = (new ≡ old) ⊎ LeavesFile first old new

@@ -79,16 +79,16 @@ fn turned<R: Source, W: Sink, N: Watcher, F: TextFile>(
 ) -> Result<(RunEnd, Vec<u8>), AllocError>
     requires { may_connect 1 client.old.client ≡ true }
     ensures leaves { IfOk result (λ end. LeavesRun client.old
-        (run_told (R.left ports.old.source) (W.taken ports.old.sink)
+        (run_told (R.left ports.old.source) (W.taken ports.old.sink) (N.told watcher.old)
         (file_told (F.kept file.old) (F.has_failed file.old)))
-        (run_told (R.left ports.new.source) (W.taken ports.new.sink)
+        (run_told (R.left ports.new.source) (W.taken ports.new.sink) (N.told watcher.new)
         (file_told (F.kept file.new) (F.has_failed file.new)))
         end.0 end.1.items) }
     ensures some { IfOk result (λ end. 0 < length end.1.items) }
     ensures stops { OnErr result (StopsRun client.old
-        (run_told (R.left ports.old.source) (W.taken ports.old.sink)
+        (run_told (R.left ports.old.source) (W.taken ports.old.sink) (N.told watcher.old)
         (file_told (F.kept file.old) (F.has_failed file.old)))
-        (run_told (R.left ports.new.source) (W.taken ports.new.sink)
+        (run_told (R.left ports.new.source) (W.taken ports.new.sink) (N.told watcher.new)
         (file_told (F.kept file.new) (F.has_failed file.new)))) }
     ensures blamed { IfOk result (λ end. BlamesClient end.0.ended.broken
         (R.has_failed ports.old.source) (R.has_failed ports.new.source)
@@ -119,20 +119,21 @@ pub fn drive<R: Source, W: Sink, N: Watcher, F: TextFile, O: Sink>(
 ) -> Result<RunEnd, FilesFault>
     requires { may_connect 1 client.client ≡ true }
 
-    // The report of what the client has become was written, and its file keeps what it then holds; or there was no memory for that, or the
-    // output has failed.
+    // The report of what the client has become was written, its file keeps what it then holds, and the watcher was told of what was
+    // completed; or there was no memory for that, or the output has failed.
     ensures prints { Prints (LeavesRun client
-        (run_told (R.left ports.old.source) (W.taken ports.old.sink)
+        (run_told (R.left ports.old.source) (W.taken ports.old.sink) (N.told watcher.old)
         (file_told (F.kept file.old) (F.has_failed file.old)))
-        (run_told (R.left ports.new.source) (W.taken ports.new.sink)
+        (run_told (R.left ports.new.source) (W.taken ports.new.sink) (N.told watcher.new)
         (file_told (F.kept file.new) (F.has_failed file.new))))
         (went O.taken O.has_failed out.old out.new) result }
 
-    // The file has the text that it had, or keeps what the client then holds, whatever is answered.
+    // Where there is no memory, nothing has moved; or the watcher was told of what was completed, and the file is as it was or keeps what
+    // the client then holds.
     ensures stops { IsErrOf result FilesFault.Memory → StopsRun client
-        (run_told (R.left ports.old.source) (W.taken ports.old.sink)
+        (run_told (R.left ports.old.source) (W.taken ports.old.sink) (N.told watcher.old)
         (file_told (F.kept file.old) (F.has_failed file.old)))
-        (run_told (R.left ports.new.source) (W.taken ports.new.sink)
+        (run_told (R.left ports.new.source) (W.taken ports.new.sink) (N.told watcher.new)
         (file_told (F.kept file.new) (F.has_failed file.new))) }
 
     // A port of the connection is told as what broke it off where it has failed, and only there.

@@ -1,12 +1,12 @@
 // A program is run over one connection between both ends, over ports.
 
-ghost use Rattle.std.specs.Prelude.{◌≡◌, ◌<◌, [], length, true, IfOk};
+ghost use Rattle.std.specs.Prelude.{◌≡◌, ◌<◌, [], length, true, IfOk, OnErr, IsErrOf};
 ghost use Rattle.client_core.specs.Clients.{is_window};
 ghost use Rattle.link_world.specs.LinkRuns.{client_side, server_side};
 ghost use Rattle.link_world.specs.Reports.{report_text};
 ghost use Rattle.dme_orders.specs.Ends.{first_client, first_server, ends_shown};
 ghost use Rattle.dme_orders.specs.Broken.{BlamesClient, BlamesServer};
-ghost use Rattle.dme_orders.specs.Looping.{four_told, LoopCame, LeavesLoop};
+ghost use Rattle.dme_orders.specs.Looping.{loop_told, LoopCame, LeavesLoop, StopsLoop};
 ghost use Rattle.dme_orders.specs.Orders.{went, Prints};
 
 use crate::ended::ConnectionEnd;
@@ -58,12 +58,17 @@ fn looped<CR: Source, CW: Sink, SR: Source, SW: Sink, N: Watcher>(
 ) -> Result<(ConnectionEnd, Vec<u8>), AllocError>
     requires { is_window window ≡ true }
     ensures leaves { IfOk result (λ end. LeavesLoop window setup program
-        (four_told (CR.left client_ports.old.source) (CW.taken client_ports.old.sink)
-        (SR.left server_ports.old.source) (SW.taken server_ports.old.sink))
-        (four_told (CR.left client_ports.new.source) (CW.taken client_ports.new.sink)
-        (SR.left server_ports.new.source) (SW.taken server_ports.new.sink))
+        (loop_told (CR.left client_ports.old.source) (CW.taken client_ports.old.sink)
+        (SR.left server_ports.old.source) (SW.taken server_ports.old.sink) (N.told watcher.old))
+        (loop_told (CR.left client_ports.new.source) (CW.taken client_ports.new.sink)
+        (SR.left server_ports.new.source) (SW.taken server_ports.new.sink) (N.told watcher.new))
         end.0 end.1.items) }
     ensures some { IfOk result (λ end. 0 < length end.1.items) }
+    ensures stops { OnErr result (StopsLoop window setup program
+        (loop_told (CR.left client_ports.old.source) (CW.taken client_ports.old.sink)
+        (SR.left server_ports.old.source) (SW.taken server_ports.old.sink) (N.told watcher.old))
+        (loop_told (CR.left client_ports.new.source) (CW.taken client_ports.new.sink)
+        (SR.left server_ports.new.source) (SW.taken server_ports.new.sink) (N.told watcher.new))) }
     ensures client_blamed { IfOk result (λ end. BlamesClient end.0.broken
         (CR.has_failed client_ports.old.source) (CR.has_failed client_ports.new.source)
         (CW.has_failed client_ports.old.sink) (CW.has_failed client_ports.new.sink)) }
@@ -107,13 +112,21 @@ pub fn loop_over<CR: Source, CW: Sink, SR: Source, SW: Sink, N: Watcher, W: Sink
 ) -> Result<ConnectionEnd, FilesFault>
     requires { is_window window ≡ true }
 
-    // The report of what both ends have become was written; or there was no memory for it, or the sink has failed.
+    // The report of what both ends have become was written, and the watcher was told of what was completed; or there was no memory for
+    // that, or the sink has failed.
     ensures prints { Prints (LeavesLoop window setup program
-        (four_told (CR.left client_ports.old.source) (CW.taken client_ports.old.sink)
-        (SR.left server_ports.old.source) (SW.taken server_ports.old.sink))
-        (four_told (CR.left client_ports.new.source) (CW.taken client_ports.new.sink)
-        (SR.left server_ports.new.source) (SW.taken server_ports.new.sink)))
+        (loop_told (CR.left client_ports.old.source) (CW.taken client_ports.old.sink)
+        (SR.left server_ports.old.source) (SW.taken server_ports.old.sink) (N.told watcher.old))
+        (loop_told (CR.left client_ports.new.source) (CW.taken client_ports.new.sink)
+        (SR.left server_ports.new.source) (SW.taken server_ports.new.sink) (N.told watcher.new)))
         (went W.taken W.has_failed sink.old sink.new) result }
+
+    // Where there is no memory, nothing has moved; or the watcher was told of what was completed.
+    ensures stops { IsErrOf result FilesFault.Memory → StopsLoop window setup program
+        (loop_told (CR.left client_ports.old.source) (CW.taken client_ports.old.sink)
+        (SR.left server_ports.old.source) (SW.taken server_ports.old.sink) (N.told watcher.old))
+        (loop_told (CR.left client_ports.new.source) (CW.taken client_ports.new.sink)
+        (SR.left server_ports.new.source) (SW.taken server_ports.new.sink) (N.told watcher.new)) }
 
     // A port of the connection is told as what broke it off where it has failed, and only there.
     ensures client_blamed { IfOk result (λ ended. BlamesClient ended.broken

@@ -1,5 +1,7 @@
 // Lines on standard error that tell how far an order is.
 
+ghost use Rattle.std.specs.Prelude.{None};
+
 use contact_ledger::Feature;
 use link_world::Watcher;
 
@@ -19,6 +21,8 @@ impl<'a, R: Eprint> Progress<'a, R> {
 }
 
 impl<'a, R: Eprint> Watcher for Progress<'a, R> {
+    ghost told = { λ _. None };
+
     fn completed(&mut self, number: usize, feature: &Feature) {
         if self.is_told {
             let total = self.total;

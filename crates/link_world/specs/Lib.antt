@@ -17,3 +17,5 @@ pub mod ServerPumps
 pub mod ServerPumpParts
 pub mod Joined
 pub mod LinkRuns
+pub mod Watching
+pub mod WatchingRows

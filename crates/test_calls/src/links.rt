@@ -188,6 +188,10 @@ impl Told {
 }
 
 impl Watcher for Told {
+    ghost use Rattle.std.specs.Prelude.{None};
+
+    ghost told = { λ _. None };
+
     fn completed(&mut self, number: usize, feature: &Feature) {
         if self.push(number, feature).is_err() {
             self.is_short = true;

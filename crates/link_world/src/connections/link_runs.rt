@@ -2,12 +2,14 @@
 
 ghost use Rattle.std.specs.Prelude.{◌≡◌, ◌≤◌, ◌+◌, true, false, IfOk, OnOk, OnErr, IfErr};
 ghost use Rattle.link_world.specs.Pumps.{BlamesPorts};
+ghost use Rattle.link_world.specs.Watching.{TellsRun};
 ghost use Rattle.link_world.specs.LinkRuns.{calls_most, client_side, server_side, are_still, PairMoved, PairStopped, LoopRan, LoopStopped};
 
-use crate::connections::links::{LoopFault, STEPS_MAX, TURNS_MAX, Watcher, watched_turn};
+use crate::connections::links::{LoopFault, STEPS_MAX, TURNS_MAX, watched_turn};
 use crate::connections::machines::Machine;
 use crate::connections::pumps::{Moved, PumpFault};
 use crate::connections::server_pump::serve_turns;
+use crate::connections::watching::Watcher;
 use byte_ports::{Ports, Sink, Source};
 use client_core::Client;
 use server_core::Server;
@@ -58,6 +60,7 @@ fn pair<M: Machine, CR: Source, CW: Sink, SR: Source, SW: Sink, N: Watcher>(
         (LoopFault.Server PumpFault.WriteFailed) result
         (SR.has_failed server_ports.old.source) (SR.has_failed server_ports.new.source)
         (SW.has_failed server_ports.old.sink) (SW.has_failed server_ports.new.sink) }
+    ensures told { TellsRun client.old client.new (N.told watcher.old) (N.told watcher.new) }
 {
     let by_client = match watched_turn(client, client_ports, down, watcher) {
         Ok(moved) => moved,
@@ -79,7 +82,7 @@ fn pair<M: Machine, CR: Source, CW: Sink, SR: Source, SW: Sink, N: Watcher>(
 /// A client and a server have their turns by turns, each over its own ports of one connection (this profile): in each pair of turns the
 /// client asks for as many bytes as the server wrote in its last turn, at first for none, and then the server for as many as the client has
 /// just written. It ends with Ok behind a pair in which no byte came in and none went out. The watcher is told of each feature that a turn
-/// has completed, in order and behind that turn; whatever it does, all else is the same.
+/// has completed, once, in order, with its number and after that turn, be it one that stops; whatever it does, all else is the same.
 ///
 /// Where one side's turn stops, its fault is the answer, and the other side leaves its connection too. A turn may make 1,000,000 steps, and
 /// there may be 1,000,000 pairs; behind them both sides leave, and the answer is that the client's turns are spent.
@@ -118,6 +121,7 @@ pub fn loop_link<M: Machine, CR: Source, CW: Sink, SR: Source, SW: Sink, N: Watc
         (LoopFault.Server PumpFault.WriteFailed) result
         (SR.has_failed server_ports.old.source) (SR.has_failed server_ports.new.source)
         (SW.has_failed server_ports.old.sink) (SW.has_failed server_ports.new.sink) }
+    ensures told { TellsRun client.old client.new (N.told watcher.old) (N.told watcher.new) }
 {
     let mut down = 0;
     for _pair in 0..TURNS_MAX {

@@ -3,15 +3,16 @@
 ghost use Rattle.std.specs.Prelude.{◌≡◌, ◌↔◌, ◌<◌, ◌≤◌, ◌+◌, true, false, IsOk, IfOk, OnOk, OnErr, IfErr};
 ghost use Rattle.std.specs.Result.{IsErrOf};
 ghost use Rattle.link_world.specs.Pumps.{BlamesPorts, ClientMovedWithin, ClientStoppedWithin};
+ghost use Rattle.link_world.specs.Watching.{TellsRun};
 ghost use Rattle.link_world.specs.LinkRuns.{calls_most, is_over, ClientRan, ClientRunStopped, ServerRunStopped};
 
 use crate::connections::client_pump::client_turns;
 use crate::connections::machines::Machine;
 use crate::connections::pumps::{Moved, PIECE, PumpFault};
 use crate::connections::server_pump::serve_turns;
+use crate::connections::watching::{Silent, Watcher, tell};
 use byte_ports::{Ports, Sink, Source};
 use client_core::{Client, ClientFault, State};
-use contact_ledger::Feature;
 use server_core::{Server, ServerFault};
 
 /// How many turns a run may have (this profile): `turns_most` of the definitions.
@@ -19,20 +20,6 @@ pub(crate) const TURNS_MAX: u32 = 1_000_000;
 
 /// How many steps each of them may make (this profile): `steps_most` of the definitions.
 pub(crate) const STEPS_MAX: u64 = 1_000_000;
-
-/// Who is told of each feature that a run has completed.
-pub trait Watcher {
-    /// A feature is completed, the one with this number among those of the program, counted from 1.
-    fn completed(&mut self, number: usize, feature: &Feature);
-}
-
-/// A watcher that nobody hears of.
-#[derive(Clone, Copy, Debug)]
-pub struct Silent;
-
-impl Watcher for Silent {
-    fn completed(&mut self, _number: usize, _feature: &Feature) {}
-}
 
 /// Why a client and a server that have their turns by turns stop: the fault of one side's turn.
 #[derive(Clone, Copy, Debug, PartialEq, Eq)]
@@ -48,14 +35,6 @@ fn is_over(state: State) -> bool
     ensures { result ≡ is_over state }
 {
     matches!(state, State::Done | State::Halted)
-}
-
-/// Tells of the features behind the first `told`, in order.
-fn tell<N: Watcher>(client: &Client, told: usize, watcher: &mut N) {
-    let features = client.features();
-    for at in told..features.len() {
-        watcher.completed(at + 1, &features[at]);
-    }
 }
 
 /// One turn of a client, of whose features the watcher is told, whether it stops or not.
@@ -78,16 +57,17 @@ pub(crate) fn watched_turn<R: Source, W: Sink, N: Watcher>(
     ensures blamed { BlamesPorts PumpFault.ReadFailed PumpFault.WriteFailed result
         (R.has_failed ports.old.source) (R.has_failed ports.new.source)
         (W.has_failed ports.old.sink) (W.has_failed ports.new.sink) }
+    ensures told { TellsRun client.old client.new (N.told watcher.old) (N.told watcher.new) }
 {
-    let told = client.features().len();
+    let held = client.features().len();
     let result = client_turns(client, ports, at_least, STEPS_MAX);
-    tell(client, told, watcher);
+    tell(client.features(), held, watcher);
     result
 }
 
 /// A whole run of a client over the ports of its connection (this profile): turns in which at least one byte comes in, until it is Done or
-/// Halted. It makes none where it is so at first. The watcher is told of each feature that a turn has completed, in order and behind that
-/// turn, be it one that stops; whatever it does, the run is the same.
+/// Halted. It makes none where it is so at first. The watcher is told of each feature that a turn has completed, once, in order, with its
+/// number and after that turn, be it one that stops; whatever it does, the run is the same.
 ///
 /// A fault of a turn is the answer, and the client has then left its connection. A turn may make 1,000,000 steps, and a run may have
 /// 1,000,000 turns; where the client is neither Done nor Halted behind them, it leaves, and the answer is `TurnsSpent`. That comes only
@@ -108,6 +88,7 @@ pub fn watch_link<R: Source, W: Sink, N: Watcher>(
     ensures blamed { BlamesPorts PumpFault.ReadFailed PumpFault.WriteFailed result
         (R.has_failed ports.old.source) (R.has_failed ports.new.source)
         (W.has_failed ports.old.sink) (W.has_failed ports.new.sink) }
+    ensures told { TellsRun client.old client.new (N.told watcher.old) (N.told watcher.new) }
 {
     let mut turns = 0;
     while !is_over(client.state()) {

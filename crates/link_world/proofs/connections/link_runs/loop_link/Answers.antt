@@ -6,10 +6,22 @@ use Rattle.link_world.specs.LinkRuns.{client_side, server_side}
 use Rattle.link_world.specs.LinkRuns as run
 use Rattle.link_world.proofs.ClientPumps.{if_err}
 use Rattle.link_world.proofs.LoopRuns.{pair_goes, loop_stops, loop_spends}
+use Rattle.link_world.proofs.Telling.{tells_none, tells_more, tells_left}
 use Rattle.link_world.proofs.connections.link_runs.loop_link.Goals as goal
 
 pub loop-pair-init : goal.loop-pair-init
-loop-pair-init g c = (run.starts, refl, refl, omega arith, omega arith, λ works. works, λ works. works, λ works. works, λ works. works)
+loop-pair-init g c = (
+  run.starts,
+  refl,
+  refl,
+  omega arith,
+  omega arith,
+  λ works. works,
+  λ works. works,
+  λ works. works,
+  λ works. works,
+  tells_none c.args.client.now (g.N.Watcher.told c.args.watcher.now),
+)
 
 pub returns-in_err-by_client-clause-stopped : goal.returns-in_err-by_client-clause-stopped
 returns-in_err-by_client-clause-stopped g c = if_err c.from_residual.result _ _ c.from_residual.ensures.0 c.from_residual.ensures.1
@@ -42,7 +54,23 @@ loop-pair-preserved g c = (
   grind (arith, common_steps),
   grind (arith, common_steps),
   grind (arith, common_steps),
+  tells_more c.args.client.now c.loop-pair.client c.pair.new.client (g.N.Watcher.told c.args.watcher.now)
+      (g.N.Watcher.told c.loop-pair.watcher) (g.N.Watcher.told c.pair.new.watcher) c.loop-pair.invariant.9 c.pair.ensures.told,
 )
+
+pub returns-in_err-by_client-clause-told : goal.returns-in_err-by_client-clause-told
+returns-in_err-by_client-clause-told g c = tells_more c.args.client.now c.loop-pair.client c.pair.new.client
+    (g.N.Watcher.told c.args.watcher.now) (g.N.Watcher.told c.loop-pair.watcher) (g.N.Watcher.told c.pair.new.watcher)
+    c.loop-pair.invariant.9 c.pair.ensures.told
+
+pub returns-then-are_still-clause-told : goal.returns-then-are_still-clause-told
+returns-then-are_still-clause-told g c = tells_more c.args.client.now c.loop-pair.client c.pair.new.client
+    (g.N.Watcher.told c.args.watcher.now) (g.N.Watcher.told c.loop-pair.watcher) (g.N.Watcher.told c.pair.new.watcher)
+    c.loop-pair.invariant.9 c.pair.ensures.told
+
+pub returns-clause-told : goal.returns-clause-told
+returns-clause-told g c = tells_left c.args.client.now c.loop-pair.client c.leave.new.self
+    (g.N.Watcher.told c.args.watcher.now) (g.N.Watcher.told c.loop-pair.watcher) c.leave.ensures c.loop-pair.invariant.9
 
 pub returns-clause-stopped : goal.returns-clause-stopped
 returns-clause-stopped g c = loop_spends (g.M.Machine.answers c.args.machine.now) c.loop-pair._pair c.loop-pair.down

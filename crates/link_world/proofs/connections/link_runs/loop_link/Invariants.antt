@@ -1,5 +1,6 @@
 use Rattle.std.proofs.Common.{◌≡◌, ◌≤◌, ◌+◌, ◌*◌, false}
 use Rattle.link_world.specs.LinkRuns.{client_side, server_side, LoopRun}
+use Rattle.link_world.specs.Watching.{TellsRun}
 use Rattle.link_world.proofs.connections.link_runs.loop_link.Given as goal
 
 abbrev pub invariant-loop-pair : goal.invariant-loop-pair
@@ -20,3 +21,4 @@ invariant-loop-pair g l =
     × (g.CW.Sink.has_failed l.initial.client_ports.sink ≡ false → g.CW.Sink.has_failed l.client_ports.sink ≡ false)
     × (g.SR.Source.has_failed l.initial.server_ports.source ≡ false → g.SR.Source.has_failed l.server_ports.source ≡ false)
     × (g.SW.Sink.has_failed l.initial.server_ports.sink ≡ false → g.SW.Sink.has_failed l.server_ports.sink ≡ false)
+    × TellsRun l.initial.client l.client (g.N.Watcher.told l.initial.watcher) (g.N.Watcher.told l.watcher)

@@ -2,6 +2,7 @@ use Rattle.std.proofs.Common.{rules, arith, ◌<◌}
 use Rattle.std.proofs.lemmas.Grind.{common_steps}
 use Rattle.link_world.proofs.ClientPumps.{if_err}
 use Rattle.link_world.proofs.ClientRuns.{client_starts, client_goes, client_stops, client_spends}
+use Rattle.link_world.proofs.Telling.{tells_none, tells_more, tells_left}
 use Rattle.link_world.proofs.connections.links.watch_link.Goals as goal
 
 pub loop-client-init : goal.loop-client-init
@@ -11,6 +12,7 @@ loop-client-init g c = (
   omega arith,
   λ works. works,
   λ works. works,
+  tells_none c.args.client.now (g.N.Watcher.told c.args.watcher.now),
 )
 
 pub returns-then-turns-eq-TURNS_MAX-clause-stopped : goal.returns-then-turns-eq-TURNS_MAX-clause-stopped
@@ -33,6 +35,15 @@ returns-in_err-watched_turn-clause-bounded g c =
     let few : c.loop-client.turns < 1000000 = grind arith in
     let more = c.in_err-watched_turn.ensures.stopped.within in omega (arith, before, few, more)
 
+pub returns-then-turns-eq-TURNS_MAX-clause-told : goal.returns-then-turns-eq-TURNS_MAX-clause-told
+returns-then-turns-eq-TURNS_MAX-clause-told g c = tells_left c.args.client.now c.loop-client.client c.leave.new.self
+    (g.N.Watcher.told c.args.watcher.now) (g.N.Watcher.told c.loop-client.watcher) c.leave.ensures c.loop-client.invariant.5
+
+pub returns-in_err-watched_turn-clause-told : goal.returns-in_err-watched_turn-clause-told
+returns-in_err-watched_turn-clause-told g c = tells_more c.args.client.now c.loop-client.client c.watched_turn.new.client
+    (g.N.Watcher.told c.args.watcher.now) (g.N.Watcher.told c.loop-client.watcher) (g.N.Watcher.told c.watched_turn.new.watcher)
+    c.loop-client.invariant.5 c.watched_turn.ensures.told
+
 pub loop-client-preserved : goal.loop-client-preserved
 loop-client-preserved g c = (
   client_goes c.loop-client.turns c.args.client.now c.loop-client.client c.watched_turn.new.client (g.R.Source.left c.args.ports.now.source)
@@ -44,4 +55,7 @@ loop-client-preserved g c = (
       let more = c.in_ok-watched_turn.ensures.moved.within in omega (arith, before, more)),
   grind (arith, common_steps),
   grind (arith, common_steps),
+  tells_more c.args.client.now c.loop-client.client c.watched_turn.new.client (g.N.Watcher.told c.args.watcher.now)
+      (g.N.Watcher.told c.loop-client.watcher) (g.N.Watcher.told c.watched_turn.new.watcher) c.loop-client.invariant.5
+      c.watched_turn.ensures.told,
 )

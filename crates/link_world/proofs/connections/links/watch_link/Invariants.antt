@@ -1,4 +1,5 @@
 use Rattle.std.proofs.Common.{◌≡◌, ◌≤◌, ◌+◌, ◌*◌, ◌-◌, false}
+use Rattle.link_world.specs.Watching.{TellsRun}
 use Rattle.link_world.proofs.ClientRuns.{ClientSoFar}
 use Rattle.link_world.proofs.connections.links.watch_link.Given as goal
 
@@ -11,6 +12,7 @@ invariant-loop-client g l =
     ≤ g.R.Source.calls l.initial.ports.source + g.W.Sink.calls l.initial.ports.sink + l.turns * 1000000)
     × (g.R.Source.has_failed l.initial.ports.source ≡ false → g.R.Source.has_failed l.ports.source ≡ false)
     × (g.W.Sink.has_failed l.initial.ports.sink ≡ false → g.W.Sink.has_failed l.ports.sink ≡ false)
+    × TellsRun l.initial.client l.client (g.N.Watcher.told l.initial.watcher) (g.N.Watcher.told l.watcher)
 
 abbrev pub decreases-loop-client : goal.decreases-loop-client
 decreases-loop-client g l = 1000000 - l.turns

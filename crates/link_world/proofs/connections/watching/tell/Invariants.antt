@@ -1,0 +1,5 @@
+use Rattle.link_world.proofs.Telling.{ToldSoFar}
+use Rattle.link_world.proofs.connections.watching.tell.Given as goal
+
+abbrev pub invariant-loop-at : goal.invariant-loop-at
+invariant-loop-at g l = ToldSoFar l.features l.held l.at (g.N.Watcher.told l.fn.watcher) (g.N.Watcher.told l.watcher)
