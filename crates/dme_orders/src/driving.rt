@@ -27,6 +27,15 @@ pub struct RunEnd {
     pub is_kept: bool,
 }
 
+/// Where a run leaves what it has measured.
+#[derive(Drop)]
+pub struct RunOutputs<F, O> {
+    /// The file that keeps the client's features.
+    pub features: F,
+    /// Where the report is written.
+    pub report: O,
+}
+
 /// The client comes to connection 1. Only want of memory is an `Err`.
 fn come(client: &mut Client) -> Result<(), AllocError>
     requires { may_connect 1 client.old.client ≡ true }
@@ -114,8 +123,7 @@ pub fn drive<R: Source, W: Sink, N: Watcher, F: TextFile, O: Sink>(
     client: Client,
     ports: &mut Ports<R, W>,
     watcher: &mut N,
-    file: &mut F,
-    out: &mut O,
+    outputs: &mut RunOutputs<F, O>,
 ) -> Result<RunEnd, FilesFault>
     requires { may_connect 1 client.client ≡ true }
 
@@ -123,18 +131,18 @@ pub fn drive<R: Source, W: Sink, N: Watcher, F: TextFile, O: Sink>(
     // completed; or there was no memory for that, or the output has failed.
     ensures prints { Prints (LeavesRun client
         (run_told (R.left ports.old.source) (W.taken ports.old.sink) (N.told watcher.old)
-        (file_told (F.kept file.old) (F.has_failed file.old)))
+        (file_told (F.kept outputs.old.features) (F.has_failed outputs.old.features)))
         (run_told (R.left ports.new.source) (W.taken ports.new.sink) (N.told watcher.new)
-        (file_told (F.kept file.new) (F.has_failed file.new))))
-        (went O.taken O.has_failed out.old out.new) result }
+        (file_told (F.kept outputs.new.features) (F.has_failed outputs.new.features))))
+        (went O.taken O.has_failed outputs.old.report outputs.new.report) result }
 
     // Where there is no memory, nothing has moved; or the watcher was told of what was completed, and the file is as it was or keeps what
     // the client then holds.
     ensures stops { IsErrOf result FilesFault.Memory → StopsRun client
         (run_told (R.left ports.old.source) (W.taken ports.old.sink) (N.told watcher.old)
-        (file_told (F.kept file.old) (F.has_failed file.old)))
+        (file_told (F.kept outputs.old.features) (F.has_failed outputs.old.features)))
         (run_told (R.left ports.new.source) (W.taken ports.new.sink) (N.told watcher.new)
-        (file_told (F.kept file.new) (F.has_failed file.new))) }
+        (file_told (F.kept outputs.new.features) (F.has_failed outputs.new.features))) }
 
     // A port of the connection is told as what broke it off where it has failed, and only there.
     ensures blamed { IfOk result (λ driven. BlamesClient driven.ended.broken
@@ -142,9 +150,9 @@ pub fn drive<R: Source, W: Sink, N: Watcher, F: TextFile, O: Sink>(
         (W.has_failed ports.old.sink) (W.has_failed ports.new.sink)) }
 {
     let mut client = client;
-    let end = turned(alloc, &mut client, ports, watcher, file);
+    let end = turned(alloc, &mut client, ports, watcher, &mut outputs.features);
     drop(client);
     let (driven, text) = end?;
-    write_text(out, text.as_slice())?;
+    write_text(&mut outputs.report, text.as_slice())?;
     Ok(driven)
 }

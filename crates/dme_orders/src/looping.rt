@@ -13,30 +13,36 @@ use crate::ended::ConnectionEnd;
 use crate::ends::{ends_report, first_client, first_server};
 use crate::reading::FilesFault;
 use crate::simulating::write_text;
-use byte_ports::{Ports, Sink, Source};
+use byte_ports::{Sink, Source};
 use client_core::Client;
 use dmis_program::Program;
-use link_world::{Simulated, Watcher, loop_link};
+use link_world::{LoopPorts, Simulated, Watcher, loop_link};
 use server_core::Server;
 use std::alloc::{AllocError, Global};
 use tool_rack::Setup;
 
+/// What is run over one connection between both ends.
+#[derive(Drop)]
+pub struct LoopTask {
+    /// The setup of the server and its simulated machine.
+    pub setup: Setup,
+    /// The client's program.
+    pub program: Program,
+    /// How many commands the client keeps open at most, from 1 to 16.
+    pub window: u8,
+}
+
 /// The simulated machine and the server of a setup, and a new client of a program, both on connection 1. Only want of memory is an `Err`.
-fn new_ends(
-    alloc: Global,
-    setup: Setup,
-    program: Program,
-    window: u8,
-) -> Result<(Simulated, Server, Client), AllocError>
-    requires { is_window window ≡ true }
-    ensures machine { IfOk result (λ ends. ends.0 ≡ setup.shifts) }
+fn new_ends(alloc: Global, task: LoopTask) -> Result<(Simulated, Server, Client), AllocError>
+    requires { is_window task.window ≡ true }
+    ensures machine { IfOk result (λ ends. ends.0 ≡ task.setup.shifts) }
     ensures server { IfOk result (λ ends. ends.1
-        ≡ record { setup = setup; end = first_server setup }) }
-    ensures client { IfOk result (λ ends. ends.2 ≡ first_client program [] window) }
+        ≡ record { setup = task.setup; end = first_server task.setup }) }
+    ensures client { IfOk result (λ ends. ends.2 ≡ first_client task.program [] task.window) }
 {
-    let machine = Simulated::new(alloc, &setup)?;
-    let server = first_server(alloc, setup)?;
-    match first_client(alloc, program, window) {
+    let machine = Simulated::new(alloc, &task.setup)?;
+    let server = first_server(alloc, task.setup)?;
+    match first_client(alloc, task.program, task.window) {
         Ok(client) => Ok((machine, server, client)),
         Err(error) => {
             drop(server);
@@ -49,42 +55,32 @@ fn new_ends(
 /// Both ends of a program and a setup have their turns; how that has ended, and the report of them. Fails only if out of memory.
 fn looped<CR: Source, CW: Sink, SR: Source, SW: Sink, N: Watcher>(
     alloc: Global,
-    setup: Setup,
-    program: Program,
-    window: u8,
-    client_ports: &mut Ports<CR, CW>,
-    server_ports: &mut Ports<SR, SW>,
+    task: LoopTask,
+    ports: &mut LoopPorts<CR, CW, SR, SW>,
     watcher: &mut N,
 ) -> Result<(ConnectionEnd, Vec<u8>), AllocError>
-    requires { is_window window ≡ true }
-    ensures leaves { IfOk result (λ end. LeavesLoop window setup program
-        (loop_told (CR.left client_ports.old.source) (CW.taken client_ports.old.sink)
-        (SR.left server_ports.old.source) (SW.taken server_ports.old.sink) (N.told watcher.old))
-        (loop_told (CR.left client_ports.new.source) (CW.taken client_ports.new.sink)
-        (SR.left server_ports.new.source) (SW.taken server_ports.new.sink) (N.told watcher.new))
+    requires { is_window task.window ≡ true }
+    ensures leaves { IfOk result (λ end. LeavesLoop task.window task.setup task.program
+        (loop_told (CR.left ports.old.client.source) (CW.taken ports.old.client.sink)
+        (SR.left ports.old.server.source) (SW.taken ports.old.server.sink) (N.told watcher.old))
+        (loop_told (CR.left ports.new.client.source) (CW.taken ports.new.client.sink)
+        (SR.left ports.new.server.source) (SW.taken ports.new.server.sink) (N.told watcher.new))
         end.0 end.1.items) }
     ensures some { IfOk result (λ end. 0 < length end.1.items) }
-    ensures stops { OnErr result (StopsLoop window setup program
-        (loop_told (CR.left client_ports.old.source) (CW.taken client_ports.old.sink)
-        (SR.left server_ports.old.source) (SW.taken server_ports.old.sink) (N.told watcher.old))
-        (loop_told (CR.left client_ports.new.source) (CW.taken client_ports.new.sink)
-        (SR.left server_ports.new.source) (SW.taken server_ports.new.sink) (N.told watcher.new))) }
+    ensures stops { OnErr result (StopsLoop task.window task.setup task.program
+        (loop_told (CR.left ports.old.client.source) (CW.taken ports.old.client.sink)
+        (SR.left ports.old.server.source) (SW.taken ports.old.server.sink) (N.told watcher.old))
+        (loop_told (CR.left ports.new.client.source) (CW.taken ports.new.client.sink)
+        (SR.left ports.new.server.source) (SW.taken ports.new.server.sink) (N.told watcher.new))) }
     ensures client_blamed { IfOk result (λ end. BlamesClient end.0.broken
-        (CR.has_failed client_ports.old.source) (CR.has_failed client_ports.new.source)
-        (CW.has_failed client_ports.old.sink) (CW.has_failed client_ports.new.sink)) }
+        (CR.has_failed ports.old.client.source) (CR.has_failed ports.new.client.source)
+        (CW.has_failed ports.old.client.sink) (CW.has_failed ports.new.client.sink)) }
     ensures server_blamed { IfOk result (λ end. BlamesServer end.0.broken
-        (SR.has_failed server_ports.old.source) (SR.has_failed server_ports.new.source)
-        (SW.has_failed server_ports.old.sink) (SW.has_failed server_ports.new.sink)) }
+        (SR.has_failed ports.old.server.source) (SR.has_failed ports.new.server.source)
+        (SW.has_failed ports.old.server.sink) (SW.has_failed ports.new.server.sink)) }
 {
-    let (mut machine, mut server, mut client) = new_ends(alloc, setup, program, window)?;
-    let result = loop_link(
-        &mut client,
-        client_ports,
-        &mut server,
-        &mut machine,
-        server_ports,
-        watcher,
-    );
+    let (mut machine, mut server, mut client) = new_ends(alloc, task)?;
+    let result = loop_link(&mut client, &mut server, &mut machine, ports, watcher);
     let text = ends_report(alloc, &client, server.ledger());
     let state = client.state();
     drop(client);
@@ -102,49 +98,38 @@ fn looped<CR: Source, CW: Sink, SR: Source, SW: Sink, N: Watcher>(
 /// the report is written as well where a fault has broken it off. `Memory` and `Write` are the only `Err`s.
 pub fn loop_over<CR: Source, CW: Sink, SR: Source, SW: Sink, N: Watcher, W: Sink>(
     alloc: Global,
-    setup: Setup,
-    program: Program,
-    window: u8,
-    client_ports: &mut Ports<CR, CW>,
-    server_ports: &mut Ports<SR, SW>,
+    task: LoopTask,
+    ports: &mut LoopPorts<CR, CW, SR, SW>,
     watcher: &mut N,
     sink: &mut W,
 ) -> Result<ConnectionEnd, FilesFault>
-    requires { is_window window ≡ true }
+    requires { is_window task.window ≡ true }
 
     // The report of what both ends have become was written, and the watcher was told of what was completed; or there was no memory for
     // that, or the sink has failed.
-    ensures prints { Prints (LeavesLoop window setup program
-        (loop_told (CR.left client_ports.old.source) (CW.taken client_ports.old.sink)
-        (SR.left server_ports.old.source) (SW.taken server_ports.old.sink) (N.told watcher.old))
-        (loop_told (CR.left client_ports.new.source) (CW.taken client_ports.new.sink)
-        (SR.left server_ports.new.source) (SW.taken server_ports.new.sink) (N.told watcher.new)))
+    ensures prints { Prints (LeavesLoop task.window task.setup task.program
+        (loop_told (CR.left ports.old.client.source) (CW.taken ports.old.client.sink)
+        (SR.left ports.old.server.source) (SW.taken ports.old.server.sink) (N.told watcher.old))
+        (loop_told (CR.left ports.new.client.source) (CW.taken ports.new.client.sink)
+        (SR.left ports.new.server.source) (SW.taken ports.new.server.sink) (N.told watcher.new)))
         (went W.taken W.has_failed sink.old sink.new) result }
 
     // Where there is no memory, nothing has moved; or the watcher was told of what was completed.
-    ensures stops { IsErrOf result FilesFault.Memory → StopsLoop window setup program
-        (loop_told (CR.left client_ports.old.source) (CW.taken client_ports.old.sink)
-        (SR.left server_ports.old.source) (SW.taken server_ports.old.sink) (N.told watcher.old))
-        (loop_told (CR.left client_ports.new.source) (CW.taken client_ports.new.sink)
-        (SR.left server_ports.new.source) (SW.taken server_ports.new.sink) (N.told watcher.new)) }
+    ensures stops { IsErrOf result FilesFault.Memory → StopsLoop task.window task.setup task.program
+        (loop_told (CR.left ports.old.client.source) (CW.taken ports.old.client.sink)
+        (SR.left ports.old.server.source) (SW.taken ports.old.server.sink) (N.told watcher.old))
+        (loop_told (CR.left ports.new.client.source) (CW.taken ports.new.client.sink)
+        (SR.left ports.new.server.source) (SW.taken ports.new.server.sink) (N.told watcher.new)) }
 
     // A port of the connection is told as what broke it off where it has failed, and only there.
     ensures client_blamed { IfOk result (λ ended. BlamesClient ended.broken
-        (CR.has_failed client_ports.old.source) (CR.has_failed client_ports.new.source)
-        (CW.has_failed client_ports.old.sink) (CW.has_failed client_ports.new.sink)) }
+        (CR.has_failed ports.old.client.source) (CR.has_failed ports.new.client.source)
+        (CW.has_failed ports.old.client.sink) (CW.has_failed ports.new.client.sink)) }
     ensures server_blamed { IfOk result (λ ended. BlamesServer ended.broken
-        (SR.has_failed server_ports.old.source) (SR.has_failed server_ports.new.source)
-        (SW.has_failed server_ports.old.sink) (SW.has_failed server_ports.new.sink)) }
+        (SR.has_failed ports.old.server.source) (SR.has_failed ports.new.server.source)
+        (SW.has_failed ports.old.server.sink) (SW.has_failed ports.new.server.sink)) }
 {
-    let (ended, text) = looped(
-        alloc,
-        setup,
-        program,
-        window,
-        client_ports,
-        server_ports,
-        watcher,
-    )?;
+    let (ended, text) = looped(alloc, task, ports, watcher)?;
     write_text(sink, text.as_slice())?;
     Ok(ended)
 }

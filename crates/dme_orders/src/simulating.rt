@@ -21,6 +21,14 @@ use link_world::{NewFault, Schedule, World, write_report};
 use std::alloc::{AllocError, Global};
 use tool_rack::Setup;
 
+/// What is simulated.
+#[derive(Drop)]
+struct Simulation {
+    setup: Setup,
+    schedule: Schedule,
+    program: Program,
+}
+
 /// The world of a program and a setup in which nothing has happened. Only want of memory is an `Err`.
 fn new_world(alloc: Global, program: Program, setup: Setup, window: u8) -> Result<World, AllocError>
     requires { is_window window ≡ true }
@@ -54,20 +62,19 @@ fn play<L: Sink>(
     Ok(())
 }
 
-/// Plays a schedule in a new world. Only want of memory is an `Err`.
+/// Plays the schedule of a simulation in a new world. Only want of memory is an `Err`.
 fn played<L: Sink>(
     alloc: Global,
-    setup: Setup,
-    schedule: &Schedule,
-    program: Program,
+    input: Simulation,
     window: u8,
     lines: &mut Option<L>,
 ) -> Result<World, AllocError>
     requires { is_window window ≡ true }
-    ensures { IfOk result (λ end. IsPlayed window setup schedule.now program end.world) }
+    ensures { IfOk result (λ end. IsPlayed window input.setup input.schedule input.program
+        end.world) }
 {
-    let mut world = new_world(alloc, program, setup, window)?;
-    match play(schedule, &mut world, lines) {
+    let mut world = new_world(alloc, input.program, input.setup, window)?;
+    match play(&input.schedule, &mut world, lines) {
         Ok(()) => Ok(world),
         Err(error) => {
             drop(world);
@@ -88,47 +95,59 @@ fn reported(alloc: Global, world: &World) -> Result<(State, Vec<u8>), AllocError
     Ok((report.state, text))
 }
 
-/// Plays a schedule in a new world: the client's last state, and the world's report. Only want of memory is an `Err`.
+/// Plays the schedule of a simulation in a new world: the client's last state, and the world's report. Only want of memory is an `Err`.
 fn simulated_report<L: Sink>(
     alloc: Global,
-    setup: Setup,
-    schedule: &Schedule,
-    program: Program,
+    input: Simulation,
     window: u8,
     lines: &mut Option<L>,
 ) -> Result<(State, Vec<u8>), AllocError>
     requires { is_window window ≡ true }
-    ensures leaves { IfOk result (λ end. LeavesReport window setup schedule.now program
-        end.0 end.1.items) }
+    ensures leaves { IfOk result (λ end. LeavesReport window input.setup input.schedule
+        input.program end.0 end.1.items) }
     ensures some { IfOk result (λ end. 0 < length end.1.items) }
 {
-    let world = played(alloc, setup, schedule, program, window, lines)?;
+    let world = played(alloc, input, window, lines)?;
     let end = reported(alloc, &world);
     drop(world);
     end
+}
+
+/// The files of a simulation, as sources.
+#[derive(Drop)]
+pub struct SimulationFiles<S, C, R> {
+    /// The machine's setup.
+    pub setup: S,
+    /// The schedule that is played.
+    pub schedule: C,
+    /// The DMIS program.
+    pub program: R,
 }
 
 /// Reads a setup, then a schedule, then a program under the setup's frames, each to the end of its text and understood before the next is
 /// read.
 fn simulation_input<S: Source, C: Source, R: Source>(
     alloc: Global,
-    setup: &mut S,
-    schedule: &mut C,
-    program: &mut R,
-) -> Result<(Setup, Schedule, Program), FilesFault>
+    files: &mut SimulationFiles<S, C, R>,
+) -> Result<Simulation, FilesFault>
     ensures ok { IfOk result (λ read. ReadsSimulation
-        (came S.left S.has_failed setup.old setup.new)
-        (came C.left C.has_failed schedule.old schedule.new)
-        (came R.left R.has_failed program.old program.new)
-        (record { setup = read.0; instructions = read.1; program = read.2 })) }
-    ensures err { IfErr result (WhyNoSimulation (came S.left S.has_failed setup.old setup.new)
-        (came C.left C.has_failed schedule.old schedule.new)
-        (came R.left R.has_failed program.old program.new)) }
+        (came S.left S.has_failed files.old.setup files.new.setup)
+        (came C.left C.has_failed files.old.schedule files.new.schedule)
+        (came R.left R.has_failed files.old.program files.new.program)
+        (record { setup = read.setup; instructions = read.schedule; program = read.program })) }
+    ensures err { IfErr result (WhyNoSimulation
+        (came S.left S.has_failed files.old.setup files.new.setup)
+        (came C.left C.has_failed files.old.schedule files.new.schedule)
+        (came R.left R.has_failed files.old.program files.new.program)) }
 {
-    let setup = read_setup(alloc, setup)?;
-    let schedule = read_schedule(alloc, schedule)?;
-    let program = read_program(alloc, setup.frames(), program)?;
-    Ok((setup, schedule, program))
+    let setup = read_setup(alloc, &mut files.setup)?;
+    let schedule = read_schedule(alloc, &mut files.schedule)?;
+    let program = read_program(alloc, setup.frames(), &mut files.program)?;
+    Ok(Simulation {
+        setup,
+        schedule,
+        program,
+    })
 }
 
 /// Writes a text that is not empty.
@@ -154,21 +173,19 @@ pub(crate) fn write_text<W: Sink>(sink: &mut W, text: &[u8]) -> Result<(), Files
 /// It writes only once the whole report stands. No file is blamed but for its own first refusal, or where it was not read.
 pub fn simulate<S: Source, C: Source, R: Source, L: Sink, W: Sink>(
     alloc: Global,
-    setup: &mut S,
-    schedule: &mut C,
+    files: &mut SimulationFiles<S, C, R>,
     window: u8,
-    program: &mut R,
     lines: &mut Option<L>,
     sink: &mut W,
 ) -> Result<State, FilesFault>
     requires { is_window window ≡ true }
-    ensures { Simulates window (came S.left S.has_failed setup.old setup.new)
-        (came C.left C.has_failed schedule.old schedule.new)
-        (came R.left R.has_failed program.old program.new)
+    ensures { Simulates window (came S.left S.has_failed files.old.setup files.new.setup)
+        (came C.left C.has_failed files.old.schedule files.new.schedule)
+        (came R.left R.has_failed files.old.program files.new.program)
         (went W.taken W.has_failed sink.old sink.new) result }
 {
-    let (setup, schedule, program) = simulation_input(alloc, setup, schedule, program)?;
-    let (state, text) = simulated_report(alloc, setup, &schedule, program, window, lines)?;
+    let input = simulation_input(alloc, files)?;
+    let (state, text) = simulated_report(alloc, input, window, lines)?;
     write_text(sink, text.as_slice())?;
     Ok(state)
 }

@@ -10,14 +10,14 @@ use crate::progress::Progress;
 use crate::tracing::TracingPort;
 use byte_ports::{Ports, Reading, Writing};
 use dme_orders::{
-    ConnectionEnd, FilesFault, InputFiles, OrderFault, loop_over, setup_and_program, shown_fault,
+    ConnectionEnd, FilesFault, InputFiles, LoopTask, OrderFault, loop_over, setup_and_program,
+    shown_fault,
 };
 use dme_words::Loop;
-use dmis_program::Program;
+use link_world::LoopPorts;
 use std::io::{self, ErrorKind};
 use std::net::{Net, TcpListener, TcpStream};
 use std::rt::Files;
-use tool_rack::Setup;
 
 /// Why a connection does not come about, as a line.
 fn cause(kind: ErrorKind) -> &'static str {
@@ -56,9 +56,7 @@ pub(crate) fn of_output<R: AllocGlobal>(rt: &R, fault: FilesFault) -> OrderFault
 /// What is run over one connection, and what is shown of it.
 #[derive(Drop)]
 struct Task {
-    setup: Setup,
-    program: Program,
-    window: u8,
+    run: LoopTask,
     progress: bool,
     trace: bool,
 }
@@ -71,27 +69,21 @@ fn loop_ends<'a, R: Print + Eprint + Net<Listener = TcpListener, Stream = TcpStr
     far: &'a TcpStream,
     task: Task,
 ) -> Result<ConnectionEnd, FilesFault>
-    requires { is_window task.window ≡ true }
+    requires { is_window task.run.window ≡ true }
 {
-    let mut watcher = Progress::new(rt, task.progress, task.program.features().len());
-    let mut client_ports = Ports {
-        source: Reading::new(near),
-        sink: TracingPort::new(rt, Writing::new(near), ">", task.trace),
+    let mut watcher = Progress::new(rt, task.progress, task.run.program.features().len());
+    let mut ports = LoopPorts {
+        client: Ports {
+            source: Reading::new(near),
+            sink: TracingPort::new(rt, Writing::new(near), ">", task.trace),
+        },
+        server: Ports {
+            source: Reading::new(far),
+            sink: TracingPort::new(rt, Writing::new(far), "<", task.trace),
+        },
     };
-    let mut server_ports = Ports {
-        source: Reading::new(far),
-        sink: TracingPort::new(rt, Writing::new(far), "<", task.trace),
-    };
-    loop_over(
-        rt.alloc(),
-        task.setup,
-        task.program,
-        task.window,
-        &mut client_ports,
-        &mut server_ports,
-        &mut watcher,
-        &mut Writing::new(io::writer(rt)),
-    )
+    let mut sink = Writing::new(io::writer(rt));
+    loop_over(rt.alloc(), task.run, &mut ports, &mut watcher, &mut sink)
 }
 
 /// Both ends of a program over a connection of this process to itself.
@@ -99,7 +91,7 @@ fn loop_task<R: Print + Eprint + Net<Listener = TcpListener, Stream = TcpStream>
     rt: &R,
     task: Task,
 ) -> Result<u8, OrderFault>
-    requires { is_window task.window ≡ true }
+    requires { is_window task.run.window ≡ true }
 {
     let is_told = task.progress;
     let (near, far) = match own_connection(rt) {
@@ -135,9 +127,11 @@ pub fn loop_program<
         Err(fault) => return Err(refused(rt.alloc(), fault, files, order.explain)),
     };
     let task = Task {
-        setup,
-        program,
-        window: order.window,
+        run: LoopTask {
+            setup,
+            program,
+            window: order.window,
+        },
         progress: order.progress,
         trace: order.trace,
     };

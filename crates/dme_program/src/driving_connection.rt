@@ -11,7 +11,9 @@ use crate::progress::Progress;
 use crate::text_files::NamedFile;
 use byte_ports::{Ports, Reading, Writing};
 use contact_ledger::FeatureLedger;
-use dme_orders::{InputFiles, OrderFault, RunEnd, drive, features_and_program, kept_client};
+use dme_orders::{
+    InputFiles, OrderFault, RunEnd, RunOutputs, drive, features_and_program, kept_client,
+};
 use dme_words::Run;
 use dmis_program::Program;
 use std::io;
@@ -56,7 +58,11 @@ fn drive_program<
 >(rt: &R, kept: FeatureLedger, program: Program, call: Call) -> Result<u8, OrderFault>
     requires { is_window call.window ≡ true }
 {
-    let mut file = NamedFile::new(rt, call.features.as_deref())?;
+    let features = NamedFile::new(rt, call.features.as_deref())?;
+    let mut outputs = RunOutputs {
+        features,
+        report: Writing::new(io::writer(rt)),
+    };
     let mut watcher = Progress::new(rt, call.progress, program.features().len());
     let client = kept_client(rt.alloc(), program, kept, call.window)?;
     let stream = match TcpStream::connect(rt, (call.host.as_str(), call.port)) {
@@ -67,15 +73,8 @@ fn drive_program<
         source: Reading::new(&stream),
         sink: Writing::new(&stream),
     };
-    let result = drive(
-        rt.alloc(),
-        client,
-        &mut ports,
-        &mut watcher,
-        &mut file,
-        &mut Writing::new(io::writer(rt)),
-    );
-    drop(file);
+    let result = drive(rt.alloc(), client, &mut ports, &mut watcher, &mut outputs);
+    drop(outputs);
     match result {
         Ok(driven) => run_verdict(rt, driven, call.features, call.progress),
         Err(fault) => Err(of_output(rt, fault)),

@@ -15,7 +15,8 @@ use crate::serving_connections::serve;
 use crate::tracing::ErrorOutput;
 use byte_ports::Writing;
 use dme_orders::{
-    AuditFiles, FilesFault, InputFiles, audit_files, check_under_setup, simulate, status,
+    AuditFiles, FilesFault, InputFiles, SimulationFiles, audit_files, check_under_setup, simulate,
+    status,
 };
 use dme_words::{Audit, Check, Order, Simulation, read_words};
 use std::alloc::{AllocError, Global};
@@ -97,15 +98,15 @@ fn simulate_files<R: Files + Input + Print + Eprint + AllocGlobal>(
     requires { is_window order.window ≡ true }
 {
     let mut sources = Sources::new(rt, order.explain);
-    let mut setup = sources.file(order.setup);
-    let mut schedule = sources.file(order.schedule);
-    let mut program = sources.file(order.program);
+    let mut sought = SimulationFiles {
+        setup: sources.file(order.setup),
+        schedule: sources.file(order.schedule),
+        program: sources.file(order.program),
+    };
     let result = simulate(
         rt.alloc(),
-        &mut setup,
-        &mut schedule,
+        &mut sought,
         order.window,
-        &mut program,
         &mut line_output(rt, order.trace),
         &mut Writing::new(io::writer(rt)),
     );
@@ -113,9 +114,9 @@ fn simulate_files<R: Files + Input + Print + Eprint + AllocGlobal>(
         Ok(state) => Ok(status(state)),
         Err(fault) => {
             let mut files = InputFiles::unnamed(rt.alloc());
-            files.setup = setup.into_file();
-            files.schedule = schedule.into_file();
-            files.program = program.into_file();
+            files.setup = sought.setup.into_file();
+            files.schedule = sought.schedule.into_file();
+            files.program = sought.program.into_file();
             Err(refused(rt.alloc(), fault, files, order.explain))
         }
     }

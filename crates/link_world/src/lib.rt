@@ -15,7 +15,7 @@ pub use connections::joined::{
     a_pumped_client_holds_first_features, turns_of_a_client_are_events,
     turns_of_a_server_are_events, two_pumps_are_a_world,
 };
-pub use connections::link_runs::loop_link;
+pub use connections::link_runs::{LoopPorts, loop_link};
 pub use connections::links::{LoopFault, run_link, serve_link, watch_link};
 pub use connections::machines::{Machine, Simulated};
 pub use connections::pumps::{Moved, PIECE, PumpFault};

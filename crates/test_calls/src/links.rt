@@ -19,7 +19,7 @@ use byte_ports::{Pieces, Ports, Takes};
 use client_core::Client;
 use contact_ledger::Feature;
 use link_world::{
-    LoopFault, Simulated, Watcher, client_turns, loop_link, run_link, serve_link, serve_turns,
+    LoopPorts, Simulated, Watcher, client_turns, loop_link, run_link, serve_link, serve_turns,
     watch_link,
 };
 use server_core::Server;
@@ -112,6 +112,9 @@ fn parted<'a>(row: &'a str, all: &'a str) -> Result<(Asked, &'a str), Stop> {
 
 /// What comes in on a side, and what goes out.
 type MemoryPorts = Ports<Pieces, Takes>;
+
+/// Those of both sides.
+type BothPorts = LoopPorts<Pieces, Takes, Pieces, Takes>;
 
 fn new_ports(alloc: Global, asked: Asked, pieces: &str) -> Result<MemoryPorts, Stop> {
     let source = source(alloc, asked, pieces)?;
@@ -520,37 +523,17 @@ impl ServerTask for Call<'_> {
 
 // ---- both
 
-/// A whole run of both sides in turn.
-fn loop_both(
-    client: &mut Client,
-    client_ports: &mut MemoryPorts,
-    server: &mut Server,
-    machine: &mut Simulated,
-    server_ports: &mut MemoryPorts,
-    told: &mut Told,
-) -> Result<(), LoopFault> {
-    loop_link(client, client_ports, server, machine, server_ports, told)
-}
-
-/// What such a run answers on the simulated machine; its watcher tells nobody.
+/// What a run of both sides in turn answers on the simulated machine.
 fn push_looped(
     alloc: Global,
     out: &mut Vec<u8>,
     client: &mut Client,
-    client_ports: &mut MemoryPorts,
     server: &mut Server,
-    server_ports: &mut MemoryPorts,
+    ports: &mut BothPorts,
 ) -> Result<(), AllocError> {
     let mut machine = Simulated::new(alloc, server.setup())?;
     let mut told = Told::new(alloc);
-    let answer = loop_both(
-        client,
-        client_ports,
-        server,
-        &mut machine,
-        server_ports,
-        &mut told,
-    );
+    let answer = loop_link(client, server, &mut machine, ports, &mut told);
     push_answer(alloc, out, &answer)
 }
 
@@ -559,13 +542,12 @@ fn push_both(
     alloc: Global,
     out: &mut Vec<u8>,
     client: &mut Client,
-    client_ports: &mut MemoryPorts,
     server: &mut Server,
-    server_ports: &mut MemoryPorts,
+    ports: &mut BothPorts,
 ) -> Result<(), AllocError> {
-    push_looped(alloc, out, client, client_ports, server, server_ports)?;
-    push_client(alloc, out, client, &client_ports.sink)?;
-    push_server(out, server, &server_ports.sink)
+    push_looped(alloc, out, client, server, ports)?;
+    push_client(alloc, out, client, &ports.client.sink)?;
+    push_server(out, server, &ports.server.sink)
 }
 
 /// A run of both sides over new ports, of which the server's take and give all at once.
@@ -585,9 +567,11 @@ impl Loop<'_> {
         server: &mut Server,
         (replies, commands): (&str, &str),
     ) -> Result<(), Stop> {
-        let mut ports = new_ports(alloc, self.asked, replies)?;
-        let mut others = new_ports(alloc, plain(), commands)?;
-        Ok(push_both(alloc, out, client, &mut ports, server, &mut others)?)
+        let mut ports = LoopPorts {
+            client: new_ports(alloc, self.asked, replies)?,
+            server: new_ports(alloc, plain(), commands)?,
+        };
+        Ok(push_both(alloc, out, client, server, &mut ports)?)
     }
 }
 

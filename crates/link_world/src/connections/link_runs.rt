@@ -14,6 +14,13 @@ use byte_ports::{Ports, Sink, Source};
 use client_core::Client;
 use server_core::Server;
 
+/// The ports of both sides of a connection.
+#[derive(Drop)]
+pub struct LoopPorts<CR, CW, SR, SW> {
+    pub client: Ports<CR, CW>,
+    pub server: Ports<SR, SW>,
+}
+
 /// Whether no byte came in and none went out, on either side.
 fn are_still(by_client: Moved, by_server: Moved) -> bool
     ensures { result ≡ are_still by_client by_server }
@@ -25,44 +32,43 @@ fn are_still(by_client: Moved, by_server: Moved) -> bool
 /// stops, the other side leaves too.
 fn pair<M: Machine, CR: Source, CW: Sink, SR: Source, SW: Sink, N: Watcher>(
     client: &mut Client,
-    client_ports: &mut Ports<CR, CW>,
     server: &mut Server,
     machine: &mut M,
-    server_ports: &mut Ports<SR, SW>,
+    ports: &mut LoopPorts<CR, CW, SR, SW>,
     down: usize,
     watcher: &mut N,
 ) -> Result<(Moved, Moved), LoopFault>
     ensures moved { IfOk result (λ moved. PairMoved (M.answers machine.old) down
-        (client_side client.old (CR.left client_ports.old.source) (CW.taken client_ports.old.sink))
-        (client_side client.new (CR.left client_ports.new.source) (CW.taken client_ports.new.sink))
-        (server_side server.old.end (SR.left server_ports.old.source) (SW.taken server_ports.old.sink))
-        (server_side server.new.end (SR.left server_ports.new.source) (SW.taken server_ports.new.sink))
+        (client_side client.old (CR.left ports.old.client.source) (CW.taken ports.old.client.sink))
+        (client_side client.new (CR.left ports.new.client.source) (CW.taken ports.new.client.sink))
+        (server_side server.old.end (SR.left ports.old.server.source) (SW.taken ports.old.server.sink))
+        (server_side server.new.end (SR.left ports.new.server.source) (SW.taken ports.new.server.sink))
         moved.0 moved.1) }
     ensures stopped { IfErr result (λ fault. PairStopped (M.answers machine.old) down
-        (client_side client.old (CR.left client_ports.old.source) (CW.taken client_ports.old.sink))
-        (client_side client.new (CR.left client_ports.new.source) (CW.taken client_ports.new.sink))
-        (server_side server.old.end (SR.left server_ports.old.source) (SW.taken server_ports.old.sink))
-        (server_side server.new.end (SR.left server_ports.new.source) (SW.taken server_ports.new.sink))
+        (client_side client.old (CR.left ports.old.client.source) (CW.taken ports.old.client.sink))
+        (client_side client.new (CR.left ports.new.client.source) (CW.taken ports.new.client.sink))
+        (server_side server.old.end (SR.left ports.old.server.source) (SW.taken ports.old.server.sink))
+        (server_side server.new.end (SR.left ports.new.server.source) (SW.taken ports.new.server.sink))
         fault) }
     ensures client_left { OnErr result (client.new.client.on ≡ false) }
     ensures server_left { OnErr result (server.new.end.server.on ≡ false) }
-    ensures client_bounded { CR.calls client_ports.new.source + CW.calls client_ports.new.sink
-        ≤ CR.calls client_ports.old.source + CW.calls client_ports.old.sink + STEPS_MAX }
-    ensures server_bounded { SR.calls server_ports.new.source + SW.calls server_ports.new.sink
-        ≤ SR.calls server_ports.old.source + SW.calls server_ports.old.sink + STEPS_MAX }
+    ensures client_bounded { CR.calls ports.new.client.source + CW.calls ports.new.client.sink
+        ≤ CR.calls ports.old.client.source + CW.calls ports.old.client.sink + STEPS_MAX }
+    ensures server_bounded { SR.calls ports.new.server.source + SW.calls ports.new.server.sink
+        ≤ SR.calls ports.old.server.source + SW.calls ports.old.server.sink + STEPS_MAX }
     ensures setup { server.new.setup ≡ server.old.setup }
     ensures keeps { M.answers machine.new ≡ M.answers machine.old }
     ensures client_blamed { BlamesPorts (LoopFault.Client PumpFault.ReadFailed)
         (LoopFault.Client PumpFault.WriteFailed) result
-        (CR.has_failed client_ports.old.source) (CR.has_failed client_ports.new.source)
-        (CW.has_failed client_ports.old.sink) (CW.has_failed client_ports.new.sink) }
+        (CR.has_failed ports.old.client.source) (CR.has_failed ports.new.client.source)
+        (CW.has_failed ports.old.client.sink) (CW.has_failed ports.new.client.sink) }
     ensures server_blamed { BlamesPorts (LoopFault.Server PumpFault.ReadFailed)
         (LoopFault.Server PumpFault.WriteFailed) result
-        (SR.has_failed server_ports.old.source) (SR.has_failed server_ports.new.source)
-        (SW.has_failed server_ports.old.sink) (SW.has_failed server_ports.new.sink) }
+        (SR.has_failed ports.old.server.source) (SR.has_failed ports.new.server.source)
+        (SW.has_failed ports.old.server.sink) (SW.has_failed ports.new.server.sink) }
     ensures told { TellsRun client.old client.new (N.told watcher.old) (N.told watcher.new) }
 {
-    let by_client = match watched_turn(client, client_ports, down, watcher) {
+    let by_client = match watched_turn(client, &mut ports.client, down, watcher) {
         Ok(moved) => moved,
         Err(fault) => {
             server.leave();
@@ -70,7 +76,7 @@ fn pair<M: Machine, CR: Source, CW: Sink, SR: Source, SW: Sink, N: Watcher>(
         }
     };
     let asked = by_client.written;
-    match serve_turns(server, machine, server_ports, asked, STEPS_MAX) {
+    match serve_turns(server, machine, &mut ports.server, asked, STEPS_MAX) {
         Ok(by_server) => Ok((by_client, by_server)),
         Err(fault) => {
             client.leave();
@@ -88,52 +94,43 @@ fn pair<M: Machine, CR: Source, CW: Sink, SR: Source, SW: Sink, N: Watcher>(
 /// there may be 1,000,000 pairs; behind them both sides leave, and the answer is that the client's turns are spent.
 pub fn loop_link<M: Machine, CR: Source, CW: Sink, SR: Source, SW: Sink, N: Watcher>(
     client: &mut Client,
-    client_ports: &mut Ports<CR, CW>,
     server: &mut Server,
     machine: &mut M,
-    server_ports: &mut Ports<SR, SW>,
+    ports: &mut LoopPorts<CR, CW, SR, SW>,
     watcher: &mut N,
 ) -> Result<(), LoopFault>
     ensures ran { OnOk result (LoopRan (M.answers machine.old)
-        (client_side client.old (CR.left client_ports.old.source) (CW.taken client_ports.old.sink))
-        (client_side client.new (CR.left client_ports.new.source) (CW.taken client_ports.new.sink))
-        (server_side server.old.end (SR.left server_ports.old.source) (SW.taken server_ports.old.sink))
-        (server_side server.new.end (SR.left server_ports.new.source) (SW.taken server_ports.new.sink))) }
+        (client_side client.old (CR.left ports.old.client.source) (CW.taken ports.old.client.sink))
+        (client_side client.new (CR.left ports.new.client.source) (CW.taken ports.new.client.sink))
+        (server_side server.old.end (SR.left ports.old.server.source) (SW.taken ports.old.server.sink))
+        (server_side server.new.end (SR.left ports.new.server.source) (SW.taken ports.new.server.sink))) }
     ensures stopped { IfErr result (λ fault. LoopStopped (M.answers machine.old)
-        (client_side client.old (CR.left client_ports.old.source) (CW.taken client_ports.old.sink))
-        (client_side client.new (CR.left client_ports.new.source) (CW.taken client_ports.new.sink))
-        (server_side server.old.end (SR.left server_ports.old.source) (SW.taken server_ports.old.sink))
-        (server_side server.new.end (SR.left server_ports.new.source) (SW.taken server_ports.new.sink))
+        (client_side client.old (CR.left ports.old.client.source) (CW.taken ports.old.client.sink))
+        (client_side client.new (CR.left ports.new.client.source) (CW.taken ports.new.client.sink))
+        (server_side server.old.end (SR.left ports.old.server.source) (SW.taken ports.old.server.sink))
+        (server_side server.new.end (SR.left ports.new.server.source) (SW.taken ports.new.server.sink))
         fault) }
     ensures client_left { OnErr result (client.new.client.on ≡ false) }
     ensures server_left { OnErr result (server.new.end.server.on ≡ false) }
-    ensures client_bounded { CR.calls client_ports.new.source + CW.calls client_ports.new.sink
-        ≤ CR.calls client_ports.old.source + CW.calls client_ports.old.sink + calls_most }
-    ensures server_bounded { SR.calls server_ports.new.source + SW.calls server_ports.new.sink
-        ≤ SR.calls server_ports.old.source + SW.calls server_ports.old.sink + calls_most }
+    ensures client_bounded { CR.calls ports.new.client.source + CW.calls ports.new.client.sink
+        ≤ CR.calls ports.old.client.source + CW.calls ports.old.client.sink + calls_most }
+    ensures server_bounded { SR.calls ports.new.server.source + SW.calls ports.new.server.sink
+        ≤ SR.calls ports.old.server.source + SW.calls ports.old.server.sink + calls_most }
     ensures setup { server.new.setup ≡ server.old.setup }
     ensures keeps { M.answers machine.new ≡ M.answers machine.old }
     ensures client_blamed { BlamesPorts (LoopFault.Client PumpFault.ReadFailed)
         (LoopFault.Client PumpFault.WriteFailed) result
-        (CR.has_failed client_ports.old.source) (CR.has_failed client_ports.new.source)
-        (CW.has_failed client_ports.old.sink) (CW.has_failed client_ports.new.sink) }
+        (CR.has_failed ports.old.client.source) (CR.has_failed ports.new.client.source)
+        (CW.has_failed ports.old.client.sink) (CW.has_failed ports.new.client.sink) }
     ensures server_blamed { BlamesPorts (LoopFault.Server PumpFault.ReadFailed)
         (LoopFault.Server PumpFault.WriteFailed) result
-        (SR.has_failed server_ports.old.source) (SR.has_failed server_ports.new.source)
-        (SW.has_failed server_ports.old.sink) (SW.has_failed server_ports.new.sink) }
+        (SR.has_failed ports.old.server.source) (SR.has_failed ports.new.server.source)
+        (SW.has_failed ports.old.server.sink) (SW.has_failed ports.new.server.sink) }
     ensures told { TellsRun client.old client.new (N.told watcher.old) (N.told watcher.new) }
 {
     let mut down = 0;
     for _pair in 0..TURNS_MAX {
-        let (by_client, by_server) = pair(
-            client,
-            client_ports,
-            server,
-            machine,
-            server_ports,
-            down,
-            watcher,
-        )?;
+        let (by_client, by_server) = pair(client, server, machine, ports, down, watcher)?;
         if are_still(by_client, by_server) {
             return Ok(());
         }

@@ -8,7 +8,7 @@ use Rattle.dme_orders.proofs.looping.looped.Goals as goal
 
 pub returns-clause-leaves : goal.returns-clause-leaves
 returns-clause-leaves g c = record {
-  ends = loops_over c.args.window c.args.setup c.args.program _ _
+  ends = loops_over c.args.task.window c.args.task.setup c.args.task.program _ _
       c.in_ok-machine.machine c.in_ok-machine.client c.loop_link-result.new.client c.in_ok-machine.server c.loop_link-result.new.server _
       (elim c.match-result.branch [ in-Ok w ↦ search rules | in-Err w ↦ search rules ])
       c.loop_link-result.ensures.told

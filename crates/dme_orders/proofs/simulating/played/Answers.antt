@@ -6,5 +6,5 @@ use Rattle.dme_orders.proofs.simulating.played.Goals as goal
 
 pub returns-in-Ok : goal.returns-in-Ok
 returns-in-Ok g c = subst (λ (w : WorldValue). Plays
-    (simulated w.setup.shifts) c.args.schedule.now false w.world c.play.new.world.world)
+    (simulated w.setup.shifts) c.args.input.schedule false w.world c.play.new.world.world)
     c.in_ok-world.ensures (c.in-Ok.ensures.ok)

@@ -2,5 +2,5 @@ use Rattle.dme_orders.proofs.ReadingLemmas.{leaves_report}
 use Rattle.dme_orders.proofs.simulating.simulated_report.Goals as goal
 
 pub returns-clause-leaves : goal.returns-clause-leaves
-returns-clause-leaves g c = leaves_report c.reported-end.result (λ text. text.items) c.args.window c.args.setup c.args.schedule.now c.args.program
+returns-clause-leaves g c = leaves_report c.reported-end.result (λ text. text.items) c.args.window c.args.input.setup c.args.input.schedule c.args.input.program
     c.in_ok-world.world.world c.in_ok-world.ensures c.reported-end.ensures.state c.reported-end.ensures.text

@@ -26,24 +26,24 @@ loop-pair-init g c = (
 pub returns-in_err-by_client-clause-stopped : goal.returns-in_err-by_client-clause-stopped
 returns-in_err-by_client-clause-stopped g c = if_err c.from_residual.result _ _ c.from_residual.ensures.0 c.from_residual.ensures.1
     (loop_stops (g.M.Machine.answers c.args.machine.now) (g.M.Machine.answers c.loop-pair.machine) c.loop-pair._pair c.loop-pair.down
-    (client_side c.args.client.now (g.CR.Source.left c.args.client_ports.now.source) (g.CW.Sink.taken c.args.client_ports.now.sink))
-    (client_side c.loop-pair.client (g.CR.Source.left c.loop-pair.client_ports.source) (g.CW.Sink.taken c.loop-pair.client_ports.sink))
-    (client_side c.pair.new.client (g.CR.Source.left c.pair.new.client_ports.source) (g.CW.Sink.taken c.pair.new.client_ports.sink))
-    (server_side c.args.server.now.end (g.SR.Source.left c.args.server_ports.now.source) (g.SW.Sink.taken c.args.server_ports.now.sink))
-    (server_side c.loop-pair.server.end (g.SR.Source.left c.loop-pair.server_ports.source) (g.SW.Sink.taken c.loop-pair.server_ports.sink))
-    (server_side c.pair.new.server.end (g.SR.Source.left c.pair.new.server_ports.source) (g.SW.Sink.taken c.pair.new.server_ports.sink))
+    (client_side c.args.client.now (g.CR.Source.left c.args.ports.now.client.source) (g.CW.Sink.taken c.args.ports.now.client.sink))
+    (client_side c.loop-pair.client (g.CR.Source.left c.loop-pair.ports.client.source) (g.CW.Sink.taken c.loop-pair.ports.client.sink))
+    (client_side c.pair.new.client (g.CR.Source.left c.pair.new.ports.client.source) (g.CW.Sink.taken c.pair.new.ports.client.sink))
+    (server_side c.args.server.now.end (g.SR.Source.left c.args.ports.now.server.source) (g.SW.Sink.taken c.args.ports.now.server.sink))
+    (server_side c.loop-pair.server.end (g.SR.Source.left c.loop-pair.ports.server.source) (g.SW.Sink.taken c.loop-pair.ports.server.sink))
+    (server_side c.pair.new.server.end (g.SR.Source.left c.pair.new.ports.server.source) (g.SW.Sink.taken c.pair.new.ports.server.sink))
     c.in_err-by_client.field-0.0 c.loop-pair.invariant.0 c.loop-pair-test.true c.loop-pair.invariant.2 c.in_err-by_client.ensures.stopped)
 
 pub loop-pair-preserved : goal.loop-pair-preserved
 loop-pair-preserved g c = (
   pair_goes (g.M.Machine.answers c.args.machine.now) (g.M.Machine.answers c.loop-pair.machine) c.loop-pair._pair c.loop-pair.down
-      (client_side c.args.client.now (g.CR.Source.left c.args.client_ports.now.source) (g.CW.Sink.taken c.args.client_ports.now.sink))
-      (client_side c.loop-pair.client (g.CR.Source.left c.loop-pair.client_ports.source) (g.CW.Sink.taken c.loop-pair.client_ports.sink))
-      (client_side c.pair.new.client (g.CR.Source.left c.pair.new.client_ports.source) (g.CW.Sink.taken c.pair.new.client_ports.sink))
-      (server_side c.args.server.now.end (g.SR.Source.left c.args.server_ports.now.source) (g.SW.Sink.taken c.args.server_ports.now.sink))
-      (server_side c.loop-pair.server.end (g.SR.Source.left c.loop-pair.server_ports.source)
-      (g.SW.Sink.taken c.loop-pair.server_ports.sink))
-      (server_side c.pair.new.server.end (g.SR.Source.left c.pair.new.server_ports.source) (g.SW.Sink.taken c.pair.new.server_ports.sink))
+      (client_side c.args.client.now (g.CR.Source.left c.args.ports.now.client.source) (g.CW.Sink.taken c.args.ports.now.client.sink))
+      (client_side c.loop-pair.client (g.CR.Source.left c.loop-pair.ports.client.source) (g.CW.Sink.taken c.loop-pair.ports.client.sink))
+      (client_side c.pair.new.client (g.CR.Source.left c.pair.new.ports.client.source) (g.CW.Sink.taken c.pair.new.ports.client.sink))
+      (server_side c.args.server.now.end (g.SR.Source.left c.args.ports.now.server.source) (g.SW.Sink.taken c.args.ports.now.server.sink))
+      (server_side c.loop-pair.server.end (g.SR.Source.left c.loop-pair.ports.server.source)
+      (g.SW.Sink.taken c.loop-pair.ports.server.sink))
+      (server_side c.pair.new.server.end (g.SR.Source.left c.pair.new.ports.server.source) (g.SW.Sink.taken c.pair.new.ports.server.sink))
       c.in_ok-by_client.by_client c.in_ok-by_client.by_server c.loop-pair.invariant.0 c.loop-pair.invariant.2
       c.in_ok-by_client.ensures.moved (search rules),
   c.pair.ensures.setup ∙ c.loop-pair.invariant.1,
@@ -74,16 +74,16 @@ returns-clause-told g c = tells_left c.args.client.now c.loop-pair.client c.leav
 
 pub returns-clause-stopped : goal.returns-clause-stopped
 returns-clause-stopped g c = loop_spends (g.M.Machine.answers c.args.machine.now) c.loop-pair._pair c.loop-pair.down
-    (client_side c.args.client.now (g.CR.Source.left c.args.client_ports.now.source) (g.CW.Sink.taken c.args.client_ports.now.sink))
-    (client_side c.loop-pair.client (g.CR.Source.left c.loop-pair.client_ports.source) (g.CW.Sink.taken c.loop-pair.client_ports.sink))
-    (client_side c.leave.new.self (g.CR.Source.left c.loop-pair.client_ports.source) (g.CW.Sink.taken c.loop-pair.client_ports.sink))
-    (server_side c.args.server.now.end (g.SR.Source.left c.args.server_ports.now.source) (g.SW.Sink.taken c.args.server_ports.now.sink))
-    (server_side c.loop-pair.server.end (g.SR.Source.left c.loop-pair.server_ports.source) (g.SW.Sink.taken c.loop-pair.server_ports.sink))
-    (server_side c.leave-2.new.self.end (g.SR.Source.left c.loop-pair.server_ports.source) (g.SW.Sink.taken c.loop-pair.server_ports.sink))
+    (client_side c.args.client.now (g.CR.Source.left c.args.ports.now.client.source) (g.CW.Sink.taken c.args.ports.now.client.sink))
+    (client_side c.loop-pair.client (g.CR.Source.left c.loop-pair.ports.client.source) (g.CW.Sink.taken c.loop-pair.ports.client.sink))
+    (client_side c.leave.new.self (g.CR.Source.left c.loop-pair.ports.client.source) (g.CW.Sink.taken c.loop-pair.ports.client.sink))
+    (server_side c.args.server.now.end (g.SR.Source.left c.args.ports.now.server.source) (g.SW.Sink.taken c.args.ports.now.server.sink))
+    (server_side c.loop-pair.server.end (g.SR.Source.left c.loop-pair.ports.server.source) (g.SW.Sink.taken c.loop-pair.ports.server.sink))
+    (server_side c.leave-2.new.self.end (g.SR.Source.left c.loop-pair.ports.server.source) (g.SW.Sink.taken c.loop-pair.ports.server.sink))
     c.loop-pair.invariant.0 (grind arith)
-    (ap (λ (e : ClientEnd). client_side e (g.CR.Source.left c.loop-pair.client_ports.source)
-    (g.CW.Sink.taken c.loop-pair.client_ports.sink))
+    (ap (λ (e : ClientEnd). client_side e (g.CR.Source.left c.loop-pair.ports.client.source)
+    (g.CW.Sink.taken c.loop-pair.ports.client.sink))
     c.leave.ensures)
-    (ap (λ (s : ServerValue). server_side s.end (g.SR.Source.left c.loop-pair.server_ports.source)
-    (g.SW.Sink.taken c.loop-pair.server_ports.sink))
+    (ap (λ (s : ServerValue). server_side s.end (g.SR.Source.left c.loop-pair.ports.server.source)
+    (g.SW.Sink.taken c.loop-pair.ports.server.sink))
     c.leave-2.ensures)

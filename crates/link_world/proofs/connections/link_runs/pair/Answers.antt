@@ -6,8 +6,8 @@ use Rattle.link_world.proofs.connections.link_runs.pair.Goals as goal
 
 pub returns-in-Err-clause-stopped : goal.returns-in-Err-clause-stopped
 returns-in-Err-clause-stopped g c = client_stops c.in-Err.fault c.in-Err.ensures.stopped.front
-    (ap (λ (s : ServerValue). server_side s.end (g.SR.Source.left c.args.server_ports.now.source)
-    (g.SW.Sink.taken c.args.server_ports.now.sink))
+    (ap (λ (s : ServerValue). server_side s.end (g.SR.Source.left c.args.ports.now.server.source)
+    (g.SW.Sink.taken c.args.ports.now.server.sink))
     c.leave.ensures)
 
 pub returns-in-Err-serve_turns-clause-stopped : goal.returns-in-Err-serve_turns-clause-stopped
