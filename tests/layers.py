@@ -17,8 +17,8 @@ PAGE = ROOT / "docs" / "ARCHITECTURE.md"
 LAYERS = {
     "values and texts": "fixed_um dmis_text dmis_program dme_line line_framing byte_ports contact_ledger tool_rack",
     "the model": "protocol_model protocol_examples",
-    "the two ends": "command_queue dme_tags resume_plan server_core client_core",
-    "both ends together, and results": "link_world ledger_audit deviations drawings refusal_guide",
+    "the two ends": "command_queue dme_tags resume_plan server_core client_core told_acts",
+    "both ends together, and results": "link_world ledger_audit run_record record_keeping deviations drawings refusal_guide",
     "orders": "dme_words dme_orders",
     "the edge": "dme_program dme_c",
     "tests and measuring": "test_texts test_calls test_units bench_world",

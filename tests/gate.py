@@ -1,0 +1,47 @@
+#!/usr/bin/env python3
+"""Writes docs/GATE.md: how long the proof of each crate takes, from tools/times.txt, and how many edits it has, which were last tried with
+its present content or not (tools/edits.txt).
+
+tools/times.txt has lines of a crate and its seconds of processor time, as `tools/times` sampled them during a whole run of `tests/run` from
+nothing; its comments say of which run. `run` calls this; by itself: tests/gate.py, and tests/gate.py --write to write the page.
+"""
+
+import sys
+
+from edits import content_of, crates_with_edits, edits_of, recorded
+from generated import ROOT, is_present
+
+PAGE = ROOT / "docs" / "GATE.md"
+TIMES = ROOT / "tools" / "times.txt"
+
+
+def times():
+    """The seconds of each crate, and what is said of the run."""
+    lines = TIMES.read_text().splitlines() if TIMES.exists() else []
+    seconds = {name: int(value) for name, value in (it.split() for it in lines if it and not it.startswith("#"))}
+    return seconds, [it.removeprefix("# ") for it in lines if it.startswith("# ")]
+
+
+def table():
+    """What is known of the run, and a row for each crate."""
+    seconds, said = times()
+    known = recorded()
+    text = "".join(f"{it}\n" for it in said)
+    text += "\n| Crate | Processor time of its proofs, seconds | Edits | Tried with the present content |\n|---|---|---|---|\n"
+    for crate in sorted(it for it in (ROOT / "crates").iterdir() if (it / "src").is_dir()):
+        name, count = crate.name, len(edits_of(crate))
+        tried = "yes" if known.get(name) == content_of(crate) else "no"
+        text += f"| `{name}` | {seconds.get(name, 'not measured')} | {count} | {tried if name in crates_with_edits() else ''} |\n"
+    total = f"{sum(seconds.values())}" if seconds else "not measured"
+    return text + f"| together | {total} | {sum(len(edits_of(ROOT / 'crates' / it)) for it in crates_with_edits())} | |\n"
+
+
+def check_gate():
+    """Whether the page is the present one."""
+    is_right = is_present(PAGE, "gate.py", table())
+    print(f"times and counts of the gate: {'as listed' if is_right else 'not as listed: tests/gate.py --write'}", flush=True)
+    return (1, 0) if is_right else (0, 1)
+
+
+if __name__ == "__main__":
+    sys.exit(1 if check_gate()[1] else 0)
