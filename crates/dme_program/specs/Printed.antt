@@ -5,7 +5,7 @@ use Rattle.dme_words.specs.declared.words.WordsFault.TheVariants as words
 use Rattle.dme_orders.specs.Printed.{status_of}
 use Rattle.dme_orders.specs.declared.faults.OrderFault.TheVariants as order
 use Rattle.record_keeping.specs.declared.opening.RecordRefusal.{RecordRefusal}
-use Rattle.record_keeping.specs.declared.opening.RecordRefusal.TheVariants as record
+use Rattle.record_keeping.specs.declared.opening.RecordRefusal.TheVariants as cause
 use Rattle.dme_program.specs.declared.faults.Fault.{Fault}
 use Rattle.dme_program.specs.declared.faults.Fault.TheVariants as fault
 
@@ -22,7 +22,7 @@ words_shown words.Memory = short
 
 -- what is shown for a record that a run may not continue
 abbrev pub record_shown : RecordRefusal → Fault
-record_shown record.Memory = short
+record_shown cause.Memory = short
 record_shown refusal = fault.Record refusal
 
 -- 2 for the command line, 1 for a record, else the status of the order's fault

@@ -12,8 +12,10 @@ use crate::recording::{Follower, OpenRecord, open_record, record_words};
 use crate::text_files::NamedFile;
 use byte_ports::{Ports, Reading, Writing};
 use client_core::Client;
-use contact_ledger::FeatureLedger;
-use dme_orders::{InputFiles, OrderFault, RunOutputs, drive, features_and_program, kept_client};
+use contact_ledger::{CONNECTION_MAX, FeatureLedger};
+use dme_orders::{
+    InputFiles, OrderFault, RunEnd, RunOutputs, drive, features_and_program, kept_client,
+};
 use dme_words::Run;
 use dmis_program::Program;
 use record_keeping::{Beginning, Recorder};
@@ -35,6 +37,20 @@ fn with_unwritten<R: Eprint>(
         return verdict;
     }
     Err(unwritten)
+}
+
+/// What is shown of a run whose features were to be written to a file of this name, if any.
+fn client_verdict<R: Eprint>(
+    rt: &R,
+    driven: RunEnd,
+    features: Option<String>,
+    is_told: bool,
+) -> Result<u8, OrderFault> {
+    let verdict = driven.ended.verdict(is_told);
+    if driven.is_kept {
+        return verdict;
+    }
+    with_unwritten(rt, verdict, features)
 }
 
 /// How a run calls its server, and what it keeps and shows.
@@ -80,10 +96,7 @@ fn drive_client<
     let result = drive(rt.alloc(), client, &mut ports, follower, &mut outputs);
     drop(outputs);
     match result {
-        Ok(driven) => {
-            let unwritten = if driven.is_kept { None } else { call.features };
-            with_unwritten(rt, driven.ended.verdict(call.progress), unwritten)
-        }
+        Ok(driven) => client_verdict(rt, driven, call.features, call.progress),
         Err(fault) => Err(of_output(rt, fault)),
     }
 }
@@ -99,7 +112,7 @@ fn drive_program<
     drive_client(rt, client, 1, call, &mut Follower::new(rt, progress, None))
 }
 
-/// Likewise, where a record is kept of it.
+/// Likewise, where a record is kept of it. A record whose last connection is the last that there may be is one that cannot be written.
 fn drive_recorded<
     R: Files + Print + Eprint + Net<Listener = TcpListener, Stream = TcpStream> + AllocGlobal,
 >(rt: &R, open: OpenRecord, program: Program, call: Call) -> Result<u8, OrderFault>
@@ -117,6 +130,9 @@ fn drive_recorded<
         text,
         ..
     } = beginning;
+    if connection < 1 || connection > CONNECTION_MAX {
+        return Err(OrderFault::CannotWrite(name));
+    }
     let recorder = Recorder::new(connection, features.list().len(), text, file);
     let client = kept_client(rt.alloc(), program, features, call.window)?;
     let mut follower = Follower::new(rt, progress, Some((name, recorder)));

@@ -225,7 +225,14 @@ impl<'a, R: Files + Eprint + AllocGlobal> Follower<'a, R> {
     /// Ends the record, once the run has ended. A file that has failed is replaced by the whole text; its name, if that is not possible
     /// either. Fails only if out of memory: what was counted is not all recorded then.
     pub fn finish(self) -> Result<Option<String>, OrderFault> {
-        let Some((name, recorder)) = self.record else {
+        let Follower {
+            rt,
+            progress,
+            record,
+            is_told: _,
+        } = self;
+        drop(progress);
+        let Some((name, recorder)) = record else {
             return Ok(None);
         };
         if !recorder.is_whole() {
@@ -234,7 +241,7 @@ impl<'a, R: Files + Eprint + AllocGlobal> Follower<'a, R> {
         if !recorder.has_failed() {
             return Ok(None);
         }
-        let mut file = NamedFile::new(self.rt, Some(name.as_str()))?;
+        let mut file = NamedFile::new(rt, Some(name.as_str()))?;
         let result = file.replace(recorder.text());
         drop(file);
         match result {

@@ -15,15 +15,18 @@ use std::rt::Files;
 #[derive(Drop)]
 pub struct NamedFile<'a, R> {
     rt: &'a R,
-    names: Option<(&'a str, String)>,
+    names: Option<(String, String)>,
     has_failed: bool,
 }
 
 impl<'a, R: Files + AllocGlobal> NamedFile<'a, R> {
     /// The file of this name, if one is named. The name of the one beside it is made here, so that nothing is to grow when all is done.
-    pub fn new(rt: &'a R, name: Option<&'a str>) -> Result<Self, AllocError> {
+    pub fn new(rt: &'a R, name: Option<&str>) -> Result<Self, AllocError> {
         let names = match name {
-            Some(name) => Some((name, Self::beside(rt.alloc(), name)?)),
+            Some(name) => Some((
+                String::from_str(rt.alloc(), name)?,
+                Self::beside(rt.alloc(), name)?,
+            )),
             None => None,
         };
         Ok(NamedFile {
@@ -89,7 +92,7 @@ impl<'a, R: Files + AllocGlobal> TextFile for NamedFile<'a, R> {
 
     fn replace(&mut self, text: &[u8]) -> Result<(), Failed> {
         self.has_failed = match &self.names {
-            Some((name, beside)) => self.write(text, beside.as_str(), *name).is_err(),
+            Some((name, beside)) => self.write(text, beside.as_str(), name.as_str()).is_err(),
             None => false,
         };
         if self.has_failed { Err(Failed) } else { Ok(()) }
