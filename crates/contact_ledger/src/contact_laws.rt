@@ -19,7 +19,7 @@ pub fn acts_are_read_in_one_way()
         → IsDamagedContacts bytes n → ⊥ }
 {}
 
-/// Each front of a written text is read as the acts whose lines have their LF in it (this profile): none where the first line is torn.
+/// Each prefix of a written text is read as the acts whose lines have their LF in it (this profile): none where the first line is torn.
 pub fn fronts_are_read()
     ensures header { (entries : List (ℕ × Act)) (count : ℕ) → AreEntries entries
         → count < length (contacts_text [])
