@@ -145,7 +145,7 @@ counted_event ws o after p n m effect is =
     on_table ws o after (tally_of o.failed p) (Event n) m effect is refl
     ∙ ap (λ (f : Bool). Ok (table_of after (tally_of f p))) (sym (failed_event o after effect (heard_in true o.event (Event n) m) is))
 
--- a mark that has no place
+-- a mark that is unexpected
 pub refused : (ws : List Wanted) (o : OpenValue) (p : Progress) (t : Tag) (m : Mark) (why : Option Cause) (cause : Cause)
     → IsRefused (heard o t m) why
     → why ≡ Some cause → client.heard_on ws (table_of o (tally_of o.failed p)) t m ≡ Err cause

@@ -14,7 +14,7 @@ pub enum ClientFault {
     NotNow,
     /// C2: the client has given its connection up for this cause. All calls but those that leave, restart or read the state answer it.
     Faulted(Cause),
-    /// Want of memory.
+    /// Running out of memory.
     Memory,
 }
 
