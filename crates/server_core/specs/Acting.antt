@@ -14,7 +14,7 @@ use Rattle.protocol_model.specs.declared.held.Datum.TheVariants as datum
 use Rattle.protocol_model.specs.declared.machine.Outcome.{Outcome}
 use Rattle.protocol_model.specs.declared.machine.Outcome.TheVariants as outcome
 
--- a ledger with one act behind it, on the connection of this number, or as it is
+-- a ledger with one act after it, on the connection of this number, or as it is
 abbrev pub with_act : ℕ → Option Act → List (ℕ × Act) → List (ℕ × Act)
 with_act n None acts = acts
 with_act n (Some a) acts = acts ++ (n, a) ∷ []
