@@ -34,7 +34,7 @@ within_count n = if nat_le 1 n && nat_le n 10000 then Some n else None
 unfoldable pub count_of : List ℕ → Option ℕ
 count_of text = if list_all is_ascii_digit text then within_count (digits_value 10 text) else None
 
--- the parameters behind a first `CART`
+-- the parameters after a first `CART`
 abbrev pub without_cart : List (List ℕ) → List (List ℕ)
 without_cart [] = []
 without_cart (first ∷ rest) = if bytes_eq first (codes "CART") then rest else first ∷ rest

@@ -36,7 +36,7 @@ touches_at (x ∷ (y ∷ (z ∷ (i ∷ (j ∷ (k ∷ [])))))) = position_of x y 
     (direction_of i j k >>= λ direction. Ok (Touches target (Some direction)))
 touches_at _ = Err BadArguments
 
--- the same behind `PTMEAS/CART`
+-- the same after `PTMEAS/CART`
 abbrev pub touches : List (List ℕ) → Result StatementMeaning Refusal
 touches [] = Err BadArguments
 touches (first ∷ rest) = if bytes_eq first (codes "CART") then touches_at rest else Err BadArguments

@@ -95,7 +95,7 @@ pub(crate) fn count_of(text: &[u8]) -> Option<u64>
     if value > 0 { Some(value) } else { None }
 }
 
-/// The parameters behind a first `CART`.
+/// The parameters after a first `CART`.
 pub(crate) fn without_cart<'p, 'a>(params: &'p [Text<'a>]) -> &'p [Text<'a>]
     ensures { result.now ≡ without_cart params.now }
 {
