@@ -136,7 +136,7 @@ fits_ok T o n t m e x h = sym (refusal_due o t m) ∙ ap refusal_heard h
 
 -- ---- data
 
--- what a command that is given data at the front, and what any other is told
+-- what a command that is given data at the front, and what any other is reported
 data_none : (d : Bool) (s : Stage) (p : Datum) → refusal_of (judged_given d s p) ≡ None → (d ≡ true) × (s ≡ Stage.Received)
 data_none true Stage.Sent p e = absurd (cc)
 data_none true Stage.Received p e = (refl, refl)
@@ -203,7 +203,7 @@ err_exactly {T} (Err g) due why f is h = (
     same : ◌≡◌ {A = Result T TagFault} (Err g) (Err f) → g ≡ f
     same e = cc
 
--- a call that is told no more than these faults
+-- a call that is reported no more than these faults
 pub named_by : {T : Type 0} (r : Result T TagFault) (due : Option Cause) (P : TagFault → Type 0) → Fits r due
     → ((why : Cause) → due ≡ Some why → P (fault_for (Some why))) → IfErr r P
 named_by (Ok x) due P h each = tt
@@ -278,7 +278,7 @@ done_causes false a Stage.Received why e = inl (cc)
 done_causes false a (Stage.Given q) why e = inl (cc)
 done_causes false a Stage.Failed why e = absurd (cc)
 
--- the faults for one of two causes, beside that none is held
+-- the faults for one of two causes, next to that none is held
 pub named_two : (why a b : Cause) → (why ≡ a) ⊎ (why ≡ b) → (fault_for (Some why) ≡ fault.UnknownTag)
     ⊎ (fault_for (Some why) ≡ fault_for (Some a)) ⊎ (fault_for (Some why) ≡ fault_for (Some b))
 named_two why a b (inl e) = inr (inl (ap (λ (w : Cause). fault_for (Some w)) e))

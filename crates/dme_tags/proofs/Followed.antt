@@ -29,7 +29,7 @@ use Rattle.dme_tags.proofs.Dues.{Standing, and_assoc, and_true, kinds_same, stag
 
 -- ---- what becomes of a command
 
--- what stands under its tag behind a verdict
+-- what stands under its tag after a verdict
 abbrev Stays : Verdict → Kind → Standing → Type 0
 Stays (Becomes stage) k st = st ≡ Some (k, stage)
 Stays Breaks k st = st ≡ Some (k, Stage.Failed)
