@@ -11,18 +11,18 @@ pub enum State {
     Failing,
     /// An abort was sent and has not ended.
     Aborting,
-    /// Nothing is open behind a failure or an abort: the plan can be begun again.
+    /// Nothing is open after a failure or an abort: the plan can be begun again.
     Halted,
     /// The whole plan is counted.
     Done,
-    /// What was read has no place; nothing more is read on this connection.
+    /// What was read is unexpected; nothing more is read on this connection.
     Faulted,
 }
 
 /// Why a client gives a connection up (this profile).
 #[derive(Clone, Copy, Debug, PartialEq, Eq)]
 pub enum Cause {
-    /// A line is no response, or a data text is none that the command asks for.
+    /// A line is not a response, or a data text is not what the command asks for.
     NotResponse,
     /// A line is longer than 65,536 bytes.
     LineTooLong,

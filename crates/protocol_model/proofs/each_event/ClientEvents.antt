@@ -51,7 +51,7 @@ served_now w inv = go inv.side
         (progress_served w.client.program.features w.client.last live.table.tally.features live.table.tally.points
         (contacts w.server.ledger) live.left live.progress))
 
--- what it has counted is told
+-- what it has counted is reported
 pub told_now : (w : World) → Inv w → IsFront w.client.table.tally.counted (acts_on w.client.last w.server.ledger)
 told_now w inv = go inv.side
   where
@@ -217,7 +217,7 @@ pub no_aborts : (ks : List ℕ) → abort_helds ks ≡ [] → ks ≡ []
 no_aborts [] e = refl
 no_aborts (k ∷ ks) e = absurd (cc)
 
--- a further line behind a list of lines
+-- a further line after a list of lines
 pub clear_more : (failed : Bool) (ls : List Line) (l : Line) → IsClearFirst failed ls
     → (is_clearing l.command ≡ true → (ls ≡ []) × (failed ≡ false)) → IsClearFirst failed (ls ++ l ∷ [])
 clear_more failed [] l h only = ((λ e. (only e).1), tt)

@@ -1,4 +1,4 @@
--- What the client writes keeps all that holds: commands, aborts, and a plan that goes on.
+-- What the client writes keeps all that holds: commands, aborts, and a plan that continues.
 use Rattle.std.proofs.Common.{◌≡◌, ℕ, ◌-◌, ◌<◌, ◌≤◌, ◌⊎◌, inl, inr, Bool, true, false, cond, not, ◌&&◌, ◌||◌, List, [], ◌∷◌, length, refl}
 use Rattle.std.proofs.Common.{sym, ◌∙◌, ap, subst, arith, Option, Some, None, is_some, Ok, eqb, eqb-true, le_trans}
 use Rattle.std.proofs.lemmas.Bool.{false≢true, and_parts, ltb-true}
@@ -26,7 +26,7 @@ use Rattle.protocol_model.specs.declared.states.State.{State}
 
 -- ---- a command is sent
 
--- the client is Running, and the first command that it has not sent may go with so many open
+-- the client is Running, and the first command that it has not sent may go with that many open
 pub record IsDue (c : Client) : Type 0 where
   pub running : c.state ≡ State.Running
   pub planned : Planned

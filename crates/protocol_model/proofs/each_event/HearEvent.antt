@@ -42,7 +42,7 @@ running_state b calm = go (is_whole b)
     go true = tt
     go false = calm
 
--- the state behind a reply fits the table behind it, where the state before it fitted, and no more commands are open
+-- the state after a reply fits the table after it, where the state before it fitted, and no more commands are open
 pub has_state : (state : State) (ends : Bool) (b c : Table) → HasState state b → count_open c.standard ≤ count_open b.standard
     → HasState (state_behind state ends c) c
 has_state State.Apart ends b c h le = tt
@@ -93,7 +93,7 @@ ends_no_abort abort a t m is sort other = ap (λ (o : Option Tag). ends_abort o 
     go Mark.Done = apart a t sort other
     go Mark.Error = apart a t sort other
 
--- behind a reply on a standard tag, the open event commands are still such as the state allows
+-- after a reply on a standard tag, the open event commands are still such as the state allows
 pub standard_events : (state : State) (abort : Option Tag) (event : List OpenCommand) (t : Tag) (m : Mark) (b : Table)
     → is_event_tag t ≡ false
     → HasEvents state abort event → HasEvents (state_behind state (ends_abort abort t m) b) abort event

@@ -101,7 +101,7 @@ pub asked_behind : (xs ys : List Line) → IsAskedLast (xs ++ ys) → IsAskedLas
 asked_behind [] ys h = h
 asked_behind (x ∷ xs) ys h = asked_behind xs ys h.1
 
--- behind lines of which none asks any line may stand
+-- after lines of which none asks any line may stand
 pub asked_more : (xs ys : List Line) (l : Line) → is_asking (all_received xs ++ all_sent ys) ≡ false → IsAskedLast ((xs ++ ys) ++ l ∷ [])
 asked_more [] [] l h = ((λ e. refl), tt)
 asked_more [] (y ∷ ys) l h = let a : AskNothing (sent_now y) (all_sent ys) = ask_nothing (sent_now y) (all_sent ys) h in (
@@ -157,12 +157,12 @@ pub wait_more : (xs ys : List Line) → all_wait (xs ++ ys) ≡ all_wait xs ++ a
 wait_more [] ys = refl
 wait_more (x ∷ xs) ys = ap (λ (l : List _). record { tag = x.tag; reading = Ok x.command } ∷ l) (wait_more xs ys)
 
--- one more behind what runs and waits: the same lines in all
+-- one more after what runs and waits: the same lines in all
 pub one_behind : (busy queued : List Line) (x : Line) (coming : List Line)
     → busy ++ (queued ++ x ∷ coming) ≡ busy ++ ((queued ++ x ∷ []) ++ coming)
 one_behind busy queued x coming = ap (λ (l : List Line). busy ++ l) (sym (append_assoc queued (x ∷ []) coming))
 
--- a command received behind what runs and waits is open like one more line that waits last
+-- a command received after what runs and waits is open like one more line that waits last
 pub received_behind : (busy queued : List Line) (x : Line) (coming : List Line)
     → all_received (busy ++ queued) ++ received x ∷ all_sent coming ≡ all_received (busy ++ (queued ++ x ∷ [])) ++ all_sent coming
 received_behind busy queued x coming =
@@ -212,7 +212,7 @@ pub steps_more : (xs ys : List Planned) → commands_of (xs ++ ys) ≡ commands_
 steps_more [] ys = refl
 steps_more (x ∷ xs) ys = ap (λ (l : List Command). x.command ∷ l) (steps_more xs ys)
 
--- steps that stand for no lines are none, and for a line and others a first one and others
+-- steps that mean no lines are no steps; those that mean a line and others are a first one and others
 pub no_steps : (steps : List Planned) → commands_of steps ≡ [] → steps ≡ []
 no_steps [] e = refl
 no_steps (p ∷ ps) e = absurd (cc)

@@ -22,7 +22,7 @@ use Rattle.protocol_model.specs.declared.lines.Misread.TheVariants as misread
 use Rattle.protocol_model.specs.declared.lines.Waiting.{Waiting}
 use Rattle.protocol_model.specs.declared.machine.Outcome.{Outcome}
 
--- these acts as a ledger has them, each beside the number of this connection
+-- these acts as a ledger has them, each next to the number of this connection
 abbrev pub done_on : ℕ → List Act → List (ℕ × Act)
 done_on n [] = []
 done_on n (a ∷ acts) = (n, a) ∷ done_on n acts
@@ -131,7 +131,7 @@ turned_to_moves : (s : Server) (ws : List Waiting) → (acts : List Act) × Move
 turned_to_moves s [] = ([], stays s _ refl refl refl)
 turned_to_moves s (w ∷ ws) = taken_moves s w ws (refusal s w.reading)
 
--- where its first waiting command has its turn, it does some acts or none, on its connection
+-- where its first waiting command is processed, it does some acts or none, on its connection
 pub turned_moves : (s : Server) → (acts : List Act) × Moves s (server_turned s).server acts
 turned_moves s = turned_to_moves s s.waiting
 

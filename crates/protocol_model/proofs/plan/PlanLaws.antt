@@ -205,7 +205,7 @@ made_same s p d last = go s.tool s.frame
     go (Some n) None = refl
     go (Some n) (Some f) = refl
 
--- what stands for a touch is planned as one
+-- what means a touch is planned as one
 is_touch : (p : Point) (d : Option Direction) (tool : Option (List ℕ)) (frame : Option Frame) (last : Bool) (does : Does)
     → read_touch p d last tool frame ≡ Some does → touch_made (Some does) ∷ [] ≡ all_known (touch_of does)
 is_touch p d (Some n) (Some f) last does e = go does e
@@ -264,7 +264,7 @@ plan_makes p k start h = all_makes (plan p k start) nothing_selected (plan_as_pl
 
 -- ---- the order
 
--- the commands of two plans, one behind the other
+-- the commands of two plans, one after the other
 pub commands_more : (ps qs : List Planned) → commands_of (ps ++ qs) ≡ commands_of ps ++ commands_of qs
 commands_more [] qs = refl
 commands_more (p ∷ ps) qs = ap (λ (l : List Command). p.command ∷ l) (commands_more ps qs)

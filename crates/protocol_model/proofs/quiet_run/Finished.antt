@@ -269,7 +269,7 @@ never_due answer w round = go cut.front cut.back cut.whole cut.first
     go [] back e h = h
     go (x ∷ front) back e h = absurd (cc)
 
--- ---- behind every list of events
+-- ---- after every list of events
 
 -- what holds where the rounds that do something are all there are
 record IsFinished (answer : Job → ℕ → Outcome) (b w : World) : Type 0 where

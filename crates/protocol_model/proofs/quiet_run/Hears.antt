@@ -28,7 +28,7 @@ use Rattle.protocol_model.specs.declared.held.Datum.TheVariants as datum
 use Rattle.protocol_model.specs.declared.plans.Planned.{Planned}
 use Rattle.protocol_model.specs.declared.states.Cause.{Cause}
 
--- what holds of a client, of it Faulted, and of it behind each reply that has its place
+-- what holds of a client, of it Faulted, and of it after each reply that has its place
 pub record Closed (c : Client) (P : Client → Type 0) : Type 0 where
   pub same : P c
   pub fault : (cause : Cause) → P (faulted cause c)
@@ -91,7 +91,7 @@ line_cases : (c : Client) (r : Result Response NotResponse) (P : Client → Type
 line_cases c (Ok r) P k = response_cases c r.tag r.mark P k
 line_cases c (Err refused) P k = k.fault Cause.NotResponse
 
--- so it holds of the client behind whatever it reads
+-- so it holds of the client after whatever it reads
 pub front_cases : (c : Client) (f : Front) (P : Client → Type 0) → Closed c P → P (front_read c f)
 front_cases c (Ok None) P k = k.same
 front_cases c (Ok (Some (line, rest))) P k = line_cases c (response_of line) P k

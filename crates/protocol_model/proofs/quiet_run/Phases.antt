@@ -1,4 +1,4 @@
--- A quiet round, part by part: behind it no byte and no command is on its way.
+-- A quiet round, part by part: after it no byte and no command is on its way.
 use Rattle.std.proofs.Common.{◌≡◌, ◌⊎◌, inl, inr, ℕ, suc, ◌≤◌, Bool, true, false, cond, not, ◌&&◌, List, [], ◌∷◌, ◌++◌, length, drop}
 use Rattle.std.proofs.Common.{refl, sym, ◌∙◌, ap, subst, arith, Option, Some, None, is_none, Ok, Err, nat_le, append-nil}
 use Rattle.std.proofs.lemmas.Bool.{false≢true, le-leb}
@@ -300,7 +300,7 @@ no_reply w h d e = go (next_of w.client.input.rest) refl nothing
 
 -- ---- a whole round
 
--- two parts of a round, one behind the other
+-- two parts of a round, one after the other
 pub record Cut (A B : Bool → World → List Event → Type 0) (w : World) (events : List Event) : Type 0 where
   pub front : List Event
   pub back : List Event
@@ -317,7 +317,7 @@ cut_of A B w events h = go h.parts
     go (inl both) = record { front = h.front; back = h.back; whole = h.whole; first = both.0; second = both.1 }
     go (inr cut) = absurd (false≢true cut.0)
 
--- lists of events, one behind another
+-- lists of events, one after another
 pub run_more : (xs ys : List Event) (w : World) → run_of (xs ++ ys) w ≡ run_of ys (run_of xs w)
 run_more [] ys w = refl
 run_more (x ∷ xs) ys w = run_more xs ys (after x w)
@@ -339,7 +339,7 @@ part A B P Q R first second es w h p =
 abbrev Anything : World → Type 0
 Anything w = Unit {0}
 
--- behind a round both ends are still, and what each of its events keeps is kept
+-- after a round both ends are still, and what each of its events keeps is kept
 pub round_still : (answer : Job → ℕ → Outcome) (G : World → Type 0) → Keeps answer G
     → (es : List Event) (w : World) → IsRound answer false w es → IsJoined w → G w → Leaves G (run_of es w)
 round_still answer G keeps es w round joined kept =

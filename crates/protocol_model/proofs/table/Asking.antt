@@ -105,7 +105,7 @@ counts_unasked front (h ∷ hs) t m gs k given is none =
         go false e = refl
         go true e = absurd (false≢true (sym e))
 
--- what does not ask tells nothing
+-- what does not ask says nothing
 pub tells_unasked : (k : Kind) (given : Option Datum) → asks_homed k ≡ false → tells_homed k given ≡ false
 tells_unasked kind.IsHomed given e = absurd (false≢true (sym e))
 tells_unasked kind.StartSession given e = refl
@@ -120,7 +120,7 @@ tells_unasked kind.SetCsyTransformation given e = refl
 tells_unasked kind.SetCoordSystem given e = refl
 tells_unasked kind.AbortE given e = refl
 
--- what tells that the machine is homed was asked
+-- what says that the machine is homed was asked
 pub tells_asks : (k : Kind) (given : Option Datum) → tells_homed k given ≡ true → asks_homed k ≡ true
 tells_asks k given e = go (asks_homed k) refl
   where

@@ -27,7 +27,7 @@ failed_stays b k (Mark.Given p) s e = let d : judged_given (b && fits k p) Stage
 failed_stays b k Mark.Done s e = absurd (cc)
 failed_stays b k Mark.Error s e = cc
 
--- the stage that is told as failed is Failed
+-- the stage that is reported as failed is Failed
 pub is_failed-true : (s : Stage) → is_failed s ≡ true → s ≡ Stage.Failed
 is_failed-true Stage.Sent e = absurd (false≢true e)
 is_failed-true Stage.Received e = absurd (false≢true e)
@@ -85,7 +85,7 @@ abbrev pub AreFailed : List OpenCommand → Type 0
 AreFailed [] = Unit {0}
 AreFailed (h ∷ hs) = (h.stage ≡ Stage.Failed) × AreFailed hs
 
--- where none is open, each has failed
+-- if none is open, each has failed
 pub all_failed : (hs : List OpenCommand) → count_open hs ≡ 0 → AreFailed hs
 all_failed [] e = tt
 all_failed (h ∷ hs) e = if_cases {A = ℕ} (is_failed h.stage) (count_open hs) (suc (count_open hs)) 0 (AreFailed (h ∷ hs)) e

@@ -125,7 +125,7 @@ step_with_event ws x b t m c is =
     (λ n hs e tag other walk g. rw (tag, g) (event_step ws (with_event x b) n m (hs ++ x ∷ []) e (rw tag at other)
     (heard_more true b.event x (Event n) m hs e walk)))
 
--- what is read is read beside one standard command more
+-- what is read is read next to one standard command more
 pub reads_with_standard : (ws : List Wanted) (x : OpenCommand) (rs : List Reply) (b c : Table) → Reads ws b rs c
     → Reads ws (with_standard x b) rs (with_standard x c)
 reads_with_standard ws x [] b c reads = ap (with_standard x) reads
@@ -135,7 +135,7 @@ reads_with_standard ws x (r ∷ rs) b c reads = (
   reads_with_standard ws x rs reads.0 c reads.2,
 )
 
--- what is read is read beside one event command more
+-- what is read is read next to one event command more
 pub reads_with_event : (ws : List Wanted) (x : OpenCommand) (rs : List Reply) (b c : Table) → Reads ws b rs c
     → Reads ws (with_event x b) rs (with_event x c)
 reads_with_event ws x [] b c reads = ap (with_event x) reads
@@ -209,18 +209,18 @@ only_closes ws (r ∷ rs) b c reads failed =
 
 -- ---- what only grows, and what only shrinks
 
--- a list is the front of another
+-- a list is the prefix of another
 abbrev pub IsFront : {A : Type 0} → List A → List A → Type 0
 IsFront {A} xs ys = (more : List A) × (xs ++ more ≡ ys)
 
 pub front_refl : {A : Type 0} (xs : List A) → IsFront xs xs
 front_refl xs = ([], append-nil xs)
 
--- the front of a front is a front
+-- the prefix of a front is a front
 pub front_trans : {A : Type 0} (xs ys zs : List A) → IsFront xs ys → IsFront ys zs → IsFront xs zs
 front_trans {A} xs ys zs h g = (h.0 ++ g.0, sym (append_assoc xs h.0 g.0) ∙ (ap (λ (l : List A). l ++ g.0) h.1 ∙ g.1))
 
--- a list is the front of itself with more
+-- a list is the prefix of itself with more
 pub front_more : {A : Type 0} (xs ys : List A) → IsFront xs (xs ++ ys)
 front_more xs ys = (ys, refl)
 
@@ -341,6 +341,6 @@ step_no_event ws b t m c is none =
     (λ n hs e tag other walk g. let nowhere : heard_in true [] (Event n) m
     ≡ two hs e = ap (λ (l : List OpenCommand). heard_in true l (Event n) m) (sym none) ∙ walk in absurd (cc))
 
--- where no event command is held, none is behind replies
+-- where no event command is held, none is after replies
 pub reads_no_event : (ws : List Wanted) (rs : List Reply) (b c : Table) → Reads ws b rs c → b.event ≡ [] → c.event ≡ []
 reads_no_event ws rs b c reads none = reads_keeps ws (λ (x : Table). x.event ≡ []) (step_no_event ws) rs b c reads none

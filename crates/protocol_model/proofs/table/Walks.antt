@@ -25,7 +25,7 @@ effect_in (Err c) d = d
 pub same_two : (hs gs : List OpenCommand) (e f : Effect) → two hs e ≡ two gs f → (hs ≡ gs) × (e ≡ f)
 same_two hs gs e f h = (ap (λ (r : Heard). hs_in r gs) h, ap (λ (r : Heard). effect_in r f) h)
 
--- a mark at the first command, and behind it
+-- a mark at the first command, and after it
 pub heard_at : (front : Bool) (h : OpenCommand) (hs : List OpenCommand) (t : Tag) (m : Mark) → tag_is h.tag t ≡ true
     → heard_in front (h ∷ hs) t m ≡ settled h hs (judged front h.kind h.stage m)
 heard_at front h hs t m e = if_true {A = Heard} (tag_is h.tag t) _ _ e
@@ -79,7 +79,7 @@ heard_cases front h hs t m gs e P is becomes breaks closes counts past =
 
 -- ---- with one command more at the end
 
--- a reply that has its place has it beside one command more
+-- a reply that has its place has it next to one command more
 pub heard_more : (front : Bool) (hs : List OpenCommand) (x : OpenCommand) (t : Tag) (m : Mark) (gs : List OpenCommand) (e : Effect)
     → heard_in front hs t m ≡ two gs e → heard_in front (hs ++ x ∷ []) t m ≡ two (gs ++ x ∷ []) e
 heard_more front [] x t m gs e is = absurd (cc)
@@ -94,7 +94,7 @@ heard_more front (h ∷ hs) x t m gs e is =
 
 -- ---- the tags that are held become no more
 
--- a tag that is not held is not held behind a reply
+-- a tag that is not held is not held after a reply
 pub not_held_keeps : (u : Tag) (front : Bool) (hs : List OpenCommand) (t : Tag) (m : Mark) (gs : List OpenCommand) (e : Effect)
     → heard_in front hs t m ≡ two gs e → is_held u hs ≡ false → is_held u gs ≡ false
 not_held_keeps u front [] t m gs e is free = absurd (cc)
@@ -115,7 +115,7 @@ abbrev pub AreDistinct : List OpenCommand → Type 0
 AreDistinct [] = Unit {0}
 AreDistinct (h ∷ hs) = (is_held h.tag hs ≡ false) × AreDistinct hs
 
--- tags that differ differ behind a reply
+-- tags that differ differ after a reply
 pub distinct_keeps : (front : Bool) (hs : List OpenCommand) (t : Tag) (m : Mark) (gs : List OpenCommand) (e : Effect)
     → heard_in front hs t m ≡ two gs e
     → AreDistinct hs → AreDistinct gs

@@ -333,7 +333,7 @@ heard_carried b h r others rest on down_is behind =
           others) (sym stays.last) wired);
     }
 
--- a client reads what stands at the front of its bytes, which is a reply and no fault, and what both ends carry is kept
+-- a client reads what is at the start of its bytes, which is a reply and no fault, and what both ends carry is kept
 pub hears_carried : (b : World) (h : IsCarried b) → b.client.client.on ≡ true
     → is_any (next_of b.client.input.rest) ≡ true → IsCarried (record b { client = end_read b.client })
 hears_carried b h on due_now = go (next_of b.client.input.rest) refl due_now
@@ -371,7 +371,7 @@ hears_carried b h on due_now = go (next_of b.client.input.rest) refl due_now
     go (Ok (Some (line, rest))) e is = line_case line rest e
     go (Err why) e is = absurd (no_reply_fault h.down b.client.input.rest (client_link b).down why h.wired.replies bytes e)
 
--- the first reply down is gone behind that, and the client has heard it
+-- the first reply down is gone after that, and the client has heard it
 pub record HearsFirst (b : World) (h : IsCarried b) (v : World) : Type 0 where
   pub first : Reply
   pub others : List Reply

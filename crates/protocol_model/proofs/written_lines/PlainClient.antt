@@ -134,7 +134,7 @@ arguments_measuring tool frame ss t f h =
     (arguments_join (framing frame) _ (arguments_framing frame f)
     (arguments_join (stepping frame ss) _ (arguments_steps frame ss h) (tt, tt)))
 
--- so have those of each plan of a program, behind any number of features and from either start
+-- so have those of each plan of a program, after any number of features and from either start
 pub plan_arguments : (p : Program) (k : ℕ) (start : Start) → IsProgram p → HaveArguments (plan p k start)
 plan_arguments p k start h = go start
   where
@@ -306,7 +306,7 @@ hears_plain c t m (Err cause) h leaves = record {
   no_abort = h.no_abort;
 }
 
--- it stays plain behind each reply that it reads
+-- it stays plain after each reply that it reads
 pub plain_read : (c : Client) (t : Tag) (m : Mark) → IsPlainClient c → IsPlainClient (client_read c t m)
 plain_read c t m h = go (tag_is t (Event 0))
   where
@@ -329,6 +329,6 @@ plain_resumed c h = record {
 pub plain_left : (c : Client) → IsPlainClient c → IsPlainClient (client_left c)
 plain_left c h = record { program = h.program; drawn = h.drawn; event_drawn = h.event_drawn; unsent = h.unsent; no_abort = h.no_abort }
 
--- and where it is begun anew with its first k features
+-- and if it is begun anew with its first k features
 pub plain_restarted : (k : ℕ) (c : Client) → IsPlainClient c → IsPlainClient (client_restarted k c)
 plain_restarted k c h = record { program = h.program; drawn = omega arith; event_drawn = omega arith; unsent = tt; no_abort = tt }
