@@ -1,4 +1,4 @@
--- Worked rows of the question whether the machine is homed (this profile).
+-- Examples of the question whether the machine is homed (this profile).
 -- No theorem cites these definitions.
 use Rattle.std.specs.Prelude.{Bool, List, [], ◌∷◌, ◌++◌, Ok}
 use Rattle.dme_line.specs.declared.tags.Tag.TheVariants.{Std}
@@ -12,12 +12,12 @@ use Rattle.protocol_examples.specs.Scripts.{play}
 use Rattle.protocol_model.specs.Examples.{Call, call_answer}
 use Rattle.protocol_model.specs.declared.held.Datum.TheVariants as datum
 
--- a server behind calls, one after another
+-- a server after calls, one after another
 abbrev pub server_behind : List Call → Server → Server
 server_behind [] s = s
 server_behind (c ∷ cs) s = server_behind cs (call_answer c s).server
 
--- the question is read, and has its turn
+-- the question is read, and is processed
 abbrev pub asked_now : List Call
 asked_now = Call.Reads (Ok (line 3 command.IsHomed)) ∷ Call.Turns ∷ []
 
