@@ -65,13 +65,13 @@ measured_number ws (Does.Moves p f) given y = refl
 measured_number ws (Does.Changes n) given y = refl
 measured_number ws (Does.Frames f) given y = refl
 
--- acts are counted behind those that were, on the same connection
+-- acts are counted after those that were, on the same connection
 pub record Grows (y z : Tally) : Type 0 where
   pub more : List Act
   pub acts : z.counted ≡ y.counted ++ more
   pub number : z.connection ≡ y.connection
 
--- what is told then are these
+-- what is reported then are these
 pub grows_told : (y z : Tally) → (g : Grows y z) → numbered z.connection (drop (length y.counted) z.counted) ≡ numbered y.connection g.more
 grows_told y z g = ap (λ (n : ℕ). numbered n (drop (length y.counted) z.counted)) g.number
     ∙ ap (numbered y.connection) (ap (λ (l : List Act). drop (length y.counted) l) g.acts ∙ drop-append_seam y.counted g.more)
@@ -159,7 +159,7 @@ not_empty : (ts : List Touch) → false ≡ is_empty ts → ts ≡ [] → ⊥
 not_empty [] e none = false≢true e
 not_empty (t ∷ ts) e none = cc
 
--- where no feature is left behind a counted command, none is unfinished
+-- where no feature is left after a counted command, none is unfinished
 measured_ends : (ws : List Wanted) (does : Does) (given : Option Datum) (y : Tally) (left later : List Wanted) (rest : List Marked)
     → HasDatum does given → HaveTouches left → touch_in does ++ rest ≡ marks_of left → rest ≡ marks_of later → (left ≡ [] → y.points ≡ [])
     → later ≡ [] → (measured ws does given y).points ≡ []
@@ -192,7 +192,7 @@ behind_asked : (xs : List Planned) (x : Planned) (ys : List Planned) → AreAske
 behind_asked [] x ys h = h.1
 behind_asked (w ∷ xs) x ys h = behind_asked xs x ys h.1
 
--- the first command of the plan is counted: it asks for what was given, and so do those behind it
+-- the first command of the plan is counted: it asks for what was given, and so do those after it
 record IsFirst (q : Planned) (rest : List Planned) (given : Option Datum) : Type 0 where
   has : HasDatum q.does given
   others : AreAsked rest
@@ -216,7 +216,7 @@ first_asked p program y hs gs kind given q rest plans f is calm live given_one =
       others = behind_asked f.finished q rest are;
     }
 
--- what is told then joins the contacts
+-- what is reported then joins the contacts
 counted_goes : (p : Meaning) (on : Bool) (last : ℕ) (y : Tally) (kind : Kind) (given : Option Datum) (q : Planned) (rest : List Planned)
     (ms : List MadeContact) → y.todo ≡ q ∷ rest → IsFirst q rest given → IsGoing (view_by p on last y) ms
     → IsGoing (view_by p on last (counted_next p.features kind given (q ∷ rest) y)) (ms
@@ -249,7 +249,7 @@ not_true : (b : Bool) → not b ≡ true → b ≡ false
 not_true true e = absurd (false≢true e)
 not_true false e = refl
 
--- where nothing is told the contacts are the same
+-- where nothing is reported the contacts are the same
 still_goes : (v w : View) (ms : List MadeContact) → told_to v w ≡ [] → IsGoing w ms → IsGoing w (ms ++ contacts (told_to v w))
 still_goes v w ms none h = subst (λ (l : List MadeContact). IsGoing w l)
     (sym (ap (λ (l : List (ℕ × Act)). ms ++ contacts l) none ∙ append-nil ms)) h
@@ -271,7 +271,7 @@ effect_goes p on last program hs gs y plans (Effect.Count kind given) ms f h goi
     go (q ∷ rest) is = counted_goes p on last y kind given q rest ms is
         (first_asked p program y hs gs kind given q rest plans f is (f.calm (not_true y.failed h.0)) h.1 h.2) going
 
--- what holds of what is told between two tallies
+-- what holds of what is reported between two tallies
 abbrev GoesTo : Meaning → Bool → ℕ → List MadeContact → Tally → Tally → Type 0
 GoesTo p on last ms y z = IsGoing (view_by p on last z) (ms ++ contacts (told_to (view_by p on last y) (view_by p on last z)))
 

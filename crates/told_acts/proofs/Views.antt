@@ -1,4 +1,4 @@
--- What the told acts of a client depend on, and the acts that are told between two such.
+-- What the told acts of a client depend on, and the acts that are reported between two such.
 use Rattle.std.proofs.Common.{◌≡◌, ℕ, Bool, true, false, cond, List, [], ◌∷◌, ◌++◌, length, drop, refl, sym, ◌∙◌, ap, subst, append-nil, Option}
 use Rattle.std.proofs.Common.{Some, None, Result, Ok, Err}
 use Rattle.std.proofs.Math.Seq.{drop-length, drop-nil}
@@ -58,7 +58,7 @@ view_by p on last y = record {
 abbrev pub view : Client → View
 view c = view_by c.program c.on c.last c.table.tally
 
--- the acts that are told between two views
+-- the acts that are reported between two views
 abbrev pub told_to : View → View → List (ℕ × Act)
 told_to v w = numbered w.connection (drop (length v.counted) w.counted)
 
@@ -87,7 +87,7 @@ aborts_view c (Some n) = refl
 
 -- ---- what is read: nothing, a fault, or a reply that has its place
 
--- what holds of a client, of the same when Faulted, and behind each reply that has its place
+-- what holds of a client, of the same when Faulted, and after each reply that has its place
 pub record Throughout (c : Client) (P : Client → Type 0) : Type 0 where
   pub same : P c
   pub fault : (cause : Cause) → P (faulted cause c)
@@ -149,7 +149,7 @@ line_all : (c : Client) (P : Client → Type 0) → Throughout c P → (r : Resu
 line_all c P h (Ok r) = response_all c P h r.tag r.mark
 line_all c P h (Err refused) = h.fault Cause.NotResponse
 
--- what stands at the front of the bytes is read
+-- what is at the start of the bytes is read
 pub read_all : (c : Client) (P : Client → Type 0) → Throughout c P → (f : Front) → P (front_read c f)
 read_all c P h (Ok None) = h.same
 read_all c P h (Ok (Some (line, rest))) = line_all c P h (response_of line)
