@@ -32,7 +32,7 @@ done_disc at radius (act.Measured away) = disc_text at radius
 done_disc at radius act.Move = []
 done_disc at radius act.Touch = []
 
--- the whisker of a measured point, from where it is drawn; other stops have no whisker
+-- the whisker of a measured point, from its position in the view; other stops have no whisker
 abbrev pub whisker_of : View → Whiskers → Spot → Act → List ℕ
 whisker_of v w from (act.Measured away) = line_text from (tip_of v.side w from away)
 whisker_of v w from act.Move = []
