@@ -120,7 +120,7 @@ form_word Csv = codes "csv"
 form_word Json = codes "json"
 form_word Svg = codes "svg"
 
--- what was measured of the program, in the named form, with the named features, and with the named setup or with none where none is named
+-- what was measured of the program, in the named form, with the named features, and with the named setup or with none if none is named
 abbrev pub IsExportOf : List Row → Export → Type 0
 IsExportOf rows o =
     IsValueOf (codes "as") rows (form_word o.form) × IsMaybeOf (codes "setup") rows (option_map string_bytes o.setup)
