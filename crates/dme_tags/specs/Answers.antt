@@ -11,7 +11,7 @@ use Rattle.dme_tags.specs.declared.faults.TagFault.TheVariants as fault
 use Rattle.dme_tags.specs.declared.endings.Ended.{Ended}
 use Rattle.dme_tags.specs.declared.endings.Ended.TheVariants as ended
 
--- why a client that meets a fault leaves its connection; it does not because memory ran out
+-- why a client that meets a fault leaves its connection; it stays if memory ran out
 abbrev pub cause_of : TagFault → Option Cause
 cause_of fault.UnknownTag = Some cause.UnknownTag
 cause_of fault.OutOfOrder = Some cause.OutOfOrder

@@ -24,7 +24,7 @@ pub enum TagFault {
 }
 
 impl TagFault {
-    /// Why a client that meets this fault leaves its connection; none because memory ran out.
+    /// Why a client that meets this fault leaves its connection; none if memory ran out.
     pub fn cause(self) -> Option<Cause>
         ensures { result ≡ cause_of self }
     {

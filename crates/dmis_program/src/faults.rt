@@ -24,7 +24,7 @@ pub enum Refusal {
     BadNumeral(NumeralFault),
     /// The statement belongs into a measurement block, and none is open.
     OutsideBlock,
-    /// The statement cannot are in a measurement block, and one is open.
+    /// The statement cannot be in a measurement block, and one is open.
     InsideBlock,
     /// A measurement block ends with fewer touches than it asks for.
     TooFewPoints,

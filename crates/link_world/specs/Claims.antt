@@ -34,7 +34,7 @@ abbrev pub HandsBack : Meaning → SetupValue → NewFault → Type 0
 HandsBack program setup (fault.BadWindow given_program given_setup) = (given_program ≡ program) × (given_setup ≡ setup)
 HandsBack program setup fault.Memory = ⊥
 
--- there is no world because memory ran out
+-- there is no world if memory ran out
 abbrev pub IsWant : NewFault → Type 0
 IsWant (fault.BadWindow given_program given_setup) = ⊥
 IsWant fault.Memory = Unit {0}

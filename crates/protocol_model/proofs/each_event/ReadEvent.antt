@@ -75,7 +75,7 @@ stands_is s x waiting e free plain =
     ap (λ (l : List Waiting). runs_under x.tag s.running || waits_under x.tag l) e ∙ not_in_use x.tag s.running waiting free in
     if_false {A = Answer} _ _ _ unused ∙ if_false {A = Answer} _ _ _ plain
 
--- what the facts specifies for a line that is the next to be read
+-- what the facts give for a line that is the next to be read
 pub record IsReading (w : World) (table : Table) (left : List Wanted) (x : Line) (queued coming : List Line) (aborts : List ℕ) : Type 0
   where
     pub near : IsNearBy table left w.up w.server.running w.server.waiting w.server.error (know_of w.server) queued

@@ -1,4 +1,4 @@
--- What a server specifies for its homing: the homing at that moment, and while no act is done, what it was.
+-- The homing that a server answers: the homing at that moment, and while no act is done, what it was.
 use Rattle.std.proofs.Common.{◌≡◌, ℕ, Bool, true, false, cond, not, ◌&&◌, ◌||◌, List, [], ◌∷◌, ◌++◌, length, refl, sym, ◌∙◌}
 use Rattle.std.proofs.Common.{append-nil, nat_le, Option, Some, None, Result, Ok, Err}
 use Rattle.std.proofs.lemmas.Bool.{false≢true}

@@ -308,7 +308,7 @@ is_asked (h ∷ hs) (k ∷ ks) calm e = or_true (asks_homed h.kind && not (is_fa
     or_true true b e = refl
     or_true false b e = e
 
--- what the phase specifies for the command that is sent: it does not home where the machine is reported to be homed, and the phase after it
+-- what the phase gives for the command that is sent: it does not home where the machine is reported to be homed, and the phase after it
 record IsSent (told : Bool) (hs : List OpenCommand) (y : Tally) (x : OpenCommand) (p : Planned) (others : List Planned) : Type 0 where
   no_homing : told ≡ true → is_homing p.command ≡ false
   phase : IsBefore (hs ++ x ∷ []) (record y { unsent = others }) ⊎ IsBehind told (record y { unsent = others })
