@@ -55,7 +55,7 @@ impl Queue {
     }
 
     /// Puts a command after the others. Where 64 wait it hands the command back, and the queue is as before.
-    /// Takes no memory.
+    /// Does not allocate.
     pub fn put(&mut self, command: Waiting) -> Result<(), Waiting>
         ensures room { IsOk result ↔ (length self.old < places) }
         ensures ok { OnOk result (self.new ≡ self.old ++ command ∷ []) }

@@ -63,7 +63,7 @@ HoldsText (Given text) = Unit {0}
 HoldsText Done = ⊥
 HoldsText (Error text) = Unit {0}
 
--- the line stands for a response that holds a text; only that text can run out of memory
+-- the line stands for a response that holds a text; only making that text can run out of memory
 abbrev pub HoldsResponseText : List ℕ → Type 0
 HoldsResponseText line = (r : Response) × IsResponseLine line r × HoldsText r.mark
 

@@ -147,7 +147,7 @@ pub(crate) fn cut_written_point(text: &[u8]) -> Option<(Point, &[u8])>
     Some((point, rest))
 }
 
-/// The point of a text with no space in front whose axes are in their written form. `None` says nothing: they may stand in another
+/// The point of a text with no space in front whose axes are in their written form. `None` says nothing: they may have another
 /// form, or there may be none.
 fn read_written_point(text: &[u8]) -> Option<Point>
     requires { (more : List ℕ) → text.now ≡ 32 ∷ more → ⊥ }

@@ -230,7 +230,7 @@ fn cut_mark(text: &[u8]) -> Option<MarkSlice<'_>>
     }
 }
 
-/// The response that a line without its end stands for, its text left where it is in the line. Does not allocate.
+/// The response that a line without its end stands for, its text left in its place in the line. Does not allocate.
 ///
 /// Spaces after `&` and `%` are accepted; a `!` with nothing after it has an empty text.
 pub fn cut_response(line: &[u8]) -> Result<ResponseSlice<'_>, NotResponse>

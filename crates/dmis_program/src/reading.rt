@@ -207,7 +207,7 @@ impl Reader {
         Ok(false)
     }
 
-    /// Goes on by what a statement says. True at the end of the program.
+    /// Continues with what a statement says. True at the end of the program.
     fn follow(&mut self, frames: &Frames, said: StatementMeaning) -> Result<bool, StatementFault>
         ensures { GivesNext result self.new (follows frames.now self.old said) }
     {

@@ -43,7 +43,7 @@ with_first statement rest = record { statements = statement ∷ rest.statements;
 abbrev pub finished : OpenStatement → Statement
 finished begun = statement_of begun.line begun.text
 
--- at the end of the text a statement that has begun counts as far as it goes, and one of blanks alone is none
+-- at the end of the text a statement that has begun counts as far as it goes, and one of blanks alone does not
 abbrev pub ended : Option OpenStatement → Reading
 ended None = record { statements = []; fault = None }
 ended (Some begun) = record { statements = (if all_blank begun.text then [] else finished begun ∷ []); fault = None }

@@ -1,4 +1,4 @@
--- Texts, blanks and comments on one line (ISO 22093: a text stands in apostrophes, `$$` begins a comment, `$` continues a
+-- Texts, blanks and comments on one line (ISO 22093: a text is between apostrophes, `$$` begins a comment, `$` continues a
 -- line). An apostrophe is 39, `$` is 36.
 use Rattle.std.specs.Prelude.{ℕ, Bool, true, false, not, List, [], ◌∷◌, ◌&&◌, ◌||◌, ◌==◌, nat_le, if◌then◌else◌}
 use Rattle.std.specs.List.{list_all}

@@ -189,7 +189,7 @@ pub(crate) fn cut_from(bytes: &[u8], mark: u8, first: usize) -> Option<(&[u8], &
     None
 }
 
-/// Likewise if the caller has no place.
+/// Likewise if the caller knows no place.
 #[inline(always)]
 pub(crate) fn cut_at(bytes: &[u8], mark: u8) -> Option<(&[u8], &[u8])>
     requires { is_unmarked mark ≡ false }

@@ -22,7 +22,7 @@ enum Bytes<'a> {
 /// The bytes of a label, a word or a parameter, which contracts see as their list: without blanks at both ends, capitals outside texts,
 /// and texts as written, with their apostrophes. It is read as a slice.
 ///
-/// They are lent by the text that is read, where they stand in it as they are handed out.
+/// They are lent by the text that is read, if it holds them just as they are handed out.
 #[derive(Debug, Drop)]
 pub struct Text<'a> {
     bytes: Bytes<'a>,

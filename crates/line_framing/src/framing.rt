@@ -185,8 +185,8 @@ impl Lines {
     /// It answers `LineTooLong` or `BadByte` where that is at the front, and keeps it. `Memory` comes where
     /// there was no room for the line; the buffer is then as before.
     pub fn next_line(&mut self) -> Result<Option<Line>, LinesFault>
-        // The answer is what is at the start of the rest, and from a fault on the same fault. Memory is wanted
-        // for a whole line alone.
+        // The answer is what is at the start of the rest, and after a fault always that fault. Only taking
+        // a whole line allocates.
         ensures line { IfOk result (λ found. IfSome found
             (λ line. next_of self.old.rest ≡ Ok (Some (line, self.new.rest)))) }
         ensures nothing { IfOk result (λ found. IfNone found (next_of self.old.rest ≡ Ok None)) }

@@ -108,7 +108,7 @@ impl Server {
         }
     }
 
-    /// Reads the first whole line and answers it: true where one stood at the front, false where nothing whole does. `NotNow` on no
+    /// Reads the first whole line and answers it: true if there was one, false if nothing whole waits. `NotNow` on no
     /// connection; `Framing` where what is at the front is no line, from then on until the connection is left; `Memory` for a line alone.
     #[tactic(auto, using(crate::proofs::Servings::fault_holds))]
     pub fn read_one(&mut self) -> Result<bool, ServerFault>
@@ -217,7 +217,7 @@ impl Server {
         self.controller.check(outcome).is_ok()
     }
 
-    /// Gives the connection up: what runs stops uncompleted, and nothing is answered. Homing, tool, ledger and the last number stay. On no
+    /// Leaves the connection: what runs stops uncompleted, and nothing is answered. Homing, tool, ledger and the last number stay. On no
     /// connection there is nothing to discard. It does not allocate.
     #[tactic(auto, using(crate::proofs::Servings::left_holds))]
     pub fn leave(&mut self)

@@ -1,4 +1,4 @@
--- What a reply counts, next to the contacts that were told before it.
+-- What a reply counts, next to the contacts reported before it.
 use Rattle.std.proofs.Common.{◌≡◌, ℕ, suc, Bool, true, false, not, ◌||◌, List, [], ◌∷◌, ◌++◌, length, drop, refl, sym, ◌∙◌, ap, subst}
 use Rattle.std.proofs.Common.{append-nil, Option, Some, None}
 use Rattle.std.proofs.Math.Seq.{drop-append_seam}
@@ -116,7 +116,7 @@ heard_grows ws b c t m is =
 
 -- ---- the touches that are left
 
--- a client on a connection, and the contacts that were told: those of the held features, then those of the unfinished one, and what is left
+-- a client on a connection, and the contacts reported: those of the held features, then those of the unfinished one, and what is left
 -- of the features are the touches of the plan that are not counted
 pub record IsGoing (v : View) (ms : List MadeContact) : Type 0 where
   pub left : List Wanted

@@ -35,7 +35,7 @@ use Rattle.told_acts.proofs.Counts.{IsGoing, Grows, grows_told, heard_grows, hea
 
 -- ---- what was counted on the present connection
 
--- no act was told on a connection to come; on a connection, what is counted are the acts that were told there
+-- no act was reported on a connection to come; on a connection, what is counted are the acts reported there
 pub record IsHere (told : List (ℕ × Act)) (v : View) : Type 0 where
   pub up_to : AreUpTo v.last told
   pub number : v.on ≡ true → v.connection ≡ v.last
@@ -303,7 +303,7 @@ behind_tells p kept window program ours acts (call ∷ calls) e b h =
     (behind_tells p kept window program ours (acts ++ told_by call e) calls (behind_call call e)
     (behind_one_more p kept window call e b) (call_tells acts call e p (plans_begun before p kept window) holds h))
 
--- what was told after calls, from features that are sound for earlier acts
+-- what was reported after calls, from features that are sound for earlier acts
 pub record IsTold (p : Meaning) (acts : List (ℕ × Act)) (c : Client) : Type 0 where
   pub same : c.program ≡ p
   pub tells : Tells acts (view c)

@@ -70,7 +70,7 @@ none_told n acts = ap (numbered n) (drop-length acts)
 pub none_anew : (n : ℕ) (acts : List Act) → numbered n (drop (length acts) []) ≡ []
 none_anew n acts = ap (numbered n) (drop-nil (length acts))
 
--- what holds of the told acts holds with none more
+-- what holds of the told acts holds with no act more
 pub with_none : (P : List (ℕ × Act) → Type 0) (told more : List (ℕ × Act)) → more ≡ [] → P told → P (told ++ more)
 with_none P told more none h = subst P (sym (ap (λ (l : List (ℕ × Act)). told ++ l) none ∙ append-nil told)) h
 

@@ -1,4 +1,4 @@
--- What a client was told: the acts that it counted on all its connections, in order, and what is claimed of them (this profile).
+-- What was reported to a client: the acts that it counted on all its connections, in order, and what is claimed of them (this profile).
 use Rattle.std.specs.Prelude.{◌≡◌, ℕ, List, [], ◌∷◌, ◌++◌, length, take, drop}
 use Rattle.fixed_um.specs.declared.lengths.Point.{Point}
 use Rattle.contact_ledger.specs.declared.acts.Act.{Act}

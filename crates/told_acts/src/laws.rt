@@ -12,12 +12,12 @@ ghost use Rattle.told_acts.specs.Told.{told_behind, EndsUnfinished};
 
 /// After every list of calls of a client, from any program and any features that are sound for earlier acts, whatever bytes are fed:
 ///
-/// - `sound`: the features that the client holds are sound for the earlier acts followed by the acts that it was told. So each feature has
+/// - `sound`: the features that the client holds are sound for the earlier acts followed by the acts reported to it. So each feature has
 /// the points of its own unbroken run of reported contacts on one connection, each contact with the target, direction, tool and frame of
 /// its touch, and the runs ascend;
 /// - `unfinished`: those acts end with the contacts of the unfinished feature: the points that the client holds for it are theirs, they are
 /// one unbroken run on the client's connection, and serve the first touches of the next feature that the program wants;
-/// - `counted`: what the client has counted on its connection are the acts that it was told there.
+/// - `counted`: what the client has counted on its connection are the acts reported to it there.
 ///
 /// The server is not ours: an act is reported where the client counts a command, and a contact's point is that of the data line.
 pub fn held_features_are_true_of_what_was_told()

@@ -68,7 +68,7 @@ not_in_use t None queued e = waits_not t queued e
 not_in_use t (Some l) queued e = let parts = held_parts t (received l) (all_received queued) e
     in ap (λ (b : Bool). b || waits_under t (all_wait queued)) parts.0 ∙ waits_not t queued parts.1
 
--- an event tag is none of standard lines
+-- an event tag is not the tag of a standard line
 event_not_held : (t : Tag) (ls : List Line) → AreStandard ls → is_event_tag t ≡ true → is_held t (all_received ls) ≡ false
 event_not_held t [] sorts e = refl
 event_not_held t (l ∷ ls) sorts e = if_false {A = Bool} (tag_is l.tag t) true (is_held t (all_received ls)) (apart l.tag t sorts.0 e)

@@ -269,7 +269,7 @@ counted_before told h gs given p todo unsent acts [] ask home rest question q_qu
     go (Unasked later are e) = absurd (too_long gs gs later rest ask home h.kind
         (ap (λ (l : List Planned). h.kind ∷ (kinds_held gs ++ kinds_of l)) (sym e) ∙ (kinds ∙ ap kinds_of is)))
 
--- and where it is
+-- and if it is
 counted_behind : (told : Bool) (h : OpenCommand) (gs : List OpenCommand) (given : Option Datum) (p : Planned) (todo unsent : List Planned)
     (acts : List Act) → HasNoQuestion (p ∷ todo) → (told ≡ true → HasNoHoming (p ∷ todo)) → (told ≡ true → HasNoHoming unsent)
     → kinds_held (h ∷ gs) ++ kinds_of unsent ≡ kinds_of (p ∷ todo) → IsCounted told h gs given p todo unsent acts
