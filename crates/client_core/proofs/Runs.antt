@@ -849,7 +849,7 @@ resumed_holds p plans c halted h =
       };
     }) tt h.numbered
 
--- ---- the connection is dropped
+-- ---- the connection is left
 
 left_off : (s : State) → IsOff (left_state s)
 left_off State.Done = tt

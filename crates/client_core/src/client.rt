@@ -34,7 +34,7 @@ use std::marker::Model;
 ///
 /// `connected` comes to a connection; `send` writes the command that is `due`, `feed` brings bytes, `read_one` reads a line. What it writes
 /// is in `out` until `sent`. A feature joins `features` with its last counted point. `abort` stops the server, `resume` begins the plan
-/// again after the last completed feature; `leave` and `restart` drop the connection. Running out of memory leaves the client as it was.
+/// again after the last completed feature; `leave` and `restart` leave the connection. Running out of memory leaves the client as it was.
 #[derive(Drop)]
 pub struct Client {
     executor: Executor,
@@ -255,7 +255,7 @@ impl Client {
         Ok(())
     }
 
-    /// Drops the connection: Done stays Done, all else is Apart; what was to be sent and the points of the unfinished feature are
+    /// Leaves the connection: Done stays Done, all else is Apart; what was to be sent and the points of the unfinished feature are
     /// discarded; features and counted acts stay. Does not allocate.
     #[tactic(auto, using(crate::proofs::Reached::left_reached))]
     pub fn leave(&mut self)
