@@ -108,7 +108,7 @@ pub fn what_holds_behind_every_list_of_calls()
 {}
 
 /// A framing fault that a server has met is kept by each call but `leave` and `restart`, and is at the start of the bytes: so each later
-/// `feed` and `read_one` answers it, until the connection is dropped (this profile).
+/// `feed` and `read_one` answers it, until the connection is left (this profile).
 #[tactic(auto, using(crate::proofs::Reached::kept_fault_stands, crate::proofs::Reached::fault_is_kept))]
 pub fn framing_fault_is_kept()
     ensures stands { (tools : List (List ℕ)) (calls : List Call)

@@ -30,7 +30,7 @@ use tool_rack::Setup;
 /// that are to be sent.
 ///
 /// `accept` comes to a connection; `feed` brings bytes, `read_one` reads a line, `turn` processes the first waiting command, and
-/// `machine` says how what runs has ended. What they answer is in `out` until `sent`. `leave` and `restart` drop the connection.
+/// `machine` says how what runs has ended. What they answer is in `out` until `sent`. `leave` and `restart` leave the connection.
 /// Each refusal leaves the server as it was, as does running out of memory; a framing fault is kept until the connection is left.
 #[derive(Drop)]
 pub struct Server {
