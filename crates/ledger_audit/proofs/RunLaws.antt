@@ -10,7 +10,7 @@ use Rattle.dmis_program.specs.declared.features.Wanted.{Wanted}
 use Rattle.protocol_model.specs.Claims.{MadeContact, IsServed, Serves, IsRun}
 use Rattle.ledger_audit.specs.Verdicts.{IsFirstRun}
 
--- contacts that serve are as many as the points
+-- there are as many contacts that serve as points
 serves_long : (n : ℕ) (ts : List Touch) (ps : List Point) (ms : List MadeContact) → Serves n ts ps ms → length ms ≡ length ps
 serves_long n [] [] [] h = refl
 serves_long n [] [] (m ∷ ms) h = absurd h
@@ -19,7 +19,7 @@ serves_long n (t ∷ ts) [] ms h = absurd h
 serves_long n (t ∷ ts) (p ∷ ps) [] h = absurd h
 serves_long n (t ∷ ts) (p ∷ ps) (m ∷ ms) h = ap suc (serves_long n ts ps ms h.1)
 
--- a run ends within the contacts, where it begins there
+-- a run that begins within the contacts ends within them
 pub run_within : (w : Wanted) (f : Feature) (s : ℕ) (made : List MadeContact) → IsRun w f s made → s ≤ length made
     → s + length f.points ≤ length made
 run_within w f s made h le =
@@ -38,7 +38,7 @@ serves_first m n (t ∷ ts) (p ∷ ps) (x ∷ ms) h some e =
     let on : n ≡ m.connection = sym (ap (λ (y : MadeContact). y.connection) e ∙ served.on) in
     subst (λ (k : ℕ). Serves k (t ∷ ts) (p ∷ ps) (x ∷ ms)) on h
 
--- where there are no contacts, they serve on any
+-- if there are no contacts, they serve on any connection
 pub serves_none : (n k : ℕ) (ts : List Touch) (ps : List Point) (ms : List MadeContact) → Serves n ts ps ms → length ms < 1
     → Serves k ts ps ms
 serves_none n k ts ps (m ∷ ms) h none = absurd (omega arith)
@@ -47,7 +47,7 @@ serves_none n k [] (p ∷ ps) [] h none = absurd h
 serves_none n k (t ∷ ts) [] [] h none = absurd h
 serves_none n k (t ∷ ts) (p ∷ ps) [] h none = absurd h
 
--- a run is the first one, where none begins below it
+-- a run is the first one, if none begins before it
 pub first_by : (w : Wanted) (f : Feature) (least : ℕ) (made : List MadeContact) (s : ℕ)
     → ((other : ℕ) → least ≤ other → other < s → IsRun w f other made → ⊥) → least ≤ s → IsRun w f s made → IsFirstRun w f least made s
 first_by w f least made s below from run = record {

@@ -35,7 +35,7 @@ impl<'l> Model for Contact<'l> {
     } };
 }
 
-/// The contacts of a ledger, in order. Only want of memory is an `Err`.
+/// The contacts of a ledger, in order. Fails only if out of memory.
 pub(crate) fn contacts_of<'l>(
     alloc: Global,
     acts: &'l [(u64, Act)],

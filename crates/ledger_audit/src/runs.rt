@@ -11,7 +11,7 @@ use contact_ledger::Feature;
 use dmis_program::{Touch, Wanted};
 use fixed_um::{Dir, Frame, Name, Point};
 
-// Equality of values, told as such.
+// Equality of values, stated in contracts as equality.
 
 fn same_point(one: Point, other: Point) -> bool
     ensures { IsTrue result ↔ (one ≡ other) }
@@ -49,8 +49,7 @@ fn is_served(connection: u64, touch: &Touch, point: &Point, contact: &Contact<'_
         && same_point(contact.point, *point)
 }
 
-/// Whether contacts serve touches, each its own, all on this connection, and reported these points. It looks no further than the first
-/// that does not.
+/// Whether contacts serve touches, each its own, all on this connection, and reported these points. Stops at the first that does not.
 fn serves(connection: u64, touches: &[Touch], points: &[Point], contacts: &[Contact<'_>]) -> bool
     ensures { IsTrue result ↔ Serves connection touches.now points.now contacts.now }
 {
@@ -71,7 +70,7 @@ fn serves(connection: u64, touches: &[Touch], points: &[Point], contacts: &[Cont
     points.is_empty() && contacts.is_empty()
 }
 
-/// The connection of contacts, where all of them are on one: that of the first, or any where there are none.
+/// The connection of contacts that share one: that of the first, or any if there are none.
 fn connection_of(contacts: &[Contact<'_>]) -> u64
     ensures { (connection : ℕ) (touches : List Touch) (points : List Point)
         → Serves connection touches points contacts.now
@@ -83,7 +82,7 @@ fn connection_of(contacts: &[Contact<'_>]) -> u64
     }
 }
 
-/// Whether the contacts from a start on begin with a run that serves a feature, the label of which is known to be the wanted one.
+/// Whether the contacts from a start on begin with a run that serves a feature. Requires that its label is the wanted one.
 fn is_run(wanted: &Wanted, feature: &Feature, contacts: &[Contact<'_>], start: usize) -> bool
     requires within { start ≤ length contacts.now }
     requires label { feature.now.label ≡ wanted.now.label }
