@@ -6,7 +6,7 @@ use Rattle.dmis_program.specs.declared.features.Wanted.{Wanted}
 use Rattle.protocol_model.specs.Claims.{MadeContact, contacts, IsRun, AreRuns, Sound}
 use Rattle.ledger_audit.specs.Verdicts.{AreAtMost}
 
--- the end of the last of the runs with these starts, or the least start allowed for the first if there are none
+-- the end of the last of the runs with these starts, or the least start allowed for the first without one
 abbrev pub last_end : ℕ → List Feature → List ℕ → ℕ
 last_end least [] starts = least
 last_end least (f ∷ fs) [] = least

@@ -16,7 +16,8 @@ use std::alloc::{AllocError, Global};
 /// the program, and reported its points. The origin of a feature is not considered.
 ///
 /// If every feature has its run, reports the starts of the runs, each the least possible. Otherwise reports the least count of first
-/// features that have no runs together; a feature that the program does not have has no run. Fails only if out of memory.
+/// features that have no runs together; a feature that the program does not have has no run. The time is linear in the sum of contacts and
+/// touches. Fails only if out of memory.
 pub fn audit(
     alloc: Global,
     program: &Program,
@@ -42,7 +43,7 @@ pub fn audit(
         if index >= wanted.len() {
             return Ok(Verdict::NoRun(index + 1));
         }
-        let Some(start) = first_run(&wanted[index], feature, &contacts, least) else {
+        let Some(start) = first_run(alloc, &wanted[index], feature, &contacts, least)? else {
             return Ok(Verdict::NoRun(index + 1));
         };
         starts.push(start as u64)?;

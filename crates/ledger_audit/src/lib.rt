@@ -1,7 +1,9 @@
 //! The audit of a client's features against the contacts of a server: whether each feature is one unbroken run in the server's ledger.
 //!
 //! - `contacts`: the contacts of a ledger, with the numbers of their connections
-//! - `runs`: where a feature begins among them
+//! - `probings`: what a contact that serves a touch has in common with it
+//! - `shifts`: how far a search moves when a contact does not fit
+//! - `runs`: where the first run of a feature begins
 //! - `verdicts`: the verdict, and the numbers at which the runs begin
 //! - `auditing`: the audit
 //! - `laws`: that there is one verdict
@@ -13,8 +15,10 @@
 mod auditing;
 mod contacts;
 pub mod laws;
+mod probings;
 pub mod rows;
 mod runs;
+mod shifts;
 mod verdicts;
 
 pub use auditing::audit;
