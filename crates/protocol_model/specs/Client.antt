@@ -50,7 +50,7 @@ pub record Table : Type 0 where
   pub event : List OpenCommand
   pub tally : Tally
 
--- the act that a counted command means, with what its data line told: whether the machine is homed, or the point of a contact
+-- the act that a counted command means, with what its data line reported: whether the machine is homed, or the point of a contact
 abbrev pub act_of : Does → Option Datum → List Act
 act_of Does.Nothing given = []
 act_of Does.AsksHomed (Some (datum.Homed homed)) = act.HomedIs homed ∷ []
@@ -90,7 +90,7 @@ abbrev pub begins_session : Kind → Bool
 begins_session kind.StartSession = true
 begins_session _ = false
 
--- a counted command told that the machine is homed
+-- a counted command reported that the machine is homed
 abbrev pub tells_homed : Kind → Option Datum → Bool
 tells_homed kind.IsHomed (Some (datum.Homed true)) = true
 tells_homed _ _ = false
@@ -100,17 +100,17 @@ abbrev pub is_homing : Command → Bool
 is_homing command.Home = true
 is_homing _ = false
 
--- commands without the homing that is next
+-- commands without the homing, if that is next
 abbrev pub without_homing : List Planned → List Planned
 without_homing [] = []
 without_homing (p ∷ ps) = if is_homing p.command then ps else p ∷ ps
 
--- what is left of a plan: where the machine is reported to be homed, the homing that is next is passed over
+-- what is left of a plan: if the machine is reported to be homed, the next homing is skipped
 abbrev pub passed_over : Bool → List Planned → List Planned
 passed_over true ps = without_homing ps
 passed_over false ps = ps
 
--- the next command of the plan is counted, and where it told that the machine is homed, the homing after it is passed over
+-- the next command of the plan is counted; if it reported that the machine is homed, the homing after it is skipped
 abbrev pub counted_next : List Wanted → Kind → Option Datum → List Planned → Tally → Tally
 counted_next ws k given [] y = y
 counted_next ws k given (p ∷ todo) y =

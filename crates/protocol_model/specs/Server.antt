@@ -136,7 +136,7 @@ is_clear (Ok command.ClearAllErrors) = true
 is_clear (Ok _) = false
 is_clear (Err refused) = false
 
--- the number of the error for what was read under a tag and is no command
+-- the number of the error for what was read under a tag and is not a command
 abbrev pub fault_number : Misread → ℕ
 fault_number misread.UnknownCommand = 9003
 fault_number (misread.BadArguments k) = 9004

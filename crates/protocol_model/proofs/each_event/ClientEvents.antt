@@ -66,7 +66,7 @@ told_now w inv = go inv.side
 never_at_rest : (s : State) → IsAtRest s → s ≡ State.Faulted → ⊥
 never_at_rest s h e = subst IsAtRest e h
 
--- where all holds, the client is not Faulted
+-- if all holds, the client is not Faulted
 pub never_faulted : (w : World) → Inv w → w.client.state ≡ State.Faulted → ⊥
 never_faulted w inv e = go inv.side
   where
@@ -76,7 +76,7 @@ never_faulted w inv e = go inv.side
 
 -- ---- a new connection
 
--- the client makes its next connection, where nothing is on its way, and all that holds is kept
+-- the client makes its next connection, on which nothing is on its way, and all that holds is kept
 pub connect_event : (w : World) → Inv w → Inv (connected w)
 connect_event w inv =
     let c : Client = w.client in
@@ -227,7 +227,7 @@ clear_more failed (x ∷ xs) l h only = (h.0, no_clears_join xs (l ∷ []) h.1 (
     go false e = e
     go true e = let none : x ∷ xs ≡ [] = (only e).0 in absurd (cc)
 
--- where all have failed, nothing is received or sent
+-- if all have failed, nothing is received or sent
 pub none_received : (xs ys : List Line) → AreFailed (all_received xs ++ all_sent ys) → (xs ≡ []) × (ys ≡ [])
 none_received [] [] h = (refl, refl)
 none_received [] (y ∷ ys) h = absurd (go h.0)

@@ -1,4 +1,4 @@
--- Quiet rounds from both ends joined anew: the client is Done, and holds what the program plainly measures.
+-- Quiet rounds from both ends, connected again: the client is Done, and holds what the program plainly measures.
 use Rattle.std.proofs.Common.{◌≡◌, ◌⊎◌, inl, inr, ℕ, suc, ◌<◌, ◌≤◌, Bool, true, false, cond, not, ◌&&◌, ◌||◌, List, [], ◌∷◌, ◌++◌, length}
 use Rattle.std.proofs.Common.{drop, refl, sym, ◌∙◌, ap, subst, arith, append-nil, Option, Some, None, Ok, is_some, nat_lt, eqb}
 use Rattle.std.proofs.lemmas.Bool.{false≢true, le-leb}
@@ -102,7 +102,7 @@ run_closed (e ∷ es) b k h =
     next true may = (happens_carried e b k may, happens_closed e b k h may)
     next false may = (k, h)
 
--- ---- where no byte is on its way, no line is
+-- ---- if no byte is on its way, no line is
 
 no_texts : (rs : List Reply) → reply_texts rs ≡ [] → rs ≡ []
 no_texts [] e = refl

@@ -260,7 +260,7 @@ counted_mid k given p todo y = record y {
   completed = suc y.completed;
 }
 
--- a command that is no touch is counted
+-- a command that is not a touch is counted
 pub counts_ready : (answer : Job → ℕ → Outcome) (goal : List MeasuredFeature) (kept : List Feature) (ws : List Wanted)
     (session homed later_session later_homed : Bool) (rack : List (List ℕ)) (n : ℕ) (y : Tally) (k : Kind) (given : Option Datum)
     (p : Planned) (whole : List Planned) (know : Know)

@@ -11,7 +11,7 @@ use Rattle.protocol_model.proofs.table.Basics.{if_cases, if_true, if_false, tag_
 use Rattle.protocol_model.proofs.table.Counts.{failed_tags}
 use Rattle.protocol_model.specs.declared.held.OpenCommand.{OpenCommand}
 
--- a number that is found is free, and none is found only where all are held
+-- a number that is found is free, and none is found only if all are held
 pub record IsFound (sort : ℕ → Tag) (hs : List OpenCommand) (n left m : ℕ) : Type 0 where
   pub free : is_held (sort m) hs ≡ false
   pub from : n ≤ m

@@ -108,7 +108,7 @@ act_stands (Does.Touches t last) (Some (datum.Point p)) h = ((refl, refl, refl, 
 
 -- ---- data that fit
 
--- a command of this kind is counted with such data: those that it asks for, or none where it asks for none
+-- a command of this kind is counted with such data: those that it asks for, or none if it asks for none
 abbrev pub IsGiven : Kind → Option Datum → Type 0
 IsGiven k None = asks_data k ≡ false
 IsGiven k (Some d) = fits k d ≡ true

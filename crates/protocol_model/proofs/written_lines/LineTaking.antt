@@ -177,7 +177,7 @@ given_is c t d w place = go (tag_is t (Event 0)) refl (held_under t c) refl
     go false is (Some k) held = if_false {A = Client} _ _ _ is ∙ (ap (given_under c t (written_datum d)) held
         ∙ asked d w place k is held)
 
--- a reply that can be written and has its place is heard as it was said
+-- an expected reply that can be written is heard as it was said
 pub reply_heard : (c : Client) (r : Reply) → IsWritableReply r
     → HasPlace c (tag_of r) (mark_of r) → line_read c (response_of (reply_text r)) ≡ client_read c (tag_of r) (mark_of r)
 reply_heard c r w place = ap (line_read c) (reply_read r w) ∙ go r w place
