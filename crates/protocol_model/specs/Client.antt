@@ -261,7 +261,7 @@ pub record Sends : Type 0 where
 abbrev pub held_now : Tag → Kind → OpenCommand
 held_now t k = record { tag = t; kind = k; stage = Stage.Sent }
 
--- the first unsent command goes out under this number; without one the client is Faulted
+-- the first unsent command is sent under this number; without one the client is Faulted
 abbrev pub sends_next : Client → List Planned → Option ℕ → Sends
 sends_next c [] number = record { client = c; lines = [] }
 sends_next c (p ∷ ps) None = record { client = faulted Cause.TagsSpent c; lines = [] }
@@ -276,11 +276,11 @@ sends_next c (p ∷ ps) (Some n) = record {
   lines = record { tag = Std n; command = p.command } ∷ [];
 }
 
--- the command that is due goes out under a new tag
+-- the command that is due is sent under a new tag
 abbrev pub client_sent : Client → Sends
 client_sent c = sends_next c c.table.tally.unsent (next_number Std c.table.standard c.drawn)
 
--- an abort goes out under this number; without one the client is Faulted
+-- an abort is sent under this number; without one the client is Faulted
 abbrev pub sends_abort : Client → Option ℕ → Sends
 sends_abort c None = record { client = faulted Cause.TagsSpent c; lines = [] }
 sends_abort c (Some n) = record {
@@ -299,7 +299,7 @@ may_abort State.Running = true
 may_abort State.Failing = true
 may_abort _ = false
 
--- an abort goes out under a new event tag
+-- an abort is sent under a new event tag
 abbrev pub client_aborted : Client → Sends
 client_aborted c = sends_abort c (next_number Event c.table.event c.event_drawn)
 

@@ -130,7 +130,7 @@ abbrev pub touch_made : Option Does → Option Touch
 touch_made (Some (Does.Touches t last)) = Some t
 touch_made _ = None
 
--- the touch that a command makes where this is selected, if it makes one; None where its tool or its frame is not known
+-- the touch that a command makes where this is selected, if it makes one; None if its tool or its frame is not known
 abbrev pub touches_made_by : Selection → Command → List (Option Touch)
 touches_made_by s (command.PtMeas p d) = touch_made (read_as s false (command.PtMeas p d)) ∷ []
 touches_made_by s _ = []

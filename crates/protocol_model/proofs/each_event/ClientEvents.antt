@@ -204,7 +204,7 @@ one_more_tag u (h ∷ hs) x e apart = if_cases {A = Bool} (tag_is h.tag u) true 
     (λ same no_way. absurd (false≢true (sym no_way)))
     (λ other rest. if_false {A = Bool} (tag_is h.tag u) true (is_held u (hs ++ x ∷ [])) other ∙ one_more_tag u hs x rest apart)
 
--- where each tag is held once, it is so with a further command whose tag was not held
+-- if each tag is held once, it is so with a further command whose tag was not held
 pub distinct_more : (hs : List OpenCommand) (x : OpenCommand) → AreDistinct hs → is_held x.tag hs ≡ false → AreDistinct (hs ++ x ∷ [])
 distinct_more [] x d free = (refl, tt)
 distinct_more (h ∷ hs) x d free = if_cases {A = Bool} (tag_is h.tag x.tag) true (is_held x.tag hs) false (AreDistinct (h ∷ (hs ++ x ∷ [])))
@@ -212,7 +212,7 @@ distinct_more (h ∷ hs) x d free = if_cases {A = Bool} (tag_is h.tag x.tag) tru
     (λ same no_way. absurd (false≢true (sym no_way)))
     (λ other rest. (one_more_tag h.tag hs x d.0 (tag_is_false h.tag x.tag other), distinct_more hs x d.1 rest))
 
--- where the list of open aborts is empty, so is the list of their numbers
+-- if the list of open aborts is empty, so is the list of their numbers
 pub no_aborts : (ks : List ℕ) → abort_helds ks ≡ [] → ks ≡ []
 no_aborts [] e = refl
 no_aborts (k ∷ ks) e = absurd (cc)
@@ -239,7 +239,7 @@ none_received (x ∷ xs) ys h = absurd (go h.0)
     go : ◌≡◌ {A = Stage} Stage.Received Stage.Failed → ⊥
     go e = cc
 
--- the next command of the plan goes out while no abort is open, and the table that is left still fits the server
+-- the next command of the plan is sent while no abort is open, and the table that is left still fits the server
 pub near_sends : (table : Table) (p : Planned) (ps : List Planned) (left : List Wanted) (up : List Line) (running : Option Line)
     (waiting : List Waiting) (error : Bool) (know : Know) (n : ℕ)
     → IsNear table left up running waiting error know → table.tally.unsent ≡ p ∷ ps → is_asking table.standard ≡ false

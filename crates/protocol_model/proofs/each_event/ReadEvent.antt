@@ -303,7 +303,7 @@ tidy_pairs : (ls : List Line) → AreStandard ls → IsTidy None (all_fail 9007 
 tidy_pairs [] h = tt
 tidy_pairs (l ∷ ls) h = (h.0, (refl, h.0, tidy_pairs ls h.2))
 
--- where a standard command fails, and those that wait fail after it, each error is followed at once by its end
+-- if a standard command fails, and those that wait fail after it, each error is followed at once by its end
 pub tidy_pair_and_pairs : (x : Line) (ls : List Line) (code : ℕ) (name : Option Kind) → is_event_tag x.tag ≡ false → AreStandard ls
     → IsTidy None (fails x.tag code name ++ all_fail 9007 (all_wait ls))
 tidy_pair_and_pairs x ls code name sort sorts = (sort, (refl, sort, tidy_pairs ls sorts))

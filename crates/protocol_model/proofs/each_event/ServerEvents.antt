@@ -122,7 +122,7 @@ pub is_none_of : (o : Option Line) → is_none o ≡ true → o ≡ None
 is_none_of None e = refl
 is_none_of (Some x) e = absurd (false≢true e)
 
--- where the test finds that commands wait, their list is not empty
+-- if the test finds that commands wait, their list is not empty
 pub not_nothing : (l : List Waiting) → not (is_empty l) ≡ true → l ≡ [] → ⊥
 not_nothing [] e none = false≢true e
 not_nothing (x ∷ xs) e none = cc

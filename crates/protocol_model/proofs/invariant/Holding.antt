@@ -112,7 +112,7 @@ abbrev pub IsClearFirst : Bool → List Line → Type 0
 IsClearFirst failed [] = Unit {0}
 IsClearFirst failed (l ∷ ls) = (is_clearing l.command ≡ true → failed ≡ false) × AreNoClears ls
 
--- where a line asks whether the machine is homed, none follows it
+-- if a line asks whether the machine is homed, none follows it
 abbrev pub IsAskedLast : List Line → Type 0
 IsAskedLast [] = Unit {0}
 IsAskedLast (l ∷ ls) = (asks_homed (kind_of l.command) ≡ true → ls ≡ []) × IsAskedLast ls

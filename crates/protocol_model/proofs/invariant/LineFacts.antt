@@ -49,7 +49,7 @@ not_held_before t [] ys e = refl
 not_held_before t (x ∷ xs) ys e = let parts = held_parts t x (xs ++ ys) e
     in if_false {A = Bool} (tag_is x.tag t) true (is_held t xs) parts.0 ∙ not_held_before t xs ys parts.1
 
--- where each tag is held once, the tag of a command is not held before it
+-- if each tag is held once, the tag of a command is not held before it
 pub apart_from : (xs : List OpenCommand) (y : OpenCommand) (ys : List OpenCommand) → AreDistinct (xs ++ y ∷ ys) → is_held y.tag xs ≡ false
 apart_from [] y ys d = refl
 apart_from (x ∷ xs) y ys d =
@@ -86,7 +86,7 @@ event_not_in_use t running queued sorts e = not_in_use t running queued (event_n
 
 -- ---- lists of lines
 
--- where two lists together are standard lines, so is the first
+-- if two lists together are standard lines, so is the first
 pub standard_before : (xs ys : List Line) → AreStandard (xs ++ ys) → AreStandard xs
 standard_before [] ys h = tt
 standard_before (x ∷ xs) ys h = (h.0, h.1, standard_before xs ys h.2)

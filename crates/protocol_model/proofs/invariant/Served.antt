@@ -327,7 +327,7 @@ next_touch t last rest (w ∷ later) some is = next_by t last rest w later w.tou
 
 -- ---- programs
 
--- where the blocks of steps are well made, each of their features has a touch
+-- if the blocks of steps are well made, each of their features has a touch
 pub features_have : (inside : Bool) (ss : List Step) → AreBlocks inside ss → HaveTouches (features_of ss)
 features_have inside [] h = tt
 features_have inside (step.Goto p ∷ ss) h = features_have inside ss h

@@ -199,7 +199,7 @@ work_read answer (Down k) w h j r = absurd h
 work_read answer ClientReads w h j r = absurd h
 work_read answer _ w h j r = absurd h
 
--- where the server has nothing to do, nothing runs and nothing waits
+-- if the server has nothing to do, nothing runs and nothing waits
 nothing_to_do : (answer : Job → ℕ → Outcome) (w : World) → IsJoined w → working (ending answer w) w ≡ None
     → (w.server.server.running ≡ None) × (w.server.server.waiting ≡ [])
 nothing_to_do answer w h e = go (running_job w.server.server) refl e
@@ -439,7 +439,7 @@ never_one e w never es h = go (can e w) never h
     go true f h = absurd (false≢true (sym f))
     go false f h = h
 
--- where both ends are still and nothing is due, a round does nothing
+-- if both ends are still and nothing is due, a round does nothing
 pub round_none : (answer : Job → ℕ → Outcome) (w : World) → IsStill w → can ClientSends w ≡ false
     → (es : List Event) → IsRound answer false w es → es ≡ []
 round_none answer w s never =

@@ -257,7 +257,7 @@ step_unasked ws b t m c is none =
     let by : Unasked ws b c t m = unasked_by ws b t m c is none in
     record { asking = by.asking; unsent = same_unsent ws b t m c is (by.anyhow b.tally.unsent); anyhow = by.anyhow }
 
--- replies, one after another, ask nothing and leave what is unsent, and have their places whatever that is
+-- replies, one after another, ask nothing and leave what is unsent, and are expected whatever that is
 pub record AreUnasked (ws : List Wanted) (b c : Table) (rs : List Reply) : Type 0 where
   pub asking : is_asking c.standard ≡ false
   pub unsent : c.tally.unsent ≡ b.tally.unsent

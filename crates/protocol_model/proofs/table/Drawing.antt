@@ -86,7 +86,7 @@ still_held t u (h ∷ hs) apart e = go (still_held t u hs apart) (tag_is h.tag t
     go deeper false same false other = if_false {A = Bool} (tag_is h.tag u) true (is_held u (removed t hs)) other
         ∙ deeper (sym (if_false {A = Bool} (tag_is h.tag u) true (is_held u hs) other) ∙ e)
 
--- where each of that many different tags is held, at least that many are held
+-- if each of that many different tags is held, at least that many are held
 abbrev pub AreApart : (ℕ → Tag) → Type 0
 AreApart sort = (i j : ℕ) → (i ≡ j → ⊥) → tag_is (sort i) (sort j) ≡ false
 

@@ -151,7 +151,7 @@ reads_with_event ws x (r ∷ rs) b c reads = (
 abbrev pub with_tally : Tally → Table → Table
 with_tally y b = tabled b.standard b.event y
 
--- replies that count nothing, leave each standard command failed, and have their places whatever is counted
+-- replies that count nothing, leave each standard command failed, and are expected whatever is counted
 pub record OnlyCloses (ws : List Wanted) (b c : Table) (rs : List Reply) : Type 0 where
   pub same : c.tally ≡ b.tally
   pub left : AreFailed c.standard

@@ -9,7 +9,7 @@ use Rattle.protocol_model.specs.declared.held.Datum.{Datum}
 use Rattle.protocol_model.specs.declared.held.Stage.{Stage}
 use Rattle.protocol_model.specs.declared.held.OpenCommand.{OpenCommand}
 
--- a reply with its place: what is held then, and the effect
+-- an expected reply: what is held then, and the effect
 abbrev pub two : List OpenCommand → Effect → Heard
 two hs e = Ok (hs, e)
 

@@ -170,7 +170,7 @@ data_calm true (Stage.Given q) p s e = absurd (cc)
 data_calm true Stage.Failed p s e = absurd (cc)
 data_calm false stage p s e = absurd (cc)
 
--- where a command that has not failed goes to another stage, it still has not
+-- if a command that has not failed goes to another stage, it still has not
 pub becomes_calm : (front : Bool) (kind : Kind) (stage : Stage) (m : Mark) (s : Stage) → is_failed stage ≡ false
     → judged front kind stage m ≡ Becomes s → is_failed s ≡ false
 becomes_calm front kind stage (Mark.Given p) s calm e = data_calm (front && fits kind p) stage p s e
