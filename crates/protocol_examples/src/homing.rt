@@ -157,7 +157,7 @@ pub fn told_rows()
         ∷ client_reads ∷ [])).world ≡ true }
 {}
 
-/// Both ends: where the machine is homed, Home has no line and no tag, and the plan is whole
+/// Both ends: if the machine is homed, Home has no line and no tag, and the plan is whole
 /// without it.
 pub fn homing_rows()
     ensures first_connection { said_behind (play one_point 1 (opened ++ quiet 2 ∷ []))
