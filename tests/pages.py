@@ -36,7 +36,7 @@ PHRASES = {
     r"the same of": "likewise for",
     r"(?:is|are|was|were|be|been|being) told|tells": "is reported, reports",
     r"owes?|owed": "must ensure, requires",
-    r"(?:is|are|was|were) none": "is not a .., does not exist",
+    r"(?<!there )(?:is|are|was|were) none": "is not a .., does not exist",
     r"go(?:es)? on": "continues",
     r"ha(?:s|ve) (?:its|their) turn": "is processed",
     r"where (?:one|it) is(?! ?[.,;:)])": "if",
