@@ -113,7 +113,7 @@ def must_be_front_of_report(output, whole):
     must(rows[0] == "STATE Apart" or rows[0] == all_rows[0], "another state", output)
     must(int(rows[1].split()[1]) <= int(all_rows[1].split()[1]), "more is counted", output)
     for part in (is_contact, lambda row: not is_contact(row)):
-        must(is_front(list(filter(part, rows[2:])), list(filter(part, all_rows[2:]))), "is no front", output)
+        must(is_front(list(filter(part, rows[2:])), list(filter(part, all_rows[2:]))), "is not a prefix", output)
 
 
 def must_want_memory(whole, runs, and_so):
@@ -196,14 +196,14 @@ class Pair:
                 server.kill()
             given["serve"] = ended(server)
             file = folder / self.FILES[self.looked_at]
-            must(not file.with_suffix(".new").exists(), "a file is left beside it")
+            must(not file.with_suffix(".new").exists(), "a file is left next to it")
             return given[self.looked_at], file.read_text() if file.exists() else None
 
 
 def must_be_front_of_file(text, whole, ends):
     """Nothing, or the whole lines up to one of these ends."""
     rows, all_rows = (text or "").splitlines(), whole.splitlines()
-    must(is_front(rows, all_rows) and (len(rows) <= 1 or rows[-1].startswith(ends)), "is no front of its file", text)
+    must(is_front(rows, all_rows) and (len(rows) <= 1 or rows[-1].startswith(ends)), "is not a prefix of its file", text)
 
 
 def run_row(refusing):
@@ -220,7 +220,7 @@ def serve_row(refusing):
     for _, text in runs:
         must_be_front_of_file(text, file, "1 ")
     rows = whole[1].splitlines()
-    return must_want_memory(whole, [it for it, _ in runs], lambda run: must(is_front(run[1].splitlines(), rows), "is no front", run))
+    return must_want_memory(whole, [it for it, _ in runs], lambda run: must(is_front(run[1].splitlines(), rows), "is not a prefix", run))
 
 
 def call_row(refusing, group, row, answer):
