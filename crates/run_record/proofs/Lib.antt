@@ -1,0 +1,2 @@
+pub mod HeadLines
+pub mod ToldLines

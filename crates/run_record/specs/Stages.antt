@@ -1,6 +1,5 @@
 -- The stages of reading a record, line by line, as the code keeps them. No public clause cites this.
 use Rattle.std.specs.Prelude.{◌≡◌, ◌⊎◌, ℕ, ◌+◌, ◌<◌, ◌≤◌, take, drop, List, [], ◌∷◌, ◌++◌, length, codes, Option, Some, None}
-use Rattle.std.specs.List.{AllByRecursion}
 use Rattle.fixed_um.specs.Names.{IsName}
 use Rattle.contact_ledger.specs.FeatureTexts.{IsPointCount}
 use Rattle.contact_ledger.specs.Lines.{whole_lines}
